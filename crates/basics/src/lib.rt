@@ -1,0 +1,1 @@
+// Definitions that the specifications of every crate share: see specs/. No code.

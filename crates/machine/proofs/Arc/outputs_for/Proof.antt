@@ -1,0 +1,25 @@
+use mathlib.Core.Path.{_≡_, sym, _∙_}
+use mathlib.Core.Bool.{true, false}
+use borrow.Author.Needs.{needs}
+use Rattle.basics.specs.Sets.{member}
+use Rattle.basics.proofs.Sets.{no-member}
+use Rattle.machine.specs.Machine.{takes}
+use Rattle.machine.proofs.Arc.outputs_for.Statement.{statement}
+use Rattle.machine.proofs.Arc.outputs_for.Tie as tie
+
+returns : tie.Need-returns
+unfolding takes
+returns c y =
+    let a = c .before .before .args in
+    let e : member (a .self .inputs) (a .input) ≡ true = sym (c .before .holds .ensures) ∙ c .if1 .taken in
+    rw e
+
+returns-2 : tie.Need-returns-2
+unfolding takes
+returns-2 c y =
+    let a = c .before .before .args in
+    let e : member (a .self .inputs) (a .input) ≡ false = sym (c .before .holds .ensures) ∙ c .if1 .left in
+    rw (e, no-member y)
+
+pub outputs-for-spec : {M : Type 1} → statement M
+outputs-for-spec = tie.close (tie.spec (λ c κs. search needs) returns returns-2)

@@ -1,0 +1,5 @@
+pub mod SymbolSets
+pub mod SharedPairs
+pub mod Stages
+pub mod Arcs
+pub mod States

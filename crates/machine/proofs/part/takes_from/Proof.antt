@@ -1,0 +1,23 @@
+use mathlib.Core.Path.{sym, _∙_}
+use borrow.Author.Needs.{needs}
+use Rattle.machine.specs.Part.{arcAt}
+use Rattle.machine.proofs.Arcs.{leaves, leaves-other}
+use Rattle.machine.proofs.part.takes_from.Statement.{statement}
+use Rattle.machine.proofs.part.takes_from.Tie as tie
+
+returns : tie.Need-returns
+unfolding arcAt
+returns c =
+    let a = c .before .before .before .args in
+    sym (leaves-other (arcAt (a .part .now) (a .at)) (a .state) (a .pair) (c .if1 .taken))
+
+returns-2 : tie.Need-returns-2
+unfolding arcAt
+returns-2 c =
+    let a = c .before .before .before .before .before .args in
+    let e = c .before .read-arc .ensures in
+    (rw e at (c .takes .ensures)) ∙ sym (leaves (arcAt (a .part .now) (a .at)) (a .state) (a .pair) (c .before .before .if1 .left))
+
+pub takes-from-spec : {M : Type 1} → statement M
+takes-from-spec =
+    tie.close (tie.spec (λ c. search needs) returns (λ c κs. search needs) (λ c κs. search needs) returns-2)

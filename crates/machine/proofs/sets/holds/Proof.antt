@@ -1,0 +1,10 @@
+use borrow.Author.Needs.{needs}
+use Rattle.machine.proofs.SymbolSets.{meets-one}
+use Rattle.machine.proofs.sets.holds.Statement.{statement}
+use Rattle.machine.proofs.sets.holds.Tie as tie
+
+returns : tie.Need-returns
+returns c = rw (c .set-of .ensures) (meets-one (c .before .args .set) (c .before .args .symbol) (search needs))
+
+pub holds-spec : {M : Type 1} → statement M
+holds-spec = tie.close (tie.spec (λ c κs. search needs) returns)

@@ -1,0 +1,6 @@
+pub mod Refusals
+pub mod Symbols
+pub mod Machine
+pub mod Part
+pub mod Accepted
+pub mod Steps

@@ -1,0 +1,68 @@
+-- Constraint machines: arcs, the pairs that they take, steps, endings.
+use mathlib.Core.Bool.{Bool, true, false, _&&_, cond}
+use mathlib.Core.List.{List, [], _∷_}
+use mathlib.Core.Option.{Option, some, none}
+use Prim.Native.Nat.{ℕ}
+use lib.ListN.{getD}
+use lib.Dec.{eqb}
+use Rattle.basics.specs.Sets.{member}
+use Rattle.basics.specs.Search.{someBelow}
+use Rattle.machine.specs.declared.Arc.{Arc}
+use Rattle.machine.specs.declared.Pair.{Pair}
+use Rattle.machine.specs.declared.Ending.{Ending}
+use Rattle.machine.specs.declared.Ending.the-variants.{Marks, NotFinal}
+use Rattle.machine.specs.declared.Step.{Step}
+use Rattle.machine.specs.declared.Step.the-variants.{Moved, Stuck}
+use Rattle.machine.specs.Symbols.{isPair}
+
+-- which states are final, and the arcs
+pub record Machine : Type 0 where
+  pub finals : List Bool
+  pub arcs : List Arc
+
+-- a machine starts in state 0
+abbrev pub startState : ℕ
+startState = 0
+
+-- an arc takes a pair if in and out are in its sets
+unfoldable pub takes : Arc → Pair → Bool
+takes a p = member (a .inputs) (p .input) && member (a .outputs) (p .output)
+
+-- an arc takes a pair from a state if it leaves that state and takes the pair
+abbrev pub takesFrom : Arc → ℕ → Pair → Bool
+takesFrom a s p = eqb (a .from) s && takes a p
+
+-- the first of the arcs that takes the pair from the state: where it leads, and its marks
+unfoldable pub stepAmong : List Arc → ℕ → Pair → Option (ℕ × ℕ)
+stepAmong [] s p = none
+stepAmong (a ∷ rest) s p = elim (takesFrom a s p) [ true ↦ some (a .to, a .marks) | false ↦ stepAmong rest s p ]
+
+-- taking a pair in a state: the state moved on to, and the marks
+abbrev pub stepOf : Machine → ℕ → Pair → Option (ℕ × ℕ)
+stepOf m s p = stepAmong (m .arcs) s p
+
+-- the marks for ending in a state, none where it is not final; ending costs nothing
+unfoldable pub endingOf : Machine → ℕ → Option ℕ
+endingOf m s = cond (getD (m .finals) s false) (some 0) none
+
+-- both arcs take the pair
+abbrev pub bothTake : Arc → Arc → Pair → Bool
+bothTake a b p = isPair p && takes a p && takes b p
+
+-- both arcs take some pair, over the symbols that a set can have
+unfoldable pub takeOnePair : Arc → Arc → Bool
+takeOnePair a b = someBelow (λ x. someBelow (λ y. bothTake a b (record { input = x; output = y })) 64) 64
+
+-- two arcs of a state take one pair
+unfoldable pub clash : Arc → Arc → Bool
+clash a b = eqb (a .from) (b .from) && takeOnePair a b
+
+-- what a Step says
+abbrev pub stepped : Step → Option (ℕ × ℕ)
+stepped (Moved p m) = some (p .state, m)
+stepped Stuck = none
+
+-- what an Ending says
+abbrev pub ended : Ending → Option ℕ
+ended (Marks m) = some m
+ended NotFinal = none

@@ -1,0 +1,79 @@
+-- A machine part of a card: the machine that its bytes are, and its refusal.
+use mathlib.Core.Bool.{Bool, _&&_, not}
+use mathlib.Core.List.{List, [], _∷_, map}
+use Prim.Native.Nat.{ℕ, zero, suc, _+_, _*_, _^_}
+use lib.ListN.{length, getD}
+use lib.Seq.{slice}
+use lib.Dec.{eqb, ltb, leb}
+use Rattle.basics.specs.Search.{allOf, pairwise}
+use Rattle.basics.specs.Refusals.{refuse, firstOf}
+use Rattle.machine.specs.declared.Arc.{Arc}
+use Rattle.machine.specs.Machine.{Machine, clash}
+
+-- Q, states, and A, arcs
+abbrev pub stateCount : List ℕ → ℕ
+stateCount part = getD part 0 0
+
+abbrev pub arcCount : List ℕ → ℕ
+arcCount part = getD part 1 0
+
+-- the little-endian number of four bytes, and of eight
+abbrev pub halfAt : List ℕ → ℕ → ℕ
+halfAt l at = getD l at 0 + 256 * (getD l (at + 1) 0 + 256 * (getD l (at + 2) 0 + 256 * getD l (at + 3) 0))
+
+abbrev pub wordAt : List ℕ → ℕ → ℕ
+wordAt l at = halfAt l at + 2 ^ 32 * halfAt l (at + 4)
+
+-- the arc whose 20 bytes start at a place
+unfoldable pub arcAt : List ℕ → ℕ → Arc
+arcAt l at =
+    record { from = getD l at 0; to = getD l (at + 1) 0; marks = getD l (at + 2) 0; reserved = getD l (at + 3) 0; inputs = wordAt l (at + 4); outputs = wordAt l (at + 12) }
+
+-- n arcs from a place
+unfoldable pub arcsAt : List ℕ → ℕ → ℕ → List Arc
+arcsAt l at zero = []
+arcsAt l at (suc n) = arcAt l at ∷ arcsAt l (at + 20) n
+
+-- the state bytes, and the arcs
+abbrev pub stateBytes : List ℕ → List ℕ
+stateBytes part = slice 2 (2 + stateCount part) part
+
+abbrev pub arcsOf : List ℕ → List Arc
+arcsOf part = arcsAt part (2 + stateCount part) (arcCount part)
+
+-- the machine that a part's bytes are: 1 is final
+unfoldable pub machineOf : List ℕ → Machine
+machineOf part = record { finals = map (λ b. eqb b 1) (stateBytes part); arcs = arcsOf part }
+
+-- not refusal 3: at least 2 bytes, Q is 1 to 32, the length is 2 + Q + 20A
+unfoldable pub shaped : List ℕ → Bool
+shaped part =
+    leb 2 (length part) && leb 1 (stateCount part) && leb (stateCount part) 32 && eqb (length part) (2 + stateCount part + 20 * arcCount part)
+
+-- a set is not empty and has no bit over S
+abbrev pub soundSet : ℕ → ℕ → Bool
+soundSet S set = not (eqb set 0) && ltb set (2 ^ (S + 1))
+
+-- arc states below Q, marks at most 15, the zero byte 0, sound sets
+unfoldable pub soundArc : ℕ → ℕ → Arc → Bool
+soundArc S Q a =
+    ltb (a .from) Q && ltb (a .to) Q && leb (a .marks) 15 && eqb (a .reserved) 0 && soundSet S (a .inputs) && soundSet S (a .outputs)
+
+-- not refusal 4: no state byte over 1, and every arc sound
+abbrev pub soundStates : List ℕ → Bool
+soundStates part = allOf (λ b. leb b 1) (stateBytes part)
+
+abbrev pub soundArcs : ℕ → List ℕ → Bool
+soundArcs S part = allOf (soundArc S (stateCount part)) (arcsOf part)
+
+-- not refusal 5: no two arcs of a state take one pair
+abbrev pub apart : Arc → Arc → Bool
+apart a b = not (clash a b)
+
+abbrev pub noClash : List ℕ → Bool
+noClash part = pairwise apart (arcsOf part)
+
+-- 0 where the part is accepted on a card of S symbols, else the first refusal that applies
+unfoldable pub partRefusal : ℕ → List ℕ → ℕ
+partRefusal S part =
+    firstOf (refuse 3 (shaped part) ∷ refuse 4 (soundStates part) ∷ refuse 4 (soundArcs S part) ∷ refuse 5 (noClash part) ∷ [])

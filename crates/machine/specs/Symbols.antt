@@ -1,0 +1,17 @@
+-- Symbols and pairs.
+use mathlib.Core.Bool.{Bool, _&&_, not}
+use Prim.Native.Nat.{ℕ}
+use lib.Dec.{eqb, leb}
+use Rattle.machine.specs.declared.Pair.{Pair}
+
+-- byte 0 is the empty symbol
+abbrev pub emptySymbol : ℕ
+emptySymbol = 0
+
+-- in and out are not both empty
+abbrev pub isPair : Pair → Bool
+isPair p = not (eqb (p .input) emptySymbol && eqb (p .output) emptySymbol)
+
+-- in and out are the empty symbol or one of the S symbols
+abbrev pub withinSymbols : ℕ → Pair → Bool
+withinSymbols S p = leb (p .input) S && leb (p .output) S

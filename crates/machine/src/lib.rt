@@ -1,0 +1,225 @@
+// Constraint machines: pairs of symbols, arcs, the check of a machine part, steps and endings.
+ghost use mathlib.Core.Path.{_≡_};
+ghost use mathlib.Core.Bool.{true};
+ghost use Prim.Native.Nat.{ℕ, _<_};
+ghost use lib.Dec.{eqb};
+ghost use lib.ListN.{getD};
+ghost use Rattle.basics.specs.Sets.{member};
+ghost use Rattle.machine.specs.Refusals.{stageNumber};
+ghost use Rattle.machine.specs.Symbols.{emptySymbol, isPair, withinSymbols};
+ghost use Rattle.machine.specs.Machine.{startState, takes, takeOnePair, stepOf, stepped, endingOf, ended};
+ghost use Rattle.machine.specs.Part.{stateCount, arcCount, arcsOf, machineOf, shaped, soundArc, partRefusal};
+
+pub mod sets; // sets.rt: sets of symbols
+mod part; // part.rt: what a part's bytes say, and the stages of its check
+
+// A pair of symbols, in and out.
+pub struct Pair {
+    pub input: u8,
+    pub output: u8,
+}
+
+impl Pair {
+    // The empty symbol.
+    pub const EMPTY: u8 = 0;
+
+    // Whether in and out are not both empty.
+    pub fn is_pair(self) -> bool
+        ensures { λ r. ⌜ r ≡ isPair self ⌝ }
+    {
+        !((self.input == Pair::EMPTY) & (self.output == Pair::EMPTY))
+    }
+
+    // Whether in is empty.
+    pub fn inserts(self) -> bool
+        ensures { λ r. ⌜ r ≡ eqb (self .input) emptySymbol ⌝ }
+    {
+        self.input == Pair::EMPTY
+    }
+
+    // Whether in and out are empty or among `symbols` symbols.
+    pub fn is_within(self, symbols: u8) -> bool
+        ensures { λ r. ⌜ r ≡ withinSymbols symbols self ⌝ }
+    {
+        (self.input <= symbols) & (self.output <= symbols)
+    }
+}
+
+// An arc of a machine: the states that it joins, its marks, the zero byte, its sets of symbols.
+pub struct Arc {
+    pub from: u8,
+    pub to: u8,
+    pub marks: u8,
+    pub reserved: u8,
+    pub inputs: u64,
+    pub outputs: u64,
+}
+
+impl Arc {
+    // Whether the arc takes a pair.
+    pub fn takes(self, pair: Pair) -> bool
+        requires { ⌜ (pair .input < 64) × (pair .output < 64) ⌝ }
+        ensures { λ r. ⌜ r ≡ takes self pair ⌝ }
+    {
+        sets::holds(self.inputs, pair.input) & sets::holds(self.outputs, pair.output)
+    }
+
+    // The outputs with which the arc takes an input, as a set.
+    pub fn outputs_for(self, input: u8) -> u64
+        requires { ⌜ input < 64 ⌝ }
+        ensures { λ r. ⌜ ((y : ℕ) → member r y ≡ takes self (record { input = input; output = y })) ⌝ }
+    {
+        if sets::holds(self.inputs, input) {
+            self.outputs
+        } else {
+            0
+        }
+    }
+
+    // Whether both arcs take some pair: whether their sets have a pair in common that is not 0:0.
+    pub fn shares_pair(self, other: Arc) -> bool
+        ensures { λ r. ⌜ r ≡ takeOnePair self other ⌝ }
+    {
+        let inputs = self.inputs & other.inputs;
+        let outputs = self.outputs & other.outputs;
+        let empty = sets::set_of(Pair::EMPTY);
+        (inputs != 0) & (outputs != 0) & ((inputs != empty) | (outputs != empty))
+    }
+
+    // Whether the fields are in range, in a machine of `states` states and for `symbols` symbols.
+    pub fn is_sound(self, states: u8, symbols: u8) -> bool
+        requires { ⌜ symbols < 64 ⌝ }
+        ensures { λ r. ⌜ r ≡ soundArc symbols states self ⌝ }
+    {
+        (self.from < states)
+            & (self.to < states)
+            & (self.marks <= 15)
+            & (self.reserved == 0)
+            & sets::is_sound(self.inputs, symbols)
+            & sets::is_sound(self.outputs, symbols)
+    }
+}
+
+// Why a part is refused.
+pub enum Refusal {
+    Length,
+    Field,
+    Clash,
+}
+
+// What a checking stage answers.
+pub enum Stage {
+    Passed,
+    Refused(Refusal),
+}
+
+// The first of refusals 3, 4 and 5 that applies to a part, on a card of `symbols` symbols.
+pub fn check(part: &[u8], symbols: u8) -> Stage
+    requires { ⌜ symbols < 64 ⌝ }
+    ensures { λ r. ⌜ stageNumber r ≡ partRefusal symbols (now (part .entry)) ⌝ }
+{
+    let answer = part::check_length(part);
+    let Stage::Passed = answer else {
+        return answer;
+    };
+    let answer = part::check_states(part);
+    let Stage::Passed = answer else {
+        return answer;
+    };
+    let answer = part::check_arcs(part, symbols);
+    let Stage::Passed = answer else {
+        return answer;
+    };
+    part::check_clashes(part)
+}
+
+// Q, the number of states of a part.
+pub fn state_count(part: &[u8]) -> usize
+    requires { ⌜ shaped (now part) ≡ true ⌝ }
+    ensures { λ r. ⌜ r ≡ stateCount (now (part .entry)) ⌝ }
+{
+    part::index(part[0])
+}
+
+// A, the number of arcs of a part.
+pub fn arc_count(part: &[u8]) -> usize
+    requires { ⌜ shaped (now part) ≡ true ⌝ }
+    ensures { λ r. ⌜ r ≡ arcCount (now (part .entry)) ⌝ }
+{
+    part::index(part[1])
+}
+
+// The arc i of a part.
+pub fn nth_arc(part: &[u8], i: usize) -> Arc
+    requires { ⌜ (shaped (now part) ≡ true) × (i < arcCount (now part)) ⌝ }
+    ensures { λ r. ⌜ ((d : Arc) → getD (arcsOf (now (part .entry))) i d ≡ r) ⌝ }
+{
+    part::read_arc(part, 2 + part::index(part[0]) + 20 * i)
+}
+
+// A place in a machine: the state that it is in.
+pub struct Position {
+    pub state: u8,
+}
+
+// What taking a pair does: the new position with the marks, or nothing takes it.
+pub enum Step {
+    Moved(Position, u8),
+    Stuck,
+}
+
+// What ending does: it hands back its marks, or the state is not final.
+pub enum Ending {
+    Marks(u8),
+    NotFinal,
+}
+
+impl Position {
+    // Where a machine starts.
+    pub const START: Position = Position { state: 0 };
+
+    pub fn start() -> Self
+        ensures { λ r. ⌜ r .state ≡ startState ⌝ }
+    {
+        Position::START
+    }
+
+    // Takes a pair: the arc of this state that takes it moves the state on and hands back its marks.
+    pub fn step(self, part: &[u8], pair: Pair) -> Step
+        requires { ⌜ (shaped (now part) ≡ true) × (pair .input < 64) × (pair .output < 64) ⌝ }
+        ensures { λ r. ⌜ stepped r ≡ stepOf (machineOf (now (part .entry))) (self .state) pair ⌝ }
+    {
+        let state = self.state;
+        let mut at = 2 + part::index(part[0]);
+        let mut left = part[1];
+        while left > 0 {
+            if part::takes_from(part, at, state, pair) {
+                return Step::Moved(
+                    Position {
+                        state: part[at + 1],
+                    },
+                    part[at + 2],
+                );
+            }
+            at += 20;
+            left -= 1;
+        }
+        Step::Stuck
+    }
+
+    // Ends here: what a state that the machine has says of it; no other is final.
+    pub fn ending(self, part: &[u8]) -> Ending
+        requires { ⌜ shaped (now part) ≡ true ⌝ }
+        ensures { λ r. ⌜ ended r ≡ endingOf (machineOf (now (part .entry))) (self .state) ⌝ }
+    {
+        let state = part::index(self.state);
+        if part::index(part[0]) <= state {
+            return Ending::NotFinal;
+        }
+        if part[2 + state] == 1 {
+            Ending::Marks(0)
+        } else {
+            Ending::NotFinal
+        }
+    }
+}

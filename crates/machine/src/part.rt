@@ -1,0 +1,176 @@
+// A machine part: its arcs, and the stages of its check.
+ghost use mathlib.Core.Path.{_≡_};
+ghost use mathlib.Core.Bool.{true};
+ghost use Prim.Native.Nat.{_+_, _*_, _^_, _<_, _≤_};
+ghost use lib.ListN.{length};
+ghost use Rattle.basics.specs.Search.{allOf};
+ghost use Rattle.basics.specs.Refusals.{refuse};
+ghost use Rattle.machine.specs.Refusals.{numberOf, stageNumber};
+ghost use Rattle.machine.specs.Machine.{takesFrom, clash};
+ghost use Rattle.machine.specs.Part.{halfAt, wordAt, arcAt, arcsAt, shaped, soundStates, soundArcs, noClash, apart};
+use crate::Arc;
+use crate::Pair;
+use crate::Refusal;
+use crate::Stage;
+
+// A byte as a number to index with.
+pub fn index(x: u8) -> usize
+    ensures { λ r. ⌜ (r ≡ x) × (r < 256) ⌝ }
+{
+    x as usize
+}
+
+fn wide(x: u8) -> u64
+    ensures { λ r. ⌜ (r ≡ x) × (r < 256) ⌝ }
+{
+    x as u64
+}
+
+// The number of four bytes from a place, little-endian.
+fn half(part: &[u8], at: usize) -> u64
+    requires { ⌜ at + 4 ≤ length (now part) ⌝ }
+    ensures { λ r. ⌜ (r ≡ halfAt (now (part .entry)) at) × (r < 2 ^ 32) ⌝ }
+{
+    wide(part[at])
+        + 256 * (wide(part[at + 1]) + 256 * (wide(part[at + 2]) + 256 * wide(part[at + 3])))
+}
+
+// The number of eight bytes from a place, little-endian.
+fn word(part: &[u8], at: usize) -> u64
+    requires { ⌜ at + 8 ≤ length (now part) ⌝ }
+    ensures { λ r. ⌜ r ≡ wordAt (now (part .entry)) at ⌝ }
+{
+    half(part, at) + 4294967296 * half(part, at + 4)
+}
+
+// The arc whose 20 bytes start at a place.
+pub fn read_arc(part: &[u8], at: usize) -> Arc
+    requires { ⌜ at + 20 ≤ length (now part) ⌝ }
+    ensures { λ r. ⌜ r ≡ arcAt (now (part .entry)) at ⌝ }
+{
+    Arc {
+        from: part[at],
+        to: part[at + 1],
+        marks: part[at + 2],
+        reserved: part[at + 3],
+        inputs: word(part, at + 4),
+        outputs: word(part, at + 12),
+    }
+}
+
+// Whether the arc at a place leaves the state and takes the pair; its sets are read only if it leaves the state.
+pub fn takes_from(part: &[u8], at: usize, state: u8, pair: Pair) -> bool
+    requires { ⌜ (at + 20 ≤ length (now part)) × (pair .input < 64) × (pair .output < 64) ⌝ }
+    ensures { λ r. ⌜ r ≡ takesFrom (arcAt (now (part .entry)) at) state pair ⌝ }
+{
+    if part[at] != state {
+        return false;
+    }
+    read_arc(part, at).takes(pair)
+}
+
+// Whether the arc at a place clashes with an arc; its sets are read only if it leaves the same state.
+fn clashes_with(part: &[u8], at: usize, arc: Arc) -> bool
+    requires { ⌜ at + 20 ≤ length (now part) ⌝ }
+    ensures { λ r. ⌜ r ≡ clash arc (arcAt (now (part .entry)) at) ⌝ }
+{
+    let from = arc.from;
+    if part[at] != from {
+        return false;
+    }
+    arc.shares_pair(read_arc(part, at))
+}
+
+// The answer of a stage that is one test.
+fn tested(ok: bool, refusal: Refusal) -> Stage
+    ensures { λ r. ⌜ stageNumber r ≡ refuse (numberOf refusal) ok ⌝ }
+{
+    if ok {
+        Stage::Passed
+    } else {
+        Stage::Refused(refusal)
+    }
+}
+
+// Refusal 3: the length is what the first bytes say.
+pub fn check_length(part: &[u8]) -> Stage
+    ensures { λ r. ⌜ stageNumber r ≡ refuse 3 (shaped (now (part .entry))) ⌝ }
+{
+    if part.len() < 2 {
+        return Stage::Refused(Refusal::Length);
+    }
+    let states = index(part[0]);
+    let arcs = index(part[1]);
+    tested(
+        (1 <= states) & (states <= 32) & (part.len() == 2 + states + 20 * arcs),
+        Refusal::Length,
+    )
+}
+
+// Refusal 4, the states: each state byte is 0 or 1.
+pub fn check_states(part: &[u8]) -> Stage
+    requires { ⌜ shaped (now part) ≡ true ⌝ }
+    ensures { λ r. ⌜ stageNumber r ≡ refuse 4 (soundStates (now (part .entry))) ⌝ }
+{
+    let end = 2 + index(part[0]);
+    for at in 2..end {
+        if part[at] > 1 {
+            return Stage::Refused(Refusal::Field);
+        }
+    }
+    Stage::Passed
+}
+
+// Refusal 4, the arcs: the fields of each are in range.
+pub fn check_arcs(part: &[u8], symbols: u8) -> Stage
+    requires { ⌜ (shaped (now part) ≡ true) × (symbols < 64) ⌝ }
+    ensures { λ r. ⌜ stageNumber r ≡ refuse 4 (soundArcs symbols (now (part .entry))) ⌝ }
+{
+    let states = part[0];
+    let mut at = 2 + index(states);
+    let mut left = part[1];
+    while left > 0 {
+        if !read_arc(part, at).is_sound(states, symbols) {
+            return Stage::Refused(Refusal::Field);
+        }
+        at += 20;
+        left -= 1;
+    }
+    Stage::Passed
+}
+
+// Refusal 5, one arc: it clashes with none of `count` arcs from `start`.
+fn check_apart(part: &[u8], start: usize, count: u8, arc: Arc) -> Stage
+    requires { ⌜ start + 20 * count ≤ length (now part) ⌝ }
+    ensures { λ r. ⌜ stageNumber r ≡ refuse 5 (allOf (apart arc) (arcsAt (now (part .entry)) start count)) ⌝ }
+{
+    let mut at = start;
+    let mut left = count;
+    while left > 0 {
+        if clashes_with(part, at, arc) {
+            return Stage::Refused(Refusal::Clash);
+        }
+        at += 20;
+        left -= 1;
+    }
+    Stage::Passed
+}
+
+// Refusal 5: no two arcs clash.
+pub fn check_clashes(part: &[u8]) -> Stage
+    requires { ⌜ shaped (now part) ≡ true ⌝ }
+    ensures { λ r. ⌜ stageNumber r ≡ refuse 5 (noClash (now (part .entry))) ⌝ }
+{
+    let mut at = 2 + index(part[0]);
+    let mut left = part[1];
+    while left > 0 {
+        let arc = read_arc(part, at);
+        at += 20;
+        left -= 1;
+        let answer = check_apart(part, at, left, arc);
+        let Stage::Passed = answer else {
+            return answer;
+        };
+    }
+    Stage::Passed
+}

@@ -1,0 +1,4 @@
+pub mod FinderSets
+pub mod FinderDemotion
+pub mod FinderPairs
+pub mod FinderSteps

@@ -1,0 +1,87 @@
+use mathlib.Core.Path.{_≡_, sym, _∙_}
+use Prim.Native.Nat.{_≤_, _-_}
+use native.Mathlib.Omega.{arith}
+use borrow.Author.Needs.{needs}
+use lib.ListN.{length, drop}
+use Rattle.basics.proofs.Search.{left-next, left-none}
+use Rattle.ranking.specs.Harmony.{harmony}
+use Rattle.ranking.specs.Lemmas.Rankings.{ranking-facts}
+use Rattle.ranking.specs.Lemmas.Harmony.{harmony-end, harmony-better, harmony-worse, harmony-next}
+use Rattle.ranking.proofs.harmony.harmony.Statement.{statement}
+use Rattle.ranking.proofs.harmony.harmony.Tie as tie
+
+-- what is left of the ranking decides
+abbrev Inv-loop : tie.InvT-loop
+Inv-loop ranking first second place₀ place-end place =
+    (place ≤ length ranking) × (harmony (drop place ranking) (first .counts) (second .counts) ≡ harmony ranking (first .counts) (second .counts))
+
+abbrev μ-loop : tie.MeasureT-loop
+μ-loop ranking first second place₀ place-end place = length ranking - place
+
+cast-machine : tie.Need-cast-machine Inv-loop μ-loop
+cast-machine c = omega (arith, c .shared-slice-known2 .given (c .before .before .loop .place))
+
+count-requires : tie.Need-count-requires Inv-loop μ-loop
+count-requires c κs =
+    let k = c .before .before in
+    let s = k .before .before in
+    let r = s .args .ranking .now in
+    omega (arith, ranking-facts (length r) r (s .pre .0) .below (k .loop .place) (omega arith))
+
+count-requires-2 : tie.Need-count-requires-2 Inv-loop μ-loop
+count-requires-2 c κs =
+    let k = c .before .before .before in
+    let s = k .before .before in
+    let r = s .args .ranking .now in
+    omega (arith, ranking-facts (length r) r (s .pre .0) .below (k .loop .place) (omega arith))
+
+returns : tie.Need-returns Inv-loop μ-loop
+returns c =
+    let k = c .before .before .before .before .before in
+    let a = k .before .before .args in
+    let one = c .before .before .count .ensures in
+    let other = c .before .count2 .ensures in
+    let n = left-next (a .ranking .now) (k .loop .place) (omega arith) in
+    sym (harmony-better (a .first .counts) (a .second .counts) n (omega arith)) ∙ k .loop .inv .1
+
+returns-2 : tie.Need-returns-2 Inv-loop μ-loop
+returns-2 c =
+    let k = c .before .before .before .before .before .before in
+    let a = k .before .before .args in
+    let one = c .before .before .before .count .ensures in
+    let other = c .before .before .count2 .ensures in
+    let n = left-next (a .ranking .now) (k .loop .place) (omega arith) in
+    sym (harmony-worse (a .first .counts) (a .second .counts) n (omega arith)) ∙ k .loop .inv .1
+
+loop-again : tie.Need-loop-again Inv-loop μ-loop
+loop-again c =
+    let k = c .before .before .before .before .before .before in
+    let a = k .before .before .args in
+    let one = c .before .before .before .count .ensures in
+    let other = c .before .before .count2 .ensures in
+    let n = left-next (a .ranking .now) (k .loop .place) (omega arith) in
+    (omega arith, sym (harmony-next (a .first .counts) (a .second .counts) n (omega arith) (omega arith)) ∙ k .loop .inv .1)
+
+returns-3 : tie.Need-returns-3 Inv-loop μ-loop
+returns-3 c =
+    let k = c .before in
+    let a = k .before .before .args in
+    sym (harmony-end (a .first .counts) (a .second .counts) (left-none (a .ranking .now) (k .loop .place) (omega arith))) ∙ k .loop .inv .1
+
+pub harmony-spec : {M : Type 1} → statement M
+harmony-spec =
+    tie.close
+    (tie.spec
+    Inv-loop
+    μ-loop
+    (λ c. search needs)
+    (λ c. search needs)
+    cast-machine
+    count-requires
+    count-requires-2
+    returns
+    returns-2
+    (λ c. search needs)
+    (λ c. search needs)
+    loop-again
+    returns-3)

@@ -1,0 +1,32 @@
+-- What the finder's inner functions answer. The finder's own contract rests on none of it.
+use mathlib.Core.Bool.{Bool, _&&_, not}
+use mathlib.Core.List.{List}
+use mathlib.Core.Option.{Option, some, none}
+use Prim.Native.Nat.{ℕ, _+_}
+use lib.ListN.{getD}
+use Rattle.basics.specs.Search.{allOf, firstThat, numbersBelow}
+use Rattle.basics.specs.Sets.{member}
+use Rattle.ranking.specs.declared.Condition.{Condition}
+use Rattle.ranking.specs.declared.finder.Next.{Next}
+use Rattle.ranking.specs.declared.finder.Next.the-variants as nexts
+use Rattle.ranking.specs.Finder.{apart}
+
+-- the condition whose bytes stand at a place of a list
+abbrev pub conditionAt : List ℕ → ℕ → Condition
+conditionAt l at = record { fewer = getD l at 0; more = getD l (at + 1) 0 }
+
+-- no machine placed is in W, so that the condition is open still, and the machine is in L
+abbrev pub blocks : ℕ → ℕ → Condition → Bool
+blocks placed m c = apart (c .fewer) placed && member (c .more) m
+
+-- no condition keeps the machine from the next place
+abbrev pub mayStand : List Condition → ℕ → ℕ → Bool
+mayStand cs placed m = allOf (λ c. not (blocks placed m c)) cs
+
+-- the smallest machine that is not placed and may stand at the next place
+unfoldable pub nextMachine : ℕ → List Condition → ℕ → Option ℕ
+nextMachine K cs placed = firstThat (λ m. not (member placed m) && mayStand cs placed m) (numbersBelow K)
+
+abbrev pub machineOf : Next → Option ℕ
+machineOf (nexts.Machine m) = some m
+machineOf nexts.Nothing = none

@@ -1,0 +1,8 @@
+-- Lemmas about the definitions, for the theorems and for proofs.
+pub mod Refusals
+pub mod Rankings
+pub mod Harmony
+pub mod Conditions
+pub mod Searches
+pub mod Arrangements
+pub mod Order

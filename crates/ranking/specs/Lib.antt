@@ -1,0 +1,13 @@
+pub mod Refusals
+pub mod Profiles
+pub mod Rankings
+pub mod Harmony
+pub mod Conditions
+pub mod ByteStrings
+pub mod Finder
+pub mod FinderSteps
+pub mod Lemmas
+pub mod HarmonicInequality
+pub mod ViolationSemiring
+pub mod ConditionMeaning
+pub mod FinderTheorems

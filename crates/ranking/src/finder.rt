@@ -1,0 +1,164 @@
+// The smallest ranking that fits a list of ranking conditions, by recursive constraint demotion.
+use super::Condition;
+use super::Finding;
+use super::Refusal;
+use super::Stage;
+use super::rankings;
+ghost use mathlib.Core.Path.{_≡_};
+ghost use mathlib.Core.Bool.{true};
+ghost use mathlib.Core.List.{[], _∷_};
+ghost use Prim.Native.Nat.{_+_, _<_, _≤_, _%_};
+ghost use lib.ListN.{length};
+ghost use Rattle.basics.specs.Sets.{member};
+ghost use Rattle.basics.specs.Refusals.{refuse, firstOf};
+ghost use Rattle.ranking.specs.Refusals.{numberOf, stageNumber, machineCount};
+ghost use Rattle.ranking.specs.Finder.{apart, soundCondition, soundList, conditionsOf, smallest, refusedFinding, answerOf, finding};
+ghost use Rattle.ranking.specs.FinderSteps.{conditionAt, blocks, mayStand, nextMachine, machineOf};
+
+// The machine for the next place.
+enum Next {
+    Machine(u8),
+    Nothing,
+}
+
+// Whether a machine is in a set.
+fn has(set: u8, machine: u8) -> bool
+    requires { ⌜ machine < 8 ⌝ }
+    ensures { λ r. ⌜ r ≡ member set machine ⌝ }
+{
+    (set >> machine) % 2 == 1
+}
+
+// Whether two sets have no machine in common.
+fn apart(a: u8, b: u8) -> bool
+    ensures { λ r. ⌜ r ≡ apart a b ⌝ }
+{
+    a & b == 0
+}
+
+// The condition whose bytes stand at a place of a list, W before L.
+fn condition_at(conditions: &[u8], at: usize) -> Condition
+    requires { ⌜ at + 1 < length (now conditions) ⌝ }
+    ensures { λ r. ⌜ r ≡ conditionAt (now (conditions .entry)) at ⌝ }
+{
+    Condition {
+        fewer: conditions[at],
+        more: conditions[at + 1],
+    }
+}
+
+// Whether a condition's sets are apart and hold machines below `machines` alone.
+fn sound(machines: u8, condition: Condition) -> bool
+    requires { ⌜ machines < 8 ⌝ }
+    ensures { λ r. ⌜ r ≡ soundCondition machines condition ⌝ }
+{
+    apart(condition.fewer, condition.more)
+        & (condition.fewer >> machines == 0)
+        & (condition.more >> machines == 0)
+}
+
+// Whether a condition keeps a machine from the next place: it is in L, and no machine placed is in W.
+fn blocks(condition: Condition, placed: u8, machine: u8) -> bool
+    requires { ⌜ machine < 8 ⌝ }
+    ensures { λ r. ⌜ r ≡ blocks placed machine condition ⌝ }
+{
+    apart(condition.fewer, placed) & has(condition.more, machine)
+}
+
+// Refusal 15: whether the list is even, of at most 64 pairs, and sound in each.
+fn check_conditions(machines: u8, conditions: &[u8]) -> Stage
+    requires { ⌜ machines < 8 ⌝ }
+    ensures { λ r. ⌜ stageNumber r ≡ refuse 15 (soundList machines (now (conditions .entry))) ⌝ }
+{
+    if conditions.len() % 2 != 0 {
+        return Stage::Refused(Refusal::Conditions);
+    }
+    if conditions.len() > 128 {
+        return Stage::Refused(Refusal::Conditions);
+    }
+    let mut at = 0;
+    while at < conditions.len() {
+        if !sound(machines, condition_at(conditions, at)) {
+            return Stage::Refused(Refusal::Conditions);
+        }
+        at += 2;
+    }
+    Stage::Passed
+}
+
+// Refusals 1 and 15.
+fn check(machines: u8, conditions: &[u8]) -> Stage
+    ensures { λ r. ⌜ stageNumber r ≡ firstOf (refuse 1 (machineCount machines) ∷ refuse 15 (soundList machines (now (conditions .entry))) ∷ []) ⌝ }
+{
+    let answer = rankings::check_machine_count(machines);
+    let Stage::Passed = answer else {
+        return answer;
+    };
+    check_conditions(machines, conditions)
+}
+
+// Whether no condition keeps a machine from the next place.
+fn may_stand(conditions: &[u8], placed: u8, machine: u8) -> bool
+    requires { ⌜ (length (now conditions) % 2 ≡ 0) × (machine < 8) ⌝ }
+    ensures { λ r. ⌜ r ≡ mayStand (conditionsOf (now (conditions .entry))) placed machine ⌝ }
+{
+    let mut at = 0;
+    while at < conditions.len() {
+        if blocks(condition_at(conditions, at), placed, machine) {
+            return false;
+        }
+        at += 2;
+    }
+    true
+}
+
+// The smallest machine that is not placed and may stand at the next place.
+fn next_machine(machines: u8, conditions: &[u8], placed: u8) -> Next
+    requires { ⌜ (length (now conditions) % 2 ≡ 0) × (machines < 8) ⌝ }
+    ensures { λ r. ⌜ machineOf r ≡ nextMachine machines (conditionsOf (now (conditions .entry))) placed ⌝ }
+{
+    for machine in 0..machines {
+        if !has(placed, machine) & may_stand(conditions, placed, machine) {
+            return Next::Machine(machine);
+        }
+    }
+    Next::Nothing
+}
+
+// What a refused call answers: the number, and no ranking.
+fn refused(refusal: Refusal) -> Finding
+    ensures { λ r. ⌜ r ≡ refusedFinding (numberOf refusal) ⌝ }
+{
+    Finding {
+        number: refusal.number(),
+        ranking: [0; 6],
+    }
+}
+
+// Fills the places from the highest down: refusal 16 where no machine may stand at one.
+fn rank(machines: u8, conditions: &[u8]) -> Finding
+    requires { ⌜ (machines ≤ 6) × (soundList machines (now conditions) ≡ true) ⌝ }
+    ensures { λ r. ⌜ r ≡ answerOf machines (smallest machines (conditionsOf (now (conditions .entry)))) ⌝ }
+{
+    let mut ranking = [0u8; 6];
+    let mut placed: u8 = 0;
+    for place in 0..machines {
+        let next = next_machine(machines, conditions, placed);
+        let Next::Machine(machine) = next else {
+            return refused(Refusal::NoRanking);
+        };
+        ranking[place as usize] = machine;
+        placed = placed | (1 << machine);
+    }
+    Finding { number: 0, ranking }
+}
+
+// The smallest ranking, as a byte string, that fits every condition of the list: refusals 1, 15 and 16.
+pub fn find(machines: u8, conditions: &[u8]) -> Finding
+    ensures { λ r. ⌜ r ≡ finding machines (now (conditions .entry)) ⌝ }
+{
+    let Stage::Refused(refusal) = check(machines, conditions) else {
+        return rank(machines, conditions);
+    };
+    refused(refusal)
+}

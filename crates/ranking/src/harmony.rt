@@ -1,0 +1,41 @@
+// Harmonic comparison of two profiles.
+use super::Comparison;
+use super::Order;
+use super::Profile;
+use super::Stage;
+use super::rankings;
+ghost use mathlib.Core.Path.{_≡_};
+ghost use mathlib.Core.Bool.{true};
+ghost use Prim.Native.Nat.{_≤_};
+ghost use lib.ListN.{length};
+ghost use Rattle.ranking.specs.Rankings.{isRanking};
+ghost use Rattle.ranking.specs.Harmony.{harmony, compared, comparing};
+
+// How the first profile stands to the second: goes down the ranking to the highest ranked machine where they differ.
+pub fn harmony(ranking: &[u8], first: Profile, second: Profile) -> Order
+    requires { ⌜ (isRanking (length (now ranking)) (now ranking) ≡ true) × (length (now ranking) ≤ 6) ⌝ }
+    ensures { λ r. ⌜ r ≡ harmony (now (ranking .entry)) (first .counts) (second .counts) ⌝ }
+{
+    for place in 0..ranking.len() {
+        let machine = ranking[place] as usize;
+        let one = first.count(machine);
+        let other = second.count(machine);
+        if one < other {
+            return Order::Better;
+        }
+        if other < one {
+            return Order::Worse;
+        }
+    }
+    Order::Equal
+}
+
+// Compares two profiles of `machines` machines under a ranking: refusals 1 and 7.
+pub fn compare(machines: u8, ranking: &[u8], first: Profile, second: Profile) -> Comparison
+    ensures { λ r. ⌜ compared r ≡ comparing machines (now (ranking .entry)) first second ⌝ }
+{
+    let Stage::Refused(refusal) = rankings::check(machines, ranking) else {
+        return Comparison::Ordered(harmony(ranking, first, second));
+    };
+    Comparison::Refused(refusal)
+}

@@ -1,0 +1,109 @@
+// Violation profiles, rankings, harmonic comparison and ranking conditions.
+pub mod conditions;
+pub mod finder;
+pub mod harmony;
+pub mod rankings;
+
+ghost use mathlib.Core.Path.{_≡_};
+ghost use Prim.Native.Nat.{_<_};
+ghost use lib.ListN.{getD};
+ghost use Rattle.basics.specs.Refusals.{refuse};
+ghost use Rattle.ranking.specs.Refusals.{numberOf, stageNumber};
+ghost use Rattle.ranking.specs.Profiles.{zeroProfile};
+
+// How often a candidate breaks each constraint, in card order; unused places are 0.
+pub struct Profile {
+    pub counts: [u16; 6],
+}
+
+impl Profile {
+    // The profile of no violations: the one definition of it in code.
+    pub const ZERO: Profile = Profile { counts: [0; 6] };
+
+    pub fn zero() -> Profile
+        ensures { λ r. ⌜ r ≡ zeroProfile ⌝ }
+    {
+        Profile::ZERO
+    }
+
+    // The count of a machine.
+    pub fn count(self, machine: usize) -> u16
+        requires { ⌜ machine < 6 ⌝ }
+        ensures { λ r. ⌜ r ≡ getD (self .counts) machine 0 ⌝ }
+    {
+        self.counts[machine]
+    }
+}
+
+// How one profile stands to another under a ranking.
+pub enum Order {
+    Better,
+    Equal,
+    Worse,
+}
+
+// What a comparison of two profiles asks of a ranking: W, the machines where the first has fewer, and L, where it has more.
+// Bit i is machine i.
+pub struct Condition {
+    pub fewer: u8,
+    pub more: u8,
+}
+
+// Why a call is refused.
+pub enum Refusal {
+    MachineCount,
+    Ranking,
+    Conditions,
+    NoRanking,
+}
+
+impl Refusal {
+    // Its number in the refusal table.
+    pub fn number(self) -> u8
+        ensures { λ r. ⌜ r ≡ numberOf self ⌝ }
+    {
+        match self {
+            Refusal::MachineCount => 1,
+            Refusal::Ranking => 7,
+            Refusal::Conditions => 15,
+            Refusal::NoRanking => 16,
+        }
+    }
+}
+
+// What a checking stage answers.
+pub enum Stage {
+    Passed,
+    Refused(Refusal),
+}
+
+impl Stage {
+    // The answer of a stage that is one test.
+    pub fn tested(passed: bool, refusal: Refusal) -> Stage
+        ensures { λ r. ⌜ stageNumber r ≡ refuse (numberOf refusal) passed ⌝ }
+    {
+        if passed {
+            Stage::Passed
+        } else {
+            Stage::Refused(refusal)
+        }
+    }
+}
+
+// What comparing answers.
+pub enum Comparison {
+    Ordered(Order),
+    Refused(Refusal),
+}
+
+// What deriving a condition answers.
+pub enum Derived {
+    Condition(Condition),
+    Refused(Refusal),
+}
+
+// What the finder answers: the refusal's number, 0 where there is none, and the ranking, unused places 0.
+pub struct Finding {
+    pub number: u8,
+    pub ranking: [u8; 6],
+}
