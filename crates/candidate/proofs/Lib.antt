@@ -1,0 +1,4 @@
+pub mod Pairs
+pub mod Running
+pub mod Scoring
+pub mod Answers

@@ -1,0 +1,80 @@
+use mathlib.Core.Path.{_≡_, sym, ap, _∙_}
+use mathlib.Core.Bool.{true, false, not}
+use mathlib.Core.Logic.{⊎-elim}
+use Prim.Native.Nat.{_≤_, _-_, _+_, _*_, _%_}
+use borrow.Author.Needs.{needs}
+use borrow.Author.Tests.{not-true, not-false}
+use native.Mathlib.Omega.{arith}
+use lib.ListN.{length, drop}
+use Rattle.basics.specs.Search.{allOf}
+use Rattle.basics.proofs.Search.{all-none, all-next, all-fails}
+use Rattle.basics.proofs.Refusals.{passes-with, refuses-with}
+use Rattle.candidate.specs.Candidates.{pairsOf}
+use Rattle.candidate.specs.Evaluating.{soundPair, soundCandidate}
+use Rattle.candidate.proofs.Pairs.{pairs-next, pairs-end, odd-refused, long-refused, sound-is}
+use Rattle.candidate.proofs.check_candidate.Statement.{statement}
+use Rattle.candidate.proofs.check_candidate.Tie as tie
+
+abbrev Inv-loop : tie.InvT-loop
+Inv-loop candidate symbols at₀ at =
+    (at % 2 ≡ 0)
+    × (at ≤ length candidate)
+    × (allOf (soundPair symbols) (pairsOf (drop at candidate)) ≡ allOf (soundPair symbols) (pairsOf candidate))
+
+abbrev μ-loop : tie.MeasureT-loop
+μ-loop candidate symbols at₀ at = length candidate - at
+
+returns : tie.Need-returns Inv-loop μ-loop
+returns c =
+    let a = c .before .before .args in
+    sym (refuses-with 13 (odd-refused (a .symbols) (a .candidate .now) (c .if1 .taken)))
+
+returns-2 : tie.Need-returns-2 Inv-loop μ-loop
+returns-2 c =
+    let a = c .before .before .before .args in
+    sym (refuses-with 13 (long-refused (a .symbols) (a .candidate .now) (omega arith) (omega arith)))
+
+returns-3 : tie.Need-returns-3 Inv-loop μ-loop
+returns-3 c =
+    let k = c .before .before .before in
+    let a = k .before .before .before .before .args in
+    let l = a .candidate .now in
+    sym (refuses-with 13 (sound-is (a .symbols) l (omega arith) (omega arith)
+    ∙ sym (k .loop .inv .2)
+    ∙ all-fails (soundPair (a .symbols)) (pairs-next l (k .loop .at) (omega arith)) (sym (c .before .is-sound-at .ensures) ∙ not-true (c .before .is-sound-at .result) (c .if3 .taken))))
+
+loop-again : tie.Need-loop-again Inv-loop μ-loop
+loop-again c =
+    let k = c .before .before .before in
+    let a = k .before .before .before .before .args in
+    let l = a .candidate .now in (
+      omega arith,
+      omega arith,
+      all-next (soundPair (a .symbols)) (pairs-next l (k .loop .at) (omega arith)) (sym (c .before .is-sound-at .ensures) ∙ not-false (c .before .is-sound-at .result) (c .if3 .left))
+          ∙ k .loop .inv .2,
+    )
+
+returns-4 : tie.Need-returns-4 Inv-loop μ-loop
+returns-4 c =
+    let k = c .before in
+    let a = k .before .before .before .before .args in
+    let l = a .candidate .now in
+    sym (passes-with 13 (sound-is (a .symbols) l (omega arith) (omega arith)
+    ∙ sym (k .loop .inv .2)
+    ∙ all-none (soundPair (a .symbols)) (pairs-end l (k .loop .at) (omega arith))))
+
+pub check-candidate-spec : {M : Type 1} → statement M
+check-candidate-spec =
+    tie.close
+    (tie.spec
+    Inv-loop
+    μ-loop
+    returns
+    returns-2
+    (λ c. search needs)
+    (λ c κs. search needs)
+    returns-3
+    (λ c. search needs)
+    (λ c. search needs)
+    loop-again
+    returns-4)

@@ -1,0 +1,121 @@
+use mathlib.Core.Path.{_≡_, sym, ap, _∙_}
+use mathlib.Core.Bool.{true, false}
+use Prim.Native.Nat.{_≤_, _<_, _%_}
+use native.Mathlib.Omega.{arith}
+use lib.Dec.{lit<}
+use lib.ListN.{length}
+use Rattle.basics.proofs.Refusals.{passed, refuses-with, refused as test-failed}
+use Rattle.card.specs.Layout.{symbolCount}
+use Rattle.card.specs.Card.{cardRefusal, machinesOf}
+use Rattle.card.specs.Refusals.{stageNumber as cardStage}
+use Rattle.card.proofs.Stages.{number-pos as card-number-pos}
+use Rattle.candidate.specs.Refusals.{stageNumber}
+use Rattle.candidate.specs.Candidates.{pairsOf, isComplete}
+use Rattle.candidate.specs.Evaluating.{soundCandidate, refused}
+use Rattle.candidate.proofs.Pairs.{sound-shape, length-pairs}
+use Rattle.candidate.proofs.Answers.{number-pos, card-refused, candidate-refused, completion-refused, evaluated}
+use borrow.Author.Needs.{needs}
+use Rattle.candidate.proofs.evaluate.Statement.{statement}
+use Rattle.candidate.proofs.evaluate.Tie as tie
+use Rattle.card.proofs.Stage.number.Reads as Stage-number-reads′
+
+returns : tie.Need-returns
+returns c =
+    let a = c .before .before .before .before .before .before .before .args in
+    let e : cardRefusal (a .card .now) ≡ c .before .number .result = sym (c .before .before .before .before .check .ensures) ∙ sym (c .before .number .ensures) in
+    let q = ap cardStage (c .before .before .enum-told2 .given .1) in
+    c .refused .ensures ∙ sym (card-refused (a .card .now) (a .candidate .now) (c .before .number .result) e (omega (arith, q, card-number-pos (c .before .before .enum-told2 .given .0 .0), c .before .number .ensures)))
+
+-- the card is accepted
+card-passed : (c : tie.After-enum-told) → cardRefusal (c .before .before .before .before .before .args .card .now) ≡ 0
+card-passed c = sym (c .before .before .check .ensures) ∙ ap cardStage (c .enum-told .given .1)
+
+symbol-count-requires : tie.Need-symbol-count-requires
+symbol-count-requires c κs = card-passed c
+
+-- the candidate is sound
+candidate-passed : (c : tie.After-enum-told3) →
+    soundCandidate (symbolCount (c .before .before .before .before .before .before .before .before .before .args .card .now)) (c .before .before .before .before .before .before .before .before .before .args .candidate .now) ≡ true
+candidate-passed c =
+    let S = c .before .before .before .symbol-count in
+    let l = c .before .before .before .before .before .before .before .before .before .args .candidate .now in
+    rw (S .ensures) at (passed 13 (soundCandidate (S .result) l) (lit< tt) (sym (c .before .before .check-candidate .ensures) ∙ ap stageNumber (c .enum-told3 .given .1)))
+
+returns-2 : tie.Need-returns-2
+returns-2 c =
+    let a = c .before .before .before .before .before .before .before .before .before .before .before .args in
+    let k = c .before .before .before .before in
+    let S = k .before .symbol-count in
+    let b = soundCandidate (S .result) (a .candidate .now) in
+    let q = ap stageNumber (c .before .before .enum-told4 .given .1) in
+    let f : b ≡ false = test-failed 13 b (omega (arith, number-pos (c .before .before .enum-told4 .given .0 .0), q, k .check-candidate .ensures)) in
+    c .refused2 .ensures
+    ∙ ap refused (c .before .number2 .ensures ∙ k .check-candidate .ensures ∙ refuses-with 13 f)
+    ∙ sym (candidate-refused (a .card .now) (a .candidate .now) (card-passed (k .before .before)) (rw (S .ensures) at f))
+
+score-requires : tie.Need-score-requires
+score-requires c κs = (card-passed (c .before .before .before .before), candidate-passed c)
+
+returns-3 : tie.Need-returns-3
+returns-3 c =
+    let a = c .before .before .before .before .before .before .before .before .before .before .before .before .before .before .args in
+    let k = c .before .before .before .before in
+    let b = isComplete (machinesOf (a .card .now)) (pairsOf (a .candidate .now)) in
+    let q = ap stageNumber (c .before .before .enum-told6 .given .1) in
+    let f : b ≡ false = test-failed 14 b (omega (arith, number-pos (c .before .before .enum-told6 .given .0 .0), q, k .score .ensures .stage)) in
+    c .refused3 .ensures
+    ∙ ap refused (c .before .number3 .ensures ∙ k .score .ensures .stage ∙ refuses-with 14 f)
+    ∙ sym (completion-refused (a .card .now) (a .candidate .now) (card-passed (k .before .before .before .before .before)) (candidate-passed (k .before)) f)
+
+-- the candidate's shape
+shape : (c : tie.After-profile) →
+    (length (c .before .before .before .before .before .before .before .before .before .before .before .before .before .args .candidate .now) % 2 ≡ 0) × (length (c .before .before .before .before .before .before .before .before .before .before .before .before .before .args .candidate .now) ≤ 6398)
+shape c =
+    let a = c .before .before .before .before .before .before .before .before .before .before .before .before .before .args in
+    let h = sound-shape (symbolCount (a .card .now)) (a .candidate .now) (candidate-passed (c .before .before .before .before)) in
+    (h .0, h .1)
+
+cast-t14 : tie.Need-cast-t14
+cast-t14 c = omega (arith, shape c)
+
+spelled-length-requires : tie.Need-spelled-length-requires
+spelled-length-requires c κs = shape c
+
+returns-4 : tie.Need-returns-4
+returns-4 c =
+    let a = c .before .before .before .before .before .before .before .before .before .before .before .before .before .before .args in
+    let k = c .before .before .before .before in
+    let b = isComplete (machinesOf (a .card .now)) (pairsOf (a .candidate .now)) in
+    let t : b ≡ true = passed 14 b (lit< tt) (sym (k .score .ensures .stage) ∙ ap stageNumber (c .before .before .enum-told5 .given .1)) in
+    let p = k .score .ensures .profile t in
+    let n = sym (length-pairs (a .candidate .now) (shape (c .before) .0)) in
+    let w = c .spelled-length .ensures in
+    (λ i. record { number = 0; profile = p i; pairs = n i; «word_length» = w i })
+    ∙ sym (evaluated (a .card .now) (a .candidate .now) (card-passed (k .before .before .before .before .before)) (candidate-passed (k .before)) t)
+
+pub evaluate-spec : {M : Type 1} → statement M
+evaluate-spec =
+    tie.close
+    (tie.spec
+    (λ c κs. search needs)
+    (λ c. search needs)
+    (λ c. search needs)
+    (λ c κs. search needs)
+    (λ c κs. search needs)
+    returns
+    symbol-count-requires
+    (λ c κs. search needs)
+    (λ c. search needs)
+    (λ c. search needs)
+    (λ c κs. search needs)
+    (λ c κs. search needs)
+    returns-2
+    score-requires
+    (λ c. search needs)
+    (λ c. search needs)
+    (λ c κs. search needs)
+    (λ c κs. search needs)
+    returns-3
+    cast-t14
+    spelled-length-requires
+    returns-4)

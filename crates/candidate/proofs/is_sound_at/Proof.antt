@@ -1,0 +1,18 @@
+use mathlib.Core.Path.{_≡_, ap, ap₂, _∙_}
+use mathlib.Core.Bool.{Bool, _&&_}
+use Rattle.machine.specs.declared.Pair.{Pair}
+use Rattle.machine.specs.Symbols.{isPair, withinSymbols}
+use Rattle.candidate.specs.Evaluating.{soundPair}
+use borrow.Author.Needs.{needs}
+use Rattle.candidate.proofs.is_sound_at.Statement.{statement}
+use Rattle.candidate.proofs.is_sound_at.Tie as tie
+
+returns : tie.Need-returns
+returns c =
+    let p = c .before .before .pair-at .result in
+    let S = c .before .before .before .before .args .symbols in
+    ap₂ (λ (a b : Bool). a && b) (c .before .is-pair .ensures) (c .is-within .ensures) ∙ ap (soundPair S) (c .before .before .pair-at .ensures)
+
+pub is-sound-at-spec : {M : Type 1} → statement M
+is-sound-at-spec =
+    tie.close (tie.spec (λ c κs. search needs) (λ c κs. search needs) (λ c κs. search needs) returns)

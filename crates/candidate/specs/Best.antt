@@ -1,0 +1,82 @@
+-- The best candidate for a word: the order on candidates, and the least in that order.
+use mathlib.Core.Bool.{Bool, true, false, _&&_, _||_}
+use mathlib.Core.List.{List, [], _∷_, map}
+use mathlib.Core.Option.{Option, some, none}
+use Prim.Native.Nat.{ℕ, zero, suc, _+_, _*_}
+use lib.ListN.{length}
+use lib.Dec.{eqb, ltb}
+use Rattle.basics.specs.Search.{allOf, those, joined, numbersBelow}
+use Rattle.machine.specs.declared.Pair.{Pair}
+use Rattle.machine.specs.Symbols.{isPair}
+use Rattle.machine.specs.Machine.{Machine}
+use Rattle.ranking.specs.declared.Order.{Order}
+use Rattle.ranking.specs.declared.Order.the-variants.{Better, Equal, Worse}
+use Rattle.ranking.specs.Harmony.{harmony}
+use Rattle.card.specs.Layout.{symbolCount, partsOf}
+use Rattle.card.specs.Card.{machinesOf, stateProduct}
+use Rattle.candidate.specs.Candidates.{bytesOf, spelled, isComplete, profileOf}
+
+-- of two byte strings of one length the smaller has the lower byte at the first place where they differ
+unfoldable pub smaller : List ℕ → List ℕ → Bool
+smaller [] ys = false
+smaller (x ∷ xs) [] = false
+smaller (x ∷ xs) (y ∷ ys) = ltb x y || (eqb x y && smaller xs ys)
+
+-- a candidate with its profile
+pub record Form : Type 0 where
+  pub candidate : List Pair
+  pub profile : List ℕ
+
+-- fewer pairs; then the smaller byte string
+unfoldable pub shorter : List Pair → List Pair → Bool
+shorter c d = ltb (length c) (length d) || (eqb (length c) (length d) && smaller (bytesOf c) (bytesOf d))
+
+-- by how the profiles stand: the better profile; between equal ones what comes next
+abbrev pub byOrder : Order → Bool → Bool
+byOrder Better next = true
+byOrder Equal next = next
+byOrder Worse next = false
+
+-- the better profile under the ranking; then fewest pairs; then the smallest byte string
+unfoldable pub preferred : List ℕ → Form → Form → Bool
+preferred ranking a b = byOrder (harmony ranking (a .profile) (b .profile)) (shorter (a .candidate) (b .candidate))
+
+-- two words are the same
+unfoldable pub sameWord : List ℕ → List ℕ → Bool
+sameWord [] [] = true
+sameWord [] (y ∷ ys) = false
+sameWord (x ∷ xs) [] = false
+sameWord (x ∷ xs) (y ∷ ys) = eqb x y && sameWord xs ys
+
+-- the pairs over S symbols
+unfoldable pub pairsOver : ℕ → List Pair
+pairsOver S = those isPair (joined (λ x. map (λ y. record { input = x; output = y }) (numbersBelow (S + 1))) (numbersBelow (S + 1)))
+
+-- the lists of fewer than n of the pairs
+unfoldable pub listsBelow : ℕ → List Pair → List (List Pair)
+listsBelow zero ps = []
+listsBelow (suc n) ps = let shorterLists = listsBelow n ps in [] ∷ joined (λ p. map (λ c. p ∷ c) shorterLists) ps
+
+-- those of the lists that are complete candidates for the word, with their profiles
+unfoldable pub formsAmong : List Machine → List ℕ → List (List Pair) → List Form
+formsAmong ms word [] = []
+formsAmong ms word (c ∷ cs) =
+    elim (sameWord (spelled c) word && isComplete ms c) [ true ↦ record { candidate = c; profile = profileOf ms c } ∷ formsAmong ms word cs | false ↦ formsAmong ms word cs ]
+
+-- the least in the order of preference
+unfoldable pub leastOf : List ℕ → List Form → Option Form
+leastOf ranking [] = none
+leastOf ranking (a ∷ rest) =
+    elim (leastOf ranking rest) [ none ↦ some a | some b ↦ elim (preferred ranking b a) [ true ↦ some b | false ↦ some a ] ]
+
+-- the best among the candidates of fewer pairs than a bound
+unfoldable pub bestBelow : ℕ → ℕ → List Machine → List ℕ → List ℕ → Option Form
+bestBelow bound S ms ranking word = leastOf ranking (formsAmong ms word (listsBelow bound (pairsOver S)))
+
+-- the number of nodes: (n + 1) × P
+abbrev pub nodeCount : List ℕ → List ℕ → ℕ
+nodeCount card word = (length word + 1) * stateProduct (partsOf card)
+
+-- the best candidate for a word. That lists of as many pairs as nodes, or more, change nothing is a theorem
+unfoldable pub best : List ℕ → List ℕ → List ℕ → Option Form
+best card ranking word = bestBelow (nodeCount card word) (symbolCount card) (machinesOf card) ranking word

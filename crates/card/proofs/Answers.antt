@@ -1,0 +1,68 @@
+-- The answers of reading and packing by the number of their refusal. Assumes nothing.
+use mathlib.Core.Path.{_≡_, refl, ap, sym, _∙_}
+use mathlib.Core.List.{List, [], _∷_, _++_}
+use Prim.Native.Nat.{ℕ, zero, suc, _+_, _*_, _<_}
+use native.Mathlib.Omega.{arith}
+use lib.ListN.{length, take, drop}
+use lib.Seq.{take-at, drop-at, drop-drop}
+use Rattle.basics.specs.Refusals.{firstOf}
+use Rattle.card.specs.Layout.{offsetOf, lengthOf}
+use Rattle.card.specs.Reading.{readingRefusal, reading}
+use Rattle.card.specs.Packing.{table, packed, packingRefusal, packing, packedTarget}
+use Rattle.card.specs.Laws.Packed.{length-table, packed-length}
+
+-- two refusals in a row, and others behind them
+pub two-up : (p d n : ℕ) (ns : List ℕ) → n ≡ firstOf (p ∷ d ∷ []) → 0 < n → n ≡ firstOf (p ∷ d ∷ ns)
+two-up zero zero n ns e h = absurd (omega arith)
+two-up zero (suc d) n ns e h = e
+two-up (suc p) d n ns e h = e
+
+pub two-on : (p d : ℕ) (ns : List ℕ) → firstOf (p ∷ d ∷ []) ≡ 0 → firstOf (p ∷ d ∷ ns) ≡ firstOf ns
+two-on zero zero ns e = refl
+two-on zero (suc d) ns e = absurd (omega arith)
+two-on (suc p) d ns e = absurd (omega arith)
+
+-- reading
+pub read-refused : (card : List ℕ) (i n : ℕ) → readingRefusal card i ≡ n → 0 < n → reading card i ≡ record { number = n; offset = 0; length = 0 }
+unfolding reading
+read-refused card i zero e h = absurd (omega arith)
+read-refused card i (suc n) e h = rw e
+
+pub read-accepted : (card : List ℕ) (i : ℕ) → readingRefusal card i ≡ 0 → reading card i ≡ record { number = 0; offset = offsetOf card i; length = lengthOf card i }
+unfolding reading
+read-accepted card i e = rw e
+
+-- packing
+module _ (S : ℕ) (lengths parts target : List ℕ) where
+  pub pack-refused : (n : ℕ) → packingRefusal S lengths parts (length target) ≡ n → 0 < n → packing S lengths parts target ≡ record { number = n; length = 0 }
+  unfolding packing
+  pack-refused zero e h = absurd (omega arith)
+  pack-refused (suc n) e h = rw e
+
+  pub target-kept : (n : ℕ) → packingRefusal S lengths parts (length target) ≡ n → 0 < n → packedTarget S lengths parts target ≡ target
+  unfolding packedTarget
+  target-kept zero e h = absurd (omega arith)
+  target-kept (suc n) e h = rw e
+
+  pub pack-accepted : packingRefusal S lengths parts (length target) ≡ 0 → packing S lengths parts target ≡ record { number = 0; length = 2 + 4 * length lengths + length parts }
+  unfolding packing
+  pack-accepted e = rw (e, packed-length S lengths parts)
+
+  -- the table written, then the parts
+  pub target-packed : (t1 t2 : List ℕ) → packingRefusal S lengths parts (length target) ≡ 0
+      → t1 ≡ table S lengths ++ drop (2 + 4 * length lengths) target
+      → t2 ≡ take (2 + 4 * length lengths) t1 ++ parts ++ drop (2 + 4 * length lengths + length parts) t1
+      → t2 ≡ packedTarget S lengths parts target
+  unfolding packedTarget packed
+  target-packed t1 t2 e f g =
+      let n = 2 + 4 * length lengths in
+      let rest = drop n target in
+      let k = length-table S lengths in
+      let a : take n t1 ≡ table S lengths = ap (λ (l : List ℕ). take n l) f ∙ take-at (table S lengths) rest n k in
+      let b : drop n t1 ≡ rest = ap (λ (l : List ℕ). drop n l) f ∙ drop-at (table S lengths) rest n k in
+      let c : drop (n + length parts) t1 ≡ drop (n + length parts) target =
+      sym (drop-drop (length parts) n t1) ∙ ap (λ (l : List ℕ). drop (length parts) l) b ∙ drop-drop (length parts) n target in
+      g
+      ∙ ap (λ (l : List ℕ). l ++ parts ++ drop (n + length parts) t1) a
+      ∙ ap (λ (l : List ℕ). table S lengths ++ parts ++ l) c
+      ∙ sym (rw e (ap (λ (m : ℕ). table S lengths ++ parts ++ drop m target) (packed-length S lengths parts)))

@@ -1,0 +1,60 @@
+use mathlib.Core.Path.{_≡_}
+use mathlib.Core.Bool.{true}
+use mathlib.Core.List.{[], _∷_}
+use lib.Dec.{lit<}
+use Rattle.basics.specs.Refusals.{refuse}
+use Rattle.card.specs.Layout.{symbolCount, counted, laidOut, partsOf}
+use Rattle.card.specs.Card.{partsRefusal, fewStates, cardRefusal}
+use Rattle.card.proofs.Stages.{passed-test, refused-up}
+use borrow.Author.Needs.{needs}
+use Rattle.card.proofs.check.Statement.{statement}
+use Rattle.card.proofs.check.Tie as tie
+
+-- what each stage that passed says of the card
+head-passed : (c : tie.After-enum-told) → counted (c .before .before .before .before .args .card .now) ≡ true
+head-passed c = passed-test (c .enum-told .given .1) 1 (counted (c .before .before .before .before .args .card .now)) (lit< tt) (c .before .before .check-head .ensures)
+
+layout-passed : (c : tie.After-enum-told3) → laidOut (c .before .before .before .before .before .before .before .args .card .now) ≡ true
+layout-passed c = passed-test (c .enum-told3 .given .1) 2 (laidOut (c .before .before .before .before .before .before .before .args .card .now)) (lit< tt) (c .before .before .check-layout .ensures)
+
+returns : tie.Need-returns
+unfolding cardRefusal
+returns c =
+    let l = c .before .before .before .before .args .card .now in
+    refused-up (c .enum-told2 .given .1) (refuse 1 (counted l))
+    (refuse 2 (laidOut l) ∷ partsRefusal (symbolCount l) (partsOf l) ∷ refuse 6 (fewStates (partsOf l)) ∷ [])
+    (c .before .before .check-head .ensures)
+
+check-layout-requires : tie.Need-check-layout-requires
+check-layout-requires c κs = head-passed c
+
+returns-2 : tie.Need-returns-2
+unfolding cardRefusal
+returns-2 c =
+    let p = c .before .before .before in
+    let l = p .before .before .before .before .args .card .now in
+    rw (head-passed p)
+    (refused-up (c .enum-told4 .given .1) (refuse 2 (laidOut l)) (partsRefusal (symbolCount l) (partsOf l) ∷ refuse 6 (fewStates (partsOf l)) ∷ [])
+    (c .before .before .check-layout .ensures))
+
+check-card-requires : tie.Need-check-card-requires
+check-card-requires c κs = (head-passed (c .before .before .before), layout-passed c)
+
+returns-3 : tie.Need-returns-3
+unfolding cardRefusal
+returns-3 c = rw (head-passed (c .before .before .before .before), layout-passed (c .before)) (c .check-card .ensures)
+
+pub check-spec : {M : Type 1} → statement M
+check-spec =
+    tie.close
+    (tie.spec
+    (λ c κs. search needs)
+    (λ c. search needs)
+    (λ c. search needs)
+    returns
+    check-layout-requires
+    (λ c. search needs)
+    (λ c. search needs)
+    returns-2
+    check-card-requires
+    returns-3)

@@ -1,0 +1,127 @@
+use native.Mathlib.Omega.{arith}
+use mathlib.Core.Path.{_≡_, refl, ap, sym, _∙_}
+use mathlib.Core.Bool.{true}
+use mathlib.Core.List.{[], _∷_}
+use lib.Dec.{eqb, leb, lit<}
+use lib.ListN.{length}
+use borrow.Author.Tests.{eqb-true, eq-eqb}
+use Rattle.basics.specs.Refusals.{refuse, firstOf}
+use Rattle.basics.proofs.Refusals.{last-one}
+use Rattle.card.specs.Refusals.{stageNumber}
+use Rattle.card.specs.Layout.{soundCounts}
+use Rattle.card.specs.Card.{partsRefusal, fewStates}
+use Rattle.card.specs.Packing.{total, split, packed, packingRefusal}
+use Rattle.card.specs.Laws.Layout.{Counted, counts-told}
+use Rattle.card.specs.Laws.Packed.{packed-length}
+use Rattle.card.proofs.Stages.{passed-number, passed-test, refused-number, refused-up}
+use Rattle.card.proofs.Answers.{two-up, two-on}
+use borrow.Author.Needs.{needs}
+use Rattle.card.proofs.check_packing.Statement.{statement}
+use Rattle.card.proofs.check_packing.Tie as tie
+
+-- what each stage that passed says of the input
+counts-passed : (c : tie.After-enum-told) → soundCounts (length (c .before .before .before .before .before .args .lengths .now)) (c .before .before .before .before .before .args .symbols) ≡ true
+counts-passed c =
+    let a = c .before .before .before .before .before .args in
+    passed-test (c .enum-told .given .1) 1 (soundCounts (length (a .lengths .now)) (a .symbols)) (lit< tt) (c .before .before .check-counts .ensures)
+
+counts : (c : tie.After-enum-told) → Counted (length (c .before .before .before .before .before .args .lengths .now)) (c .before .before .before .before .before .args .symbols)
+counts c = let a = c .before .before .before .before .before .args in counts-told (length (a .lengths .now)) (a .symbols) (counts-passed c)
+
+sum-tested : (c : tie.After-tested)
+    → stageNumber (c .tested .result) ≡ refuse 17 (eqb (total (c .before .before .before .before .before .before .before .args .lengths .now)) (length (c .before .before .before .before .before .before .before .args .parts .now)))
+sum-tested c =
+    c .tested .ensures ∙ ap (λ n. refuse 17 (eqb n (length (c .before .before .before .before .before .before .before .args .parts .now)))) (c .before .sum .ensures)
+
+sum-passed : (c : tie.After-enum-told3)
+    → total (c .before .before .before .before .before .before .before .before .before .args .lengths .now) ≡ length (c .before .before .before .before .before .before .before .before .before .args .parts .now)
+sum-passed c =
+    let a = c .before .before .before .before .before .before .before .before .before .args in
+    let t = eqb (total (a .lengths .now)) (length (a .parts .now)) in
+    eqb-true (total (a .lengths .now)) (length (a .parts .now)) (passed-test (c .enum-told3 .given .1) 17 t (lit< tt) (sum-tested (c .before .before)))
+
+-- the refusal of parts that pass
+parts-passed : (c : tie.After-enum-told5)
+    → firstOf (partsRefusal (c .before .before .before .before .before .before .before .before .before .before .before .before .args .symbols) (split (c .before .before .before .before .before .before .before .before .before .before .before .before .args .lengths .now) (c .before .before .before .before .before .before .before .before .before .before .before .before .args .parts .now))
+    ∷ refuse 6 (fewStates (split (c .before .before .before .before .before .before .before .before .before .before .before .before .args .lengths .now) (c .before .before .before .before .before .before .before .before .before .before .before .before .args .parts .now))) ∷ [])
+    ≡ 0
+parts-passed c = passed-number (c .enum-told5 .given .1) (c .before .before .check-parts .ensures)
+
+returns : tie.Need-returns
+unfolding packingRefusal
+returns c =
+    let a = c .before .before .before .before .before .args in
+    let parts = split (a .lengths .now) (a .parts .now) in
+    refused-up (c .enum-told2 .given .1) (refuse 1 (soundCounts (length (a .lengths .now)) (a .symbols)))
+    (refuse 17 (eqb (total (a .lengths .now)) (length (a .parts .now))) ∷ partsRefusal (a .symbols) parts ∷ refuse 6 (fewStates parts)
+    ∷ refuse 18 (leb (length (packed (a .symbols) (a .lengths .now) (a .parts .now))) (a .room)) ∷ [])
+    (c .before .before .check-counts .ensures)
+
+sum-requires : tie.Need-sum-requires
+sum-requires c κs = omega (arith, counts c)
+
+returns-2 : tie.Need-returns-2
+unfolding packingRefusal
+returns-2 c =
+    let p = c .before .before .before .before in
+    let a = p .before .before .before .before .before .args in
+    let parts = split (a .lengths .now) (a .parts .now) in
+    rw (counts-passed p)
+    (refused-up (c .enum-told4 .given .1) (refuse 17 (eqb (total (a .lengths .now)) (length (a .parts .now))))
+    (partsRefusal (a .symbols) parts ∷ refuse 6 (fewStates parts) ∷ refuse 18 (leb (length (packed (a .symbols) (a .lengths .now) (a .parts .now))) (a .room)) ∷ [])
+    (sum-tested (c .before .before)))
+
+check-parts-requires : tie.Need-check-parts-requires
+check-parts-requires c κs = omega (arith, counts (c .before .before .before .before), sum-passed c)
+
+returns-3 : tie.Need-returns-3
+unfolding packingRefusal
+returns-3 c =
+    let q = c .before .before .before in
+    let p = q .before .before .before .before in
+    let a = p .before .before .before .before .before .args in
+    let parts = split (a .lengths .now) (a .parts .now) in
+    rw (counts-passed p, eq-eqb (total (a .lengths .now)) (length (a .parts .now)) (sum-passed q))
+    (two-up (partsRefusal (a .symbols) parts) (refuse 6 (fewStates parts)) (stageNumber (c .before .before .check-parts .result))
+    (refuse 18 (leb (length (packed (a .symbols) (a .lengths .now) (a .parts .now))) (a .room)) ∷ [])
+    (c .before .before .check-parts .ensures) (refused-number (c .enum-told6 .given .1) refl))
+
+add-tested-2 : tie.Need-add-tested-2
+add-tested-2 c = omega (arith, counts (c .before .before .before .before .before .before .before))
+
+returns-4 : tie.Need-returns-4
+unfolding packingRefusal
+returns-4 c =
+    let m = c .before in
+    let q = m .before .before .before in
+    let p = q .before .before .before .before in
+    let a = p .before .before .before .before .before .args in
+    let parts = split (a .lengths .now) (a .parts .now) in
+    let room = refuse 18 (leb (length (packed (a .symbols) (a .lengths .now) (a .parts .now))) (a .room)) in
+    rw (counts-passed p, eq-eqb (total (a .lengths .now)) (length (a .parts .now)) (sum-passed q))
+    (c .tested2 .ensures
+    ∙ ap (λ n. refuse 18 (leb n (a .room))) (sym (packed-length (a .symbols) (a .lengths .now) (a .parts .now)))
+    ∙ sym (two-on (partsRefusal (a .symbols) parts) (refuse 6 (fewStates parts)) (room ∷ []) (parts-passed m) ∙ last-one room))
+
+pub check-packing-spec : {M : Type 1} → statement M
+check-packing-spec =
+    tie.close
+    (tie.spec
+    (λ c κs. search needs)
+    (λ c. search needs)
+    (λ c. search needs)
+    returns
+    sum-requires
+    (λ c κs. search needs)
+    (λ c. search needs)
+    (λ c. search needs)
+    returns-2
+    check-parts-requires
+    (λ c. search needs)
+    (λ c. search needs)
+    returns-3
+    (λ c. search needs)
+    (λ c. search needs)
+    add-tested-2
+    (λ c κs. search needs)
+    returns-4)

@@ -1,0 +1,42 @@
+use native.Mathlib.Omega.{arith}
+use mathlib.Core.Path.{_≡_, sym, _∙_}
+use mathlib.Core.List.{[], _∷_}
+use lib.Dec.{ltb}
+use Rattle.basics.specs.Refusals.{refuse}
+use Rattle.basics.proofs.Refusals.{last-one}
+use Rattle.card.specs.Layout.{machineCount}
+use Rattle.card.specs.Card.{cardRefusal}
+use Rattle.card.specs.Accepted.{accepted}
+use Rattle.card.proofs.Stages.{passed-number, refused-up}
+use borrow.Author.Needs.{needs}
+use Rattle.card.proofs.check_reading.Statement.{statement}
+use Rattle.card.proofs.check_reading.Tie as tie
+
+card-passed : (c : tie.After-enum-told) → cardRefusal (c .before .before .before .before .args .card .now) ≡ 0
+card-passed c = passed-number (c .enum-told .given .1) (c .before .before .check .ensures)
+
+returns : tie.Need-returns
+returns c =
+    let a = c .before .before .before .before .args in
+    refused-up (c .enum-told2 .given .1) (cardRefusal (a .card .now)) (refuse 17 (ltb (a .machine) (machineCount (a .card .now))) ∷ [])
+    (c .before .before .check .ensures)
+
+shared-slice-read-tested : tie.Need-shared-slice-read-tested
+shared-slice-read-tested c = omega (arith, accepted (c .before .before .before .before .before .args .card .now) (card-passed (c .before)) .head)
+
+returns-2 : tie.Need-returns-2
+returns-2 c =
+    let a = c .before .before .before .before .before .before .args in
+    rw (card-passed (c .before .before)) (c .tested .ensures ∙ sym (last-one (refuse 17 (ltb (a .machine) (machineCount (a .card .now))))))
+
+pub check-reading-spec : {M : Type 1} → statement M
+check-reading-spec =
+    tie.close
+    (tie.spec
+    (λ c κs. search needs)
+    (λ c. search needs)
+    (λ c. search needs)
+    returns
+    shared-slice-read-tested
+    (λ c κs. search needs)
+    returns-2)

@@ -1,0 +1,62 @@
+use native.Mathlib.Omega.{arith}
+use mathlib.Core.Path.{_≡_, sym, _∙_}
+use mathlib.Core.List.{[], _∷_}
+use Prim.Native.Nat.{_<_}
+use lib.Dec.{ltb, lit<}
+use borrow.Author.Tests.{ltb-true}
+use Rattle.basics.specs.Refusals.{refuse}
+use Rattle.basics.proofs.Refusals.{passed}
+use Rattle.card.specs.Layout.{machineCount}
+use Rattle.card.specs.Card.{cardRefusal}
+use Rattle.card.specs.Reading.{readingRefusal}
+use Rattle.card.specs.Laws.Search.{first-passed, rest-passed}
+use Rattle.card.proofs.Stages.{passed-number, refused-number}
+use Rattle.card.proofs.Answers.{read-refused, read-accepted}
+use borrow.Author.Needs.{needs}
+use Rattle.card.proofs.read_part.Statement.{statement}
+use Rattle.card.proofs.read_part.Tie as tie
+
+all-passed : (c : tie.After-enum-told) → readingRefusal (c .before .before .before .before .args .card .now) (c .before .before .before .before .args .machine) ≡ 0
+all-passed c = passed-number (c .enum-told .given .1) (c .before .before .check-reading .ensures)
+
+readable : (c : tie.After-index)
+    → (cardRefusal (c .before .before .before .before .before .args .card .now) ≡ 0) × (c .index .result < machineCount (c .before .before .before .before .before .args .card .now))
+readable c =
+    let a = c .before .before .before .before .before .args in
+    let e = all-passed (c .before) in
+    let t = ltb (a .machine) (machineCount (a .card .now)) in
+    let f = first-passed (refuse 17 t) [] (rest-passed (cardRefusal (a .card .now)) (refuse 17 t ∷ []) e) in
+    (first-passed (cardRefusal (a .card .now)) (refuse 17 t ∷ []) e, omega (arith, ltb-true (a .machine) (machineCount (a .card .now)) (passed 17 t (lit< tt) f)))
+
+returns : tie.Need-returns
+returns c =
+    let a = c .before .before .before .before .before .args in
+    let e : readingRefusal (a .card .now) (a .machine) ≡ c .number .result = sym (c .before .before .before .check-reading .ensures) ∙ sym (c .number .ensures) in
+    sym (read-refused (a .card .now) (a .machine) (c .number .result) e (refused-number (c .before .enum-told2 .given .1) (sym (c .number .ensures))))
+
+part-offset-requires : tie.Need-part-offset-requires
+part-offset-requires c κs = readable c
+
+part-length-requires : tie.Need-part-length-requires
+part-length-requires c κs = readable (c .before)
+
+returns-2 : tie.Need-returns-2
+returns-2 c =
+    let p = c .before .before .before in
+    let a = p .before .before .before .before .args in
+    let e = read-accepted (a .card .now) (a .machine) (all-passed p) in
+    cc
+
+pub read-part-spec : {M : Type 1} → statement M
+read-part-spec =
+    tie.close
+    (tie.spec
+    (λ c κs. search needs)
+    (λ c. search needs)
+    (λ c. search needs)
+    (λ c κs. search needs)
+    returns
+    (λ c κs. search needs)
+    part-offset-requires
+    part-length-requires
+    returns-2)

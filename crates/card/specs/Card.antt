@@ -1,0 +1,32 @@
+-- A card's machines, and its refusal.
+use mathlib.Core.Bool.{Bool}
+use mathlib.Core.List.{List, [], _∷_, map}
+use Prim.Native.Nat.{ℕ, _*_}
+use lib.Dec.{leb}
+use Rattle.basics.specs.Refusals.{refuse, firstOf}
+use Rattle.machine.specs.Machine.{Machine}
+use Rattle.machine.specs.Part.{machineOf, stateCount, partRefusal}
+use Rattle.card.specs.Layout.{symbolCount, counted, laidOut, partsOf}
+
+-- the machines of a card, in card order
+unfoldable pub machinesOf : List ℕ → List Machine
+machinesOf card = map machineOf (partsOf card)
+
+-- P, the product of the state counts
+unfoldable pub stateProduct : List (List ℕ) → ℕ
+stateProduct [] = 1
+stateProduct (part ∷ parts) = stateCount part * stateProduct parts
+
+-- machines are checked in card order, each for 3, 4, 5
+unfoldable pub partsRefusal : ℕ → List (List ℕ) → ℕ
+partsRefusal S parts = firstOf (map (partRefusal S) parts)
+
+-- not refusal 6
+abbrev pub fewStates : List (List ℕ) → Bool
+fewStates parts = leb (stateProduct parts) 128
+
+-- 0 where the card is accepted, else the first refusal met
+unfoldable pub cardRefusal : List ℕ → ℕ
+cardRefusal card =
+    firstOf
+    (refuse 1 (counted card) ∷ refuse 2 (laidOut card) ∷ partsRefusal (symbolCount card) (partsOf card) ∷ refuse 6 (fewStates (partsOf card)) ∷ [])

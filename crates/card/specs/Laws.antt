@@ -1,0 +1,10 @@
+-- Laws that the theorems on cards rest on.
+pub mod Search
+pub mod Bytes
+pub mod Parts
+pub mod Places
+pub mod Layout
+pub mod Repacked
+pub mod Packed
+pub mod Packable
+pub mod Checked

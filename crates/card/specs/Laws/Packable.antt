@@ -1,0 +1,47 @@
+-- What the checks of packing tell of its input. Assumes nothing.
+use mathlib.Core.Path.{_≡_}
+use mathlib.Core.Bool.{true}
+use mathlib.Core.List.{List, [], _∷_}
+use Prim.Native.Nat.{ℕ, _≤_}
+use lib.Dec.{eqb, leb, lit<}
+use lib.ListN.{length}
+use borrow.Author.Tests.{leb-true, eqb-true, le-leb, eq-eqb}
+use Rattle.basics.specs.Refusals.{refuse}
+use Rattle.basics.proofs.Refusals.{passed}
+use Rattle.card.specs.Layout.{soundCounts}
+use Rattle.card.specs.Card.{partsRefusal, fewStates}
+use Rattle.card.specs.Packing.{total, split, packed, packingRefusal}
+use Rattle.card.specs.Laws.Search.{first-passed, rest-passed}
+
+-- what an accepted packing input is known to be
+pub record Packable (S : ℕ) (lengths bytes : List ℕ) (room : ℕ) : Type 0 where
+  pub counts : soundCounts (length lengths) S ≡ true
+  pub sum : total lengths ≡ length bytes
+  pub parts : partsRefusal S (split lengths bytes) ≡ 0
+  pub states : fewStates (split lengths bytes) ≡ true
+  pub fits : length (packed S lengths bytes) ≤ room
+
+pub packable : (S : ℕ) (lengths bytes : List ℕ) (room : ℕ) → packingRefusal S lengths bytes room ≡ 0 → Packable S lengths bytes room
+unfolding packingRefusal
+packable S lengths bytes room e =
+    let a = soundCounts (length lengths) S in
+    let b = eqb (total lengths) (length bytes) in
+    let p = partsRefusal S (split lengths bytes) in
+    let d = fewStates (split lengths bytes) in
+    let f = leb (length (packed S lengths bytes)) room in
+    let eb = rest-passed (refuse 1 a) (refuse 17 b ∷ p ∷ refuse 6 d ∷ refuse 18 f ∷ []) e in
+    let ep = rest-passed (refuse 17 b) (p ∷ refuse 6 d ∷ refuse 18 f ∷ []) eb in
+    let ed = rest-passed p (refuse 6 d ∷ refuse 18 f ∷ []) ep in
+    let ef = rest-passed (refuse 6 d) (refuse 18 f ∷ []) ed in
+    record {
+      counts = passed 1 a (lit< tt) (first-passed (refuse 1 a) (refuse 17 b ∷ p ∷ refuse 6 d ∷ refuse 18 f ∷ []) e);
+      sum = eqb-true (total lengths) (length bytes) (passed 17 b (lit< tt) (first-passed (refuse 17 b) (p ∷ refuse 6 d ∷ refuse 18 f ∷ []) eb));
+      parts = first-passed p (refuse 6 d ∷ refuse 18 f ∷ []) ep;
+      states = passed 6 d (lit< tt) (first-passed (refuse 6 d) (refuse 18 f ∷ []) ed);
+      fits = leb-true (length (packed S lengths bytes)) room (passed 18 f (lit< tt) (first-passed (refuse 18 f) [] ef));
+    }
+
+pub packs : (S : ℕ) (lengths bytes : List ℕ) (room : ℕ) → Packable S lengths bytes room → packingRefusal S lengths bytes room ≡ 0
+unfolding packingRefusal
+packs S lengths bytes room p =
+    rw (p .counts, eq-eqb (total lengths) (length bytes) (p .sum), p .parts, p .states, le-leb (length (packed S lengths bytes)) room (p .fits))

@@ -1,0 +1,56 @@
+-- Packing machine parts into a card.
+use mathlib.Core.List.{List, [], _∷_, _++_}
+use Prim.Native.Nat.{ℕ, _+_, _*_, _/_, _%_}
+use lib.ListN.{length, take, drop}
+use lib.Dec.{eqb, leb}
+use Rattle.basics.specs.Refusals.{refuse, firstOf, unlessRefused}
+use Rattle.card.specs.declared.Packed.{Packed}
+use Rattle.card.specs.Layout.{soundCounts}
+use Rattle.card.specs.Card.{partsRefusal, fewStates}
+
+-- the sum of the lengths, without wrapping
+unfoldable pub total : List ℕ → ℕ
+total [] = 0
+total (n ∷ ns) = n + total ns
+
+-- the parts that are joined, by their lengths
+unfoldable pub split : List ℕ → List ℕ → List (List ℕ)
+split [] bytes = []
+split (n ∷ ns) bytes = take n bytes ∷ split ns (drop n bytes)
+
+-- the offset and the length of each part, the first at a place
+unfoldable pub places : ℕ → List ℕ → List ℕ
+places at [] = []
+places at (n ∷ ns) = at % 256 ∷ at / 256 ∷ n % 256 ∷ n / 256 ∷ places (at + n) ns
+
+-- what stands before the parts: K, S, the places of the parts
+abbrev pub table : ℕ → List ℕ → List ℕ
+table S lengths = length lengths ∷ S ∷ places (2 + 4 * length lengths) lengths
+
+-- the card: the table, the parts
+unfoldable pub packed : ℕ → List ℕ → List ℕ → List ℕ
+packed S lengths joined = table S lengths ++ joined
+
+-- 0 where the input is accepted for a target of a length, else the first refusal: 1, 17, 3 to 6, 18
+unfoldable pub packingRefusal : ℕ → List ℕ → List ℕ → ℕ → ℕ
+packingRefusal S lengths joined room =
+    firstOf
+    (refuse 1 (soundCounts (length lengths) S)
+    ∷ refuse 17 (eqb (total lengths) (length joined))
+    ∷ partsRefusal S (split lengths joined)
+    ∷ refuse 6 (fewStates (split lengths joined))
+    ∷ refuse 18 (leb (length (packed S lengths joined)) room)
+    ∷ [])
+
+-- what packing answers, and the target at exit: the card in front, its other bytes as they were
+unfoldable pub packing : ℕ → List ℕ → List ℕ → List ℕ → Packed
+packing S lengths joined target =
+    unlessRefused (packingRefusal S lengths joined (length target))
+    (record { number = 0; length = length (packed S lengths joined) })
+    (λ n. record { number = n; length = 0 })
+
+unfoldable pub packedTarget : ℕ → List ℕ → List ℕ → List ℕ → List ℕ
+packedTarget S lengths joined target =
+    unlessRefused (packingRefusal S lengths joined (length target))
+    (packed S lengths joined ++ drop (length (packed S lengths joined)) target)
+    (λ n. target)

@@ -1,0 +1,19 @@
+-- Reading a part: its offset and length in the card.
+use mathlib.Core.List.{List, [], _∷_}
+use Prim.Native.Nat.{ℕ}
+use lib.Dec.{ltb}
+use Rattle.basics.specs.Refusals.{refuse, firstOf, unlessRefused}
+use Rattle.card.specs.declared.PartPlace.{PartPlace}
+use Rattle.card.specs.Layout.{machineCount, offsetOf, lengthOf}
+use Rattle.card.specs.Card.{cardRefusal}
+
+-- 0 where part i can be read, else the first refusal: 1 to 6, 17
+abbrev pub readingRefusal : List ℕ → ℕ → ℕ
+readingRefusal card i = firstOf (cardRefusal card ∷ refuse 17 (ltb i (machineCount card)) ∷ [])
+
+-- reading part i of a card
+unfoldable pub reading : List ℕ → ℕ → PartPlace
+reading card i =
+    unlessRefused (readingRefusal card i)
+    (record { number = 0; offset = offsetOf card i; length = lengthOf card i })
+    (λ n. record { number = n; offset = 0; length = 0 })

@@ -1,0 +1,201 @@
+// Grammar cards: the layout, the check of a card, reading a part, packing.
+ghost use mathlib.Core.Path.{_≡_};
+ghost use Prim.Native.Nat.{_<_};
+ghost use Rattle.card.specs.Refusals.{numberOf, stageNumber};
+ghost use Rattle.card.specs.Layout.{machineCount, symbolCount, offsetOf, lengthOf, partOf};
+ghost use Rattle.card.specs.Card.{cardRefusal};
+ghost use Rattle.card.specs.Reading.{readingRefusal, reading};
+ghost use Rattle.card.specs.Packing.{packingRefusal, packing, packedTarget};
+
+mod layout; // layout.rt: K, S and the places of the parts
+mod packing; // packing.rt: the writing of a card
+mod parts; // parts.rt: the check of the machine parts
+
+// Why a card, a reading or a packing is refused.
+pub enum Refusal {
+    Counts,
+    Layout,
+    Part(machine::Refusal),
+    States,
+    Lengths,
+    Number,
+    Target,
+}
+
+impl Refusal {
+    // The refusal's number.
+    pub fn number(self) -> u8
+        ensures { λ r. ⌜ r ≡ numberOf self ⌝ }
+    {
+        match self {
+            Refusal::Counts => 1,
+            Refusal::Layout => 2,
+            Refusal::Part(refusal) => match refusal {
+                machine::Refusal::Length => 3,
+                machine::Refusal::Field => 4,
+                machine::Refusal::Clash => 5,
+            },
+            Refusal::States => 6,
+            Refusal::Lengths => 17,
+            Refusal::Number => 17,
+            Refusal::Target => 18,
+        }
+    }
+}
+
+// What a checking stage answers.
+pub enum Stage {
+    Passed,
+    Refused(Refusal),
+}
+
+impl Stage {
+    // The stage's number: 0 where it passed.
+    pub fn number(self) -> u8
+        ensures { λ r. ⌜ r ≡ stageNumber self ⌝ }
+    {
+        match self {
+            Stage::Passed => 0,
+            Stage::Refused(refusal) => refusal.number(),
+        }
+    }
+}
+
+// What reading a part answers: the refusal's number, 0 where there is none, and where the part lies in the card.
+pub struct PartPlace {
+    pub number: u8,
+    pub offset: usize,
+    pub length: usize,
+}
+
+// What packing answers: the refusal's number, 0 where there is none, and the card's length.
+pub struct Packed {
+    pub number: u8,
+    pub length: usize,
+}
+
+// The first of refusals 1 to 6 that applies to a card.
+pub fn check(card: &[u8]) -> Stage
+    ensures { λ r. ⌜ stageNumber r ≡ cardRefusal (now (card .entry)) ⌝ }
+{
+    let answer = layout::check_head(card);
+    let Stage::Passed = answer else {
+        return answer;
+    };
+    let answer = layout::check_layout(card);
+    let Stage::Passed = answer else {
+        return answer;
+    };
+    parts::check_card(card)
+}
+
+// K, the number of machines of an accepted card.
+pub fn machine_count(card: &[u8]) -> usize
+    requires { ⌜ cardRefusal (now card) ≡ 0 ⌝ }
+    ensures { λ r. ⌜ r ≡ machineCount (now (card .entry)) ⌝ }
+{
+    layout::index(card[0])
+}
+
+// S, the number of symbols of an accepted card.
+pub fn symbol_count(card: &[u8]) -> u8
+    requires { ⌜ cardRefusal (now card) ≡ 0 ⌝ }
+    ensures { λ r. ⌜ r ≡ symbolCount (now (card .entry)) ⌝ }
+{
+    card[1]
+}
+
+// Where a part of an accepted card starts.
+pub fn part_offset(card: &[u8], machine: usize) -> usize
+    requires { ⌜ (cardRefusal (now card) ≡ 0) × (machine < machineCount (now card)) ⌝ }
+    ensures { λ r. ⌜ r ≡ offsetOf (now (card .entry)) machine ⌝ }
+{
+    layout::short(card, 2 + 4 * machine)
+}
+
+// How many bytes a part of an accepted card has.
+pub fn part_length(card: &[u8], machine: usize) -> usize
+    requires { ⌜ (cardRefusal (now card) ≡ 0) × (machine < machineCount (now card)) ⌝ }
+    ensures { λ r. ⌜ (r ≡ lengthOf (now (card .entry)) machine) × (r < 65536) ⌝ }
+{
+    layout::short(card, 4 + 4 * machine)
+}
+
+// A part of an accepted card: the card's slice from its offset, as long as it is.
+pub fn part(card: &[u8], machine: usize) -> &[u8]
+    requires { ⌜ (cardRefusal (now card) ≡ 0) × (machine < machineCount (now card)) ⌝ }
+    ensures { λ r. ⌜ now r ≡ partOf (now (card .entry)) machine ⌝ }
+{
+    let offset = part_offset(card, machine);
+    let end = offset + part_length(card, machine);
+    &card[offset..end]
+}
+
+// The first of refusals 1 to 6 and 17 that reading part `machine` meets.
+fn check_reading(card: &[u8], machine: u8) -> Stage
+    ensures { λ r. ⌜ stageNumber r ≡ readingRefusal (now (card .entry)) machine ⌝ }
+{
+    let answer = check(card);
+    let Stage::Passed = answer else {
+        return answer;
+    };
+    layout::tested(machine < card[0], Refusal::Number)
+}
+
+// Reading part `machine`: where it lies in the card.
+pub fn read_part(card: &[u8], machine: u8) -> PartPlace
+    ensures { λ r. ⌜ r ≡ reading (now (card .entry)) machine ⌝ }
+{
+    let answer = check_reading(card, machine);
+    let Stage::Passed = answer else {
+        return PartPlace {
+            number: answer.number(),
+            offset: 0,
+            length: 0,
+        };
+    };
+    let machine = layout::index(machine);
+    PartPlace {
+        number: 0,
+        offset: part_offset(card, machine),
+        length: part_length(card, machine),
+    }
+}
+
+// The first of refusals 1, 17, 3 to 6 and 18 that packing meets, for a target of `room` bytes.
+fn check_packing(symbols: u8, lengths: &[u16], parts: &[u8], room: usize) -> Stage
+    ensures { λ r. ⌜ stageNumber r ≡ packingRefusal symbols (now (lengths .entry)) (now (parts .entry)) room ⌝ }
+{
+    let answer = layout::check_counts(lengths.len(), symbols);
+    let Stage::Passed = answer else {
+        return answer;
+    };
+    let answer = layout::tested(packing::sum(lengths) == parts.len(), Refusal::Lengths);
+    let Stage::Passed = answer else {
+        return answer;
+    };
+    let answer = parts::check_parts(parts, 0, lengths, symbols);
+    let Stage::Passed = answer else {
+        return answer;
+    };
+    layout::tested(2 + 4 * lengths.len() + parts.len() <= room, Refusal::Target)
+}
+
+// Packs parts, joined, into a card at the front of the target, whose other bytes stay.
+pub fn pack(symbols: u8, lengths: &[u16], parts: &[u8], target: &mut [u8]) -> Packed
+    ensures { λ r. ⌜ (r ≡ packing symbols (now (lengths .entry)) (now (parts .entry)) (now (target .entry))) × (now (target .exit) ≡ packedTarget symbols (now (lengths .entry)) (now (parts .entry)) (now (target .entry))) ⌝ }
+{
+    let answer = check_packing(symbols, lengths, parts, target.len());
+    let Stage::Passed = answer else {
+        return Packed {
+            number: answer.number(),
+            length: 0,
+        };
+    };
+    packing::write_table(target, symbols, lengths);
+    packing::write_parts(target, lengths, parts);
+    Packed {
+        number: 0,
+        length: 2 + 4 * lengths.len() + parts.len(),
+    }
+}

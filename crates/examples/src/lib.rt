@@ -1,0 +1,1 @@
+// The worked examples of the requirements, proved from the definitions: see specs/. No code.

@@ -1,0 +1,11 @@
+pub mod Comparing
+pub mod Work
+pub mod Clearing
+pub mod Lowering
+pub mod Selecting
+pub mod PositionGraph
+pub mod Spreading
+pub mod Settling
+pub mod PartLabels
+pub mod PositionDone
+pub mod Room

@@ -1,0 +1,24 @@
+-- The cost that a label has: six counts in ranked order, and the number of pairs.
+use mathlib.Core.Bool.{Bool, _&&_, _||_}
+use Prim.Native.Nat.{ℕ, zero, suc, _+_, _*_, _<_}
+use lib.Dec.{ltb, eqb}
+use Rattle.paths.specs.Ranked.{Ranked}
+use Rattle.labels.specs.declared.Label.{Label}
+
+abbrev pub costOf : Label → Ranked 6
+costOf l = (l .first, (l .second, (l .third, (l .fourth, (l .fifth, (l .sixth, l .pairs))))))
+
+-- whether a is less than b, from the first place on
+abbrev pub isLess : (k : ℕ) → Ranked k → Ranked k → Bool
+isLess zero a b = ltb a b
+isLess (suc k) a b = ltb (a .0) (b .0) || (eqb (a .0) (b .0) && isLess k (a .1) (b .1))
+
+-- whether they are the same
+abbrev pub isSame : (k : ℕ) → Ranked k → Ranked k → Bool
+isSame zero a b = eqb a b
+isSame (suc k) a b = eqb (a .0) (b .0) && isSame k (a .1) (b .1)
+
+-- n pairs more fit into 16 bits: each has at most 15 marks of a machine
+abbrev pub RoomFor : ℕ → (k : ℕ) → Ranked k → Type 0
+RoomFor n zero c = c + n < 65536
+RoomFor n (suc k) c = (c .0 + 15 * n < 65536) × RoomFor n k (c .1)

@@ -1,0 +1,9 @@
+pub mod Marks
+pub mod MarksLaws
+pub mod LabelCost
+pub mod Work
+pub mod Lowering
+pub mod Selecting
+pub mod PositionGraph
+pub mod Spreading
+pub mod Settling

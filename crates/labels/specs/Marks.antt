@@ -1,0 +1,23 @@
+-- The marks of a pair as one number: four bits a machine in ranked order, the highest ranked machine's first.
+use mathlib.Core.Bool.{cond}
+use mathlib.Core.Option.{Option, none, some}
+use Prim.Native.Nat.{ℕ, zero, suc, _+_, _*_, _/_, _%_, _^_}
+use lib.Dec.{ltb}
+use Rattle.paths.specs.Ranked.{Ranked}
+
+-- the k marks that the number e stands for, and one pair
+unfoldable pub nibbles : (k : ℕ) → ℕ → Ranked k
+nibbles zero e = 1
+nibbles (suc k) e = (e / 16 ^ k, nibbles k (e % 16 ^ k))
+
+-- the number that stands for these marks
+unfoldable pub packed : (k : ℕ) → Ranked k → ℕ
+packed zero c = 0
+packed (suc k) c = c .0 * 16 ^ k + packed k (c .1)
+
+abbrev pub marksOf : ℕ → Ranked 6
+marksOf e = nibbles 6 e
+
+-- what the pair costs; a number that is not of six marks stands for no pair
+unfoldable pub pairCost : ℕ → Option (Ranked 6)
+pairCost e = cond (ltb e (16 ^ 6)) (some (marksOf e)) none

@@ -1,0 +1,16 @@
+-- Lemmas, in the order in which they build on one another: words, nodes and steps; the cost of a path, and that paths are
+-- candidates; edges and codes, for an engine; then what the definition of the best lists, and that its best is the best path.
+pub mod Words
+pub mod Nodes
+pub mod JointStep
+pub mod PathCost
+pub mod Candidates
+pub mod Edges
+pub mod Codes
+pub mod Accepted
+pub mod CardGraph
+pub mod Preference
+pub mod Listing
+pub mod Counts
+pub mod Best
+pub mod BestCandidate

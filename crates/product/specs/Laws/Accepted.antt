@@ -1,0 +1,73 @@
+-- What an accepted card promises of its machines and of P.
+use mathlib.Core.Path.{_≡_, refl, _∙_, ap₂}
+use mathlib.Core.List.{List, [], _∷_, map}
+use Prim.Native.Nat.{ℕ, _+_, _*_, _≤_}
+use native.Mathlib.Omega.{arith}
+use lib.Dec.{eqb}
+use lib.ListN.{length, length-map}
+use lib.Seq.{length-slice}
+use borrow.Author.Tests.{le-leb}
+use Rattle.basics.specs.Search.{numbersBelow}
+use Rattle.basics.proofs.Bools.{both}
+use Rattle.basics.proofs.Below.{length-numbers}
+use Rattle.basics.proofs.Refusals.{none-first}
+use Rattle.machine.specs.Part.{machineOf, stateCount, stateBytes, partRefusal}
+use Rattle.machine.specs.Accepted.{shape-facts, accepted}
+use Rattle.machine.specs.Steps.{step-bounds, ending-bounds}
+use Rattle.card.specs.Layout.{machineCount, symbolCount, partOf, partsOf}
+use Rattle.card.specs.Card.{machinesOf, stateProduct, partsRefusal, cardRefusal}
+use Rattle.card.specs.Accepted.{accepted as card-accepted}
+use Rattle.product.specs.Nodes.{stateCountOf, stateCounts, product}
+use Rattle.product.specs.Laws.JointStep.{Sound, AllSound, all-none, all-next}
+
+module _ (S : ℕ) (part : List ℕ) (ok : partRefusal S part ≡ 0) where
+  -- a machine has as many states as its part says
+  pub part-states : stateCountOf (machineOf part) ≡ stateCount part
+  unfolding machineOf
+  part-states =
+      length-map (stateBytes part) (λ b. eqb b 1)
+      ∙ length-slice 2 (2 + stateCount part) part (omega (arith, shape-facts part (accepted S part ok .shape)))
+      ∙ omega arith
+
+  pub part-sound : Sound S (machineOf part)
+  part-sound = record {
+    starts = omega (arith, part-states, shape-facts part (accepted S part ok .shape));
+    leads = λ s p r e. (omega (arith, part-states, step-bounds S part ok s p r e));
+    marks = λ s p r e. step-bounds S part ok s p r e .marks;
+    symbols = λ s p r e. let b = step-bounds S part ok s p r e in both (le-leb (p .input) S (b .input)) (le-leb (p .output) S (b .output));
+    ends = λ s n e. ending-bounds S part ok s n e .1;
+  }
+
+pub parts-sound : (S : ℕ) (parts : List (List ℕ)) → partsRefusal S parts ≡ 0 → AllSound S (map machineOf parts)
+unfolding partsRefusal
+parts-sound S [] e = all-none
+parts-sound S (part ∷ parts) e =
+    let h = none-first (partRefusal S part) (map (partRefusal S) parts) e in
+    all-next (part-sound S part (h .0)) (parts-sound S parts (h .1))
+
+pub parts-product : (S : ℕ) (parts : List (List ℕ)) → partsRefusal S parts ≡ 0 → product (stateCounts (map machineOf parts)) ≡ stateProduct parts
+unfolding partsRefusal product stateProduct
+parts-product S [] e = refl
+parts-product S (part ∷ parts) e =
+    let h = none-first (partRefusal S part) (map (partRefusal S) parts) e in
+    ap₂ (λ a b. a * b) (part-states S part (h .0)) (parts-product S parts (h .1))
+
+-- the machines of an accepted card: each sound; K of them, 1 at least; P is the product of their state counts, 128 at most
+pub record AcceptedMachines (card : List ℕ) : Type 0 where
+  pub sound : AllSound (symbolCount card) (machinesOf card)
+  pub count : length (machinesOf card) ≡ machineCount card
+  pub some-machine : 1 ≤ machineCount card
+  pub states : product (stateCounts (machinesOf card)) ≡ stateProduct (partsOf card)
+  pub few-states : stateProduct (partsOf card) ≤ 128
+
+pub accepted-machines : (card : List ℕ) → cardRefusal card ≡ 0 → AcceptedMachines card
+unfolding machinesOf partsOf
+accepted-machines card e =
+    let a = card-accepted card e in
+    record {
+      sound = parts-sound (symbolCount card) (partsOf card) (a .all-parts);
+      count = length-map (partsOf card) machineOf ∙ length-map (numbersBelow (machineCount card)) (partOf card) ∙ length-numbers (machineCount card);
+      some-machine = omega (arith, a);
+      states = parts-product (symbolCount card) (partsOf card) (a .all-parts);
+      few-states = omega (arith, a);
+    }

@@ -1,0 +1,220 @@
+-- What the definition of the best lists: the lists of fewer than n pairs over the symbols, those of them that are complete candidates for the
+-- word, and the least of these.
+use mathlib.Core.Path.{_≡_, refl, sym, _∙_, ap}
+use mathlib.Core.Logic.{_⊎_, inl, inr}
+use mathlib.Core.Bool.{Bool, true, false, _&&_}
+use mathlib.Core.List.{List, [], _∷_, map, List·Memᴰ, List·Memᴰ·head, List·Memᴰ·tail, List·Memᴰ·not-nil, List·Memᴰ·cases-cons, Memᴰ·cast}
+use mathlib.Core.Option.{Option, some, none, Option·none-ne-some}
+use Prim.Native.Nat.{ℕ, zero, suc, _+_, _<_, _≤_}
+use native.Mathlib.Omega.{arith}
+use lib.ListN.{length}
+use lib.Dec.{leb}
+use borrow.Author.Tests.{leb-true}
+use Rattle.basics.specs.Search.{allOf, joined, numbersBelow}
+use Rattle.basics.proofs.Bools.{both, left, right, clash}
+use Rattle.basics.proofs.Search.{those-member, member-those, joined-member, member-joined}
+use Rattle.basics.proofs.Below.{member-numbers}
+use Rattle.machine.specs.declared.Pair.{Pair}
+use Rattle.machine.specs.Symbols.{isPair, withinSymbols}
+use Rattle.machine.specs.Machine.{Machine}
+use Rattle.candidate.specs.Candidates.{spelled, isComplete, profileOf}
+use Rattle.candidate.specs.Best.{Form, preferred, sameWord, pairsOver, listsBelow, formsAmong, leastOf}
+use Rattle.paths.specs.Total.{Upto, upto-trans, not-less-upto}
+use Rattle.paths.specs.Ranked.{rankedCosts}
+use Rattle.paths.specs.Best.{Before, before-total}
+use Rattle.product.specs.ProductGraph.{pairs}
+use Rattle.product.specs.Laws.Preference.{keyOf, preferred-earlier, earlier-preferred}
+
+-- the elements of a mapped list
+module _ {A B : Type 0} (f : A → B) where
+  map-member : {y : B} (xs : List A) → List·Memᴰ y (map f xs) → (x : A) × List·Memᴰ x xs × (y ≡ f x)
+  map-member [] m = absurd (List·Memᴰ·not-nil m)
+  map-member {y} (x ∷ xs) m = go (map-member xs) (List·Memᴰ·cases-cons m)
+    where
+      go : (List·Memᴰ y (map f xs) → (x : A) × List·Memᴰ x xs × (y ≡ f x)) → (y ≡ f x) ⊎ List·Memᴰ y (map f xs) → (z : A) × List·Memᴰ z (x ∷ xs) × (y ≡ f z)
+      go rec (inl e) = (x, List·Memᴰ·head refl, e)
+      go rec (inr k) = let q = rec k in (q .0, List·Memᴰ·tail (q .1), q .2)
+
+  member-map : {x : A} {xs : List A} → List·Memᴰ x xs → List·Memᴰ (f x) (map f xs)
+  member-map (List·Memᴰ·head e) = List·Memᴰ·head (ap f e)
+  member-map (List·Memᴰ·tail m) = List·Memᴰ·tail (member-map m)
+
+-- ---- the pairs over S symbols
+
+pub pairs-over : {p : Pair} (S : ℕ) → List·Memᴰ p (pairsOver S) → isPair p ≡ true
+unfolding pairsOver
+pairs-over S m = those-member isPair (joined (λ x. map (λ y. record { input = x; output = y }) (numbersBelow (S + 1))) (numbersBelow (S + 1))) m .1
+
+pub over-pairs : (S : ℕ) (p : Pair) → isPair p ≡ true → withinSymbols S p ≡ true → List·Memᴰ p (pairsOver S)
+unfolding pairsOver
+over-pairs S p h w =
+    let i : p .input ≤ S = leb-true (p .input) S (left (leb (p .input) S) (leb (p .output) S) w) in
+    let o : p .output ≤ S = leb-true (p .output) S (right (leb (p .input) S) (leb (p .output) S) w) in
+    member-those isPair
+    (member-joined (λ x. map (λ y. record { input = x; output = y }) (numbersBelow (S + 1)))
+    (member-numbers (S + 1) (p .input) (omega arith))
+    (member-map (λ y. record { input = p .input; output = y }) (member-numbers (S + 1) (p .output) (omega arith))))
+    h
+
+-- ---- the lists of fewer than n of the pairs
+
+-- the list has its elements from ps
+pub data From (ps : List Pair) : List Pair → Type 0 where
+  from-none : From ps []
+  from-next : {p : Pair} {c : List Pair} → List·Memᴰ p ps → From ps c → From ps (p ∷ c)
+
+pub lists-short : {c : List Pair} (n : ℕ) (ps : List Pair) → List·Memᴰ c (listsBelow n ps) → length c < n
+unfolding listsBelow
+lists-short zero ps m = absurd (List·Memᴰ·not-nil m)
+lists-short {c} (suc n) ps m = go (λ d k. lists-short {c = d} n ps k) (List·Memᴰ·cases-cons m)
+  where
+    go : ((d : List Pair) → List·Memᴰ d (listsBelow n ps) → length d < n) → (c ≡ []) ⊎ List·Memᴰ c (joined (λ p. map (λ d. p ∷ d) (listsBelow n ps)) ps) → length c < suc n
+    go rec (inl e) = rw e (omega arith)
+    go rec (inr k) =
+        let j = joined-member (λ p. map (λ d. p ∷ d) (listsBelow n ps)) ps k in
+        let q = map-member (λ d. j .0 ∷ d) (listsBelow n ps) (j .2) in
+        let l = rec (q .0) (q .1) in
+        rw (q .2) (omega arith)
+
+pub lists-from : {c : List Pair} (n : ℕ) (ps : List Pair) → List·Memᴰ c (listsBelow n ps) → From ps c
+unfolding listsBelow
+lists-from zero ps m = absurd (List·Memᴰ·not-nil m)
+lists-from {c} (suc n) ps m = go (λ d k. lists-from {c = d} n ps k) (List·Memᴰ·cases-cons m)
+  where
+    go : ((d : List Pair) → List·Memᴰ d (listsBelow n ps) → From ps d) → (c ≡ []) ⊎ List·Memᴰ c (joined (λ p. map (λ d. p ∷ d) (listsBelow n ps)) ps) → From ps c
+    go rec (inl e) = rw e from-none
+    go rec (inr k) =
+        let j = joined-member (λ p. map (λ d. p ∷ d) (listsBelow n ps)) ps k in
+        let q = map-member (λ d. j .0 ∷ d) (listsBelow n ps) (j .2) in
+        rw (q .2) (from-next (j .1) (rec (q .0) (q .1)))
+
+pub short-listed : (n : ℕ) (ps : List Pair) {c : List Pair} → From ps c → length c < n → List·Memᴰ c (listsBelow n ps)
+unfolding listsBelow
+short-listed zero ps k h = absurd (omega arith)
+short-listed (suc n) ps from-none h = List·Memᴰ·head refl
+short-listed (suc n) ps (from-next {p} {c} m k) h =
+    List·Memᴰ·tail (member-joined (λ p. map (λ d. p ∷ d) (listsBelow n ps)) m (member-map (λ d. p ∷ d) (short-listed n ps k (omega arith))))
+
+pub from-pairs : (S : ℕ) {c : List Pair} → From (pairsOver S) c → allOf isPair c ≡ true
+unfolding allOf
+from-pairs S from-none = refl
+from-pairs S (from-next m k) = both (pairs-over S m) (from-pairs S k)
+
+-- ---- those of them that are complete candidates for the word
+
+abbrev pub formOf : List Machine → List Pair → Form
+formOf ms c = record { candidate = c; profile = profileOf ms c }
+
+module _ (ms : List Machine) (word : List ℕ) where
+  -- the test on a list
+  abbrev pub fitting : List Pair → Bool
+  fitting c = sameWord (spelled c) word && isComplete ms c
+
+  forms-none : formsAmong ms word [] ≡ []
+  unfolding formsAmong
+  forms-none = refl
+
+  forms-next : (c : List Pair) (cs : List (List Pair)) → fitting c ≡ true → formsAmong ms word (c ∷ cs) ≡ formOf ms c ∷ formsAmong ms word cs
+  unfolding formsAmong
+  forms-next c cs e = rw (e, formsAmong)
+
+  forms-skip : (c : List Pair) (cs : List (List Pair)) → fitting c ≡ false → formsAmong ms word (c ∷ cs) ≡ formsAmong ms word cs
+  unfolding formsAmong
+  forms-skip c cs e = rw (e, formsAmong)
+
+  pub record Listed (cs : List (List Pair)) (a : Form) : Type 0 where
+    pub listed : List·Memᴰ (a .candidate) cs
+    pub fits : fitting (a .candidate) ≡ true
+    pub is : a ≡ formOf ms (a .candidate)
+
+  pub forms-listed : (cs : List (List Pair)) (a : Form) → List·Memᴰ a (formsAmong ms word cs) → Listed cs a
+  forms-listed [] a m = absurd (List·Memᴰ·not-nil (rw forms-none at m))
+  forms-listed (c ∷ cs) a m = go (fitting c) refl (forms-listed cs a)
+    where
+      more : Listed cs a → Listed (c ∷ cs) a
+      more l = record { listed = List·Memᴰ·tail (l .listed); fits = l .fits; is = l .is }
+
+      here : fitting c ≡ true → (List·Memᴰ a (formsAmong ms word cs) → Listed cs a) → (a ≡ formOf ms c) ⊎ List·Memᴰ a (formsAmong ms word cs) → Listed (c ∷ cs) a
+      here t rec (inl e) = rw e (record { listed = List·Memᴰ·head refl; fits = t; is = refl })
+      here t rec (inr k) = more (rec k)
+
+      go : (b : Bool) → fitting c ≡ b → (List·Memᴰ a (formsAmong ms word cs) → Listed cs a) → Listed (c ∷ cs) a
+      go true t rec = here t rec (List·Memᴰ·cases-cons (rw (forms-next c cs t) at m))
+      go false t rec = more (rec (rw (forms-skip c cs t) at m))
+
+  pub listed-forms : {c : List Pair} {cs : List (List Pair)} → List·Memᴰ c cs → fitting c ≡ true → List·Memᴰ (formOf ms c) (formsAmong ms word cs)
+  listed-forms {c} (List·Memᴰ·head {x = d} {xs = cs} e) t =
+      let q : fitting d ≡ true = rw e at t in
+      rw (forms-next d cs q) (List·Memᴰ·head (ap (formOf ms) e))
+  listed-forms {c} (List·Memᴰ·tail {x = d} {xs = cs} m) t = go (fitting d) refl (listed-forms m t)
+    where
+      go : (b : Bool) → fitting d ≡ b → List·Memᴰ (formOf ms c) (formsAmong ms word cs) → List·Memᴰ (formOf ms c) (formsAmong ms word (d ∷ cs))
+      go true u k = rw (forms-next d cs u) (List·Memᴰ·tail k)
+      go false u k = rw (forms-skip d cs u) k
+
+-- ---- the least of them
+
+module _ (r : List ℕ) where
+  least-alone : (a : Form) (rest : List Form) → leastOf r rest ≡ none → leastOf r (a ∷ rest) ≡ some a
+  unfolding leastOf
+  least-alone a rest e = rw (e, leastOf)
+
+  least-stays : (a b : Form) (rest : List Form) → leastOf r rest ≡ some b → preferred r b a ≡ true → leastOf r (a ∷ rest) ≡ some b
+  unfolding leastOf
+  least-stays a b rest e t = rw (e, t, leastOf)
+
+  least-falls : (a b : Form) (rest : List Form) → leastOf r rest ≡ some b → preferred r b a ≡ false → leastOf r (a ∷ rest) ≡ some a
+  unfolding leastOf
+  least-falls a b rest e t = rw (e, t, leastOf)
+
+  least-none : leastOf r [] ≡ none
+  unfolding leastOf
+  least-none = refl
+
+  -- it is one of them
+  pub least-member : (fs : List Form) (b : Form) → leastOf r fs ≡ some b → List·Memᴰ b fs
+  least-member [] b e = absurd (Option·none-ne-some b (sym least-none ∙ e))
+  least-member (a ∷ rest) b e = go (leastOf r rest) refl (λ d. least-member rest d)
+    where
+      Rest : Type 0
+      Rest = (d : Form) → leastOf r rest ≡ some d → List·Memᴰ d rest
+
+      two : (d : Form) → leastOf r rest ≡ some d → (t : Bool) → preferred r d a ≡ t → Rest → List·Memᴰ b (a ∷ rest)
+      two d k true t rec = let q : b ≡ d = cc (e, least-stays a d rest k t) in List·Memᴰ·tail (Memᴰ·cast q (rec d k))
+      two d k false t rec = let q : b ≡ a = cc (e, least-falls a d rest k t) in List·Memᴰ·head q
+
+      go : (o : Option Form) → leastOf r rest ≡ o → Rest → List·Memᴰ b (a ∷ rest)
+      go none k rec = let q : b ≡ a = cc (e, least-alone a rest k) in List·Memᴰ·head q
+      go (some d) k rec = two d k (preferred r d a) refl rec
+
+  -- and none of them comes before it
+  pub record LeastUpto (fs : List Form) (a : Form) : Type 0 where
+    pub least : Form
+    pub is : leastOf r fs ≡ some least
+    pub upto : Upto (Before (rankedCosts (length r)) pairs) (keyOf r least) (keyOf r a)
+
+  not-preferred : (a b : Form) → preferred r a b ≡ false → Upto (Before (rankedCosts (length r)) pairs) (keyOf r b) (keyOf r a)
+  not-preferred a b t = not-less-upto (before-total (rankedCosts (length r)) pairs) (keyOf r b) (keyOf r a) (λ h. clash (earlier-preferred r a b h) t)
+
+  pub least-upto : {fs : List Form} {a : Form} → List·Memᴰ a fs → LeastUpto fs a
+  least-upto {a = a} (List·Memᴰ·head {x = b} {xs = rest} e) = go (leastOf r rest) refl
+    where
+      two : (d : Form) → leastOf r rest ≡ some d → (t : Bool) → preferred r d b ≡ t → LeastUpto (b ∷ rest) a
+      two d k true t = record { least = d; is = least-stays b d rest k t; upto = rw e (inl (preferred-earlier r d b t)) }
+      two d k false t = record { least = b; is = least-falls b d rest k t; upto = inr (ap (keyOf r) (sym e)) }
+
+      go : (o : Option Form) → leastOf r rest ≡ o → LeastUpto (b ∷ rest) a
+      go none k = record { least = b; is = least-alone b rest k; upto = inr (ap (keyOf r) (sym e)) }
+      go (some d) k = two d k (preferred r d b) refl
+  least-upto {a = a} (List·Memᴰ·tail {x = b} {xs = rest} m) = go (least-upto m)
+    where
+      two : (l : LeastUpto rest a) (t : Bool) → preferred r (l .least) b ≡ t → LeastUpto (b ∷ rest) a
+      two l true t = record { least = l .least; is = least-stays b (l .least) rest (l .is) t; upto = l .upto }
+      two l false t = record {
+        least = b;
+        is = least-falls b (l .least) rest (l .is) t;
+        upto = upto-trans (before-total (rankedCosts (length r)) pairs) (not-preferred (l .least) b t) (l .upto);
+      }
+
+      go : LeastUpto rest a → LeastUpto (b ∷ rest) a
+      go l = two l (preferred r (l .least) b) refl

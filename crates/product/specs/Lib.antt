@@ -1,0 +1,13 @@
+-- definitions
+pub mod Refusals
+pub mod Nodes
+pub mod JointStep
+pub mod Prices
+pub mod ProductGraph
+pub mod Codes
+pub mod BestCandidate
+-- lemmas
+pub mod Laws
+-- theorems
+pub mod CandidatePaths
+pub mod BestTheorem

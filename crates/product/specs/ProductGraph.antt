@@ -1,0 +1,92 @@
+-- The product of the machines over a word as a graph: its letters are the pairs, and its paths from the start are the candidates for the word.
+use mathlib.Core.Path.{_≡_}
+use mathlib.Core.Bool.{true, false, _&&_, cond}
+use mathlib.Core.List.{List, map}
+use mathlib.Core.Option.{Option, some, none, Option·none-ne-some}
+use Prim.Native.Nat.{ℕ, _+_, _<_}
+use lib.ListN.{length, getD}
+use lib.Dec.{eqb, ltb, leb}
+use Rattle.machine.specs.declared.Pair.{Pair}
+use Rattle.machine.specs.Symbols.{emptySymbol, isPair}
+use Rattle.machine.specs.Machine.{Machine, startState}
+use Rattle.card.specs.Card.{machinesOf}
+use Rattle.paths.specs.Total.{Then, then-total, On, on-total, ℕ-total}
+use Rattle.paths.specs.Costs.{Costs}
+use Rattle.paths.specs.Ranked.{rankedCosts}
+use Rattle.paths.specs.Graph.{Alphabet, Edge, Graph}
+use Rattle.product.specs.Nodes.{stateCounts, nodeOf, positionAt, statesAt}
+use Rattle.product.specs.JointStep.{jointStep, jointEnding}
+use Rattle.product.specs.Prices.{Price, byRanking}
+
+-- where a pair leads from an input position, 0 to n: an insertion stays there; any other pair needs the symbol there as its in, and moves on by one
+unfoldable pub advance : List ℕ → ℕ → Pair → Option ℕ
+advance word i p =
+    elim (eqb (p .input) emptySymbol) [
+      | true ↦ cond (leb i (length word)) (some i) none
+      | false ↦ cond (ltb i (length word) && eqb (getD word i emptySymbol) (p .input)) (some (i + 1)) none
+    ]
+
+-- a move in the product: the node that it leads to, and the marks of each machine
+pub record Move : Type 0 where
+  pub target : ℕ
+  pub marks : List ℕ
+
+abbrev pub moveBy : List ℕ → Option ℕ → Option (List (ℕ × ℕ)) → Option Move
+moveBy qs none steps = none
+moveBy qs (some i) none = none
+moveBy qs (some i) (some steps) = some (record { target = nodeOf qs i (map (λ r. r .0) steps); marks = map (λ r. r .1) steps })
+
+-- taking a pair at a node
+unfoldable pub move : List ℕ → List Machine → ℕ → Pair → Option Move
+move word ms u p =
+    let qs = stateCounts ms in
+    elim (isPair p) [ true ↦ moveBy qs (advance word (positionAt qs u) p) (jointStep ms (statesAt qs u) p) | false ↦ none ]
+
+-- ending at a node: the word is read, and every machine ends
+unfoldable pub ending : List ℕ → List Machine → ℕ → Option (List ℕ)
+ending word ms u = let qs = stateCounts ms in elim (eqb (positionAt qs u) (length word)) [ true ↦ jointEnding ms (statesAt qs u) | false ↦ none ]
+
+-- position 0, every machine in its start state
+abbrev pub startNode : List Machine → ℕ
+startNode ms = nodeOf (stateCounts ms) 0 (map (λ m. startState) ms)
+
+-- the pairs in their order: by in, then by out
+abbrev pub bytes : Pair → ℕ × ℕ
+bytes p = (p .input, p .output)
+
+pub same-bytes : (p q : Pair) → bytes p ≡ bytes q → p ≡ q
+same-bytes p q e = λ i. record { input = e i .0; output = e i .1 }
+
+abbrev pub pairs : Alphabet
+pairs = record {
+  Letter = Pair;
+  _◃_ = On bytes (Then _<_ _<_);
+  total = on-total bytes (Then _<_ _<_) same-bytes (then-total _<_ _<_ ℕ-total ℕ-total);
+}
+
+module _ {costs : Costs} (price : Price costs) (word : List ℕ) (ms : List Machine) where
+  -- a move costs the price of its marks and one pair; ending costs the price of its marks and no pair
+  abbrev pub pricedMove : Option Move → Option (Edge (costs .Cost))
+  pricedMove none = none
+  pricedMove (some m) = some (record { target = m .target; cost = price .of (m .marks) 1 })
+
+  abbrev pub pricedEnding : Option (List ℕ) → Option (costs .Cost)
+  pricedEnding none = none
+  pricedEnding (some marks) = some (price .of marks 0)
+
+  pub positive : (u : ℕ) (p : Pair) (e : Edge (costs .Cost)) → pricedMove (move word ms u p) ≡ some e → (c : costs .Cost) → costs ._≺_ c (costs ._⊕_ (e .cost) c)
+  positive u p e h c = go (move word ms u p) h
+    where
+      go : (o : Option Move) → pricedMove o ≡ some e → costs ._≺_ c (costs ._⊕_ (e .cost) c)
+      go none h = absurd (Option·none-ne-some e h)
+      go (some m) h = let q : e ≡ record { target = m .target; cost = price .of (m .marks) 1 } = cc in rw q (price .positive (m .marks) c)
+
+  abbrev pub productGraph : Graph costs pairs
+  productGraph = record { edge = λ u p. pricedMove (move word ms u p); ending = λ u. pricedEnding (ending word ms u); positive = positive }
+
+-- the product of a card's machines, for a ranking and a word
+abbrev pub cardGraph : (card ranking word : List ℕ) → Graph (rankedCosts (length ranking)) pairs
+cardGraph card ranking word = productGraph (byRanking ranking) word (machinesOf card)
+
+abbrev pub cardStart : List ℕ → ℕ
+cardStart card = startNode (machinesOf card)
