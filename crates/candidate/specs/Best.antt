@@ -12,15 +12,10 @@ use Rattle.machine.specs.Machine.{Machine}
 use Rattle.ranking.specs.declared.Order.{Order}
 use Rattle.ranking.specs.declared.Order.the-variants.{Better, Equal, Worse}
 use Rattle.ranking.specs.Harmony.{harmony}
+use Rattle.ranking.specs.ByteStrings.{smaller}
 use Rattle.card.specs.Layout.{symbolCount, partsOf}
 use Rattle.card.specs.Card.{machinesOf, stateProduct}
 use Rattle.candidate.specs.Candidates.{bytesOf, spelled, isComplete, profileOf}
-
--- of two byte strings of one length the smaller has the lower byte at the first place where they differ
-unfoldable pub smaller : List ℕ → List ℕ → Bool
-smaller [] ys = false
-smaller (x ∷ xs) [] = false
-smaller (x ∷ xs) (y ∷ ys) = ltb x y || (eqb x y && smaller xs ys)
 
 -- a candidate with its profile
 pub record Form : Type 0 where

@@ -17,7 +17,8 @@ use Rattle.ranking.specs.Finder.{conditionsOf, apart, soundCondition, soundList
 use Rattle.candidate.specs.declared.Evaluation.{Evaluation}
 use Rattle.candidate.specs.Candidates.{pairsOf, bytesOf, spelled, marksFrom, isComplete, profileOf}
 use Rattle.candidate.specs.Evaluating.{refused, soundCandidate, evaluating}
-use Rattle.candidate.specs.Best.{smaller, shorter, preferred, sameWord, pairsOver, listsBelow, formsAmong, leastOf, bestBelow, best}
+use Rattle.ranking.specs.ByteStrings.{smaller}
+use Rattle.candidate.specs.Best.{shorter, preferred, sameWord, pairsOver, listsBelow, formsAmong, leastOf, bestBelow, best}
 use Rattle.candidate.specs.Optimizing.{soundWord, inputRefusal, optimizerRefusal, optimized, optimizedAnswer}
 use Rattle.examples.specs.Cards.{cardA, cardAWithInsertion, cardB}
 

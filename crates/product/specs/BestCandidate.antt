@@ -10,7 +10,7 @@ use Rattle.machine.specs.Machine.{Machine}
 use Rattle.ranking.specs.declared.Order.the-variants.{Worse}
 use Rattle.ranking.specs.Harmony.{harmony}
 use Rattle.candidate.specs.Candidates.{bytesOf, profileOf, IsCandidate}
-use Rattle.candidate.specs.Best.{smaller}
+use Rattle.ranking.specs.ByteStrings.{smaller}
 
 -- c beats d: d has a worse profile; or an equal profile and more pairs; or an equal profile, as many pairs and a larger byte string
 pub data Beats (ranking : List ℕ) (ms : List Machine) (c d : List Pair) : Type 0 where

@@ -1,11 +1,11 @@
 -- The order of byte strings.
-use mathlib.Core.Bool.{Bool, true, false}
+use mathlib.Core.Bool.{Bool, false, _&&_, _||_}
 use mathlib.Core.List.{List, [], _∷_}
 use Prim.Native.Nat.{ℕ}
-use lib.Dec.{ltb}
+use lib.Dec.{eqb, ltb}
 
 -- of two of one length, the smaller has the lower byte at the first place where they differ
 unfoldable pub smaller : List ℕ → List ℕ → Bool
 smaller [] t = false
 smaller (x ∷ s) [] = false
-smaller (x ∷ s) (y ∷ t) = elim (ltb x y) [ true ↦ true | false ↦ elim (ltb y x) [ true ↦ false | false ↦ smaller s t ] ]
+smaller (x ∷ s) (y ∷ t) = ltb x y || (eqb x y && smaller s t)

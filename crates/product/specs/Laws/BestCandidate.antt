@@ -18,7 +18,8 @@ use Rattle.ranking.specs.Rankings.{isRanking}
 use Rattle.ranking.specs.Harmony.{harmony}
 use Rattle.ranking.specs.HarmonicInequality.{better-worse, equal-means, itself}
 use Rattle.candidate.specs.Candidates.{bytesOf, marksOf, countOf, profileOf, IsCandidate}
-use Rattle.candidate.specs.Best.{smaller, shorter, preferred}
+use Rattle.ranking.specs.ByteStrings.{smaller}
+use Rattle.candidate.specs.Best.{shorter, preferred}
 use Rattle.paths.specs.Ranked.{Ranked, rankedCosts}
 use Rattle.paths.specs.ByRanking.{ranked}
 use Rattle.paths.specs.Graph.{pathCost}

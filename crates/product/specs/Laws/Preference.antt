@@ -15,7 +15,8 @@ use Rattle.ranking.specs.Harmony.{harmony}
 use Rattle.ranking.specs.HarmonicInequality.{better-worse}
 use Rattle.ranking.specs.Lemmas.Harmony.{Standing, fewer, same, more, standing, harmony-end, at-fewer, at-same}
 use Rattle.candidate.specs.Candidates.{bytesOf}
-use Rattle.candidate.specs.Best.{smaller, Form, shorter, preferred}
+use Rattle.ranking.specs.ByteStrings.{smaller}
+use Rattle.candidate.specs.Best.{Form, shorter, preferred}
 use Rattle.paths.specs.Total.{Lex}
 use Rattle.paths.specs.Strings.{string, lex-string}
 use Rattle.paths.specs.Ranked.{Ranked, rankedCosts}

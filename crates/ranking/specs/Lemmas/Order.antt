@@ -7,7 +7,7 @@ use mathlib.Core.Option.{some}
 use Prim.Native.Nat.{ℕ, zero, suc, _<_}
 use native.Mathlib.Omega.{arith}
 use lib.Dec.{eqb, ltb}
-use borrow.Author.Tests.{ltb-true, ltb-false, lt-ltb, le-ltb}
+use borrow.Author.Tests.{ltb-true, ltb-false, lt-ltb, le-ltb, eq-eqb, ne-eqb}
 use Rattle.basics.specs.Search.{allOf, pairwise, those, firstThat, joined, numbersBelow}
 use Rattle.basics.proofs.Bools.{both, left, right, clash}
 use Rattle.basics.proofs.Search.{all-member, each-member, those-member, joined-member}
@@ -102,15 +102,15 @@ module _ {A B : Type 0} (h : A → A → Bool) (f : B → B → Bool) where
 module _ {x y : ℕ} (s t : List ℕ) where
   smaller-lower : x < y → smaller (x ∷ s) (y ∷ t) ≡ true
   unfolding smaller
-  smaller-lower h = rw (lt-ltb x y h, smaller)
+  smaller-lower h = rw (lt-ltb x y h)
 
   smaller-higher : y < x → smaller (x ∷ s) (y ∷ t) ≡ false
   unfolding smaller
-  smaller-higher h = let e = le-ltb x y (omega arith) in let d = lt-ltb y x h in rw (e, smaller, d)
+  smaller-higher h = rw (le-ltb x y (omega arith), ne-eqb x y (omega arith))
 
   smaller-level : x ≡ y → smaller (x ∷ s) (y ∷ t) ≡ smaller s t
   unfolding smaller
-  smaller-level h = let e = le-ltb x y (omega arith) in let d = le-ltb y x (omega arith) in rw (e, smaller, d)
+  smaller-level h = rw (le-ltb x y (omega arith), eq-eqb x y h)
 
 pub smaller-asymmetric : (s t : List ℕ) → smaller s t ≡ true → smaller t s ≡ true → ⊥
 unfolding smaller
