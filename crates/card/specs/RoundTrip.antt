@@ -24,18 +24,17 @@ use Rattle.card.specs.Laws.Checked.{parts-small}
 
 -- For every accepted packing input, the packed card is accepted; its parts are the parts packed, and its machines the machines packed;
 -- reading part i gives part i; the target's front is that card, and its other bytes stay.
-pub record ReadsBack (S : ℕ) (lengths bytes target : List ℕ) : Type 0 where
-  pub accepts : cardRefusal (packed S lengths bytes) ≡ 0
-  pub symbols : symbolCount (packed S lengths bytes) ≡ S
-  pub parts : partsOf (packed S lengths bytes) ≡ split lengths bytes
-  pub part-lengths : map length (partsOf (packed S lengths bytes)) ≡ lengths
-  pub part-bytes : joined (λ part. part) (partsOf (packed S lengths bytes)) ≡ bytes
-  pub machines : machinesOf (packed S lengths bytes) ≡ map machineOf (split lengths bytes)
-  pub reads : (i : ℕ) → i < length lengths → reading (packed S lengths bytes) i .number ≡ 0
-  pub part : (i : ℕ) → i < length lengths
-      → take (reading (packed S lengths bytes) i .length) (drop (reading (packed S lengths bytes) i .offset) (packed S lengths bytes)) ≡ getD (split lengths bytes) i []
-  pub front : take (length (packed S lengths bytes)) (packedTarget S lengths bytes target) ≡ packed S lengths bytes
-  pub tail : drop (length (packed S lengths bytes)) (packedTarget S lengths bytes target) ≡ drop (length (packed S lengths bytes)) target
+pub record ReadsBack (S : ℕ) (lengths bytes target card : List ℕ) : Type 0 where
+  pub accepts : cardRefusal card ≡ 0
+  pub symbols : symbolCount card ≡ S
+  pub parts : partsOf card ≡ split lengths bytes
+  pub part-lengths : map length (partsOf card) ≡ lengths
+  pub part-bytes : joined (λ part. part) (partsOf card) ≡ bytes
+  pub machines : machinesOf card ≡ map machineOf (split lengths bytes)
+  pub reads : (i : ℕ) → i < length lengths → reading card i .number ≡ 0
+  pub part : (i : ℕ) → i < length lengths → take (reading card i .length) (drop (reading card i .offset) card) ≡ getD (split lengths bytes) i []
+  pub front : take (length card) (packedTarget S lengths bytes target) ≡ card
+  pub tail : drop (length card) (packedTarget S lengths bytes target) ≡ drop (length card) target
 
 packed-accepted : (S : ℕ) (lengths bytes : List ℕ) (room : ℕ) → Packable S lengths bytes room → cardRefusal (packed S lengths bytes) ≡ 0
 unfolding cardRefusal counted
@@ -56,7 +55,8 @@ reading-accepted : (card : List ℕ) (i : ℕ) → cardRefusal card ≡ 0 → i 
 unfolding reading
 reading-accepted card i e h = rw (e, lt-ltb i (machineCount card) h)
 
-pub packed-reads-back : (S : ℕ) (lengths bytes target : List ℕ) → packingRefusal S lengths bytes (length target) ≡ 0 → ReadsBack S lengths bytes target
+pub packed-reads-back : (S : ℕ) (lengths bytes target : List ℕ) → packingRefusal S lengths bytes (length target) ≡ 0
+    → ReadsBack S lengths bytes target (packed S lengths bytes)
 unfolding machinesOf packedTarget
 packed-reads-back S lengths bytes target e =
     let card = packed S lengths bytes in
@@ -78,13 +78,12 @@ packed-reads-back S lengths bytes target e =
 
 -- For every accepted card, packing its symbol count, its parts' lengths and its parts joined gives that card, byte for byte,
 -- and is accepted with any target that is long enough.
-pub record PacksBack (card : List ℕ) : Type 0 where
-  pub packs : packed (symbolCount card) (map length (partsOf card)) (joined (λ part. part) (partsOf card)) ≡ card
-  pub accepts : (room : ℕ) → length card ≤ room → packingRefusal (symbolCount card) (map length (partsOf card)) (joined (λ part. part) (partsOf card)) room ≡ 0
-  pub target : (target : List ℕ) → length card ≤ length target
-      → packedTarget (symbolCount card) (map length (partsOf card)) (joined (λ part. part) (partsOf card)) target ≡ card ++ drop (length card) target
+pub record PacksBack (card lengths bytes : List ℕ) : Type 0 where
+  pub packs : packed (symbolCount card) lengths bytes ≡ card
+  pub accepts : (room : ℕ) → length card ≤ room → packingRefusal (symbolCount card) lengths bytes room ≡ 0
+  pub writes : (target : List ℕ) → length card ≤ length target → packedTarget (symbolCount card) lengths bytes target ≡ card ++ drop (length card) target
 
-pub accepted-packs-back : (card : List ℕ) → Bytes card → cardRefusal card ≡ 0 → PacksBack card
+pub accepted-packs-back : (card : List ℕ) → Bytes card → cardRefusal card ≡ 0 → PacksBack card (map length (partsOf card)) (joined (λ part. part) (partsOf card))
 unfolding packedTarget
 accepted-packs-back card b e =
     let S = symbolCount card in
@@ -105,7 +104,7 @@ accepted-packs-back card b e =
       states = rw s (le-leb (stateProduct parts) 128 (a .states));
       fits = rw p h;
     }) in
-    record { packs = p; accepts = ok; target = λ target h. rw (ok (length target) h, p) }
+    record { packs = p; accepts = ok; writes = λ target h. rw (ok (length target) h, p) }
 
 -- The packed card's bytes are bytes, where the packed ones are.
 pub packed-is-bytes : (S : ℕ) (lengths bytes : List ℕ) (room : ℕ) → Bytes bytes → packingRefusal S lengths bytes room ≡ 0 → Bytes (packed S lengths bytes)

@@ -1,0 +1,423 @@
+// Tries the check of a card, reading a part and packing: the document's cards, each row of the refusal table with a neighbour that passes,
+// every truncation of card B and every flip of a bit of card A. The refusal's number is written for each; 0 is accepted.
+ghost use Prim.Native.Nat.{_<_};
+
+// Card A of the document.
+const CARD_A: [u8; 29] = *b"\x01\x02\
+    \x06\x00\x17\x00\
+    \x01\x01\x01\
+    \x00\x00\x00\x00\x02\x00\x00\x00\x00\x00\x00\x00\x06\x00\x00\x00\x00\x00\x00\x00";
+
+// Card B of the document.
+const CARD_B: [u8; 264] = *b"\x03\x02\
+    \x0e\x00\x7c\x00\x8a\x00\x2b\x00\xb5\x00\x53\x00\
+    \x02\x06\x01\x01\
+    \x00\x00\x00\x00\x07\x00\x00\x00\x00\x00\x00\x00\x01\x00\x00\x00\x00\x00\x00\x00\
+    \x00\x01\x00\x00\x07\x00\x00\x00\x00\x00\x00\x00\x02\x00\x00\x00\x00\x00\x00\x00\
+    \x00\x00\x01\x00\x07\x00\x00\x00\x00\x00\x00\x00\x04\x00\x00\x00\x00\x00\x00\x00\
+    \x01\x01\x00\x00\x07\x00\x00\x00\x00\x00\x00\x00\x01\x00\x00\x00\x00\x00\x00\x00\
+    \x01\x01\x00\x00\x07\x00\x00\x00\x00\x00\x00\x00\x02\x00\x00\x00\x00\x00\x00\x00\
+    \x01\x00\x00\x00\x07\x00\x00\x00\x00\x00\x00\x00\x04\x00\x00\x00\x00\x00\x00\x00\
+    \x01\x02\x01\
+    \x00\x00\x00\x00\x06\x00\x00\x00\x00\x00\x00\x00\x07\x00\x00\x00\x00\x00\x00\x00\
+    \x00\x00\x01\x00\x01\x00\x00\x00\x00\x00\x00\x00\x06\x00\x00\x00\x00\x00\x00\x00\
+    \x01\x04\x01\
+    \x00\x00\x00\x00\x02\x00\x00\x00\x00\x00\x00\x00\x02\x00\x00\x00\x00\x00\x00\x00\
+    \x00\x00\x00\x00\x04\x00\x00\x00\x00\x00\x00\x00\x04\x00\x00\x00\x00\x00\x00\x00\
+    \x00\x00\x00\x00\x01\x00\x00\x00\x00\x00\x00\x00\x06\x00\x00\x00\x00\x00\x00\x00\
+    \x00\x00\x01\x00\x06\x00\x00\x00\x00\x00\x00\x00\x01\x00\x00\x00\x00\x00\x00\x00";
+
+// Card A with a 30th byte.
+const A_AND_A_BYTE: [u8; 30] = *b"\x01\x02\
+    \x06\x00\x17\x00\
+    \x01\x01\x01\
+    \x00\x00\x00\x00\x02\x00\x00\x00\x00\x00\x00\x00\x06\x00\x00\x00\x00\x00\x00\x00\
+    \x00";
+
+// Card A with its arc twice.
+const ARC_TWICE: [u8; 49] = *b"\x01\x02\
+    \x06\x00\x2b\x00\
+    \x01\x02\x01\
+    \x00\x00\x00\x00\x02\x00\x00\x00\x00\x00\x00\x00\x06\x00\x00\x00\x00\x00\x00\x00\
+    \x00\x00\x00\x00\x02\x00\x00\x00\x00\x00\x00\x00\x06\x00\x00\x00\x00\x00\x00\x00";
+
+// Two arcs of a state that share only 0:0.
+const ONLY_0_0: [u8; 49] = *b"\x01\x02\
+    \x06\x00\x2b\x00\
+    \x01\x02\x01\
+    \x00\x00\x00\x00\x03\x00\x00\x00\x00\x00\x00\x00\x01\x00\x00\x00\x00\x00\x00\x00\
+    \x00\x00\x00\x00\x01\x00\x00\x00\x00\x00\x00\x00\x03\x00\x00\x00\x00\x00\x00\x00";
+
+// Two arcs of a state that take no pair.
+const NO_PAIR_TWICE: [u8; 49] = *b"\x01\x02\
+    \x06\x00\x2b\x00\
+    \x01\x02\x01\
+    \x00\x00\x00\x00\x01\x00\x00\x00\x00\x00\x00\x00\x01\x00\x00\x00\x00\x00\x00\x00\
+    \x00\x00\x00\x00\x01\x00\x00\x00\x00\x00\x00\x00\x01\x00\x00\x00\x00\x00\x00\x00";
+
+// Card A's arc once from each of two states.
+const TWO_STATES: [u8; 50] = *b"\x01\x02\
+    \x06\x00\x2c\x00\
+    \x02\x02\x01\x01\
+    \x00\x00\x00\x00\x02\x00\x00\x00\x00\x00\x00\x00\x06\x00\x00\x00\x00\x00\x00\x00\
+    \x01\x00\x00\x00\x02\x00\x00\x00\x00\x00\x00\x00\x06\x00\x00\x00\x00\x00\x00\x00";
+
+// Six machines of one state, and seven.
+const SIX_MACHINES: [u8; 44] = *b"\x06\x02\
+    \x1a\x00\x03\x00\x1d\x00\x03\x00\x20\x00\x03\x00\x23\x00\x03\x00\x26\x00\x03\x00\x29\x00\x03\x00\
+    \x01\x00\x01\
+    \x01\x00\x01\
+    \x01\x00\x01\
+    \x01\x00\x01\
+    \x01\x00\x01\
+    \x01\x00\x01";
+
+const SEVEN_MACHINES: [u8; 51] = *b"\x07\x02\
+    \x1e\x00\x03\x00\x21\x00\x03\x00\x24\x00\x03\x00\x27\x00\x03\x00\x2a\x00\x03\x00\x2d\x00\x03\x00\x30\x00\x03\x00\
+    \x01\x00\x01\
+    \x01\x00\x01\
+    \x01\x00\x01\
+    \x01\x00\x01\
+    \x01\x00\x01\
+    \x01\x00\x01\
+    \x01\x00\x01";
+
+// A machine of 32 states, and one of 33.
+const STATES_32: [u8; 40] = *b"\x01\x02\
+    \x06\x00\x22\x00\
+    \x20\x00\x01\x01\x01\x01\x01\x01\x01\x01\x01\x01\x01\x01\x01\x01\x01\x01\x01\x01\x01\x01\x01\x01\x01\x01\x01\x01\x01\x01\x01\x01\x01\x01";
+
+const STATES_33: [u8; 41] = *b"\x01\x02\
+    \x06\x00\x23\x00\
+    \x21\x00\x01\x01\x01\x01\x01\x01\x01\x01\x01\x01\x01\x01\x01\x01\x01\x01\x01\x01\x01\x01\x01\x01\x01\x01\x01\x01\x01\x01\x01\x01\x01\x01\x01";
+
+// Machines of 4 and 32 states, and of 5 and 32.
+const STATES_4_AND_32: [u8; 50] = *b"\x02\x02\
+    \x0a\x00\x06\x00\x10\x00\x22\x00\
+    \x04\x00\x01\x01\x01\x01\
+    \x20\x00\x01\x01\x01\x01\x01\x01\x01\x01\x01\x01\x01\x01\x01\x01\x01\x01\x01\x01\x01\x01\x01\x01\x01\x01\x01\x01\x01\x01\x01\x01\x01\x01";
+
+const STATES_5_AND_32: [u8; 51] = *b"\x02\x02\
+    \x0a\x00\x07\x00\x11\x00\x22\x00\
+    \x05\x00\x01\x01\x01\x01\x01\
+    \x20\x00\x01\x01\x01\x01\x01\x01\x01\x01\x01\x01\x01\x01\x01\x01\x01\x01\x01\x01\x01\x01\x01\x01\x01\x01\x01\x01\x01\x01\x01\x01\x01\x01";
+
+// A machine with a clash and one with no state, in either order.
+const CLASH_THEN_NO_STATE: [u8; 55] = *b"\x02\x02\
+    \x0a\x00\x2b\x00\x35\x00\x02\x00\
+    \x01\x02\x01\
+    \x00\x00\x00\x00\x02\x00\x00\x00\x00\x00\x00\x00\x06\x00\x00\x00\x00\x00\x00\x00\
+    \x00\x00\x00\x00\x02\x00\x00\x00\x00\x00\x00\x00\x06\x00\x00\x00\x00\x00\x00\x00\
+    \x00\x00";
+
+const NO_STATE_THEN_CLASH: [u8; 55] = *b"\x02\x02\
+    \x0a\x00\x02\x00\x0c\x00\x2b\x00\
+    \x00\x00\
+    \x01\x02\x01\
+    \x00\x00\x00\x00\x02\x00\x00\x00\x00\x00\x00\x00\x06\x00\x00\x00\x00\x00\x00\x00\
+    \x00\x00\x00\x00\x02\x00\x00\x00\x00\x00\x00\x00\x06\x00\x00\x00\x00\x00\x00\x00";
+
+// A part of no byte, and one of one byte.
+const NO_PART: [u8; 6] = *b"\x01\x02\
+    \x06\x00\x00\x00";
+
+const ONE_BYTE_PART: [u8; 7] = *b"\x01\x02\
+    \x06\x00\x01\x00\
+    \x01";
+
+// Two parts whose offsets are right only if 10 + 65,530 is wrapped at 16 bits.
+const WRAPPED: [u8; 10] = *b"\x02\x02\
+    \x0a\x00\xfa\xff\x04\x00\x06\x00";
+
+// Card A with another byte at a place: the place and the byte. A line for each row of the table from 1 to 4.
+const EDITS: [u8; 60] = *b"\x00\x00\x00\x02\x00\x07\x01\x00\x01\x01\x01\x3f\x01\x40\
+    \x02\x05\x02\x07\x04\x16\x04\x18\
+    \x06\x00\x06\x02\x07\x00\x07\x02\
+    \x08\x00\x08\x02\x09\x01\x0a\x01\x0b\x0f\x0b\x10\x0c\x01\x0d\x07\x0d\x00\x0d\x0a\x14\x80\x15\x01\x15\x00\x15\x0e\x1c\x80";
+
+fn write(text: &[u8]) {
+    io::write_all(1, text);
+}
+
+fn write_number(number: u64) {
+    io::print_decimal(1, number);
+}
+
+fn write_byte(byte: u8) {
+    write(b" ");
+    write_number(byte as u64);
+}
+
+fn write_size(size: usize) {
+    write(b" ");
+    write_number(size as u64);
+}
+
+fn write_bytes(bytes: &[u8]) {
+    for i in 0..bytes.len() {
+        write_byte(bytes[i]);
+    }
+    write(b"\n");
+}
+
+// A line with a card's refusal.
+fn tried(name: &[u8], card: &[u8]) {
+    write(name);
+    write(b":");
+    write_byte(card::check(card).number());
+    write(b"\n");
+}
+
+fn edited(at: u8, byte: u8) {
+    if at >= 29 {
+        return;
+    }
+    let mut card = CARD_A;
+    card[at as usize] = byte;
+    write(b"A, byte");
+    write_byte(at);
+    write(b" is");
+    write_byte(byte);
+    tried(b"", &card);
+}
+
+fn edits() {
+    for i in 0..30 {
+        edited(EDITS[2 * i], EDITS[2 * i + 1]);
+    }
+}
+
+// The refusals of the first n bytes, for every n.
+fn truncated(card: &[u8]) {
+    for n in 0..card.len() {
+        write_byte(card::check(&card[..n]).number());
+    }
+    write_byte(card::check(card).number());
+    write(b"\n");
+}
+
+// The refusal of card A with some bits of a byte flipped.
+fn flipped(at: usize, bits: u8)
+    requires { ⌜ at < 29 ⌝ }
+{
+    let mut card = CARD_A;
+    card[at] = card[at] ^ bits;
+    write_byte(card::check(&card).number());
+}
+
+// The refusals of card A with one bit flipped: a line for each byte, from bit 0.
+fn flips() {
+    for at in 0..29 {
+        flipped(at, 1);
+        flipped(at, 2);
+        flipped(at, 4);
+        flipped(at, 8);
+        flipped(at, 16);
+        flipped(at, 32);
+        flipped(at, 64);
+        flipped(at, 128);
+        write(b"\n");
+    }
+}
+
+// A line with what reading a part answers: refusal, offset, length.
+fn part(name: &[u8], card: &[u8], machine: u8) {
+    let place = card::read_part(card, machine);
+    write(name);
+    write(b", machine");
+    write_byte(machine);
+    write(b":");
+    write_byte(place.number);
+    write_size(place.offset);
+    write_size(place.length);
+    write(b"\n");
+}
+
+// Row 17, of reading: machines 0 to 3 and 255.
+fn parts(name: &[u8], card: &[u8]) {
+    part(name, card, 0);
+    part(name, card, 1);
+    part(name, card, 2);
+    part(name, card, 3);
+    part(name, card, 255);
+}
+
+// A line with what packing answers, and a line with the target then.
+fn packed(name: &[u8], symbols: u8, lengths: &[u16], parts: &[u8], target: &mut [u8]) {
+    let answer = card::pack(symbols, lengths, parts, target);
+    write(name);
+    write(b":");
+    write_byte(answer.number);
+    write_size(answer.length);
+    write(b"\n");
+    write_bytes(target);
+}
+
+// Packing into the front of a target of 9s.
+fn pack(name: &[u8], symbols: u8, lengths: &[u16], parts: &[u8], room: usize) {
+    if room > 270 {
+        return;
+    }
+    let mut target = [9u8; 270];
+    packed(name, symbols, lengths, parts, &mut target[..room]);
+}
+
+// Row 1.
+fn counts() {
+    tried(b"no byte", b"");
+    tried(b"one byte", b"\x01");
+    tried(b"six machines", &SIX_MACHINES);
+    tried(b"seven machines", &SEVEN_MACHINES);
+}
+
+// Row 2.
+fn layout() {
+    tried(b"A with a 30th byte", &A_AND_A_BYTE);
+    let a = CARD_A;
+    tried(b"A without its last byte", &a[..28]);
+    tried(b"A's counts", &a[..2]);
+    tried(b"A's counts and half a place", &a[..5]);
+    tried(b"A's counts and place", &a[..6]);
+}
+
+fn offsets() {
+    tried(b"a part of no byte", &NO_PART);
+    tried(b"offsets wrapped", &WRAPPED);
+    let mut long = [0u8; 65541];
+    long[0] = 1;
+    long[1] = 2;
+    long[2] = 6;
+    long[4] = 255;
+    long[5] = 255;
+    tried(b"a part of 65535 bytes", &long);
+}
+
+// Row 3.
+fn lengths() {
+    tried(b"a part of one byte", &ONE_BYTE_PART);
+    tried(b"32 states", &STATES_32);
+    tried(b"33 states", &STATES_33);
+}
+
+// Row 5.
+fn clashes() {
+    tried(b"A's arc twice", &ARC_TWICE);
+    tried(b"A's arc from two states", &TWO_STATES);
+    tried(b"arcs that share 0:0", &ONLY_0_0);
+    tried(b"arcs that take no pair", &NO_PAIR_TWICE);
+}
+
+// Row 6, and the order of 3 to 6.
+fn states() {
+    tried(b"states 4 and 32", &STATES_4_AND_32);
+    tried(b"states 5 and 32", &STATES_5_AND_32);
+    let mut unsound = STATES_5_AND_32;
+    unsound[50] = 2;
+    tried(b"states 5 and 32, the last byte 2", &unsound);
+    tried(b"a clash, then no state", &CLASH_THEN_NO_STATE);
+    tried(b"no state, then a clash", &NO_STATE_THEN_CLASH);
+}
+
+// Row 18: the document's cards into a longer target, one as long as the card, and one that is too short.
+fn pack_a() {
+    let a = CARD_A;
+    pack(b"A into 34 bytes", 2, &[23], &a[6..], 34);
+    pack(b"A into 29 bytes", 2, &[23], &a[6..], 29);
+    pack(b"A into 28 bytes", 2, &[23], &a[6..], 28);
+}
+
+fn pack_b() {
+    let b = CARD_B;
+    pack(b"B into 270 bytes", 2, &[124, 43, 83], &b[14..], 270);
+    pack(b"B into 264 bytes", 2, &[124, 43, 83], &b[14..], 264);
+    pack(b"B into 263 bytes", 2, &[124, 43, 83], &b[14..], 263);
+}
+
+// Row 1, of packing.
+fn pack_counts() {
+    let a = CARD_A;
+    pack(b"no lengths", 2, &[], b"", 0);
+    pack(b"S 0", 0, &[23], &a[6..], 3);
+    pack(b"S 63", 63, &[23], &a[6..], 30);
+    pack(b"S 64", 64, &[23], &a[6..], 3);
+}
+
+fn pack_many() {
+    let six = SIX_MACHINES;
+    pack(b"six lengths", 2, &[3, 3, 3, 3, 3, 3], &six[26..], 45);
+    let seven = SEVEN_MACHINES;
+    pack(b"seven lengths", 2, &[3, 3, 3, 3, 3, 3, 3], &seven[30..], 3);
+    pack(
+        b"seven lengths, one byte less",
+        2,
+        &[3, 3, 3, 3, 3, 3, 2],
+        &seven[30..],
+        3,
+    );
+}
+
+// Row 17, of packing.
+fn pack_sums() {
+    let a = CARD_A;
+    pack(b"length 22", 2, &[22], &a[6..], 3);
+    pack(b"length 24", 2, &[24], &a[6..], 3);
+    pack(b"lengths 65535 and 24", 2, &[65535, 24], &a[6..], 3);
+}
+
+// Rows 3 to 6, of packing, before 18.
+fn pack_parts() {
+    let a = CARD_A;
+    pack(b"lengths 23 and 0", 2, &[23, 0], &a[6..], 3);
+    pack(b"lengths 22 and 1", 2, &[22, 1], &a[6..], 3);
+    pack(b"S 1", 1, &[23], &a[6..], 3);
+    let twice = ARC_TWICE;
+    pack(b"A's arc twice", 2, &[43], &twice[6..], 3);
+}
+
+fn pack_states() {
+    let few = STATES_4_AND_32;
+    pack(b"states 4 and 32", 2, &[6, 34], &few[10..], 51);
+    pack(b"states 4 and 32, short", 2, &[6, 34], &few[10..], 49);
+    let many = STATES_5_AND_32;
+    pack(b"states 5 and 32, short", 2, &[7, 34], &many[10..], 49);
+}
+
+fn checks() {
+    counts();
+    layout();
+    offsets();
+    lengths();
+    clashes();
+    states();
+    edits();
+}
+
+fn readings() {
+    parts(b"A", &CARD_A);
+    parts(b"B", &CARD_B);
+    parts(b"A's arc twice", &ARC_TWICE);
+    parts(b"states 5 and 32", &STATES_5_AND_32);
+    parts(b"no byte", b"");
+}
+
+fn packings() {
+    pack_a();
+    pack_b();
+    pack_counts();
+    pack_many();
+    pack_sums();
+    pack_parts();
+    pack_states();
+}
+
+fn main() {
+    tried(b"A", &CARD_A);
+    tried(b"B", &CARD_B);
+    checks();
+    write(b"truncations of B:\n");
+    truncated(&CARD_B);
+    write(b"flips of A:\n");
+    flips();
+    readings();
+    packings();
+}
