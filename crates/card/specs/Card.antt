@@ -25,6 +25,10 @@ partsRefusal S parts = firstOf (map (partRefusal S) parts)
 abbrev pub fewStates : List (List ℕ) → Bool
 fewStates parts = leb (stateProduct parts) 128
 
+-- refusals 3 to 6 of parts
+abbrev pub machinesRefusal : ℕ → List (List ℕ) → ℕ
+machinesRefusal S parts = firstOf (partsRefusal S parts ∷ refuse 6 (fewStates parts) ∷ [])
+
 -- 0 where the card is accepted, else the first refusal met
 unfoldable pub cardRefusal : List ℕ → ℕ
 cardRefusal card =

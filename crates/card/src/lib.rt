@@ -13,12 +13,19 @@ mod parts; // parts.rt: the check of the machine parts
 
 // Why a card, a reading or a packing is refused.
 pub enum Refusal {
+    // K or S.
     Counts,
+    // The places of the parts.
     Layout,
+    // A part.
     Part(machine::Refusal),
+    // P.
     States,
+    // The sum of the lengths.
     Lengths,
+    // The number of the machine.
     Number,
+    // The target's length.
     Target,
 }
 

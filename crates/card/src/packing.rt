@@ -34,12 +34,12 @@ pub fn write_table(target: &mut [u8], symbols: u8, lengths: &[u16])
 {
     target[0] = lengths.len() as u8;
     target[1] = symbols;
-    let mut offset = 2 + 4 * lengths.len();
+    let mut start = 2 + 4 * lengths.len();
     for i in 0..lengths.len() {
         let length = wide(lengths[i]);
-        write_short(target, 2 + 4 * i, offset);
+        write_short(target, 2 + 4 * i, start);
         write_short(target, 4 + 4 * i, length);
-        offset += length;
+        start += length;
     }
 }
 

@@ -1,14 +1,12 @@
 // The check of machine parts that lie one after another in a card, or joined.
 ghost use mathlib.Core.Path.{_≡_};
 ghost use mathlib.Core.Bool.{true};
-ghost use mathlib.Core.List.{[], _∷_};
 ghost use Prim.Native.Nat.{_+_, _<_, _≤_};
 ghost use lib.ListN.{length, drop};
-ghost use Rattle.basics.specs.Refusals.{refuse, firstOf};
 ghost use Rattle.machine.specs.Part.{partRefusal};
 ghost use Rattle.card.specs.Refusals.{stageNumber};
 ghost use Rattle.card.specs.Layout.{symbolCount, counted, laidOut, partsOf};
-ghost use Rattle.card.specs.Card.{partsRefusal, fewStates};
+ghost use Rattle.card.specs.Card.{machinesRefusal};
 ghost use Rattle.card.specs.Packing.{total, split};
 use crate::Refusal;
 use crate::Stage;
@@ -37,7 +35,7 @@ fn check_part(part: &[u8], symbols: u8) -> Stage
 // Refusals 3 to 5 of each part in turn, then 6. The parts lie in `bytes` from `start` on, one after another.
 pub fn check_parts(bytes: &[u8], start: usize, lengths: &[u16], symbols: u8) -> Stage
     requires { ⌜ (start + total (now lengths) ≤ length (now bytes)) × (length (now lengths) ≤ 6) × (symbols < 64) ⌝ }
-    ensures { λ r. ⌜ stageNumber r ≡ firstOf (partsRefusal symbols (split (now (lengths .entry)) (drop start (now (bytes .entry)))) ∷ refuse 6 (fewStates (split (now (lengths .entry)) (drop start (now (bytes .entry))))) ∷ []) ⌝ }
+    ensures { λ r. ⌜ stageNumber r ≡ machinesRefusal symbols (split (now (lengths .entry)) (drop start (now (bytes .entry)))) ⌝ }
 {
     let mut offset = start;
     let mut states = 1;
@@ -57,7 +55,7 @@ pub fn check_parts(bytes: &[u8], start: usize, lengths: &[u16], symbols: u8) -> 
 // Refusals 3 to 6 of a card whose counts and layout are right.
 pub fn check_card(card: &[u8]) -> Stage
     requires { ⌜ (counted (now card) ≡ true) × (laidOut (now card) ≡ true) ⌝ }
-    ensures { λ r. ⌜ stageNumber r ≡ firstOf (partsRefusal (symbolCount (now (card .entry))) (partsOf (now (card .entry))) ∷ refuse 6 (fewStates (partsOf (now (card .entry)))) ∷ []) ⌝ }
+    ensures { λ r. ⌜ stageNumber r ≡ machinesRefusal (symbolCount (now (card .entry))) (partsOf (now (card .entry))) ⌝ }
 {
     let lengths = read_lengths(card);
     let machines = index(card[0]);

@@ -262,162 +262,185 @@ fn pack(name: &[u8], symbols: u8, lengths: &[u16], parts: &[u8], room: usize) {
     packed(name, symbols, lengths, parts, &mut target[..room]);
 }
 
-// Row 1.
-fn counts() {
-    tried(b"no byte", b"");
-    tried(b"one byte", b"\x01");
-    tried(b"six machines", &SIX_MACHINES);
-    tried(b"seven machines", &SEVEN_MACHINES);
+// Card A: reading, and packing into a longer target, one as long as the card, and one that is too short.
+fn of_a(card: &[u8]) {
+    tried(b"A", card);
+    truncated(card);
+    parts(b"A", card);
+    if card.len() < 6 {
+        return;
+    }
+    let joined = &card[6..];
+    pack_a(joined);
+    pack_counts(joined);
+    pack_sums(joined);
+    pack_parts(joined);
 }
 
-// Row 2.
-fn layout() {
-    tried(b"A with a 30th byte", &A_AND_A_BYTE);
-    let a = CARD_A;
-    tried(b"A without its last byte", &a[..28]);
-    tried(b"A's counts", &a[..2]);
-    tried(b"A's counts and half a place", &a[..5]);
-    tried(b"A's counts and place", &a[..6]);
-}
-
-fn offsets() {
-    tried(b"a part of no byte", &NO_PART);
-    tried(b"offsets wrapped", &WRAPPED);
-    let mut long = [0u8; 65541];
-    long[0] = 1;
-    long[1] = 2;
-    long[2] = 6;
-    long[4] = 255;
-    long[5] = 255;
-    tried(b"a part of 65535 bytes", &long);
-}
-
-// Row 3.
-fn lengths() {
-    tried(b"a part of one byte", &ONE_BYTE_PART);
-    tried(b"32 states", &STATES_32);
-    tried(b"33 states", &STATES_33);
-}
-
-// Row 5.
-fn clashes() {
-    tried(b"A's arc twice", &ARC_TWICE);
-    tried(b"A's arc from two states", &TWO_STATES);
-    tried(b"arcs that share 0:0", &ONLY_0_0);
-    tried(b"arcs that take no pair", &NO_PAIR_TWICE);
-}
-
-// Row 6, and the order of 3 to 6.
-fn states() {
-    tried(b"states 4 and 32", &STATES_4_AND_32);
-    tried(b"states 5 and 32", &STATES_5_AND_32);
-    let mut unsound = STATES_5_AND_32;
-    unsound[50] = 2;
-    tried(b"states 5 and 32, the last byte 2", &unsound);
-    tried(b"a clash, then no state", &CLASH_THEN_NO_STATE);
-    tried(b"no state, then a clash", &NO_STATE_THEN_CLASH);
-}
-
-// Row 18: the document's cards into a longer target, one as long as the card, and one that is too short.
-fn pack_a() {
-    let a = CARD_A;
-    pack(b"A into 34 bytes", 2, &[23], &a[6..], 34);
-    pack(b"A into 29 bytes", 2, &[23], &a[6..], 29);
-    pack(b"A into 28 bytes", 2, &[23], &a[6..], 28);
-}
-
-fn pack_b() {
-    let b = CARD_B;
-    pack(b"B into 270 bytes", 2, &[124, 43, 83], &b[14..], 270);
-    pack(b"B into 264 bytes", 2, &[124, 43, 83], &b[14..], 264);
-    pack(b"B into 263 bytes", 2, &[124, 43, 83], &b[14..], 263);
+fn pack_a(joined: &[u8]) {
+    pack(b"A into 34 bytes", 2, &[23], joined, 34);
+    pack(b"A into 29 bytes", 2, &[23], joined, 29);
+    pack(b"A into 28 bytes", 2, &[23], joined, 28);
 }
 
 // Row 1, of packing.
-fn pack_counts() {
-    let a = CARD_A;
+fn pack_counts(joined: &[u8]) {
     pack(b"no lengths", 2, &[], b"", 0);
-    pack(b"S 0", 0, &[23], &a[6..], 3);
-    pack(b"S 63", 63, &[23], &a[6..], 30);
-    pack(b"S 64", 64, &[23], &a[6..], 3);
-}
-
-fn pack_many() {
-    let six = SIX_MACHINES;
-    pack(b"six lengths", 2, &[3, 3, 3, 3, 3, 3], &six[26..], 45);
-    let seven = SEVEN_MACHINES;
-    pack(b"seven lengths", 2, &[3, 3, 3, 3, 3, 3, 3], &seven[30..], 3);
-    pack(
-        b"seven lengths, one byte less",
-        2,
-        &[3, 3, 3, 3, 3, 3, 2],
-        &seven[30..],
-        3,
-    );
+    pack(b"S 0", 0, &[23], joined, 3);
+    pack(b"S 63", 63, &[23], joined, 30);
+    pack(b"S 64", 64, &[23], joined, 3);
 }
 
 // Row 17, of packing.
-fn pack_sums() {
-    let a = CARD_A;
-    pack(b"length 22", 2, &[22], &a[6..], 3);
-    pack(b"length 24", 2, &[24], &a[6..], 3);
-    pack(b"lengths 65535 and 24", 2, &[65535, 24], &a[6..], 3);
+fn pack_sums(joined: &[u8]) {
+    pack(b"length 22", 2, &[22], joined, 3);
+    pack(b"length 24", 2, &[24], joined, 3);
+    pack(b"lengths 65535 and 24", 2, &[65535, 24], joined, 3);
 }
 
-// Rows 3 to 6, of packing, before 18.
-fn pack_parts() {
-    let a = CARD_A;
-    pack(b"lengths 23 and 0", 2, &[23, 0], &a[6..], 3);
-    pack(b"lengths 22 and 1", 2, &[22, 1], &a[6..], 3);
-    pack(b"S 1", 1, &[23], &a[6..], 3);
-    let twice = ARC_TWICE;
-    pack(b"A's arc twice", 2, &[43], &twice[6..], 3);
+// Rows 3 and 4, of packing, before 18.
+fn pack_parts(joined: &[u8]) {
+    pack(b"lengths 23 and 0", 2, &[23, 0], joined, 3);
+    pack(b"lengths 22 and 1", 2, &[22, 1], joined, 3);
+    pack(b"S 1", 1, &[23], joined, 3);
 }
 
-fn pack_states() {
-    let few = STATES_4_AND_32;
-    pack(b"states 4 and 32", 2, &[6, 34], &few[10..], 51);
-    pack(b"states 4 and 32, short", 2, &[6, 34], &few[10..], 49);
-    let many = STATES_5_AND_32;
-    pack(b"states 5 and 32, short", 2, &[7, 34], &many[10..], 49);
+// Card B, in the same way.
+fn of_b(card: &[u8]) {
+    tried(b"B", card);
+    truncated(card);
+    parts(b"B", card);
+    if card.len() < 14 {
+        return;
+    }
+    pack_b(&card[14..]);
 }
 
-fn checks() {
-    counts();
-    layout();
-    offsets();
-    lengths();
-    clashes();
-    states();
-    edits();
+fn pack_b(joined: &[u8]) {
+    pack(b"B into 270 bytes", 2, &[124, 43, 83], joined, 270);
+    pack(b"B into 264 bytes", 2, &[124, 43, 83], joined, 264);
+    pack(b"B into 263 bytes", 2, &[124, 43, 83], joined, 263);
 }
 
-fn readings() {
-    parts(b"A", &CARD_A);
-    parts(b"B", &CARD_B);
-    parts(b"A's arc twice", &ARC_TWICE);
-    parts(b"states 5 and 32", &STATES_5_AND_32);
-    parts(b"no byte", b"");
+// A card whose machines have no arcs or clash: its refusal, and that of packing its parts, which start at a place, into 45 bytes.
+fn both_ways(name: &[u8], card: &[u8], lengths: &[u16], start: usize) {
+    tried(name, card);
+    parts(name, card);
+    if card.len() < start {
+        return;
+    }
+    pack(name, 2, lengths, &card[start..], 45);
 }
 
-fn packings() {
-    pack_a();
-    pack_b();
-    pack_counts();
-    pack_many();
-    pack_sums();
-    pack_parts();
-    pack_states();
+fn six_machines() {
+    both_ways(b"six machines", &SIX_MACHINES, &[3, 3, 3, 3, 3, 3], 26);
+}
+
+fn seven_machines() {
+    both_ways(
+        b"seven machines",
+        &SEVEN_MACHINES,
+        &[3, 3, 3, 3, 3, 3, 2],
+        30,
+    );
+}
+
+fn states_32() {
+    both_ways(b"32 states", &STATES_32, &[34], 6);
+}
+
+fn states_33() {
+    both_ways(b"33 states", &STATES_33, &[35], 6);
+}
+
+fn states_4_and_32() {
+    both_ways(b"states 4 and 32", &STATES_4_AND_32, &[6, 34], 10);
+}
+
+fn states_5_and_32() {
+    both_ways(b"states 5 and 32", &STATES_5_AND_32, &[7, 34], 10);
+}
+
+fn unsound_state() {
+    let mut card = STATES_5_AND_32;
+    card[50] = 2;
+    both_ways(b"states 5 and 32, the last byte 2", &card, &[7, 34], 10);
+}
+
+fn arc_twice() {
+    both_ways(b"A's arc twice", &ARC_TWICE, &[43], 6);
+}
+
+fn two_states() {
+    both_ways(b"A's arc from two states", &TWO_STATES, &[44], 6);
+}
+
+fn only_0_0() {
+    both_ways(b"arcs that share 0:0", &ONLY_0_0, &[43], 6);
+}
+
+fn no_pair_twice() {
+    both_ways(b"arcs that take no pair", &NO_PAIR_TWICE, &[43], 6);
+}
+
+fn clash_then_no_state() {
+    both_ways(
+        b"a clash, then no state",
+        &CLASH_THEN_NO_STATE,
+        &[43, 2],
+        10,
+    );
+}
+
+fn no_state_then_clash() {
+    both_ways(
+        b"no state, then a clash",
+        &NO_STATE_THEN_CLASH,
+        &[2, 43],
+        10,
+    );
+}
+
+// Row 2.
+fn offsets() {
+    tried(b"a part of no byte", &NO_PART);
+    tried(b"a part of one byte", &ONE_BYTE_PART);
+    tried(b"offsets wrapped", &WRAPPED);
+}
+
+fn longer() {
+    tried(b"A with a 30th byte", &A_AND_A_BYTE);
+}
+
+fn longest() {
+    let mut card = [0u8; 65541];
+    card[0] = 1;
+    card[1] = 2;
+    card[2] = 6;
+    card[4] = 255;
+    card[5] = 255;
+    tried(b"a part of 65535 bytes", &card);
 }
 
 fn main() {
-    tried(b"A", &CARD_A);
-    tried(b"B", &CARD_B);
-    checks();
-    write(b"truncations of B:\n");
-    truncated(&CARD_B);
-    write(b"flips of A:\n");
+    of_a(&CARD_A);
+    edits();
     flips();
-    readings();
-    packings();
+    of_b(&CARD_B);
+    offsets();
+    longer();
+    longest();
+    six_machines();
+    seven_machines();
+    states_32();
+    states_33();
+    states_4_and_32();
+    states_5_and_32();
+    unsound_state();
+    arc_twice();
+    two_states();
+    only_0_0();
+    no_pair_twice();
+    clash_then_no_state();
+    no_state_then_clash();
 }

@@ -13,14 +13,14 @@ use Rattle.card.proofs.packing.write_table.Statement.{statement}
 use Rattle.card.proofs.packing.write_table.Tie as tie
 
 abbrev Inv-loop : tie.InvT-loop
-Inv-loop target₀ symbols lengths offset₀ i₀ i-end target offset i =
+Inv-loop target₀ symbols lengths start₀ i₀ i-end target start i =
     (i-end ≡ length lengths)
     × (i ≤ length lengths)
-    × (offset ≡ 2 + 4 * length lengths + total (take i lengths))
+    × (start ≡ 2 + 4 * length lengths + total (take i lengths))
     × (target ≡ written (packed symbols lengths []) (2 + 4 * i) target₀)
 
 abbrev μ-loop : tie.MeasureT-loop
-μ-loop target₀ symbols lengths offset₀ i₀ i-end target offset i = i-end - i
+μ-loop target₀ symbols lengths start₀ i₀ i-end target start i = i-end - i
 
 -- the target keeps its length
 at-loop : (c : tie.At-loop Inv-loop μ-loop) → length (c .loop .target) ≡ length (c .before .before .before .args .target .now)
@@ -53,8 +53,8 @@ write-short-requires-2 c κs =
     let k = w .before .before .before .before .before in
     (omega (arith, at-loop k, w .write-short .kept), omega arith)
 
-add-offset-2 : tie.Need-add-offset-2 Inv-loop μ-loop
-add-offset-2 c =
+add-start-2 : tie.Need-add-start-2 Inv-loop μ-loop
+add-start-2 c =
     let k = c .before .before .before .before .before .before .before .before .before .before .before in
     omega (arith, total-parted (k .loop .i) (k .before .before .before .args .lengths .now))
 
@@ -69,7 +69,7 @@ loop-again c =
       refl,
       omega arith,
       rw add-one (omega (arith, total-next l i (omega arith))),
-      places-next (a .symbols) l i (k .loop .offset) (v .before .before .wide .result) (set (set (a .target .now) 0 (length l)) 1 (a .symbols)) (k .loop .target) (v .write-short .last .0) (w .write-short2 .last .0)
+      places-next (a .symbols) l i (k .loop .start) (v .before .before .wide .result) (set (set (a .target .now) 0 (length l)) 1 (a .symbols)) (k .loop .target) (v .write-short .last .0) (w .write-short2 .last .0)
           (omega arith) (simp length-set (omega arith)) (k .loop .inv .2) (v .before .before .wide .ensures .0) (k .loop .inv .3) (v .write-short .ensures) (w .write-short2 .ensures),
     )
 
@@ -106,7 +106,7 @@ write-table-spec =
     (λ c. search needs)
     (λ c. search needs)
     write-short-requires-2
-    add-offset-2
+    add-start-2
     (λ c. search needs)
     (λ c. search needs)
     loop-again
