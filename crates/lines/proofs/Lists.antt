@@ -1,0 +1,80 @@
+-- Laws of lists from a place on, of tests over them, and of stores in a row. Assumes nothing.
+use mathlib.Core.Path.{_≡_, refl, ap, sym, _∙_}
+use mathlib.Core.Bool.{Bool, true, false, _&&_, false≢true}
+use mathlib.Core.List.{List, [], _∷_, _++_}
+use Prim.Native.Nat.{ℕ, suc, _+_, _<_, _≤_, min}
+use native.Mathlib.Nat.{add-zero, add-suc, suc-add, zero-add}
+use native.Mathlib.Numerals.{add-one}
+use native.Mathlib.Omega.{arith}
+use lib.Dec.{leb}
+use lib.ListN.{length, getD, take, drop, set}
+use lib.Seq.{drop-cons, take-all, sets, sets-eq}
+use borrow.Author.Tests.{leb-true, leb-false}
+use Rattle.basics.specs.Search.{allOf}
+
+-- the element at a place, and the rest
+pub rest-cons : {A : Type 0} (l : List A) (at : ℕ) (d : A) → at < length l → drop at l ≡ getD l at d ∷ drop (at + 1) l
+rest-cons l at d h = rw add-one (drop-cons l at d h)
+
+-- the parts of a test that passes
+pub and-left : (a b : Bool) → (a && b) ≡ true → a ≡ true
+and-left true b e = refl
+and-left false b e = e
+
+pub and-right : (a b : Bool) → (a && b) ≡ true → b ≡ true
+and-right true b e = e
+and-right false b e = absurd (false≢true e)
+
+pub and-false : (a : Bool) → (a && false) ≡ false
+and-false true = refl
+and-false false = refl
+
+-- a test of every element of a list that is an element and the rest
+module _ {A : Type 0} (f : A → Bool) {xs : List A} {x : A} {rest : List A} (e : xs ≡ x ∷ rest) where
+  pub all-next : {t : Bool} → f x ≡ true → allOf f xs ≡ t → allOf f rest ≡ t
+  unfolding allOf
+  all-next h i = rw (e, h) at i
+
+  pub all-fails : {t : Bool} → f x ≡ false → allOf f xs ≡ t → false ≡ t
+  unfolding allOf
+  all-fails h i = rw (e, h) at i
+
+  pub all-first : allOf f xs ≡ true → f x ≡ true
+  unfolding allOf
+  all-first i = and-left (f x) (allOf f rest) (rw e at i)
+
+  pub all-rest : allOf f xs ≡ true → allOf f rest ≡ true
+  unfolding allOf
+  all-rest i = and-right (f x) (allOf f rest) (rw e at i)
+
+pub all-end : {A : Type 0} (f : A → Bool) {xs : List A} {t : Bool} → xs ≡ [] → allOf f xs ≡ t → true ≡ t
+unfolding allOf
+all-end f e i = rw e at i
+
+-- the front of a list, no more than there is
+pub take-least : {A : Type 0} (n m : ℕ) (l : List A) → length l ≡ m → take (min n m) l ≡ take n l
+take-least {A} n m l e = go (leb n m) refl
+  where
+    go : (t : Bool) → leb n m ≡ t → take (min n m) l ≡ take n l
+    go true h = let le : min n m ≡ n = omega (arith, leb-true n m h) in ap (λ (k : ℕ). take k l) le
+    go false h = let lt = leb-false n m h in take-all (min n m) l (omega arith) ∙ sym (take-all n l (omega arith))
+
+module _ {A : Type 0} where
+  -- stores in a row
+  pub sets-append : (l : List A) (i : ℕ) (xs ys : List A) → sets (sets l i xs) (i + length xs) ys ≡ sets l i (xs ++ ys)
+  sets-append l i [] ys = ap (λ (k : ℕ). sets l k ys) (add-zero i)
+  sets-append l i (x ∷ xs) ys =
+      ap (λ (k : ℕ). sets (sets (set l i x) (suc i) xs) k ys) (add-suc i (length xs) ∙ sym (suc-add i (length xs)))
+      ∙ sets-append (set l i x) (suc i) xs ys
+
+  -- a list is stored element by element: the next one, and the end
+  module _ (l : List A) (next : ℕ) {xs v : List A} where
+    pub sets-next : {x : A} {rest : List A} → xs ≡ x ∷ rest → sets l next xs ≡ v → sets (set l next x) (next + 1) rest ≡ v
+    sets-next e i = rw (add-one next) (rw e at i)
+
+    pub sets-end : xs ≡ [] → sets l next xs ≡ v → l ≡ v
+    sets-end e i = rw e at i
+
+  -- stores from the front on
+  pub sets-front : (xs l : List A) → length xs ≤ length l → sets l 0 xs ≡ xs ++ drop (length xs) l
+  sets-front xs l h = sets-eq xs l 0 (rw zero-add h) ∙ ap (λ (k : ℕ). xs ++ drop k l) (zero-add (length xs))

@@ -1,0 +1,100 @@
+use mathlib.Core.Path.{_≡_, refl, ap, sym, _∙_}
+use mathlib.Core.Bool.{true}
+use mathlib.Core.List.{_∷_, map}
+use Prim.Native.Nat.{_+_, _≤_}
+use native.Mathlib.Omega.{arith}
+use lib.ListN.{length, take, length-take, length-drop, length-set, length-map}
+use lib.Seq.{length-take-le, sets}
+use borrow.Author.Needs.{needs}
+use Rattle.lines.specs.Text.{comma, after, segments}
+use Rattle.lines.specs.Decimal.{valueOf}
+use Rattle.lines.specs.Parsing.{isSymbolText, isWordText}
+use Rattle.lines.proofs.Lists.{all-first, all-rest, sets-next, sets-front}
+use Rattle.lines.proofs.Cutting.{otherSegments, segment-first, segment-last, segment-more}
+use Rattle.lines.proofs.Forms.{symbol-digits, symbol-small}
+use Rattle.lines.proofs.parsing.write_word.Statement.{statement}
+use Rattle.lines.proofs.parsing.write_word.Tie as tie
+
+abbrev Inv-loop : tie.InvT-loop
+Inv-loop text word₀ rest₀ count₀ word rest count = (length rest ≤ length text)
+    × (length word ≡ length word₀)
+    × (isWordText rest ≡ true)
+    × (count + length (segments comma rest) ≡ length (segments comma text))
+    × (sets word count (map valueOf (segments comma rest)) ≡ sets word₀ 0 (map valueOf (segments comma text)))
+
+abbrev μ-loop : tie.MeasureT-loop
+μ-loop text word₀ rest₀ count₀ word rest count = length rest
+
+loop-holds : tie.Need-loop-holds Inv-loop μ-loop
+loop-holds c = (search needs, refl, c .before .before .pre .0, search needs, refl)
+
+slice-aggregate-value : tie.Need-slice-aggregate-value Inv-loop μ-loop
+slice-aggregate-value c = sym (length-take-le _ _ (c .before .length-before .ensures .1))
+
+-- the segment that is written, and that it is a symbol
+first : (c : tie.After-length-before Inv-loop μ-loop)
+    → segments comma (c .before .loop .rest .now)
+    ≡ take (c .length-before .result) (c .before .loop .rest .now) ∷ otherSegments comma (after comma (c .before .loop .rest .now))
+first c = segment-first comma _ _ (c .length-before .ensures .0)
+
+symbol : (c : tie.After-length-before Inv-loop μ-loop) → isSymbolText (take (c .length-before .result) (c .before .loop .rest .now)) ≡ true
+symbol c = all-first isSymbolText (first c) (c .before .loop .inv .2)
+
+value-requires : tie.Need-value-requires Inv-loop μ-loop
+value-requires c κs = let f = symbol-digits _ (symbol (c .before)) in (f .no-more, f .digits)
+
+cast-word : tie.Need-cast-word Inv-loop μ-loop
+cast-word c = omega (arith, c .value .ensures, symbol-small _ (symbol (c .before .before)))
+
+slice-write-word : tie.Need-slice-write-word Inv-loop μ-loop
+slice-write-word c = omega (arith, ap length (first (c .before .before)))
+
+add-count : tie.Need-add-count Inv-loop μ-loop
+add-count c = omega (arith, ap length (first (c .before .before)))
+
+same-length : tie.Need-same-length Inv-loop μ-loop
+same-length c = simp length-set (c .before .before .before .before .loop .inv .1)
+
+returns : tie.Need-returns Inv-loop μ-loop
+returns c = let k = c .before .before .before in
+    let a = k .before .before .before .before .args in
+    let p = segment-last comma _ _ (k .length-before .ensures .0) (c .if1 .taken) in (
+      omega (arith, ap length p),
+      rw (c .before .value .ensures) (sets-next _ _ (ap (map valueOf) p) (k .before .loop .inv .4))
+          ∙ sets-front (map valueOf (segments comma (a .text .now))) (a .word .now) (simp length-map (k .before .before .before .before .pre .1)),
+    )
+
+loop-less : tie.Need-loop-less Inv-loop μ-loop
+loop-less c = simp (length-take, length-drop) (omega arith)
+
+loop-again : tie.Need-loop-again Inv-loop μ-loop
+loop-again c = let k = c .before .before .before .before in
+    let p = segment-more comma _ _ (k .length-before .ensures .0) (c .before .if1 .left) in (
+      simp (length-take, length-drop) (omega arith),
+      simp length-set (k .before .loop .inv .1),
+      all-rest isSymbolText p (k .before .loop .inv .2),
+      omega (arith, ap length p),
+      rw (c .before .before .value .ensures) (sets-next _ _ (ap (map valueOf) p) (k .before .loop .inv .4)),
+    )
+
+pub write-word-spec : {M : Type 1} → statement M
+write-word-spec =
+    tie.close
+    (tie.spec
+    Inv-loop
+    μ-loop
+    loop-holds
+    (λ c κs. search needs)
+    slice-aggregate-value
+    value-requires
+    cast-word
+    slice-write-word
+    add-count
+    same-length
+    returns
+    (λ c. search needs)
+    (λ c. search needs)
+    (λ c. search needs)
+    (λ c. search needs)
+    loop-less
+    loop-again)

@@ -1,0 +1,37 @@
+use native.Mathlib.Omega.{arith}
+use borrow.Author.Needs.{needs}
+use Rattle.lines.proofs.Writes.{written-nil, written-append, written-length}
+use Rattle.lines.proofs.Texts.{counts-first-length, counts-none, counts-first}
+use Rattle.lines.proofs.writing.write_counts.Statement.{statement}
+use Rattle.lines.proofs.writing.write_counts.Tie as tie
+
+returns : tie.Need-returns
+returns c = rw (counts-none _ (c .if1 .taken)) (written-nil _ _)
+
+cast-write-number : tie.Need-cast-write-number
+cast-write-number c = omega (arith, c .shared-slice-known2 .given 0)
+
+write-number-requires : tie.Need-write-number-requires
+write-number-requires c κs = omega (arith, counts-first-length (c .before .before .before .before .before .args .counts .now) (c .before .before .if1 .left))
+
+write-next-counts-requires : tie.Need-write-next-counts-requires
+write-next-counts-requires c κs = let w = c .before .before .before .before .write-number .ensures in
+    omega (arith, counts-first-length (c .before .before .before .before .before .before .before .before .before .before .args .counts .now) (c .before .before .before .before .before .before .before .if1 .left), w .place, written-length w)
+
+returns-2 : tie.Need-returns-2
+returns-2 c = rw (counts-first (c .before .before .before .before .before .before .before .before .before .before .before .before .before .args .counts .now) (c .before .before .before .before .before .before .before .before .before .before .if1 .left)) (written-append (c .before .before .before .before .before .before .before .write-number .ensures) (c .before .before .write-next-counts .ensures))
+
+pub write-counts-spec : {M : Type 1} → statement M
+write-counts-spec =
+    tie.close
+    (tie.spec
+    returns
+    (λ c. search needs)
+    cast-write-number
+    write-number-requires
+    (λ c. search needs)
+    (λ c. search needs)
+    (λ c. search needs)
+    write-next-counts-requires
+    (λ c. search needs)
+    returns-2)

@@ -1,0 +1,15 @@
+-- Texts written in a lent buffer.
+use mathlib.Core.Path.{_≡_}
+use mathlib.Core.List.{List, _++_}
+use Prim.Native.Nat.{ℕ, _+_}
+use lib.ListN.{length, drop}
+use lib.Seq.{sets}
+
+-- a text written at the front of a buffer: the other bytes keep their values
+abbrev pub atFront : List ℕ → List ℕ → List ℕ
+atFront text buffer = text ++ drop (length text) buffer
+
+-- a text written from a place on, byte by byte: the new buffer, and the place after the text
+pub record Written (text : List ℕ) (at : ℕ) (old new : List ℕ) (next : ℕ) : Type 0 where
+  pub place : next ≡ at + length text
+  pub bytes : new ≡ sets old at text

@@ -1,0 +1,83 @@
+-- Labelling a position, and all of them.
+use mathlib.Core.Path.{_≡_, refl, sym, _∙_, ap}
+use mathlib.Core.List.{List}
+use mathlib.Core.Option.{some, none}
+use Prim.Native.Nat.{ℕ, zero, suc, _+_, _*_, _-_, _^_, _<_, _≤_}
+use native.Mathlib.Nat.{mul-le-mul-right, suc-mul}
+use native.Mathlib.Omega.{arith}
+use lib.ListN.{length, getD}
+use Rattle.card.specs.Card.{machinesOf}
+use Rattle.paths.specs.Ranked.{Ranked}
+use Rattle.paths.specs.Positions.{Done, done-start}
+use Rattle.labels.specs.LabelCost.{RoomFor}
+use Rattle.labels.specs.Work.{stateOf, labelOf, Cleared}
+use Rattle.labels.specs.Settling.{SettlePre, Settled}
+use Rattle.labels.proofs.Work.{blank-state}
+use Rattle.labels.proofs.Clearing.{cleared-blank}
+use Rattle.labels.proofs.Room.{attained-room}
+use Rattle.card.specs.Layout.{symbolCount}
+use Rattle.steps.specs.StepTable.{HoldsSteps}
+use Rattle.tables.specs.Places.{sixPlaces}
+use Rattle.tables.specs.Insertions.{HoldsCheapest}
+use Rattle.positions.specs.Engine.{engineGraph, placeOf, Setting, Looked}
+use Rattle.positions.specs.Entering.{EnterPre, Tried, EndPre, EndsTried}
+use Rattle.positions.specs.Labelling.{PositionPre, PositionEntered, PositionsDone, LabelPre}
+use Rattle.positions.proofs.Edges.{node-below, node-place, place-low, place-high, few-codes, few-nodes, positioned, within, small-marks}
+use Rattle.positions.proofs.Entering.{tried-entered}
+use Rattle.positions.proofs.Ending.{ends-entered}
+use Rattle.positions.proofs.Insertions.{position-pre, position-settled}
+
+module _ {card ranking word rs cs ps xs : List ℕ} {P i : ℕ} (Q : PositionPre card ranking word rs cs ps xs P i) where
+  pub enter-pre : {ss : List ℕ} → i < length word → HoldsSteps (machinesOf card) (getD word i 0) ss → EnterPre card ranking word rs cs ps ss xs P i
+  enter-pre h H = record {
+    setting = Q .setting;
+    below = h;
+    looked = Q .looked;
+    steps = H;
+    room = Q .room;
+    fits = λ u c a l. attained-room (engineGraph card ranking word) (small-marks (Q .setting)) (within (Q .setting)) (Q .done .attained) 1 (omega (arith, few-nodes (Q .setting))) u c (node-below (length word) P (suc i) u h (place-high (Q .setting) u (suc i) a)) l;
+  }
+
+  blank : (w : ℕ) → placeOf card w ≡ i → stateOf xs w ≤ 1
+  blank w a = omega (arith, blank-state xs w (Q .done .blank w (omega arith)))
+
+  pub entered-symbol : {ys : List ℕ} → i < length word → Tried card ranking word xs ys i (i * P) 0 (i * P + P) 0 → PositionEntered card ranking word xs ys i
+  entered-symbol {ys} h T = record { size = T .size; fresh = λ w a. T .fresh w (blank w a); entered = tried-entered (Q .setting) xs ys i h (Q .done) T }
+
+  pub entered-last : {ys : List ℕ} → length word ≤ i → EndsTried card ranking word xs ys (length word * P) (length word * P + P) → PositionEntered card ranking word xs ys i
+  entered-last {ys} h T =
+      let q : i ≡ length word = omega (arith, Q .within) in
+      let d : Done (engineGraph card ranking word) (placeOf card) (labelOf xs) (suc (length word)) = rw q at (Q .done) in
+      record { size = T .size; fresh = λ w a. T .fresh w (blank w a); entered = rw q (ends-entered (Q .setting) xs ys d T) }
+
+  module _ {ys ks : List ℕ} (H : HoldsCheapest (symbolCount card) (machinesOf card) (sixPlaces ranking) ks) (E : PositionEntered card ranking word xs ys i) where
+    pub settle-ready : SettlePre ys ks (i * P) P
+    settle-ready = position-pre (Q .setting) ks H i (Q .within) ys (E .size ∙ Q .room) (E .fresh) (E .entered)
+
+    pub position-labelled : {zs : List ℕ} → Settled ys zs ks (i * P) P → PositionsDone card ranking word xs zs i
+    position-labelled {zs} S = record { size = S .size ∙ E .size; done = position-settled (Q .setting) ks H i (Q .within) ys zs S (E .entered) }
+
+module _ {card ranking word xs : List ℕ} {P : ℕ} (Q : LabelPre card ranking word xs P) where
+  -- no node has a label
+  pub labels-cleared : {ys : List ℕ} → Cleared xs ys ((length word + 1) * P) → PositionsDone card ranking word xs ys (length word + 1)
+  labels-cleared {ys} C =
+      let q : length word + 1 ≡ suc (length word) = omega arith in
+      record { size = C .size; done = rw q (done-start (engineGraph card ranking word) (placeOf card) (positioned (Q .setting)) (labelOf ys) (cleared-blank C (omega (arith, Q .room)))) }
+
+  -- one position more
+  pub position-ready : {rs cs ps ys : List ℕ} (left : ℕ) → 0 < left → left ≤ length word + 1 → Looked card ranking rs cs ps → PositionsDone card ranking word xs ys left → PositionPre card ranking word rs cs ps ys P (left - 1)
+  position-ready {ys = ys} left a b H D =
+      let q : suc (left - 1) ≡ left = omega arith in
+      record { setting = Q .setting; within = omega arith; looked = H; room = D .size ∙ Q .room; done = rw q (D .done) }
+
+  pub cleared-pre : {ys : List ℕ} → Cleared xs ys ((length word + 1) * P) → LabelPre card ranking word ys P
+  cleared-pre C = record { setting = Q .setting; room = C .size ∙ Q .room }
+
+  pub positions-start : {ys : List ℕ} → Cleared xs ys ((length word + 1) * P) → PositionsDone card ranking word ys ys (length word + 1)
+  positions-start C = record { size = refl; done = labels-cleared C .done }
+
+pub position-passed : {card ranking word xs ys zs : List ℕ} {i j : ℕ} → PositionsDone card ranking word xs ys i → PositionsDone card ranking word ys zs j → PositionsDone card ranking word xs zs j
+position-passed A B = record { size = B .size ∙ A .size; done = B .done }
+
+pub positions-end : {card ranking word xs ys zs : List ℕ} {n left : ℕ} → Cleared xs ys n → PositionsDone card ranking word ys zs left → left ≤ 0 → PositionsDone card ranking word xs zs 0
+positions-end {left = left} C D h = let q : left ≡ 0 = omega arith in record { size = D .size ∙ C .size; done = rw q at (D .done) }

@@ -1,0 +1,6 @@
+pub mod Edges
+pub mod Entering
+pub mod Ending
+pub mod Insertions
+pub mod Labelling
+pub mod Prefix

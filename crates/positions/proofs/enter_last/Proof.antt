@@ -1,0 +1,52 @@
+use Prim.Native.Nat.{_+_, _*_, _-_, _≤_}
+use mathlib.Core.Path.{_∙_}
+use lib.ListN.{length}
+use borrow.Author.Needs.{needs}
+use native.Mathlib.Omega.{arith}
+use Rattle.positions.specs.Entering.{EndsTried}
+use Rattle.positions.proofs.Ending.{ends-first, ends-trans, ends-whole}
+use Rattle.positions.proofs.enter_last.Statement.{statement}
+use Rattle.positions.proofs.enter_last.Tie as tie
+
+abbrev Inv-loop : tie.InvT-loop
+Inv-loop work₀ card ranking word rows counts places size code₀ work code = (code ≤ size) × EndsTried card ranking word work₀ work (lib.ListN.length word * size) (lib.ListN.length word * size + code)
+
+abbrev μ-loop : tie.MeasureT-loop
+μ-loop work₀ card ranking word rows counts places size code₀ work code = size - code
+
+loop-holds : tie.Need-loop-holds Inv-loop μ-loop
+loop-holds c = (omega arith, ends-first)
+
+try-ending-requires : tie.Need-try-ending-requires Inv-loop μ-loop
+try-ending-requires c κs =
+    let t = c .before .before .before .before .before .before .before .before .before in
+    (record { setting = t .pre .setting; looked = t .pre .looked; room = c .before .before .loop .inv .1 .size ∙ t .pre .room }, omega arith)
+
+add-code : tie.Need-add-code Inv-loop μ-loop
+add-code c = search needs
+
+loop-less : tie.Need-loop-less Inv-loop μ-loop
+loop-less c = search needs
+
+loop-again : tie.Need-loop-again Inv-loop μ-loop
+loop-again c = (omega arith, ends-trans (c .before .before .before .before .before .loop .inv .1) (c .before .before .try-ending .ensures))
+
+same-length : tie.Need-same-length Inv-loop μ-loop
+same-length c = c .before .loop .inv .1 .size
+
+returns : tie.Need-returns Inv-loop μ-loop
+returns c = ends-whole (c .before .loop .inv .1) (c .before .loop .inv .0) (omega arith)
+
+pub enter-last-spec : {M : Type 1} → statement M
+enter-last-spec =
+    tie.close
+    (tie.spec
+    Inv-loop
+    μ-loop
+    loop-holds
+    try-ending-requires
+    add-code
+    loop-less
+    loop-again
+    same-length
+    returns)

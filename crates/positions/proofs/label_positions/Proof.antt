@@ -1,0 +1,68 @@
+use Prim.Native.Nat.{_+_, _*_, _-_, _≤_}
+use lib.ListN.{length}
+use borrow.Author.Needs.{needs}
+use native.Mathlib.Omega.{arith}
+use Rattle.positions.specs.Labelling.{PositionsDone}
+use Rattle.positions.proofs.Edges.{few-nodes, word-sound}
+use Rattle.positions.proofs.Labelling.{cleared-pre, positions-start, position-ready, position-passed, positions-end}
+use Rattle.positions.proofs.label_positions.Statement.{statement}
+use Rattle.positions.proofs.label_positions.Tie as tie
+
+abbrev Inv-loop : tie.InvT-loop
+Inv-loop work₀ card ranking word rows counts places cheapest size left₀ work left = (left ≤ lib.ListN.length word + 1) × PositionsDone card ranking word work₀ work left
+
+abbrev μ-loop : tie.MeasureT-loop
+μ-loop work₀ card ranking word rows counts places cheapest size left₀ work left = left
+
+add-clear : tie.Need-add-clear Inv-loop μ-loop
+add-clear c = omega (arith, word-sound (c .before .before .before .before .before .before .before .before .pre .0 .setting) .few)
+
+mul-clear : tie.Need-mul-clear Inv-loop μ-loop
+mul-clear c = omega (arith, few-nodes (c .before .before .before .before .before .before .before .before .pre .0 .setting))
+
+clear-requires : tie.Need-clear-requires Inv-loop μ-loop
+clear-requires c κs = omega (arith, c .before .before .before .before .before .before .before .before .pre .0 .room)
+
+add-left : tie.Need-add-left Inv-loop μ-loop
+add-left c = omega (arith, word-sound (c .before .before .before .before .before .before .before .before .before .before .before .pre .0 .setting) .few)
+
+loop-holds : tie.Need-loop-holds Inv-loop μ-loop
+loop-holds c = (omega arith, positions-start (c .before .before .before .before .before .before .before .before .before .before .before .pre .0) (c .before .before .clear .ensures))
+
+sub-left : tie.Need-sub-left Inv-loop μ-loop
+sub-left c = omega arith
+
+label-position-requires : tie.Need-label-position-requires Inv-loop μ-loop
+label-position-requires c κs =
+    let t = c .before .before .before .before .before .before .before .before .before .before .before .before .before .before in
+    (position-ready (cleared-pre (t .pre .0) (c .before .before .before .before .before .clear .ensures)) (c .before .before .loop .left) (omega arith) (c .before .before .loop .inv .0) (t .pre .1) (c .before .before .loop .inv .1), t .pre .2)
+
+loop-less : tie.Need-loop-less Inv-loop μ-loop
+loop-less c = omega arith
+
+loop-again : tie.Need-loop-again Inv-loop μ-loop
+loop-again c = (omega (arith, c .before .before .before .before .before .loop .inv .0), position-passed (c .before .before .before .before .before .loop .inv .1) (c .before .before .label-position .ensures))
+
+same-length : tie.Need-same-length Inv-loop μ-loop
+same-length c = positions-end (c .before .before .before .before .clear .ensures) (c .before .loop .inv .1) (omega arith) .size
+
+returns : tie.Need-returns Inv-loop μ-loop
+returns c = positions-end (c .before .before .before .before .clear .ensures) (c .before .loop .inv .1) (omega arith)
+
+pub label-positions-spec : {M : Type 1} → statement M
+label-positions-spec =
+    tie.close
+    (tie.spec
+    Inv-loop
+    μ-loop
+    add-clear
+    mul-clear
+    clear-requires
+    add-left
+    loop-holds
+    sub-left
+    label-position-requires
+    loop-less
+    loop-again
+    same-length
+    returns)

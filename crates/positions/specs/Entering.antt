@@ -1,0 +1,63 @@
+-- Entering a position: every pair that leaves it is tried, from the first node of it on; at the last position every ending.
+use mathlib.Core.Path.{_≡_}
+use mathlib.Core.Logic.{_⊎_, _≢_}
+use mathlib.Core.Option.{Option, none, some}
+use mathlib.Core.List.{List}
+use Prim.Native.Nat.{ℕ, suc, _+_, _*_, _^_, _<_, _≤_}
+use lib.ListN.{length, getD}
+use Rattle.machine.specs.declared.Pair.{Pair}
+use Rattle.card.specs.Card.{machinesOf}
+use Rattle.paths.specs.Costs.{Labels}
+use Rattle.paths.specs.Ranked.{Ranked, add, rankedCosts}
+use Rattle.paths.specs.Positions.{Done, Entering, Entered}
+use Rattle.labels.specs.Marks.{marksOf}
+use Rattle.labels.specs.LabelCost.{RoomFor}
+use Rattle.labels.specs.Work.{HasNode, stateOf, labelOf, AlikeAt}
+use Rattle.labels.specs.Lowering.{Lowered}
+use Rattle.steps.specs.StepTable.{HoldsSteps}
+use Rattle.positions.specs.Engine.{engineGraph, placeOf, Setting, Looked}
+
+-- trying the node u by a pair with the marks m that leads to v
+pub record EdgePre (xs : List ℕ) (u v m : ℕ) : Type 0 where
+  pub node : HasNode xs u
+  pub target : HasNode xs v
+  pub marks : m < 16 ^ 6
+  pub fits : (d : Ranked 6) → labelOf xs v ≡ some d → RoomFor 1 6 d
+
+pub record EdgeTried (xs ys : List ℕ) (u v m : ℕ) : Type 0 where
+  pub unlabelled : labelOf xs v ≡ none → ys ≡ xs
+  pub labelled : (d : Ranked 6) → labelOf xs v ≡ some d → Lowered xs ys u (add 6 (marksOf m) d)
+
+-- the pairs that were tried: all of the nodes below u, and those of u with an output below y
+abbrev pub TriedBefore : ℕ → ℕ → ℕ → Pair → Type 0
+TriedBefore u y w p = (w < u) ⊎ ((w ≡ u) × (p .output < y))
+
+-- what trying the pairs of the nodes of the position i needs: the rows and the steps of its symbol, and room for a pair more
+pub record EnterPre (card ranking word rs cs ps ss xs : List ℕ) (P i : ℕ) : Type 0 where
+  pub setting : Setting card ranking word P
+  pub below : i < length word
+  pub looked : Looked card ranking rs cs ps
+  pub steps : HoldsSteps (machinesOf card) (getD word i 0) ss
+  pub room : length xs ≡ (length word + 1) * P * 8
+  pub fits : (u : ℕ) (c : Ranked 6) → placeOf card u ≡ suc i → labelOf xs u ≡ some c → RoomFor 1 6 c
+
+-- the pairs of the position i from the output y of the node u on, up to the output y′ of the node u′, were tried
+pub record Tried (card ranking word xs ys : List ℕ) (i u y u′ y′ : ℕ) : Type 0 where
+  pub size : length ys ≡ length xs
+  pub others : (w : ℕ) → placeOf card w ≢ i → AlikeAt xs ys w
+  pub fresh : (w : ℕ) → stateOf xs w ≤ 1 → stateOf ys w ≤ 1
+  pub enters : (K : Labels (rankedCosts 6)) → Entering (engineGraph card ranking word) (placeOf card) K (labelOf xs) i (λ _. ⊥) (TriedBefore u y)
+      → Entering (engineGraph card ranking word) (placeOf card) K (labelOf ys) i (λ _. ⊥) (TriedBefore u′ y′)
+
+-- what trying the endings of the last position needs
+pub record EndPre (card ranking word rs cs ps xs : List ℕ) (P : ℕ) : Type 0 where
+  pub setting : Setting card ranking word P
+  pub looked : Looked card ranking rs cs ps
+  pub room : length xs ≡ (length word + 1) * P * 8
+
+-- the endings of the nodes from u on, up to the node u′, were tried
+pub record EndsTried (card ranking word xs ys : List ℕ) (u u′ : ℕ) : Type 0 where
+  pub size : length ys ≡ length xs
+  pub fresh : (w : ℕ) → stateOf xs w ≤ 1 → stateOf ys w ≤ 1
+  pub enters : (K : Labels (rankedCosts 6)) → Entering (engineGraph card ranking word) (placeOf card) K (labelOf xs) (length word) (λ w. w < u) (λ _ _. ⊥)
+      → Entering (engineGraph card ranking word) (placeOf card) K (labelOf ys) (length word) (λ w. w < u′) (λ _ _. ⊥)

@@ -1,0 +1,32 @@
+-- Labelling all nodes, position by position, from the last to the first.
+use mathlib.Core.Path.{_≡_}
+use mathlib.Core.List.{List}
+use Prim.Native.Nat.{ℕ, suc, _+_, _*_, _<_, _≤_}
+use lib.ListN.{length}
+use Rattle.paths.specs.Positions.{Done, Entered}
+use Rattle.labels.specs.Work.{stateOf, labelOf}
+use Rattle.positions.specs.Engine.{engineGraph, placeOf, Setting, Looked}
+
+-- before the position i: those past it are done
+pub record PositionPre (card ranking word rs cs ps xs : List ℕ) (P i : ℕ) : Type 0 where
+  pub setting : Setting card ranking word P
+  pub within : i ≤ length word
+  pub looked : Looked card ranking rs cs ps
+  pub room : length xs ≡ (length word + 1) * P * 8
+  pub done : Done (engineGraph card ranking word) (placeOf card) (labelOf xs) (suc i)
+
+-- the position i was entered, and none of its nodes is settled
+pub record PositionEntered (card ranking word xs ys : List ℕ) (i : ℕ) : Type 0 where
+  pub size : length ys ≡ length xs
+  pub fresh : (w : ℕ) → placeOf card w ≡ i → stateOf ys w ≤ 1
+  pub entered : Entered (engineGraph card ranking word) (placeOf card) (labelOf ys) i
+
+-- the positions from i on are done
+pub record PositionsDone (card ranking word xs ys : List ℕ) (i : ℕ) : Type 0 where
+  pub size : length ys ≡ length xs
+  pub done : Done (engineGraph card ranking word) (placeOf card) (labelOf ys) i
+
+-- what labelling needs
+pub record LabelPre (card ranking word xs : List ℕ) (P : ℕ) : Type 0 where
+  pub setting : Setting card ranking word P
+  pub room : length xs ≡ (length word + 1) * P * 8

@@ -1,0 +1,25 @@
+-- What a number of a step table says. Assumes nothing.
+use mathlib.Core.Path.{_≡_, refl, ap}
+use mathlib.Core.Option.{Option, some, none}
+use Prim.Native.Nat.{ℕ, _+_, _*_, _/_, _%_, _<_, _≤_}
+use native.Mathlib.Nat.{mul-add-div-right, mul-add-mod-self-right, div-eq-of-lt, mod-eq-of-lt}
+use native.Mathlib.Omega.{arith}
+use Rattle.steps.specs.StepTable.{stepCode}
+
+-- a step to one of at most 32 states, with at most 15 marks
+abbrev pub SmallStep : Option (ℕ × ℕ) → Type 0
+SmallStep o = (r : ℕ × ℕ) → o ≡ some r → (r .0 < 32) × (r .1 ≤ 15)
+
+-- 65535 says that there is none
+pub code-none : (o : Option (ℕ × ℕ)) → SmallStep o → stepCode o ≡ 65535 → o ≡ none
+code-none none b e = refl
+code-none (some r) b e = let k = b r refl in absurd (omega arith)
+
+-- any other number has the state and the marks
+pub code-some : (o : Option (ℕ × ℕ)) → SmallStep o → (stepCode o ≡ 65535 → ⊥) → o ≡ some (stepCode o / 16, stepCode o % 16)
+code-some none b e = absurd (e refl)
+code-some (some r) b e =
+    let k = b r refl in
+    let s : r .0 ≡ (r .0 * 16 + r .1) / 16 = omega arith in
+    let m : r .1 ≡ (r .0 * 16 + r .1) % 16 = omega arith in
+    λ i. some (s i, m i)

@@ -1,0 +1,5 @@
+pub mod Stretches
+pub mod Codes
+pub mod Rows
+pub mod Arcs
+pub mod Machines

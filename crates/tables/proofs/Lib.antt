@@ -1,0 +1,6 @@
+pub mod Machines
+pub mod Counts
+pub mod Rows
+pub mod Joining
+pub mod Ending
+pub mod Cheapest

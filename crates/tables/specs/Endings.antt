@@ -1,0 +1,18 @@
+-- What an ending costs: its marks, and no pair.
+use mathlib.Core.Option.{Option, some, none}
+use Prim.Native.Nat.{ℕ, zero, suc}
+use Rattle.paths.specs.Ranked.{Ranked}
+use Rattle.labels.specs.Marks.{marksOf}
+
+-- a cost with no pair
+abbrev pub withoutPairs : (k : ℕ) → Ranked k → Ranked k
+withoutPairs zero c = 0
+withoutPairs (suc k) c = (c .0, withoutPairs k (c .1))
+
+-- the cost of an ending, by the number of its marks
+abbrev pub endingCost : ℕ → Ranked 6
+endingCost e = withoutPairs 6 (marksOf e)
+
+abbrev pub endingCosts : Option ℕ → Option (Ranked 6)
+endingCosts none = none
+endingCosts (some e) = some (endingCost e)

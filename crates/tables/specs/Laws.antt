@@ -1,0 +1,7 @@
+-- Laws of the tables.
+pub mod Packing
+pub mod Harmony
+pub mod Cards
+pub mod Edges
+pub mod Cheapest
+pub mod Endings

@@ -1,0 +1,54 @@
+-- What an accepted card promises of its machines, for the tables.
+use mathlib.Core.Path.{_≡_, refl, sym, _∙_, ap}
+use mathlib.Core.List.{List, []}
+use Prim.Native.Nat.{ℕ, _<_, _≤_}
+use native.Mathlib.Decide.{decLt}
+use native.Mathlib.Omega.{arith}
+use lib.ListN.{length, getD, List·getD-eq-default, List·getD-map}
+use Rattle.machine.specs.Machine.{Machine}
+use Rattle.machine.specs.Part.{stateCount}
+use Rattle.machine.specs.Accepted.{shape-facts, accepted as part-accepted}
+use Rattle.card.specs.Layout.{machineCount, symbolCount, partOf}
+use Rattle.card.specs.Card.{machinesOf, cardRefusal}
+use Rattle.card.specs.Accepted.{accepted}
+use Rattle.product.specs.Nodes.{stateCountOf, stateCounts}
+use Rattle.product.specs.Laws.Accepted.{part-states, accepted-machines}
+use Rattle.steps.specs.StepTable.{machineAt, HoldsSteps}
+use Rattle.steps.proofs.Machines.{machines-count, machine-at}
+use Rattle.tables.specs.Tables.{CardMachines, CountsOfSome, HoldsRows, Tables, TablesOfSome}
+
+module _ (card : List ℕ) (ok : cardRefusal card ≡ 0) where
+  -- a machine has as many states as its part says, 1 to 32
+  pub machine-states : (m : ℕ) → m < machineCount card → stateCountOf (machineAt (machinesOf card) m) ≡ stateCount (partOf card m)
+  machine-states m h = ap stateCountOf (machine-at card m h) ∙ part-states (symbolCount card) (partOf card m) (accepted card ok .part m h)
+
+  few-states : (m : ℕ) → Dec (m < machineCount card) → stateCountOf (machineAt (machinesOf card) m) ≤ 32
+  few-states m (yes h) =
+      omega (arith, machine-states m h, shape-facts (partOf card m) (part-accepted (symbolCount card) (partOf card m) (accepted card ok .part m h) .shape) .states)
+  few-states m (no h) =
+      let none : Machine = record { finals = []; arcs = [] } in
+      omega (arith, ap stateCountOf (List·getD-eq-default (machinesOf card) none {n = m} (omega (arith, machines-count card))))
+
+  pub card-machines : CardMachines (symbolCount card) (machinesOf card)
+  card-machines =
+      let a = accepted card ok in
+      let b = accepted-machines card ok in
+      record {
+        some-machine = omega (arith, b .count, b .some-machine);
+        machines = omega (arith, b .count, a .head .counts);
+        sound = b .sound;
+        states = λ m. few-states m (decLt m (machineCount card));
+        joint-states = omega (arith, b .states, b .few-states);
+        symbols = omega (arith, a .head .counts);
+      }
+
+  pub card-counts : {counts : List ℕ} → counts ≡ stateCounts (machinesOf card) → CountsOfSome counts
+  card-counts e = record { symbols = symbolCount card; machines = machinesOf card; card = card-machines; are = e }
+
+  -- the tables of a card's machines
+  module _ {x : ℕ} {steps rows counts : List ℕ} where
+    pub card-tables : HoldsSteps (machinesOf card) x steps → HoldsRows counts rows → counts ≡ stateCounts (machinesOf card) → Tables (symbolCount card) (machinesOf card) x steps rows counts
+    card-tables s r e = record { machines = card-machines; holds-steps = s; holds-rows = rw (← e) r; holds-counts = e }
+
+    pub some-tables : Tables (symbolCount card) (machinesOf card) x steps rows counts → TablesOfSome steps rows counts
+    some-tables t = record { symbols = symbolCount card; machines = machinesOf card; input = x; tables = t }

@@ -1,0 +1,60 @@
+-- The joint ending by its number is the product's ending.
+use mathlib.Core.Path.{_≡_, refl, sym, _∙_, ap}
+use mathlib.Core.List.{List, [], _∷_}
+use mathlib.Core.Option.{Option, some, none, Option·none-ne-some}
+use Prim.Native.Nat.{ℕ, zero, suc, _+_, _^_, _<_, _≤_}
+use native.Mathlib.Omega.{arith}
+use lib.ListN.{length, getD}
+use Rattle.machine.specs.Machine.{Machine}
+use Rattle.paths.specs.Ranked.{Ranked, add}
+use Rattle.paths.specs.ByRanking.{ranked}
+use Rattle.product.specs.Nodes.{stateCounts, product, statesOf}
+use Rattle.product.specs.Prices.{byRanking}
+use Rattle.product.specs.ProductGraph.{pricedEnding}
+use Rattle.product.specs.Codes.{codeEnding}
+use Rattle.product.specs.Laws.JointStep.{AllSound}
+use Rattle.product.specs.Laws.Edges.{ending-marks-bound}
+use Rattle.product.specs.Laws.Codes.{ending-at, ending-before}
+use Rattle.tables.specs.Places.{sixPlaces, markNumber}
+use Rattle.tables.specs.JointNumbers.{endingNumber, endingFrom}
+use Rattle.tables.specs.Endings.{withoutPairs, endingCost, endingCosts}
+use Rattle.tables.specs.Laws.Packing.{six-cost, six-below}
+use Rattle.tables.specs.Laws.Edges.{sixGraph, nodeAt}
+
+-- added to nothing
+abbrev pub nothing : (k : ℕ) → Ranked k
+nothing zero = 0
+nothing (suc k) = (0, nothing k)
+
+pub without-nothing : (k : ℕ) (c : Ranked k) → withoutPairs k (add k c (nothing k)) ≡ withoutPairs k c
+without-nothing zero c = refl
+without-nothing (suc k) c =
+    let e : c .0 + 0 ≡ c .0 = omega arith in
+    let r = without-nothing k (c .1) in
+    λ i. (e i, r i)
+
+ranked-without : (places marks : List ℕ) (n : ℕ) → withoutPairs (length places) (ranked places marks n) ≡ ranked places marks 0
+ranked-without [] marks n = refl
+ranked-without (m ∷ places) marks n = let r = ranked-without places marks n in λ i. (getD marks m 0, r i)
+
+module _ (ranking word : List ℕ) {S : ℕ} {ms : List Machine} (sound : AllSound S ms) (a : ℕ) (h : a < product (stateCounts ms)) where
+  -- at the end of the word
+  pub ending-edge : sixGraph ranking word ms .ending (nodeAt ms (length word) a) ≡ endingCosts (endingFrom (sixPlaces ranking) ms a)
+  ending-edge = ap (pricedEnding (byRanking (sixPlaces ranking)) word ms) (ending-at word ms a h) ∙ go (codeEnding ms a) (ending-marks-bound sound (statesOf (stateCounts ms) a))
+    where
+      go : (o : Option (List ℕ)) → ((xs : List ℕ) → o ≡ some xs → (i : ℕ) → getD xs i 0 ≤ 15)
+          → pricedEnding (byRanking (sixPlaces ranking)) word ms o ≡ endingCosts (endingNumber (sixPlaces ranking) o)
+      go none f = refl
+      go (some xs) f = ap {B = Option (Ranked 6)} some (sym (ap (withoutPairs 6) (six-cost xs (f xs refl) ranking) ∙ ranked-without (sixPlaces ranking) xs 1))
+
+  -- and nowhere else
+  pub no-ending : (i : ℕ) → (i ≡ length word → ⊥) → sixGraph ranking word ms .ending (nodeAt ms i a) ≡ none
+  no-ending i n = ap (pricedEnding (byRanking (sixPlaces ranking)) word ms) (ending-before word ms i a h n)
+
+-- the number of an ending stands for marks
+pub ending-below : (ranking : List ℕ) {S : ℕ} {ms : List Machine} → AllSound S ms → (a e : ℕ) → endingFrom (sixPlaces ranking) ms a ≡ some e → e < 16 ^ 6
+ending-below ranking {ms = ms} sound a e h = go (codeEnding ms a) (ending-marks-bound sound (statesOf (stateCounts ms) a)) h
+  where
+    go : (o : Option (List ℕ)) → ((xs : List ℕ) → o ≡ some xs → (i : ℕ) → getD xs i 0 ≤ 15) → endingNumber (sixPlaces ranking) o ≡ some e → e < 16 ^ 6
+    go none f q = absurd (Option·none-ne-some e q)
+    go (some xs) f q = let z : markNumber (sixPlaces ranking) xs ≡ e = cc in rw (← z) (six-below xs (f xs refl) ranking)

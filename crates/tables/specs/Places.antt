@@ -1,0 +1,20 @@
+-- Marks of machines as one number, in the order of a ranking.
+use mathlib.Core.Path.{_≡_}
+use mathlib.Core.List.{List, [], _∷_}
+use Prim.Native.Nat.{ℕ, _<_}
+use lib.ListN.{length, getD}
+use Rattle.paths.specs.ByRanking.{ranked}
+use Rattle.labels.specs.Marks.{packed}
+
+-- a ranking of at most six machines as six places, highest first; past the last machine the place 6, at which no profile has a count
+abbrev pub sixPlaces : List ℕ → List ℕ
+sixPlaces ranking = getD ranking 0 6 ∷ getD ranking 1 6 ∷ getD ranking 2 6 ∷ getD ranking 3 6 ∷ getD ranking 4 6 ∷ getD ranking 5 6 ∷ []
+
+-- the number of marks, given in card order: four bits a place, the highest ranked first
+abbrev pub markNumber : List ℕ → List ℕ → ℕ
+markNumber places marks = packed (length places) (ranked places marks 1)
+
+-- six places, each below 8
+pub record SixPlaces (places : List ℕ) : Type 0 where
+  pub size : length places ≡ 6
+  pub below : (i : ℕ) → getD places i 0 < 8

@@ -1,0 +1,283 @@
+// Tables that the engine's inner loops look steps up in.
+ghost use mathlib.Core.Path.{_≡_};
+ghost use Prim.Native.Nat.{ℕ, _^_, _<_, _≤_};
+ghost use lib.ListN.{length, getD, take, replicate};
+ghost use Rattle.card.specs.Layout.{machineCount};
+ghost use Rattle.card.specs.Card.{machinesOf, cardRefusal};
+ghost use Rattle.product.specs.Nodes.{stateCounts, product};
+ghost use Rattle.labels.specs.LabelCost.{costOf};
+ghost use Rattle.tables.specs.Places.{sixPlaces, markNumber, SixPlaces};
+ghost use Rattle.tables.specs.JointNumbers.{ended, endingFrom};
+ghost use Rattle.tables.specs.Endings.{endingCost};
+ghost use Rattle.tables.specs.Tables.{CountsOfSome, HoldsRows, JointPre, Joins, EndingPre};
+ghost use Rattle.tables.specs.FillingRows.{RowsPre, RowFilled};
+ghost use Rattle.tables.specs.Insertions.{noPair};
+ghost use Rattle.tables.specs.FillingCheapest.{NotePre, Noted, FillPre, FilledFrom, FilledCheapest};
+
+use labels::Label;
+use labels::NO_PAIR;
+use machine::Ending;
+use machine::Position;
+use steps::NO_STEP;
+
+// What taking a pair on all machines does: the code of the states led to with the marks as one number, or nothing takes it.
+pub enum Joint {
+    To(usize, u32),
+    Nothing,
+}
+
+// What ending on all machines does: it hands back the marks as one number, or some state is not final.
+pub enum JointEnding {
+    Marks(u32),
+    NotFinal,
+}
+
+// A byte as a number to index with.
+fn index(x: u8) -> usize
+    ensures { λ r. ⌜ (r ≡ x) × (r < 256) ⌝ }
+{
+    x as usize
+}
+
+// A 16-bit number as a number to index with.
+fn wide(x: u16) -> usize
+    ensures { λ r. ⌜ (r ≡ x) × (r < 65536) ⌝ }
+{
+    x as usize
+}
+
+// The state counts of an accepted card's machines; places from K on are 0.
+pub fn state_counts(card: &[u8]) -> [u8; 6]
+    requires { ⌜ cardRefusal (now card) ≡ 0 ⌝ }
+    ensures { λ r. ⌜ take (machineCount (now (card .entry))) r ≡ stateCounts (machinesOf (now (card .entry))) ⌝ }
+{
+    let mut counts = [0u8; 6];
+    let machines = card::machine_count(card);
+    let mut m = 0;
+    while m < machines {
+        counts[m] = machine::state_count(card::part(card, m)) as u8;
+        m += 1;
+    }
+    counts
+}
+
+// P, the number of joint states.
+pub fn joint_states(counts: &[u8]) -> usize
+    requires { ⌜ CountsOfSome (now counts) ⌝ }
+    ensures { λ r. ⌜ r ≡ product (now (counts .entry)) ⌝ }
+{
+    let mut states = 1;
+    let mut m = 0;
+    while m < counts.len() {
+        states *= index(counts[m]);
+        m += 1;
+    }
+    states
+}
+
+// The rows of the states of one code.
+fn fill_row(rows: &mut [u16], counts: &[u8], size: usize, code: usize)
+    requires { ⌜ RowsPre (now counts) (now rows) size × (code < size) ⌝ }
+    ensures { λ _. ⌜ RowFilled (now (counts .entry)) (now (rows .entry)) (now (rows .exit)) code ⌝ }
+{
+    let mut rest = size;
+    let mut left = code;
+    let mut m = 0;
+    while m < counts.len() {
+        rest /= index(counts[m]);
+        rows[code * 8 + m] = ((m * 32 + left / rest) * 64) as u16;
+        left %= rest;
+        m += 1;
+    }
+}
+
+// The rows of the states of each code.
+pub fn fill_rows(counts: &[u8], size: usize, rows: &mut [u16])
+    requires { ⌜ RowsPre (now counts) (now rows) size ⌝ }
+    ensures { λ _. ⌜ HoldsRows (now (counts .entry)) (now (rows .exit)) ⌝ }
+{
+    let mut code = 0;
+    while code < size {
+        fill_row(rows, counts, size, code);
+        code += 1;
+    }
+}
+
+// The machine at a place of a ranking, 6 past its end.
+fn place(ranking: &[u8], i: usize) -> u8
+    ensures { λ r. ⌜ r ≡ getD (now (ranking .entry)) i 6 ⌝ }
+{
+    if i < ranking.len() {
+        ranking[i]
+    } else {
+        6
+    }
+}
+
+// A ranking as six places.
+pub fn six_places(ranking: &[u8]) -> [u8; 6]
+    ensures { λ r. ⌜ r ≡ sixPlaces (now (ranking .entry)) ⌝ }
+{
+    [
+        place(ranking, 0),
+        place(ranking, 1),
+        place(ranking, 2),
+        place(ranking, 3),
+        place(ranking, 4),
+        place(ranking, 5),
+    ]
+}
+
+// The marks of the machine at a place.
+fn marks_at(marks: &[u8; 8], place: u8) -> u32
+    requires { ⌜ (place < 8) × ((i : ℕ) → getD (now marks) i 0 ≤ 15) ⌝ }
+    ensures { λ r. ⌜ (r ≡ getD (now (marks .entry)) place 0) × (r ≤ 15) ⌝ }
+{
+    marks[index(place)] as u32
+}
+
+// Marks, given in card order, as one number in ranked order.
+fn number(marks: &[u8; 8], places: &[u8; 6]) -> u32
+    requires { ⌜ SixPlaces (now places) × ((i : ℕ) → getD (now marks) i 0 ≤ 15) ⌝ }
+    ensures { λ r. ⌜ r ≡ markNumber (now (places .entry)) (now (marks .entry)) ⌝ }
+{
+    marks_at(marks, places[0]) * 1048576
+        + (marks_at(marks, places[1]) * 65536
+            + (marks_at(marks, places[2]) * 4096
+                + (marks_at(marks, places[3]) * 256
+                    + (marks_at(marks, places[4]) * 16 + marks_at(marks, places[5])))))
+}
+
+// Takes the output, with the input of the table of steps, from the states of a code on all machines.
+pub fn joint_step(
+    steps: &[u16],
+    rows: &[u16],
+    counts: &[u8],
+    places: &[u8; 6],
+    code: usize,
+    output: usize,
+) -> Joint
+    requires { ⌜ JointPre (now steps) (now rows) (now counts) (now places) code output ⌝ }
+    ensures { λ r. ⌜ Joins (now (steps .entry)) (now (rows .entry)) (now (counts .entry)) (now (places .entry)) code output r ⌝ }
+{
+    let mut marks = [0u8; 8];
+    let mut target = 0;
+    let mut m = 0;
+    while m < counts.len() {
+        let step = steps[wide(rows[code * 8 + m]) + output];
+        if step == NO_STEP {
+            return Joint::Nothing;
+        }
+        target = target * index(counts[m]) + wide(step / 16);
+        marks[m] = (step % 16) as u8;
+        m += 1;
+    }
+    Joint::To(target, number(&marks, places))
+}
+
+// Ends in the states of a code on all machines.
+pub fn joint_ending(card: &[u8], rows: &[u16], places: &[u8; 6], code: usize) -> JointEnding
+    requires { ⌜ EndingPre (now card) (now rows) (now places) code ⌝ }
+    ensures { λ r. ⌜ ended r ≡ endingFrom (now (places .entry)) (machinesOf (now (card .entry))) code ⌝ }
+{
+    let mut marks = [0u8; 8];
+    let machines = card::machine_count(card);
+    let mut m = 0;
+    while m < machines {
+        let state = (rows[code * 8 + m] / 64 % 32) as u8;
+        let ending = Position { state }.ending(card::part(card, m));
+        let Ending::Marks(count) = ending else {
+            return JointEnding::NotFinal;
+        };
+        marks[m] = count;
+        m += 1;
+    }
+    JointEnding::Marks(number(&marks, places))
+}
+
+// The label of an ending with those marks.
+pub fn ending_label(marks: u32) -> Label
+    requires { ⌜ marks < 16 ^ 6 ⌝ }
+    ensures { λ r. ⌜ costOf r ≡ endingCost marks ⌝ }
+{
+    let nothing = Label {
+        first: 0,
+        second: 0,
+        third: 0,
+        fourth: 0,
+        fifth: 0,
+        sixth: 0,
+        pairs: 0,
+    };
+    let mut label = labels::plus(nothing, marks);
+    label.pairs = 0;
+    label
+}
+
+// Writes no pair everywhere.
+fn clear(table: &mut [u32])
+    ensures { λ _. ⌜ now (table .exit) ≡ replicate (length (now (table .entry))) noPair ⌝ }
+{
+    let mut i = 0;
+    while i < table.len() {
+        table[i] = NO_PAIR;
+        i += 1;
+    }
+}
+
+// Keeps the number of a joint step from a joint state where it is the smallest so far.
+fn note(table: &mut [u32], size: usize, from: usize, step: Joint)
+    requires { ⌜ NotePre (now table) size from step ⌝ }
+    ensures { λ _. ⌜ Noted (now (table .entry)) (now (table .exit)) size from step ⌝ }
+{
+    let Joint::To(to, marks) = step else {
+        return;
+    };
+    let at = to * size + from;
+    if marks < table[at] {
+        table[at] = marks;
+    }
+}
+
+// The cheapest insertions from one joint state.
+fn fill_from(
+    steps: &[u16],
+    rows: &[u16],
+    counts: &[u8],
+    places: &[u8; 6],
+    size: usize,
+    symbols: usize,
+    from: usize,
+    table: &mut [u32],
+)
+    requires { ⌜ FillPre (now steps) (now rows) (now counts) (now places) (now table) size symbols × (from < size) ⌝ }
+    ensures { λ _. ⌜ FilledFrom (now (steps .entry)) (now (rows .entry)) (now (counts .entry)) (now (places .entry)) (now (table .entry)) (now (table .exit)) size symbols from ⌝ }
+{
+    let mut y = 1;
+    while y <= symbols {
+        let step = joint_step(steps, rows, counts, places, from, y);
+        note(table, size, from, step);
+        y += 1;
+    }
+}
+
+// The cheapest insertions between all joint states, from the table of steps for the empty symbol.
+pub fn fill_cheapest(
+    steps: &[u16],
+    rows: &[u16],
+    counts: &[u8],
+    places: &[u8; 6],
+    size: usize,
+    symbols: usize,
+    table: &mut [u32],
+)
+    requires { ⌜ FillPre (now steps) (now rows) (now counts) (now places) (now table) size symbols ⌝ }
+    ensures { λ _. ⌜ FilledCheapest (now (steps .entry)) (now (rows .entry)) (now (counts .entry)) (now (places .entry)) (now (table .exit)) symbols ⌝ }
+{
+    clear(table);
+    let mut from = 0;
+    while from < size {
+        fill_from(steps, rows, counts, places, size, symbols, from, table);
+        from += 1;
+    }
+}

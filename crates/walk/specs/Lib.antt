@@ -1,0 +1,5 @@
+-- definitions that the contracts cite
+pub mod Pairs
+pub mod Setting
+pub mod Keeping
+pub mod Walked

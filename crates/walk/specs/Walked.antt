@@ -1,0 +1,57 @@
+-- The walk's contract: what it writes is the best path from the start.
+use mathlib.Core.Path.{_≡_}
+use mathlib.Core.Bool.{true}
+use mathlib.Core.Option.{some}
+use mathlib.Core.List.{List, _++_}
+use Prim.Native.Nat.{ℕ, _+_, _*_, _≤_}
+use lib.ListN.{length, drop}
+use Rattle.machine.specs.declared.Pair.{Pair}
+use Rattle.ranking.specs.Rankings.{isRanking}
+use Rattle.card.specs.Layout.{machineCount, symbolCount}
+use Rattle.card.specs.Card.{cardRefusal}
+use Rattle.candidate.specs.Candidates.{bytesOf}
+use Rattle.candidate.specs.Optimizing.{soundWord}
+use Rattle.paths.specs.Ranked.{Ranked, letterCount}
+use Rattle.paths.specs.Graph.{pathCost}
+use Rattle.paths.specs.Best.{IsBest}
+use Rattle.labels.specs.Work.{costAt, labelOf}
+use Rattle.walk.specs.Pairs.{positionAfter}
+use Rattle.walk.specs.Setting.{graphOf, Labelled, StepsAt, TablesAt}
+
+-- the start has a label, and the answer slice has room for as many pairs as it says
+pub record StartsAt (work : List ℕ) (room : ℕ) : Type 0 where
+  pub cost : Ranked 6
+  pub label-is : labelOf work 0 ≡ some cost
+  pub fits : 2 * letterCount 6 cost ≤ room
+
+pub record WalkPre (ranking card word work : List ℕ) (size room : ℕ) : Type 0 where
+  pub labels : Labelled ranking card word work size
+  pub is-ranking : isRanking (machineCount card) ranking ≡ true
+  pub start : StartsAt work room
+
+-- the bytes of a list of pairs fill the front of the answer, and its other bytes keep their values; r is the number of pairs. The list is
+-- the best path from the start, and it costs what the label there says
+pub record Walked (ranking card word work before after : List ℕ) (r : ℕ) : Type 0 where
+  pub best : List Pair
+  pub count : r ≡ length best
+  pub written : after ≡ bytesOf best ++ drop (2 * length best) before
+  pub is-best : IsBest (graphOf ranking card word) 0 best
+  pub costs : pathCost (graphOf ranking card word) 0 best ≡ some (costAt work 0)
+
+-- with the tables filled, for the first symbol
+pub record FollowPre (places card word work insertions steps rows counts : List ℕ) (size room : ℕ) : Type 0 where
+  pub labels : Labelled places card word work size
+  pub tables : TablesAt places card word insertions steps rows counts 0
+  pub start : StartsAt work room
+
+-- moving on by a pair: the position after it, with the steps of the symbol there
+pub record PassPre (card word steps : List ℕ) (i : ℕ) : Type 0 where
+  pub accepted : cardRefusal card ≡ 0
+  pub sound-word : soundWord (symbolCount card) word ≡ true
+  pub size : length steps ≡ 12288
+  pub position : i ≤ length word
+
+pub record Passed (card word before after : List ℕ) (i : ℕ) (p : Pair) (r : ℕ) : Type 0 where
+  pub position : r ≡ positionAfter i p
+  pub size : length after ≡ 12288
+  pub steps : StepsAt card word i before → StepsAt card word r after

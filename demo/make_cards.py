@@ -1,0 +1,175 @@
+#!/usr/bin/env python3
+"""The demo cards: each directory's card.txt says one in names; this makes card.bin and stdin from it.
+
+    make_cards.py                write card.bin and stdin of every card
+    make_cards.py check          whether they are as written, the tableaux' rows have their counts, stdout has the winners
+    make_cards.py show NAME ..   stdin and stdout of some cards, in names
+
+What card.txt may say, one thing to a line (# starts a comment):
+
+    symbols NAME ..                    numbered from 1; 0 is the empty symbol
+    set NAME = NAME ..                 a name for several symbols
+    machine NAME                       a constraint; then its lines:
+      states NAME ..                   the first one is the start
+      final NAME ..                    the states that a candidate may end in
+      arc FROM -> TO  IN : OUT  MARKS  IN and OUT are sets, names with commas; no MARKS are 0
+    line MACHINE .. / SYMBOL ..        a ranking and a word: a line of stdin
+    tableau MACHINE .. / SYMBOL ..     a line of stdin, and candidates for it, the best one marked with >:
+    > IN:OUT .. = COUNT ..  FORM       with its counts in card order, and its form as the paper has it
+    winners SYMBOL ..                  lines of stdin, the word under every ranking, and the best forms that come out:
+      FORM MACHINE COUNT ..            the output (- where empty), and the counts that are not 0
+"""
+import itertools
+import pathlib
+import sys
+
+HERE = pathlib.Path(__file__).parent
+
+
+class Card:
+    def __init__(self, path):
+        self.symbols, self.sets, self.machines = {"0": 0}, {}, {}
+        self.lines, self.tableaux, self.winners = [], [], []
+        for text in path.read_text().splitlines():
+            words = text.split("#")[0].split()
+            if words:
+                self.read(words)
+
+    def read(self, words):
+        key, rest = words[0], words[1:]
+        if key == "symbols":
+            self.symbols |= {name: number for number, name in enumerate(rest, 1)}
+        elif key == "set":
+            self.sets[rest[0]] = [symbol for name in rest[2:] for symbol in self.set_of(name)]
+        elif key == "machine":
+            self.machine = self.machines[rest[0]] = {"arcs": []}
+        elif key in ("states", "final"):
+            self.machine[key] = rest
+        elif key == "arc":
+            start, _, end, inputs, _, outputs = rest[:6]
+            marks = int(rest[6]) if len(rest) > 6 else 0
+            self.machine["arcs"].append((start, end, self.set_of(inputs), self.set_of(outputs), marks))
+        elif key in ("line", "tableau"):
+            at = rest.index("/")
+            self.lines.append((rest[:at], rest[at + 1:]))
+            if key == "tableau":
+                self.rows = []
+                self.tableaux.append((self.lines[-1], self.rows))
+        elif key == "winners":
+            self.lines += [(ranking, rest) for ranking in itertools.permutations(self.machines)]
+            self.rows = []
+            self.winners.append((rest, self.rows))
+        elif "=" in words:
+            at = words.index("=")
+            pairs = [word for word in words[:at] if word != ">"]
+            counts = [int(word) for word in words[at + 1:at + 1 + len(self.machines)]]
+            self.rows.append((key == ">", pairs, counts))
+        else:
+            counts = dict(zip(rest[::2], map(int, rest[1::2])))
+            self.rows.append(("" if key == "-" else key, [counts.get(name, 0) for name in self.machines]))
+
+    def set_of(self, names):
+        return [symbol for name in names.split(",") for symbol in self.sets.get(name, [name])]
+
+    def bits(self, names):
+        return sum({1 << self.symbols[name] for name in names}).to_bytes(8, "little")
+
+    def part(self, machine):
+        states = machine["states"]
+        part = bytes([len(states), len(machine["arcs"])]) + bytes(state in machine["final"] for state in states)
+        for start, end, inputs, outputs, marks in machine["arcs"]:
+            part += bytes([states.index(start), states.index(end), marks, 0]) + self.bits(inputs) + self.bits(outputs)
+        return part
+
+    def card_bin(self):
+        parts = [self.part(machine) for machine in self.machines.values()]
+        table, offset = b"", 2 + 4 * len(parts)
+        for part in parts:
+            table += offset.to_bytes(2, "little") + len(part).to_bytes(2, "little")
+            offset += len(part)
+        return bytes([len(parts), len(self.symbols) - 1]) + table + b"".join(parts)
+
+    def line(self, ranking, word):
+        names = list(self.machines)
+        return "".join(str(names.index(name)) for name in ranking) + " " + ",".join(str(self.symbols[s]) for s in word)
+
+    def stdin(self):
+        return "".join(self.line(*line) + "\n" for line in self.lines)
+
+    def counts(self, pairs):
+        """The counts of a candidate, or None where a machine does not take it to a final state."""
+        counts = []
+        for machine in self.machines.values():
+            state, count = machine["states"][0], 0
+            for pair in pairs:
+                i, o = pair.split(":")
+                taken = [arc for arc in machine["arcs"] if arc[0] == state and i in arc[2] and o in arc[3]]
+                if len(taken) != 1:
+                    return None
+                state, count = taken[0][1], count + taken[0][4]
+            if state not in machine["final"]:
+                return None
+            counts.append(count)
+        return counts
+
+    def answer(self, text):
+        """A line of stdout: its counts, and its pairs by name."""
+        counts, *pairs = text.split(" ")
+        names = list(self.symbols)
+        by_name = [":".join(names[int(number)] for number in pair.split(":")) for pair in pairs]
+        return [int(count) for count in counts.split(",")], by_name
+
+
+def check(directory, card):
+    wrong = []
+    if (directory / "card.bin").read_bytes() != card.card_bin() or (directory / "stdin").read_text() != card.stdin():
+        wrong.append("card.bin or stdin is not what card.txt says")
+    printed = dict(zip(card.stdin().splitlines(), (directory / "stdout").read_text().splitlines(), strict=True))
+    for line, rows in card.tableaux:
+        for best, pairs, counts in rows:
+            if card.counts(pairs) != counts:
+                wrong.append(f"{pairs} has the counts {card.counts(pairs)}, the tableau has {counts}")
+            if best != (card.answer(printed[card.line(*line)]) == (counts, pairs)):
+                wrong.append(f"{line}: {pairs} is{'' if best else ' not'} the tableau's winner")
+    for word, forms in card.winners:
+        found = []
+        for ranking in itertools.permutations(card.machines):
+            counts, pairs = card.answer(printed[card.line(ranking, word)])
+            found.append(("".join(pair.split(":")[1] for pair in pairs).replace("0", ""), counts))
+        if any(form not in forms for form in found):
+            wrong.append(f"{word}: a best form that is not listed, in {found}")
+        if any(counts not in [other for _, other in found] for _, counts in forms):
+            wrong.append(f"{word}: a listed form whose counts are never the best, in {forms}")
+    return wrong
+
+
+def show(directory, card):
+    for (ranking, word), text in zip(card.lines, (directory / "stdout").read_text().splitlines(), strict=True):
+        print(f"{card.line(ranking, word)}  ->  {text}")
+        if not text.startswith("refused"):
+            counts, pairs = card.answer(text)
+            by_name = ", ".join(f"{name} {count}" for name, count in zip(card.machines, counts))
+            text = f"{by_name};  {' '.join(pairs)}"
+        print(f"    {' >> '.join(ranking)}  /{' '.join(word)}/  ->  {text}")
+
+
+def main():
+    task, names = "".join(sys.argv[1:2]), sys.argv[2:]
+    if task not in ("", "check", "show"):
+        sys.exit(__doc__)
+    failed = False
+    for path in sorted(HERE.glob("*/card.txt")):
+        directory, card = path.parent, Card(path)
+        if task == "":
+            (directory / "card.bin").write_bytes(card.card_bin())
+            (directory / "stdin").write_text(card.stdin())
+        elif task == "check":
+            wrong = check(directory, card)
+            failed = failed or bool(wrong)
+            print(f"{directory.name}: {'; '.join(wrong) or 'right'}")
+        elif directory.name in names:
+            show(directory, card)
+    sys.exit(failed)
+
+
+main()

@@ -1,0 +1,17 @@
+//! A second implementation of the grammar engine, written from the requirements alone and by other methods than the
+//! verified engine's, to compare with. It is plain, and slow where that keeps it plain.
+
+pub mod candidate;
+pub mod card;
+pub mod cases;
+pub mod lines;
+pub mod optimizer;
+pub mod random;
+pub mod ranking;
+pub mod samples;
+
+/// The number of a refusal in the refusal table. An accepted call is an `Ok`.
+pub type Refusal = u8;
+
+/// One count for each machine in card order, the unused places 0.
+pub type Profile = [u16; 6];

@@ -1,0 +1,45 @@
+//! The files of tests/data and of demo hold what this implementation makes and prints.
+
+use reference::card::read_card;
+use reference::cases::cases;
+use reference::lines::run;
+use reference::optimizer::list;
+use std::fs::read;
+use std::path::{Path, PathBuf};
+
+fn repository() -> PathBuf {
+    Path::new(env!("CARGO_MANIFEST_DIR")).join("..")
+}
+
+#[test]
+fn the_cases() {
+    for case in cases() {
+        let place = repository().join("tests/data").join(case.name);
+        assert!(read_card(&case.card).is_ok(), "{}", case.name);
+        assert!(read(place.join("card.bin")).unwrap() == case.card, "{}", case.name);
+        assert!(read(place.join("stdin")).unwrap() == case.input().as_bytes(), "{}", case.name);
+        assert!(read(place.join("stdout")).unwrap() == case.answers().as_bytes(), "{}", case.name);
+    }
+}
+
+#[test]
+fn the_demo() {
+    let mut cards = 0;
+    for place in std::fs::read_dir(repository().join("demo")).unwrap().map(|entry| entry.unwrap().path()) {
+        if place.join("card.bin").exists() {
+            let text = run(&read(place.join("card.bin")).unwrap(), &read(place.join("stdin")).unwrap());
+            assert!(read(place.join("stdout")).unwrap() == text.as_bytes(), "{}", place.display());
+            cards += 1;
+        }
+    }
+    assert_eq!(cards, 6);
+}
+
+/// Ellison's set has 64 syllabifications of alqalamu.
+#[test]
+fn alqalamu() {
+    let card = read_card(&read(repository().join("demo/alqalamu/card.bin")).unwrap()).unwrap();
+    let mut count = 0;
+    list(&card, &[1, 2, 3, 1, 2, 1, 4, 5], 20, &mut |_, _| count += 1);
+    assert_eq!(count, 64);
+}

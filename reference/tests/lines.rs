@@ -1,0 +1,81 @@
+//! The program's lines.
+
+use reference::lines::{answer, run};
+use reference::samples::{card_b, CARD_A};
+
+#[test]
+fn bad_lines() {
+    let long = |length: usize| {
+        let mut line = b"0 1".to_vec();
+        while line.len() < length {
+            line.extend(b",1");
+        }
+        line
+    };
+    for line in [
+        &b""[..],
+        b" ",
+        b"0",
+        b"0 ",
+        b" 1",
+        b"0  1",
+        b"0 1 ",
+        b"0 1,",
+        b"0 ,1",
+        b"0 1,,1",
+        b"0 1;1",
+        b"0,1",
+        b"a 1",
+        b"0 a",
+        b"-0 1",
+        b"0 -1",
+        b"0 +1",
+        b"0 1\r",
+        b"0\t1",
+        b"0123456789 1",
+        b"0 0001",
+        b"0 256",
+        b"0 999",
+        b"0 1,256",
+        b"0 1\0",
+        &long(201),
+    ] {
+        assert_eq!(answer(&CARD_A, line), "bad line", "{:?}", String::from_utf8_lossy(line));
+        assert_eq!(answer(&[], line), "bad line");
+    }
+    assert_eq!(long(199).len(), 199);
+    assert_eq!(answer(&CARD_A, &long(199)), "refused 8");
+    // 200 bytes
+    assert_eq!(answer(&CARD_A, &[&long(197)[..], b",01"].concat()), "refused 8");
+    assert_eq!(answer(&CARD_A, &[&long(197)[..], b",001"].concat()), "bad line");
+}
+
+#[test]
+fn well_formed_lines() {
+    assert_eq!(answer(&CARD_A, b"0 001"), "0 1:1");
+    assert_eq!(answer(&CARD_A, b"0 1,01,001"), "0 1:1 1:1 1:1");
+    assert_eq!(answer(&CARD_A, b"0 255"), "refused 8");
+    assert_eq!(answer(&CARD_A, b"0 0"), "refused 8");
+    assert_eq!(answer(&CARD_A, b"123456789 1"), "refused 7");
+    assert_eq!(answer(&[], b"0 1"), "refused 1");
+}
+
+#[test]
+fn lines_of_the_input() {
+    assert_eq!(run(&CARD_A, b""), "");
+    assert_eq!(run(&CARD_A, b"\n"), "bad line\n");
+    assert_eq!(run(&CARD_A, b"0 1"), "0 1:1\n");
+    assert_eq!(run(&CARD_A, b"0 1\n"), "0 1:1\n");
+    assert_eq!(run(&CARD_A, b"0 1\n\n0 2"), "0 1:1\nbad line\nrefused 10\n");
+    assert_eq!(run(&card_b(), b"021 2\n"), "0,1,0 0:1 2:2\n");
+}
+
+#[test]
+fn long_card_files() {
+    // of a longer file the first 30,831 bytes are used, and no accepted card has as many
+    assert_eq!(run(&[&CARD_A[..], &[0; 40_000]].concat(), b"0 1\n"), "refused 2\n");
+    let mut card = [&[1, 2, 6, 0][..], &30_825u16.to_le_bytes(), &[0; 40_000]].concat();
+    assert_eq!(run(&card, b"0 1\n"), "refused 3\n");
+    card[4] += 1;
+    assert_eq!(run(&card, b"0 1\n"), "refused 2\n");
+}
