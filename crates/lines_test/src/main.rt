@@ -59,13 +59,18 @@ fn well_formed() {
     show(b"000000000 000,007,07,7");
 }
 
-// Lines whose ranking, or space, is not as it should be.
-fn bad_rankings() {
+// Lines that lack a ranking, a space or a word.
+fn lacking() {
     show(b"");
     show(b" ");
     show(b" 1");
     show(b"1");
     show(b"1,1");
+    show(b"0 ");
+}
+
+// Lines whose ranking has too many digits, or other bytes.
+fn bad_digits() {
     show(b"1234567890 1");
     show(b"0a 1");
     show(b"/ 1");
@@ -73,14 +78,17 @@ fn bad_rankings() {
     show(b"0\t1");
 }
 
-// Lines whose word is not as it should be.
-fn bad_words() {
-    show(b"0 ");
+// Lines whose commas or spaces are not as they should be.
+fn bad_commas() {
     show(b"0  1");
     show(b"0 1 ");
     show(b"0 ,1");
     show(b"0 1,");
     show(b"0 1,,1");
+}
+
+// Lines with a symbol that is no symbol.
+fn bad_symbols() {
     show(b"0 256");
     show(b"0 999");
     show(b"0 0255");
@@ -207,8 +215,10 @@ fn pieces() {
 
 fn main() {
     well_formed();
-    bad_rankings();
-    bad_words();
+    lacking();
+    bad_digits();
+    bad_commas();
+    bad_symbols();
     show_long(2, 200);
     show_long(3, 201);
     answers();

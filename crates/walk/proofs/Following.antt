@@ -8,7 +8,6 @@ use Prim.Native.Nat.{ℕ, suc, _+_, _*_, _<_, _≤_}
 use native.Mathlib.Omega.{arith}
 use lib.Dec.{eqb, leb}
 use lib.ListN.{length, drop, getD, set, length-set, length-append}
-use lib.Seq.{length-front}
 use borrow.Author.Tests.{leb-true}
 use Rattle.basics.proofs.Bools.{right}
 use Rattle.basics.proofs.Search.{all-at}
@@ -20,9 +19,8 @@ use Rattle.card.specs.Accepted.{accepted}
 use Rattle.candidate.specs.Candidates.{bytesOf}
 use Rattle.candidate.specs.Optimizing.{soundWord}
 use Rattle.paths.specs.Ranked.{Ranked, letterCount}
-use Rattle.paths.specs.Graph.{pathCost}
 use Rattle.paths.specs.Bounds.{Sized}
-use Rattle.paths.specs.Walk.{Tight, LeastTight, Walk, Walking, walking-start, walking-next, walking-end, walk-best, walk-cost, tight-size}
+use Rattle.paths.specs.Walk.{Walk, Walking, walking-start, walking-next, walking-end, walk-best, walk-cost, tight-size}
 use Rattle.product.specs.Laws.Words.{accepted-word}
 use Rattle.product.specs.Laws.CardGraph.{card-sized}
 use Rattle.labels.specs.Work.{costAt, labelOf}
@@ -30,9 +28,9 @@ use Rattle.labels.proofs.Work.{holds}
 use Rattle.steps.specs.StepTable.{HoldsSteps}
 use Rattle.tables.specs.Places.{sixPlaces}
 use Rattle.walk.specs.Pairs.{nthPair, IsNumber, positionAfter}
-use Rattle.walk.specs.Setting.{graphOf, Labelled, StepsAt, TablesAt}
+use Rattle.walk.specs.Setting.{graphOf, Labelled, TablesAt}
 use Rattle.walk.specs.Keeping.{TryPre, TightTo}
-use Rattle.walk.specs.Walked.{StartsAt, Walked, FollowPre, PassPre, Passed}
+use Rattle.walk.specs.Walked.{Walked, FollowPre, PassPre, Passed}
 use Rattle.walk.proofs.Moves.{some-state, node-within, label-room}
 use Rattle.walk.proofs.Writing.{pair-more}
 use Rattle.walk.proofs.Trying.{Trying, trying-start, trying-least}

@@ -1,7 +1,7 @@
 -- The pair of a number, its move, and when it keeps to the labels. Assumes nothing.
 use mathlib.Core.Path.{_≡_, refl, sym, _∙_, ap, subst}
 use mathlib.Core.Bool.{Bool, true, false, _&&_, cond}
-use mathlib.Core.Option.{Option, none, some}
+use mathlib.Core.Option.{Option, some}
 use mathlib.Core.List.{List, [], _∷_}
 use Prim.Native.Nat.{ℕ, suc, _+_, _*_, _<_, _≤_}
 use native.Mathlib.Nat.{mul-le-mul, mul-le-mul-right, suc-mul}
@@ -12,12 +12,12 @@ use borrow.Author.Tests.{leb-true, eqb-true, eqb-false, eq-eqb, ne-eqb}
 use Rattle.basics.proofs.Bools.{left}
 use Rattle.basics.proofs.Search.{all-at}
 use Rattle.machine.specs.declared.Pair.{Pair}
-use Rattle.machine.specs.Symbols.{emptySymbol, isPair}
+use Rattle.machine.specs.Symbols.{emptySymbol}
 use Rattle.machine.specs.Machine.{Machine}
 use Rattle.card.specs.Layout.{symbolCount}
 use Rattle.card.specs.Card.{machinesOf}
 use Rattle.card.specs.Accepted.{accepted}
-use Rattle.paths.specs.Ranked.{Ranked, add, letterCount}
+use Rattle.paths.specs.Ranked.{Ranked, letterCount}
 use Rattle.paths.specs.Graph.{Edge, Within}
 use Rattle.paths.specs.Bounds.{Sized, attained-size, attained-count-size}
 use Rattle.paths.specs.Walk.{Tight, tight-sum, no-edge-not-tight}
@@ -26,7 +26,7 @@ use Rattle.product.specs.Prices.{byRanking}
 use Rattle.product.specs.Laws.JointStep.{AllSound}
 use Rattle.product.specs.Laws.Edges.{product-within}
 use Rattle.product.specs.Laws.Accepted.{AcceptedMachines, accepted-machines}
-use Rattle.product.specs.Laws.Words.{AcceptedWord, accepted-word}
+use Rattle.product.specs.Laws.Words.{accepted-word}
 use Rattle.product.specs.Laws.CardGraph.{card-sized, card-counts}
 use Rattle.labels.specs.Marks.{marksOf}
 use Rattle.labels.specs.LabelCost.{RoomFor}
@@ -40,10 +40,10 @@ use Rattle.tables.specs.JointNumbers.{jointFrom, joined}
 use Rattle.tables.specs.Tables.{Tables}
 use Rattle.tables.specs.Laws.Edges.{edgeFrom, insertion-edge, symbol-edge}
 use Rattle.walk.specs.declared.Kept.{Kept}
-use Rattle.walk.specs.declared.Kept.the-variants.{To, No}
-use Rattle.walk.specs.Pairs.{nthPair, IsNumber, positionAfter}
-use Rattle.walk.specs.Setting.{graphOf, Labelled, TablesAt}
-use Rattle.walk.specs.Keeping.{KeepsTo, Keeps, StepPre, StepKeeps, TryPre, TightTo, Tries}
+use Rattle.walk.specs.declared.Kept.the-variants.{To}
+use Rattle.walk.specs.Pairs.{nthPair, positionAfter}
+use Rattle.walk.specs.Setting.{graphOf, Labelled}
+use Rattle.walk.specs.Keeping.{KeepsTo, Keeps, StepPre, StepKeeps, TryPre, Tries}
 use Rattle.walk.proofs.Numbers.{NthPair, nth-facts}
 use Rattle.walk.proofs.Keeping.{joint-below}
 
@@ -119,14 +119,16 @@ module _ (places card word xs : List ℕ) (u base : ℕ) (p : Pair) (found : joi
   cost-is = sym (holds xs u d l .cost)
 
   pub keeps-tight : (c : ℕ) → KeepsTo xs u base found c → (t : Tight (graphOf places card word) (labelOf xs) u p) × (t .to .target ≡ base + c)
-  keeps-tight c k =
-      (record {
-        to = record { target = base + c; cost = marksOf (k .marks) };
-        rest = k .rest;
-        edge-is = to-edge c (k .marks) (k .leads);
-        rest-is = k .rest-is;
-        label-is = l ∙ ap {B = Option (Ranked 6)} some (cost-is ∙ k .sum);
-      }, refl)
+  keeps-tight c k = (
+    record {
+      to = record { target = base + c; cost = marksOf (k .marks) };
+      rest = k .rest;
+      edge-is = to-edge c (k .marks) (k .leads);
+      rest-is = k .rest-is;
+      label-is = l ∙ ap {B = Option (Ranked 6)} some (cost-is ∙ k .sum);
+    },
+    refl,
+  )
 
   pub tight-keeps : Tight (graphOf places card word) (labelOf xs) u p → (c : ℕ) × KeepsTo xs u base found c
   tight-keeps t = go found refl

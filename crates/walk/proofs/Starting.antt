@@ -2,7 +2,7 @@
 use mathlib.Core.Path.{_≡_, refl, sym, _∙_, ap, subst}
 use mathlib.Core.Bool.{true, _&&_}
 use mathlib.Core.List.{List, [], _∷_, map}
-use Prim.Native.Nat.{ℕ, zero, suc, _+_, _*_, _≤_, _<_}
+use Prim.Native.Nat.{ℕ, zero, suc, _≤_, _<_}
 use native.Mathlib.Omega.{arith}
 use lib.Dec.{leb}
 use lib.ListN.{length, getD, take, length-map}
@@ -11,8 +11,8 @@ use Rattle.basics.specs.Search.{allOf}
 use Rattle.basics.proofs.Bools.{left}
 use Rattle.machine.specs.Symbols.{emptySymbol}
 use Rattle.machine.specs.Machine.{Machine, startState}
-use Rattle.card.specs.Layout.{machineCount, symbolCount}
-use Rattle.card.specs.Card.{machinesOf, cardRefusal}
+use Rattle.card.specs.Layout.{machineCount}
+use Rattle.card.specs.Card.{machinesOf}
 use Rattle.card.specs.Accepted.{accepted}
 use Rattle.candidate.specs.Optimizing.{soundWord}
 use Rattle.product.specs.Nodes.{stateCountOf, stateCounts, product, codeOf}
@@ -24,7 +24,7 @@ use Rattle.tables.specs.Tables.{HoldsRows}
 use Rattle.tables.specs.FillingRows.{RowsPre}
 use Rattle.tables.specs.Laws.Harmony.{six-places}
 use Rattle.tables.specs.Laws.Cards.{card-counts, card-tables}
-use Rattle.walk.specs.Setting.{Labelled, TablesAt}
+use Rattle.walk.specs.Setting.{Labelled}
 use Rattle.walk.specs.Walked.{WalkPre, FollowPre, Walked}
 
 -- the start is the node 0: the position is 0, and each machine's start state is 0

@@ -1,19 +1,18 @@
 -- Trying the pairs of a node by their numbers: the first one that keeps to the labels is the least. Assumes nothing.
-use mathlib.Core.Path.{_≡_, refl, sym, _∙_, ap, subst}
+use mathlib.Core.Path.{_≡_, sym, _∙_, ap, subst}
 use mathlib.Core.Logic.{_≢_}
-use mathlib.Core.Bool.{Bool, true, _&&_}
+use mathlib.Core.Bool.{true}
 use mathlib.Core.Option.{some}
 use mathlib.Core.List.{List}
-use Prim.Native.Nat.{ℕ, suc, _+_, _*_, _-_, _<_, _≤_}
+use Prim.Native.Nat.{ℕ, _+_, _*_, _-_, _<_, _≤_}
 use native.Mathlib.Decide.{ℕ-discrete}
 use native.Mathlib.Omega.{arith}
-use lib.Dec.{eqb, leb}
-use lib.ListN.{length, getD}
+use lib.Dec.{leb}
+use lib.ListN.{getD}
 use borrow.Author.Tests.{leb-true, eq-eqb}
-use Rattle.basics.proofs.Bools.{left, right, clash}
+use Rattle.basics.proofs.Bools.{right, clash}
 use Rattle.machine.specs.declared.Pair.{Pair}
 use Rattle.machine.specs.Symbols.{emptySymbol, isPair, withinSymbols}
-use Rattle.machine.specs.Machine.{Machine}
 use Rattle.card.specs.Layout.{symbolCount}
 use Rattle.card.specs.Card.{machinesOf}
 use Rattle.paths.specs.Ranked.{Ranked, letterCount}
@@ -22,7 +21,7 @@ use Rattle.product.specs.Nodes.{stateCounts, positionAt}
 use Rattle.product.specs.Prices.{byRanking}
 use Rattle.product.specs.ProductGraph.{pairs, same-bytes}
 use Rattle.product.specs.Laws.Nodes.{position-at}
-use Rattle.product.specs.Laws.Edges.{Advanced, stays, goes-on, advanced, EdgeOf, edge-of, Moved, moved}
+use Rattle.product.specs.Laws.Edges.{Advanced, stays, goes-on, advanced, edge-of, moved}
 use Rattle.product.specs.Laws.CardGraph.{card-sized, card-symbols}
 use Rattle.labels.specs.Work.{labelOf}
 use Rattle.tables.specs.Places.{sixPlaces}

@@ -100,9 +100,29 @@ fn try_pair(
     let output = index(pair.output);
     let u = position * size + code;
     if pair.inserts() {
-        return keeps_by(work, insertions, rows, counts, places, u, position * size, code, output);
+        return keeps_by(
+            work,
+            insertions,
+            rows,
+            counts,
+            places,
+            u,
+            position * size,
+            code,
+            output,
+        );
     }
-    keeps_by(work, steps, rows, counts, places, u, (position + 1) * size, code, output)
+    keeps_by(
+        work,
+        steps,
+        rows,
+        counts,
+        places,
+        u,
+        (position + 1) * size,
+        code,
+        output,
+    )
 }
 
 // Writes a pair after as many pairs.
@@ -156,7 +176,18 @@ fn follow(
         let mut number: u8 = 1;
         code = 'least: loop {
             let kept = try_pair(
-                work, card, word, insertions, steps, rows, counts, places, size, position, code, number,
+                work,
+                card,
+                word,
+                insertions,
+                steps,
+                rows,
+                counts,
+                places,
+                size,
+                position,
+                code,
+                number,
             );
             if let Kept::To(to) = kept {
                 break 'least to;

@@ -1,8 +1,7 @@
 -- `walk::follow`: the outer loop's invariant is `Following`, the inner one's `Trying`. Assumes nothing.
-use mathlib.Core.Path.{_≡_, sym, _∙_, ap}
-use Prim.Native.Nat.{ℕ, _+_, _*_, _-_, _<_}
+use mathlib.Core.Path.{sym, _∙_, ap}
+use Prim.Native.Nat.{_+_, _*_, _-_, _<_}
 use native.Mathlib.Omega.{arith}
-use lib.ListN.{length}
 use borrow.Author.Needs.{needs}
 use Rattle.card.specs.Layout.{symbolCount}
 use Rattle.paths.specs.Ranked.{letterCount}
@@ -14,13 +13,6 @@ use Rattle.walk.proofs.Trying.{Trying, trying-number, trying-next}
 use Rattle.walk.proofs.Following.{Following, following-start, following-end, following-tries, following-try, following-few, following-room, following-falls, following-next}
 use Rattle.walk.proofs.follow.Statement.{statement}
 use Rattle.walk.proofs.follow.Tie as tie
-use Rattle.walk.proofs.follow.Reads as reads
-use Rattle.walk.proofs.follow.Lts as lts
-use Rattle.labels.proofs.load.Reads as load-reads
-use Rattle.walk.proofs.nth_pair.Reads as nth-pair-reads
-use Rattle.walk.proofs.pass.Reads as pass-reads
-use Rattle.walk.proofs.try_pair.Reads as try-pair-reads
-use Rattle.walk.proofs.write_pair.Reads as write-pair-reads
 
 abbrev Inv-least : tie.InvT-least
 Inv-least work card word insertions rows counts places size steps answer position code pairs number₀ number = Trying places card word work size position code number
@@ -35,7 +27,6 @@ Inv-loop work card word insertions rows counts places size steps₀ answer₀ po
 abbrev μ-loop : tie.MeasureT-loop
 μ-loop work card word insertions rows counts places size steps₀ answer₀ position₀ code₀ pairs₀ steps answer position code pairs = letterCount 6 (costAt work (position * size + code))
 
--- src/lib.rt:151:5
 loop-holds : tie.Need-loop-holds Inv-least μ-least Inv-loop μ-loop
 loop-holds c = following-start (c .before .before .before .before .before .before .before .before .pre)
 
@@ -46,15 +37,12 @@ small c = let F = c .loop .inv in omega (arith, few-nodes (F .labels), node-with
 mul-load : tie.Need-mul-load Inv-least μ-least Inv-loop μ-loop
 mul-load c = omega (arith, small c)
 
--- src/lib.rt:152:40
 add-load : tie.Need-add-load Inv-least μ-least Inv-loop μ-loop
 add-load c = omega (arith, small c)
 
--- src/lib.rt:152:13
 load-requires : tie.Need-load-requires Inv-least μ-least Inv-loop μ-loop
 load-requires c κs = has-node (c .loop .inv .labels) _ _ (c .loop .inv .position) (c .loop .inv .state)
 
--- src/lib.rt:157:9
 least-holds : tie.Need-least-holds Inv-least μ-least Inv-loop μ-loop
 least-holds c = following-tries (c .before .before .before .loop .inv) (λ z. c .if1 .left (ap (letterCount 6) (c .before .before .load .ensures) ∙ z))
 
@@ -68,22 +56,12 @@ low c = let F = c .before .before .before .before .loop .inv in omega (arith, nu
 try-pair-requires : tie.Need-try-pair-requires Inv-least μ-least Inv-loop μ-loop
 try-pair-requires c κs = following-try (c .before .before .before .before .before .loop .inv) (number (c .before))
 
--- src/lib.rt:161:29
-enum-known-kept : tie.Need-enum-known-kept Inv-least μ-least Inv-loop μ-loop
-enum-known-kept c = search needs
-
-enum-told : tie.Need-enum-told Inv-least μ-least Inv-loop μ-loop
-enum-told c = search needs
-
--- src/lib.rt:164:13
 add-number : tie.Need-add-number Inv-least μ-least Inv-loop μ-loop
 add-number c = omega (arith, low (c .before .before .before .before))
 
--- src/lib.rt:157:9
 least-less : tie.Need-least-less Inv-least μ-least Inv-loop μ-loop
 least-less c = omega (arith, low (c .before .before .before .before))
 
--- src/lib.rt:157:9
 least-again : tie.Need-least-again Inv-least μ-least Inv-loop μ-loop
 least-again c = let F = c .before .before .before .before .before .before .before .before .loop .inv in trying-next (F .labels) (F .state) (c .before .before .before .before .least .inv) (c .before .before .try-pair .ensures .no (c .enum-told .given .1))
 
@@ -95,35 +73,27 @@ tight c = c .before .before .before .try-pair .ensures .to _ (c .before .kept .g
 nth-pair-requires : tie.Need-nth-pair-requires Inv-least μ-least Inv-loop μ-loop
 nth-pair-requires c κs = (c .before .before .before .before .before .before .before .before .before .loop .inv .labels .accepted, number (c .before .before .before .before .before))
 
--- src/lib.rt:167:9
 write-pair-requires : tie.Need-write-pair-requires Inv-least μ-least Inv-loop μ-loop
 write-pair-requires c κs = let k = c .before .before in following-room (k .before .before .before .before .before .before .before .before .before .loop .inv) (k .before .before .before .before .before .least .inv) _ (c .before .nth-pair .ensures) _ (tight k)
 
--- src/lib.rt:168:9
 pass-requires : tie.Need-pass-requires Inv-least μ-least Inv-loop μ-loop
 pass-requires c κs = let F = c .before .before .before .before .before .before .before .before .before .before .before .before .before .before .before .loop .inv in record { accepted = F .labels .accepted; sound-word = F .labels .sound-word; size = F .tables .steps-size; position = F .position }
 
--- src/lib.rt:169:9
 add-pairs : tie.Need-add-pairs Inv-least μ-least Inv-loop μ-loop
 add-pairs c = omega (arith, following-few (c .before .before .before .before .before .before .before .before .before .before .before .before .before .before .before .before .before .before .loop .inv))
 
--- src/lib.rt:151:5
 loop-less : tie.Need-loop-less Inv-least μ-least Inv-loop μ-loop
 loop-less c = let k = c .before .before .before .before .before .before .before .before .before in following-falls (k .before .before .before .before .before .before .before .before .before .loop .inv) (k .before .before .before .before .before .least .inv) _ (c .before .before .before .before .before .before .before .before .nth-pair .ensures) _ (tight k) _ _ (c .before .before .pass .ensures)
 
--- src/lib.rt:151:5
 loop-again : tie.Need-loop-again Inv-least μ-least Inv-loop μ-loop
 loop-again c = let k = c .before .before .before .before .before .before .before .before .before in following-next (k .before .before .before .before .before .before .before .before .before .loop .inv) (k .before .before .before .before .before .least .inv) _ (c .before .before .before .before .before .before .before .before .nth-pair .ensures) _ (tight k) _ _ (c .before .before .pass .ensures) _ (c .before .before .before .before .before .before .write-pair .ensures)
 
--- src/lib.rt:133:1
 same-length : tie.Need-same-length Inv-least μ-least Inv-loop μ-loop
 same-length c = c .before .before .before .loop .inv .tables .steps-size ∙ sym (c .before .before .before .before .before .before .before .before .before .before .before .before .pre .tables .steps-size)
 
--- src/lib.rt:133:1
 same-length-2 : tie.Need-same-length-2 Inv-least μ-least Inv-loop μ-loop
 same-length-2 c = c .before .before .before .loop .inv .answer-size
 
--- src/lib.rt:133:1
 returns : tie.Need-returns Inv-least μ-least Inv-loop μ-loop
 returns c = following-end (c .before .before .before .loop .inv) (ap (letterCount 6) (sym (c .before .before .load .ensures)) ∙ c .if1 .taken)
 
@@ -141,8 +111,8 @@ follow-spec =
     load-requires
     least-holds
     try-pair-requires
-    enum-known-kept
-    enum-told
+    (λ c. search needs)
+    (λ c. search needs)
     add-number
     least-less
     least-again

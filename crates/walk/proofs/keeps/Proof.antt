@@ -1,7 +1,7 @@
 -- `walk::keeps`: by the step found, whether its target has a label, and whether the sum is the label. Assumes nothing.
 use mathlib.Core.Path.{_≡_, sym, _∙_, ap, subst}
 use mathlib.Core.Option.{some}
-use Prim.Native.Nat.{ℕ, _+_, _*_, _<_}
+use Prim.Native.Nat.{_+_, _*_, _<_}
 use lib.ListN.{length}
 use borrow.Author.Needs.{needs}
 use borrow.Author.Tests.{not-true, not-false}
@@ -15,12 +15,6 @@ use Rattle.labels.proofs.Comparing.{same-true, same-false}
 use Rattle.walk.proofs.Keeping.{nothing-found, unreached, sum-same, sum-differs}
 use Rattle.walk.proofs.keeps.Statement.{statement}
 use Rattle.walk.proofs.keeps.Tie as tie
-use Rattle.walk.proofs.keeps.Reads as reads
-use Rattle.walk.proofs.keeps.Lts as lts
-use Rattle.labels.proofs.load.Reads as load-reads
-use Rattle.labels.proofs.plus.Reads as plus-reads
-use Rattle.labels.proofs.reached.Reads as reached-reads
-use Rattle.labels.proofs.same.Reads as same-reads
 
 -- what the step found leads to, and what its requires say of it
 leads : (c : tie.After-known-told) → c .before .before .before .before .args .found ≡ joints.To (c .before .found .given .0 .0) (c .before .found .given .0 .1 .0)
@@ -45,12 +39,6 @@ sums c =
     ∙ ap (λ (x : Ranked 6). isSame 6 x (costOf (c .before .before .plus .result))) (c .before .load2 .ensures)
     ∙ ap (λ (y : Ranked 6). isSame 6 (costAt (s .args .work .now) (s .args .u)) y) (c .before .before .plus .ensures ∙ ap (add 6 (marksOf m)) (c .before .before .before .load .ensures))
 
-enum-known-found : tie.Need-enum-known-found
-enum-known-found c = search needs
-
-enum-told : tie.Need-enum-told
-enum-told c = search needs
-
 returns : tie.Need-returns
 returns c = nothing-found _ _ _ _ (c .enum-told .given .1)
 
@@ -74,12 +62,6 @@ plus-requires c κs =
     let k = c .before .before .before in
     (k .before .before .before .before .pre .below _ _ (leads k), subst (RoomFor 1 6) (sym (c .load .ensures)) (k .before .before .before .before .pre .fits _ _ (leads k) _ (label c)))
 
-load-requires-2 : tie.Need-load-requires-2
-load-requires-2 c κs = search needs
-
-same-requires : tie.Need-same-requires
-same-requires c κs = search needs
-
 returns-3 : tie.Need-returns-3
 returns-3 c =
     let k = c .before .before .before .before in
@@ -94,8 +76,8 @@ pub keeps-spec : {M : Type 1} → statement M
 keeps-spec =
     tie.close
     (tie.spec
-    enum-known-found
-    enum-told
+    (λ c. search needs)
+    (λ c. search needs)
     returns
     add-reached
     reached-requires
@@ -103,7 +85,7 @@ keeps-spec =
     add-load
     load-requires
     plus-requires
-    load-requires-2
-    same-requires
+    (λ c κs. search needs)
+    (λ c κs. search needs)
     returns-3
     returns-4)

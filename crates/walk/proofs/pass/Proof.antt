@@ -1,14 +1,9 @@
 -- `walk::pass`: by whether the pair inserts, and whether there is a symbol at the next position. Assumes nothing.
-use mathlib.Core.Path.{_≡_, sym, _∙_}
-use native.Mathlib.Omega.{arith}
+use mathlib.Core.Path.{sym, _∙_}
 use borrow.Author.Needs.{needs}
 use Rattle.walk.proofs.Following.{symbol-below, passed-stays, passed-filled, passed-end}
 use Rattle.walk.proofs.pass.Statement.{statement}
 use Rattle.walk.proofs.pass.Tie as tie
-use Rattle.walk.proofs.pass.Reads as reads
-use Rattle.walk.proofs.pass.Lts as lts
-use Rattle.machine.proofs.Pair.inserts.Reads as inserts-reads
-use Rattle.steps.proofs.fill_steps.Reads as fill-steps-reads
 
 returns : tie.Need-returns
 returns c = passed-stays (c .before .before .before .before .before .pre) _ (sym (c .before .inserts .ensures) ∙ c .if1 .taken)

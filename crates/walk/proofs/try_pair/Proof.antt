@@ -1,18 +1,12 @@
 -- `walk::try_pair`: by whether the pair inserts. Assumes nothing.
-use mathlib.Core.Path.{_≡_, sym, _∙_}
-use Prim.Native.Nat.{ℕ, _+_, _*_, _<_}
+use mathlib.Core.Path.{sym, _∙_}
+use Prim.Native.Nat.{_+_, _*_, _<_}
 use lib.ListN.{length}
 use native.Mathlib.Omega.{arith}
 use borrow.Author.Needs.{needs}
 use Rattle.walk.proofs.Moves.{few-nodes, node-within, insertion-pre, insertion-tries, next-small, reads, symbol-pre, symbol-tries}
 use Rattle.walk.proofs.try_pair.Statement.{statement}
 use Rattle.walk.proofs.try_pair.Tie as tie
-use Rattle.walk.proofs.try_pair.Reads as reads
-use Rattle.walk.proofs.try_pair.Lts as lts
-use Rattle.machine.proofs.Pair.inserts.Reads as inserts-reads
-use Rattle.walk.proofs.index.Reads as index-reads
-use Rattle.walk.proofs.keeps_by.Reads as keeps-by-reads
-use Rattle.walk.proofs.nth_pair.Reads as nth-pair-reads
 
 nth-pair-requires : tie.Need-nth-pair-requires
 nth-pair-requires c κs = (c .before .before .before .before .before .before .before .pre .labels .accepted, c .before .before .before .before .before .before .before .pre .number)
