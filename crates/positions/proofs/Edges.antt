@@ -1,20 +1,20 @@
 -- The edges of the engine's graph by position and code, and what the theory of paths asks of it.
 use mathlib.Core.Path.{_≡_, refl, sym, _∙_, ap}
-use mathlib.Core.Logic.{_⊎_, inl, inr, _≢_}
-use mathlib.Core.Bool.{Bool, true, false, _&&_}
+use mathlib.Core.Logic.{_≢_}
+use mathlib.Core.Bool.{true, false, _&&_}
 use mathlib.Core.List.{List, [], _∷_, map}
 use mathlib.Core.Option.{Option, some, none, Option·none-ne-some}
 use Prim.Native.Nat.{ℕ, zero, suc, _+_, _*_, _-_, _^_, _<_, _≤_}
 use native.Mathlib.Nat.{mul-le-mul, mul-le-mul-right, suc-mul}
 use native.Mathlib.Omega.{arith}
 use lib.ListN.{length, getD}
-use lib.Dec.{eqb, leb}
-use borrow.Author.Tests.{leb-true, eqb-true, ne-eqb}
+use lib.Dec.{leb}
+use borrow.Author.Tests.{leb-true, ne-eqb}
 use Rattle.basics.specs.Search.{allOf}
 use Rattle.basics.proofs.Bools.{left, right, clash}
 use Rattle.basics.proofs.Search.{all-at}
 use Rattle.machine.specs.declared.Pair.{Pair}
-use Rattle.machine.specs.Symbols.{emptySymbol, isPair, withinSymbols}
+use Rattle.machine.specs.Symbols.{isPair, withinSymbols}
 use Rattle.machine.specs.Machine.{Machine}
 use Rattle.card.specs.Layout.{machineCount, symbolCount}
 use Rattle.card.specs.Card.{machinesOf}
@@ -26,17 +26,15 @@ use Rattle.paths.specs.Graph.{Edge, Within}
 use Rattle.paths.specs.Bounds.{Sized}
 use Rattle.paths.specs.Positions.{Positioned}
 use Rattle.paths.specs.Numbering.{position-is, position-low, position-high}
-use Rattle.product.specs.Nodes.{product, stateCounts, codeOf, statesOf, statesAt}
+use Rattle.product.specs.Nodes.{stateCounts, statesAt}
 use Rattle.product.specs.JointStep.{jointStep}
 use Rattle.product.specs.Prices.{byRanking}
-use Rattle.product.specs.ProductGraph.{Move, move, pricedMove}
+use Rattle.product.specs.ProductGraph.{Move}
 use Rattle.product.specs.Codes.{codeStep}
 use Rattle.product.specs.Laws.JointStep.{AllSound, all-none, all-next, step-of-each, no-states-left}
 use Rattle.product.specs.Laws.Accepted.{accepted-machines}
 use Rattle.product.specs.Laws.Codes.{code-step-below}
 use Rattle.product.specs.Laws.Edges.{Advanced, stays, goes-on, advanced, Moved, moved, EdgeOf, edge-of, ending-of, ended, move-position, product-within, product-positioned, product-sized, step-marks-bound, ending-marks-bound}
-use Rattle.labels.specs.Marks.{marksOf}
-use Rattle.labels.specs.MarksLaws.{nibbles-most}
 use Rattle.labels.proofs.Room.{SmallMarks}
 use Rattle.tables.specs.Places.{sixPlaces, markNumber}
 use Rattle.tables.specs.JointNumbers.{numbered, jointFrom}

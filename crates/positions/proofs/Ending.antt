@@ -3,16 +3,16 @@ use mathlib.Core.Path.{_≡_, refl, sym, _∙_, ap}
 use mathlib.Core.Logic.{_⊎_, inl, inr, _≢_}
 use mathlib.Core.List.{List}
 use mathlib.Core.Option.{Option, some, none, Option·none-ne-some}
-use Prim.Native.Nat.{ℕ, zero, suc, _+_, _*_, _<_, _≤_}
+use Prim.Native.Nat.{ℕ, suc, _+_, _*_, _<_, _≤_}
 use native.Mathlib.Omega.{arith}
-use native.Mathlib.Decide.{ℕ-discrete, decLt}
+use native.Mathlib.Decide.{ℕ-discrete}
 use lib.ListN.{length}
 use Rattle.machine.specs.declared.Pair.{Pair}
 use Rattle.card.specs.Card.{machinesOf}
 use Rattle.paths.specs.Ranked.{Ranked}
 use Rattle.paths.specs.Graph.{Edge}
 use Rattle.paths.specs.Positions.{Done, Entered, entering-start, entering-skip, entering-end, entering-done}
-use Rattle.labels.specs.Work.{stateOf, labelOf}
+use Rattle.labels.specs.Work.{labelOf}
 use Rattle.labels.specs.Lowering.{Lowered}
 use Rattle.labels.proofs.Lowering.{lowered-fresh}
 use Rattle.tables.specs.Places.{sixPlaces}

@@ -1,21 +1,20 @@
 -- Trying the pairs that leave a position, one after the other.
 use mathlib.Core.Path.{_≡_, refl, sym, _∙_, ap}
-use mathlib.Core.Logic.{_⊎_, inl, inr, _≢_}
+use mathlib.Core.Logic.{_⊎_, inl, inr}
 use mathlib.Core.List.{List}
-use mathlib.Core.Option.{Option, some, none, Option·none-ne-some}
-use Prim.Native.Nat.{ℕ, zero, suc, _+_, _*_, _^_, _<_, _≤_}
+use mathlib.Core.Option.{Option, some, none}
+use Prim.Native.Nat.{ℕ, suc, _+_, _*_, _^_, _<_, _≤_}
 use native.Mathlib.Omega.{arith}
-use native.Mathlib.Decide.{ℕ-discrete, decLt}
+use native.Mathlib.Decide.{decLt}
 use lib.ListN.{length, getD}
 use Rattle.machine.specs.declared.Pair.{Pair}
 use Rattle.card.specs.Layout.{symbolCount}
 use Rattle.card.specs.Card.{machinesOf}
-use Rattle.paths.specs.Ranked.{Ranked, add}
+use Rattle.paths.specs.Ranked.{Ranked}
 use Rattle.paths.specs.Graph.{Edge}
 use Rattle.paths.specs.Positions.{Done, Entered, MoreLeaving, entering-start, entering-skip, entering-letter, entering-no-edge, entering-unlabelled, entering-done}
 use Rattle.labels.specs.Marks.{marksOf}
-use Rattle.labels.specs.Work.{stateOf, labelOf, AlikeAt}
-use Rattle.labels.specs.Lowering.{Lowered}
+use Rattle.labels.specs.Work.{labelOf}
 use Rattle.labels.proofs.Work.{alike-trans, label-alike}
 use Rattle.labels.proofs.Lowering.{lowered-fresh}
 use Rattle.tables.specs.declared.Joint.{Joint}

@@ -1,23 +1,15 @@
 -- The table of the cheapest insertions has the cheapest edges within each position.
-use mathlib.Core.Path.{_≡_, refl, sym, _∙_, ap}
-use mathlib.Core.Logic.{_⊎_, inl, inr, _≢_}
+use mathlib.Core.Path.{_≡_}
 use mathlib.Core.List.{List}
-use mathlib.Core.Option.{Option, some, none, Option·none-ne-some}
-use Prim.Native.Nat.{ℕ, zero, suc, _+_, _*_, _^_, _<_, _≤_}
+use Prim.Native.Nat.{ℕ, suc, _+_, _*_, _<_, _≤_}
 use native.Mathlib.Nat.{mul-le-mul, mul-le-mul-right, suc-mul}
 use native.Mathlib.Omega.{arith}
 use lib.ListN.{length, getD}
-use Rattle.machine.specs.declared.Pair.{Pair}
 use Rattle.card.specs.Layout.{symbolCount}
 use Rattle.card.specs.Card.{machinesOf}
-use Rattle.paths.specs.Costs.{AtMost, lowers-upto}
-use Rattle.paths.specs.Ranked.{Ranked, Less, less-total}
-use Rattle.paths.specs.Graph.{Edge}
-use Rattle.paths.specs.Cheapest.{EdgeTo, Cheapest}
+use Rattle.paths.specs.Cheapest.{Cheapest}
 use Rattle.paths.specs.Positions.{Done, Entered}
-use Rattle.product.specs.Nodes.{product, stateCounts}
-use Rattle.labels.specs.Marks.{marksOf, pairCost}
-use Rattle.labels.specs.MarksLaws.{is-pair, pair-left}
+use Rattle.labels.specs.Marks.{pairCost}
 use Rattle.labels.specs.Work.{stateOf, labelOf}
 use Rattle.labels.specs.Settling.{SettlePre, Settled}
 use Rattle.labels.proofs.PositionDone.{Tabled, settled-done}
@@ -35,7 +27,7 @@ use Rattle.tables.specs.Laws.Cheapest.{insertions-cheapest}
 use Rattle.product.specs.Laws.JointStep.{AllSound}
 use Rattle.product.specs.Laws.Accepted.{accepted-machines}
 use Rattle.positions.specs.Engine.{engineGraph, placeOf, Setting, InsertionsPre}
-use Rattle.positions.proofs.Edges.{machines-sound, node-place, place-low, place-high, place-inside, few-codes, few-nodes, positioned, within, small-marks}
+use Rattle.positions.proofs.Edges.{machines-sound, place-low, place-high, place-inside, few-codes, few-nodes, positioned, within, small-marks}
 
 module _ {card ranking word : List ℕ} {P : ℕ} (s : Setting card ranking word P) (ks : List ℕ) (H : HoldsCheapest (symbolCount card) (machinesOf card) (sixPlaces ranking) ks) (i : ℕ) (h : i ≤ length word) where
   cheapest : (j z : ℕ) → j < P → z < P → Cheapest (engineGraph card ranking word) (i * P + j) (i * P + z) (pairCost (getD ks (z * P + j) 0))

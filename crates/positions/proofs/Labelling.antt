@@ -1,15 +1,11 @@
 -- Labelling a position, and all of them.
-use mathlib.Core.Path.{_≡_, refl, sym, _∙_, ap}
+use mathlib.Core.Path.{_≡_, refl, _∙_}
 use mathlib.Core.List.{List}
-use mathlib.Core.Option.{some, none}
-use Prim.Native.Nat.{ℕ, zero, suc, _+_, _*_, _-_, _^_, _<_, _≤_}
-use native.Mathlib.Nat.{mul-le-mul-right, suc-mul}
+use Prim.Native.Nat.{ℕ, suc, _+_, _*_, _-_, _<_, _≤_}
 use native.Mathlib.Omega.{arith}
 use lib.ListN.{length, getD}
 use Rattle.card.specs.Card.{machinesOf}
-use Rattle.paths.specs.Ranked.{Ranked}
 use Rattle.paths.specs.Positions.{Done, done-start}
-use Rattle.labels.specs.LabelCost.{RoomFor}
 use Rattle.labels.specs.Work.{stateOf, labelOf, Cleared}
 use Rattle.labels.specs.Settling.{SettlePre, Settled}
 use Rattle.labels.proofs.Work.{blank-state}
@@ -19,10 +15,10 @@ use Rattle.card.specs.Layout.{symbolCount}
 use Rattle.steps.specs.StepTable.{HoldsSteps}
 use Rattle.tables.specs.Places.{sixPlaces}
 use Rattle.tables.specs.Insertions.{HoldsCheapest}
-use Rattle.positions.specs.Engine.{engineGraph, placeOf, Setting, Looked}
-use Rattle.positions.specs.Entering.{EnterPre, Tried, EndPre, EndsTried}
+use Rattle.positions.specs.Engine.{engineGraph, placeOf, Looked}
+use Rattle.positions.specs.Entering.{EnterPre, Tried, EndsTried}
 use Rattle.positions.specs.Labelling.{PositionPre, PositionEntered, PositionsDone, LabelPre}
-use Rattle.positions.proofs.Edges.{node-below, node-place, place-low, place-high, few-codes, few-nodes, positioned, within, small-marks}
+use Rattle.positions.proofs.Edges.{node-below, place-high, few-nodes, positioned, within, small-marks}
 use Rattle.positions.proofs.Entering.{tried-entered}
 use Rattle.positions.proofs.Ending.{ends-entered}
 use Rattle.positions.proofs.Insertions.{position-pre, position-settled}

@@ -1,7 +1,7 @@
 -- Entering a position: every pair that leaves it is tried, from the first node of it on; at the last position every ending.
 use mathlib.Core.Path.{_≡_}
 use mathlib.Core.Logic.{_⊎_, _≢_}
-use mathlib.Core.Option.{Option, none, some}
+use mathlib.Core.Option.{none, some}
 use mathlib.Core.List.{List}
 use Prim.Native.Nat.{ℕ, suc, _+_, _*_, _^_, _<_, _≤_}
 use lib.ListN.{length, getD}
@@ -9,7 +9,7 @@ use Rattle.machine.specs.declared.Pair.{Pair}
 use Rattle.card.specs.Card.{machinesOf}
 use Rattle.paths.specs.Costs.{Labels}
 use Rattle.paths.specs.Ranked.{Ranked, add, rankedCosts}
-use Rattle.paths.specs.Positions.{Done, Entering, Entered}
+use Rattle.paths.specs.Positions.{Entering}
 use Rattle.labels.specs.Marks.{marksOf}
 use Rattle.labels.specs.LabelCost.{RoomFor}
 use Rattle.labels.specs.Work.{HasNode, stateOf, labelOf, AlikeAt}

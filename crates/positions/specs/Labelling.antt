@@ -1,7 +1,7 @@
 -- Labelling all nodes, position by position, from the last to the first.
 use mathlib.Core.Path.{_≡_}
 use mathlib.Core.List.{List}
-use Prim.Native.Nat.{ℕ, suc, _+_, _*_, _<_, _≤_}
+use Prim.Native.Nat.{ℕ, suc, _+_, _*_, _≤_}
 use lib.ListN.{length}
 use Rattle.paths.specs.Positions.{Done, Entered}
 use Rattle.labels.specs.Work.{stateOf, labelOf}

@@ -1,7 +1,6 @@
 -- `enter` meets its contract.
 use Rattle.positions.proofs.Labelling.{entered-last}
 use borrow.Author.Needs.{needs}
-use native.Mathlib.Omega.{arith}
 use Rattle.positions.proofs.enter.Statement.{statement}
 use Rattle.positions.proofs.enter.Tie as tie
 

@@ -1,4 +1,3 @@
-use native.Mathlib.Omega.{arith}
 use Rattle.positions.proofs.Insertions.{fill-ready, insertions-filled}
 use borrow.Author.Needs.{needs}
 use Rattle.positions.proofs.fill_insertions.Statement.{statement}

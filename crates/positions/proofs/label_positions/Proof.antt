@@ -1,6 +1,5 @@
-use Prim.Native.Nat.{_+_, _*_, _-_, _≤_}
+use Prim.Native.Nat.{_+_, _-_, _≤_}
 use lib.ListN.{length}
-use borrow.Author.Needs.{needs}
 use native.Mathlib.Omega.{arith}
 use Rattle.positions.specs.Labelling.{PositionsDone}
 use Rattle.positions.proofs.Edges.{few-nodes, word-sound}

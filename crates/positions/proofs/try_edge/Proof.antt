@@ -1,11 +1,11 @@
 -- `try_edge` meets its contract.
 use mathlib.Core.Path.{_≡_, refl, sym, _∙_, ap, subst}
-use mathlib.Core.Option.{some, none, Option·none-ne-some}
+use mathlib.Core.Option.{Option·none-ne-some}
 use borrow.Author.Needs.{needs}
 use Rattle.paths.specs.Ranked.{Ranked, add}
 use Rattle.labels.specs.Marks.{marksOf}
-use Rattle.labels.specs.LabelCost.{costOf, RoomFor}
-use Rattle.labels.specs.Work.{costAt, labelOf}
+use Rattle.labels.specs.LabelCost.{RoomFor}
+use Rattle.labels.specs.Work.{costAt}
 use Rattle.labels.specs.Lowering.{Lowered}
 use Rattle.positions.proofs.try_edge.Statement.{statement}
 use Rattle.positions.proofs.try_edge.Tie as tie

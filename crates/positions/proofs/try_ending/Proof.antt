@@ -1,17 +1,13 @@
 -- `try_ending` meets its contract.
-use mathlib.Core.Path.{_≡_, refl, sym, _∙_, ap, subst}
-use mathlib.Core.Option.{some, none}
+use mathlib.Core.Path.{_∙_, ap, subst}
 use Prim.Native.Nat.{_+_, _*_}
 use native.Mathlib.Omega.{arith}
 use lib.ListN.{length}
 use borrow.Author.Needs.{needs}
-use Rattle.card.specs.Card.{machinesOf}
 use Rattle.paths.specs.Ranked.{Ranked}
 use Rattle.labels.specs.Lowering.{Lowered}
-use Rattle.tables.specs.Places.{sixPlaces}
-use Rattle.tables.specs.JointNumbers.{endingFrom, ended}
+use Rattle.tables.specs.JointNumbers.{ended}
 use Rattle.tables.specs.Laws.Endings.{ending-below}
-use Rattle.positions.specs.Engine.{Looked}
 use Rattle.positions.proofs.Edges.{machines-sound, places-six}
 use Rattle.positions.proofs.Ending.{ended-at, ending-none, ending-some}
 use Rattle.positions.proofs.try_ending.Statement.{statement}

@@ -1,0 +1,140 @@
+-- What the call answers, by the checks that the input passes and by the best candidate. Assumes nothing.
+use mathlib.Core.Path.{_≡_, refl, sym, _∙_, ap}
+use mathlib.Core.Bool.{Bool, true, false, _&&_}
+use mathlib.Core.List.{List, [], _∷_, _++_}
+use mathlib.Core.Option.{Option, some, none}
+use Prim.Native.Nat.{ℕ, zero, suc, _+_, _*_, _<_, _≤_}
+use native.Mathlib.Nat.{mul-le-mul}
+use native.Mathlib.Decide.{decLt}
+use native.Mathlib.Omega.{arith}
+use lib.ListN.{length, getD, take, drop, length-append, length-drop, List·getD-eq-default}
+use lib.Dec.{leb, lit<}
+use borrow.Author.Tests.{le-leb, lt-leb, leb-true}
+use Rattle.basics.specs.Search.{allOf}
+use Rattle.basics.specs.Refusals.{unlessRefused}
+use Rattle.basics.proofs.Bools.{both}
+use Rattle.basics.proofs.Search.{all-at}
+use Rattle.ranking.specs.Rankings.{isRanking}
+use Rattle.card.specs.Layout.{machineCount, symbolCount}
+use Rattle.card.specs.Card.{cardRefusal, machinesOf}
+use Rattle.candidate.specs.Evaluating.{refused}
+use Rattle.candidate.specs.Best.{Form, nodeCount, best}
+use Rattle.candidate.specs.Optimizing.{soundWord, inputRefusal, countsFit, optimizerRefusal, evaluationOf, filled, optimized, optimizedAnswer}
+use Rattle.paths.specs.Ranked.{Ranked, countAt}
+use Rattle.paths.specs.ByRanking.{ranked}
+use Rattle.labels.specs.declared.Label.{Label}
+use Rattle.labels.specs.LabelCost.{costOf}
+use Rattle.product.specs.Nodes.{product, stateCounts}
+use Rattle.product.specs.Laws.Accepted.{accepted-machines}
+use Rattle.tables.specs.Places.{sixPlaces}
+use Rattle.optimizer.specs.AcceptedInput.{short-word}
+use Rattle.optimizer.specs.Searching.{searchRefusal, labelFits}
+
+-- ---- the checks 1 to 9
+
+module _ (card ranking word : List ℕ) (room : ℕ) where
+  pub card-refused : (n : ℕ) → cardRefusal card ≡ n → 0 < n → n ≡ inputRefusal card ranking word room
+  unfolding inputRefusal
+  card-refused zero e h = absurd (omega arith)
+  card-refused (suc n) e h = rw e
+
+  pub ranking-refused : cardRefusal card ≡ 0 → isRanking (machineCount card) ranking ≡ false → _≡_ {A = ℕ} 7 (inputRefusal card ranking word room)
+  unfolding inputRefusal
+  ranking-refused a b = rw (a, b)
+
+  pub word-refused : cardRefusal card ≡ 0 → isRanking (machineCount card) ranking ≡ true → soundWord (symbolCount card) word ≡ false → _≡_ {A = ℕ} 8 (inputRefusal card ranking word room)
+  unfolding inputRefusal
+  word-refused a b d = rw (a, b, d)
+
+  pub room-refused : cardRefusal card ≡ 0 → isRanking (machineCount card) ranking ≡ true → soundWord (symbolCount card) word ≡ true → room < 8 * nodeCount card word → _≡_ {A = ℕ} 9 (inputRefusal card ranking word room)
+  unfolding inputRefusal
+  room-refused a b d h = rw (a, b, d, lt-leb (8 * nodeCount card word) room h)
+
+  pub input-accepted : cardRefusal card ≡ 0 → isRanking (machineCount card) ranking ≡ true → soundWord (symbolCount card) word ≡ true → 8 * nodeCount card word ≤ room → _≡_ {A = ℕ} 0 (inputRefusal card ranking word room)
+  unfolding inputRefusal
+  input-accepted a b d h = rw (a, b, d, le-leb (8 * nodeCount card word) room h)
+
+  -- a refusal's answer
+  pub refused-result : (n answerRoom : ℕ) → n ≡ inputRefusal card ranking word room → 0 < n → refused n ≡ optimized card ranking word room answerRoom
+  unfolding optimized optimizerRefusal
+  refused-result zero answerRoom e h = absurd (omega arith)
+  refused-result (suc n) answerRoom e h = rw (← e)
+
+  pub refused-answer : (n : ℕ) (answer : List ℕ) → n ≡ inputRefusal card ranking word room → 0 < n → answer ≡ optimizedAnswer card ranking word room answer
+  unfolding optimizedAnswer optimizerRefusal
+  refused-answer zero answer e h = absurd (omega arith)
+  refused-answer (suc n) answer e h = rw (← e)
+
+  -- otherwise the search decides
+  pub searched-result : (answerRoom : ℕ) → inputRefusal card ranking word room ≡ 0
+      → optimized card ranking word room answerRoom ≡ unlessRefused (searchRefusal (best card ranking word) answerRoom) (evaluationOf (best card ranking word) word) refused
+  unfolding optimized optimizerRefusal
+  searched-result answerRoom e = rw e
+
+  pub searched-answer : (answer : List ℕ) → inputRefusal card ranking word room ≡ 0
+      → optimizedAnswer card ranking word room answer ≡ unlessRefused (searchRefusal (best card ranking word) (length answer)) (filled (best card ranking word) answer) (λ n. answer)
+  unfolding optimizedAnswer optimizerRefusal
+  searched-answer answer e = rw e
+
+-- ---- the checks 10 to 12, by what the best is
+
+module _ {A : Type 0} (o : Option Form) (room : ℕ) (a : A) (f : ℕ → A) where
+  pub no-best : o ≡ none → f 10 ≡ unlessRefused (searchRefusal o room) a f
+  no-best e = rw e
+
+  pub no-room : (b : Form) → o ≡ some b → countsFit o ≡ true → room < 2 * length (b .candidate) → f 12 ≡ unlessRefused (searchRefusal o room) a f
+  no-room b e h k =
+      let q : countsFit (some b) ≡ true = rw e at h in
+      rw (e, q, lt-leb (2 * length (b .candidate)) room k)
+
+  pub best-fits : (b : Form) → o ≡ some b → countsFit o ≡ true → 2 * length (b .candidate) ≤ room → a ≡ unlessRefused (searchRefusal o room) a f
+  best-fits b e h k =
+      let q : countsFit (some b) ≡ true = rw e at h in
+      rw (e, q, le-leb (2 * length (b .candidate)) room k)
+
+-- ---- a label of counts that fit
+
+each-fits : (X : List ℕ) → allOf (λ n. leb n 60000) X ≡ true → (i : ℕ) → leb (getD X i 0) 60000 ≡ true
+each-fits X t i = go (decLt i (length X))
+  where
+    go : Dec (i < length X) → leb (getD X i 0) 60000 ≡ true
+    go (yes h) = all-at (λ n. leb n 60000) X 0 t i h
+    go (no h) = let z = List·getD-eq-default X 0 {n = i} (omega arith) in le-leb (getD X i 0) 60000 (omega arith)
+
+pub label-fits : (label : Label) (ranking : List ℕ) (b : Form) (n : ℕ) → countsFit (some b) ≡ true → costOf label ≡ ranked (sixPlaces ranking) (b .profile) n → labelFits label ≡ true
+label-fits label ranking b n t e =
+    let X = b .profile in
+    let z : (j : ℕ) → leb (getD X (getD ranking j 6) 0) 60000 ≡ true = λ j. each-fits X t (getD ranking j 6) in
+    both (ap (λ (c : Ranked 6). leb (countAt 6 0 c) 60000) e ∙ z 0)
+    (both (ap (λ (c : Ranked 6). leb (countAt 6 1 c) 60000) e ∙ z 1)
+    (both (ap (λ (c : Ranked 6). leb (countAt 6 2 c) 60000) e ∙ z 2)
+    (both (ap (λ (c : Ranked 6). leb (countAt 6 3 c) 60000) e ∙ z 3)
+    (both (ap (λ (c : Ranked 6). leb (countAt 6 4 c) 60000) e ∙ z 4)
+    (ap (λ (c : Ranked 6). leb (countAt 6 5 c) 60000) e ∙ z 5)))))
+
+-- ---- the room for the nodes
+
+-- of a word of at most 24 symbols and at most 128 joint states
+pub few-nodes : (n P : ℕ) → n ≤ 24 → P ≤ 128 → (n + 1) * P ≤ 3200
+few-nodes n P h k = let q : n + 1 ≤ 25 = omega arith in mul-le-mul q k
+
+module _ (card word : List ℕ) (ok : cardRefusal card ≡ 0) (P : ℕ) (e : P ≡ product (stateCounts (machinesOf card))) where
+  pub node-room : (length word + 1) * P * 8 ≡ 8 * nodeCount card word
+  node-room = let q : (length word + 1) * P ≡ nodeCount card word = ap (λ (p : ℕ). (length word + 1) * p) (e ∙ accepted-machines card ok .states) in omega arith
+
+  pub nodes-few : soundWord (symbolCount card) word ≡ true → (length word + 1) * P ≤ 3200
+  nodes-few t = few-nodes (length word) P (short-word (symbolCount card) word t) (omega (arith, accepted-machines card ok .states, accepted-machines card ok .few-states))
+
+-- the front of a slice that has so many numbers
+pub front-room : (n : ℕ) (l : List ℕ) → n ≤ length l → length (take n l) ≡ n
+front-room zero l h = refl
+front-room (suc n) [] h = absurd (omega arith)
+front-room (suc n) (x ∷ l) h = omega (arith, front-room n l (omega arith))
+
+pub positive : (n : ℕ) → (n ≡ 0 → ⊥) → 0 < n
+positive zero f = absurd (f refl)
+positive (suc n) f = omega arith
+
+-- a slice whose front was written has its length
+pub same-room : (n : ℕ) (l front : List ℕ) → n ≤ length l → length front ≡ length (take n l) → length (front ++ drop n l) ≡ length l
+same-room n l front h e = length-append front (drop n l) ∙ omega (arith, length-drop n l, front-room n l h)

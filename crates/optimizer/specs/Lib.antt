@@ -1,0 +1,7 @@
+-- definitions
+pub mod Optimizes
+pub mod Searching
+-- what accepted input promises
+pub mod AcceptedInput
+-- the theorem that joins the call's contract with demand 3
+pub mod Demand3

@@ -1,0 +1,151 @@
+// The optimizer: from card, ranking and word to the best candidate.
+ghost use mathlib.Core.Path.{_≡_};
+ghost use Prim.Native.Nat.{_+_, _*_, _<_};
+ghost use lib.ListN.{length};
+ghost use Rattle.card.specs.Card.{cardRefusal, machinesOf};
+ghost use Rattle.candidate.specs.Evaluating.{refused};
+ghost use Rattle.candidate.specs.Optimizing.{inputRefusal};
+ghost use Rattle.product.specs.Nodes.{product, stateCounts};
+ghost use Rattle.labels.specs.LabelCost.{costOf};
+ghost use Rattle.optimizer.specs.Optimizes.{Optimizes};
+ghost use Rattle.optimizer.specs.Searching.{SearchPre, Searched, labelFits, RankingOfSome, CardOrder};
+use candidate::Evaluation;
+use labels::Label;
+use ranking::Profile;
+
+// The answer of a refusal.
+fn refused(number: u8) -> Evaluation
+    ensures { λ r. ⌜ r ≡ refused number ⌝ }
+{
+    Evaluation {
+        number,
+        profile: Profile::zero(),
+        pairs: 0,
+        word_length: 0,
+    }
+}
+
+// A byte as a number to index with.
+fn index(x: u8) -> usize
+    ensures { λ r. ⌜ (r ≡ x) × (r < 256) ⌝ }
+{
+    x as usize
+}
+
+// Counts in ranked order as a profile, which is in card order.
+fn profile_of(label: Label, ranking: &[u8]) -> Profile
+    requires { ⌜ RankingOfSome (now ranking) ⌝ }
+    ensures { λ r. ⌜ CardOrder (now (ranking .entry)) (costOf label) r ⌝ }
+{
+    let ranked = [
+        label.first,
+        label.second,
+        label.third,
+        label.fourth,
+        label.fifth,
+        label.sixth,
+    ];
+    let mut counts = [0u16; 6];
+    let mut place = 0;
+    while place < ranking.len() {
+        let machine = index(ranking[place]);
+        counts[machine] = ranked[place];
+        place += 1;
+    }
+    Profile { counts }
+}
+
+// P, the product of the state counts of an accepted card's machines.
+fn joint_states(card: &[u8]) -> usize
+    requires { ⌜ cardRefusal (now card) ≡ 0 ⌝ }
+    ensures { λ r. ⌜ r ≡ product (stateCounts (machinesOf (now (card .entry)))) ⌝ }
+{
+    let counts = tables::state_counts(card);
+    let machines = card::machine_count(card);
+    tables::joint_states(&counts[..machines])
+}
+
+// The first of the refusals 1 to 9, with that many numbers in the work slice; 0 where there is none.
+fn input_refusal(card: &[u8], ranking: &[u8], word: &[u8], room: usize) -> u8
+    ensures { λ r. ⌜ r ≡ inputRefusal (now (card .entry)) (now (ranking .entry)) (now (word .entry)) room ⌝ }
+{
+    let answer = card::check(card);
+    let card::Stage::Passed = answer else {
+        return answer.number();
+    };
+    let answer = ranking::rankings::check_ranking(card[0], ranking);
+    let ranking::Stage::Passed = answer else {
+        return 7;
+    };
+    let answer = product::check_word(word, card::symbol_count(card));
+    let product::Stage::Passed = answer else {
+        return 8;
+    };
+    if room < (word.len() + 1) * joint_states(card) * 8 {
+        return 9;
+    }
+    0
+}
+
+// Whether no count is over 60,000.
+fn counts_fit(label: Label) -> bool
+    ensures { λ r. ⌜ r ≡ labelFits label ⌝ }
+{
+    (label.first <= 60000)
+        & ((label.second <= 60000)
+            & ((label.third <= 60000)
+                & ((label.fourth <= 60000)
+                    & ((label.fifth <= 60000) & (label.sixth <= 60000)))))
+}
+
+// The search for accepted input: labels the nodes, and writes the best candidate if there is one and it has room.
+fn search(
+    card: &[u8],
+    ranking: &[u8],
+    word: &[u8],
+    size: usize,
+    work: &mut [u16],
+    answer: &mut [u8],
+) -> Evaluation
+    requires { ⌜ SearchPre (now card) (now ranking) (now word) (now work) size ⌝ }
+    ensures { λ r. ⌜ Searched (now (card .entry)) (now (ranking .entry)) (now (word .entry)) (now (work .entry)) (now (work .exit)) (now (answer .entry)) (now (answer .exit)) r ⌝ }
+{
+    positions::label(work, card, ranking, word, size);
+    if !labels::reached(work, 0) {
+        return refused(10);
+    }
+    let label = labels::load(work, 0);
+    if !counts_fit(label) {
+        return refused(11);
+    }
+    if answer.len() / 2 < label.pairs as usize {
+        return refused(12);
+    }
+    let profile = profile_of(label, ranking);
+    walk::walk(work, card, ranking, word, size, answer);
+    Evaluation {
+        number: 0,
+        profile,
+        pairs: label.pairs,
+        word_length: word.len() as u16,
+    }
+}
+
+// Answers the best candidate for a word under a ranking: 1 to 12.
+pub fn optimize(
+    card: &[u8],
+    ranking: &[u8],
+    word: &[u8],
+    work: &mut [u16],
+    answer: &mut [u8],
+) -> Evaluation
+    ensures { λ r. ⌜ Optimizes (now (card .entry)) (now (ranking .entry)) (now (word .entry)) (now (work .entry)) (now (work .exit)) (now (answer .entry)) (now (answer .exit)) r ⌝ }
+{
+    let number = input_refusal(card, ranking, word, work.len());
+    if number != 0 {
+        return refused(number);
+    }
+    let size = joint_states(card);
+    let nodes = (word.len() + 1) * size;
+    search(card, ranking, word, size, &mut work[..nodes * 8], answer)
+}

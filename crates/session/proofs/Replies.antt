@@ -1,0 +1,51 @@
+-- How a line's reply follows from what parsing and the optimizer answer. Assumes nothing.
+use mathlib.Core.Path.{_≡_, refl, ap, sym, _∙_}
+use mathlib.Core.List.{List, _++_}
+use mathlib.Core.Option.{Option, some, none}
+use Prim.Native.Nat.{ℕ}
+use native.Mathlib.Omega.{arith}
+use lib.ListN.{length, take, drop, replicate, length-append, length-drop}
+use lib.Seq.{take-append-seam}
+use Rattle.candidate.specs.declared.Evaluation.{Evaluation}
+use Rattle.card.specs.Layout.{machineCount}
+use Rattle.candidate.specs.Optimizing.{optimized, optimizedAnswer}
+use Rattle.lines.specs.declared.Parsed.the-variants as parsed
+use Rattle.lines.specs.Buffers.{atFront}
+use Rattle.lines.specs.Parsing.{Request, answerOf, rankingOf, wordOf}
+use Rattle.lines.specs.Writing.{badLine, lineOf}
+use Rattle.session.specs.Printed.{bestLine, reply, Prints}
+
+-- a text that is the reply, written to the front of a slice
+pub prints : {text other old new : List ℕ} {r : ℕ} → text ≡ other → r ≡ length text → new ≡ atFront text old → length new ≡ length old → Prints other old new r
+prints {text} {other} {old} {new} {r} e size bytes same =
+    let m : length new ≡ length (atFront text old) = ap length bytes in
+    record {
+      size = size ∙ ap length e;
+      bytes = bytes ∙ ap (λ (t : List ℕ). atFront t old) e;
+      fits = omega (arith, simp (length-append, length-drop) at m);
+    }
+
+pub best-line : (card ranking word : List ℕ) {answer after : List ℕ} {K w a v : ℕ} {evaluation : Evaluation} → K ≡ machineCount card
+    → evaluation ≡ optimized card ranking word w a → after ≡ optimizedAnswer card ranking word v answer
+    → w ≡ 25600 → v ≡ 25600 → a ≡ 6398 → answer ≡ replicate 6398 0 → lineOf K evaluation after ≡ bestLine card ranking word
+unfolding bestLine
+best-line card ranking word {answer} {after} {K} {w} {a} {v} {evaluation} k e f hw hv ha h =
+    go (replicate 6398 0) h
+  where
+    go : (zeros : List ℕ) → answer ≡ zeros → lineOf K evaluation after ≡ lineOf (machineCount card) (optimized card ranking word 25600 6398) (optimizedAnswer card ranking word 25600 zeros)
+    go zeros z = cc (k, e, f, hw, hv, ha)
+
+pub bad-reply : (card : List ℕ) (o : Option Request) → answerOf o ≡ parsed.BadLine → badLine ≡ reply card o
+bad-reply card none e = refl
+bad-reply card (some request) e = let z : _≡_ {A = ℕ} 0 1 = cc in absurd (omega arith)
+
+front : (text old new : List ℕ) (n : ℕ) → n ≡ length text → new ≡ atFront text old → take n new ≡ text
+front text old new n e f = let s : take (length text) (text ++ drop (length text) old) ≡ text = take-append-seam text _ in rw (e, f) s
+
+pub good-reply : (card : List ℕ) (o : Option Request) (rs₀ ws₀ : List ℕ) {n m : ℕ} {rs ws : List ℕ} → answerOf o ≡ parsed.Line n m
+    → rs ≡ atFront (rankingOf o) rs₀ → ws ≡ atFront (wordOf o) ws₀ → bestLine card (take n rs) (take m ws) ≡ reply card o
+good-reply card none rs₀ ws₀ e f g = let z : _≡_ {A = ℕ} 0 1 = cc in absurd (omega arith)
+good-reply card (some request) rs₀ ws₀ {n} {m} {rs} {ws} e f g =
+    let hn : n ≡ length (request .ranking) = cc in
+    let hm : m ≡ length (request .word) = cc in
+    rw (front (request .ranking) rs₀ rs n hn f, front (request .word) ws₀ ws m hm g) refl
