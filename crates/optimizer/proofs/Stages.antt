@@ -139,7 +139,7 @@ module _ {card ranking word work : List ℕ} {size : ℕ} (pre : SearchPre card 
           evaluated =
               let p = order (the-best .form .profile) (length (the-best .form .candidate)) lengths cost in
               let q : _≡_ {A = Evaluation} (record { number = 0; profile = profile; pairs = label .pairs; «word_length» = length word }) (evaluationOf (some (the-best .form)) word)
-                    = λ i. record { number = 0; profile = p i; pairs = its-pairs i; «word_length» = length word } in
+              = λ i. record { number = 0; profile = p i; pairs = its-pairs i; «word_length» = length word } in
               q ∙ ap (λ o. evaluationOf o word) (sym (the-best .is))
 
           written : answerAfter ≡ filled (best card ranking word) answer

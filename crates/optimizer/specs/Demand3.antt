@@ -118,13 +118,16 @@ module _ (card ranking word answer : List ℕ) (room : ℕ) (ok : inputRefusal c
             never-counts = λ h. (omega arith);
             room-exactly = (λ h. absurd (omega arith), λ t. absurd (omega (arith, same-pairs b e (t .0) (t .1), t .2)));
             best-exactly = (λ _. (b .candidate, all .is-best b e, l), λ _. n);
-            answered = λ _. (b .candidate, record {
-              is-best = all .is-best b e;
-              fits = l;
-              bytes = u;
-              profile = ap (λ (v : Evaluation). v .profile) q ∙ ap profileWith (all .its-profile b e);
-              pairs = ap (λ (v : Evaluation). v .pairs) q;
-              word-length = ap (λ (v : Evaluation). v .«word_length») q;
-            });
+            answered = λ _. (
+              b .candidate,
+              record {
+                is-best = all .is-best b e;
+                fits = l;
+                bytes = u;
+                profile = ap (λ (v : Evaluation). v .profile) q ∙ ap profileWith (all .its-profile b e);
+                pairs = ap (λ (v : Evaluation). v .pairs) q;
+                word-length = ap (λ (v : Evaluation). v .«word_length») q;
+              },
+            );
             untouched = λ h. absurd (h n);
           }

@@ -94,8 +94,7 @@ fn counts_fit(label: Label) -> bool
     (label.first <= 60000)
         & ((label.second <= 60000)
             & ((label.third <= 60000)
-                & ((label.fourth <= 60000)
-                    & ((label.fifth <= 60000) & (label.sixth <= 60000)))))
+                & ((label.fourth <= 60000) & ((label.fifth <= 60000) & (label.sixth <= 60000)))))
 }
 
 // The search for accepted input: labels the nodes, and writes the best candidate if there is one and it has room.

@@ -35,7 +35,7 @@ arc-bounds part ok i h a e =
     let S = ok .0 in
     let k = accepted S part (ok .1) in
     let t : soundArc S (stateCount part) a ≡ true =
-          rw e at (all-at (soundArc S (stateCount part)) (arcsOf part) a (k .arcs) i (omega (arith, arcs-count part (2 + stateCount part) (arcCount part)))) in
+    rw e at (all-at (soundArc S (stateCount part)) (arcsOf part) a (k .arcs) i (omega (arith, arcs-count part (2 + stateCount part) (arcCount part)))) in
     let b = sound-facts S (stateCount part) a t in
     let q = shape-facts part (k .shape) in
     record { from = omega arith; to = omega arith; marks = b .marks }

@@ -6,7 +6,6 @@ ghost use Rattle.machine.specs.Part.{machineOf};
 ghost use Rattle.card.specs.Card.{machinesOf, cardRefusal};
 ghost use Rattle.steps.specs.StepTable.{HoldsMachine, HoldsSteps};
 ghost use Rattle.steps.specs.Filling.{AcceptedPart, RowWritten, ArcEntered};
-
 use machine::Arc;
 
 // The number of a pair that no arc takes.

@@ -120,10 +120,10 @@ module _ {steps rows counts places xs : List ℕ} {P symbols a : ℕ} (pre : Fil
         most = omega arith;
         size = N .size ∙ F .size;
         row = λ S ms T b hb e.
-        N .row b hb
-        ∙ ap (λ (i : ℕ). cheaper b i (joined step)) (F .row S ms T b hb e)
-        ∙ ap (cheaper b (cheapestInsertion places ms a b (y - 1))) (J S ms emptySymbol T)
-        ∙ sym (next-insertion places ms a b y (F .least));
+            N .row b hb
+            ∙ ap (λ (i : ℕ). cheaper b i (joined step)) (F .row S ms T b hb e)
+            ∙ ap (cheaper b (cheapestInsertion places ms a b (y - 1))) (J S ms emptySymbol T)
+            ∙ sym (next-insertion places ms a b y (F .least));
         others = λ c b hc hb n. N .others c b hc hb n ∙ F .others c b hc hb n;
       }
 

@@ -123,11 +123,12 @@ module _ {steps rows counts places : List ℕ} {code y : ℕ} (pre : JointPre st
         ≡ andThose (f (machineAt ms m) (getD (statesOf (stateCounts ms) code) m 0)) (ofEach f (drop (suc m) ms) (drop (suc m) (statesOf (stateCounts ms) code)))
     others f =
         of-each-next f ms (statesOf (stateCounts ms) code) m its-machine
-        (omega
-        (arith,
-        its-machine,
-        counts-length ms,
-        below-length (stateCounts ms) (statesOf (stateCounts ms) code) (code-states (T .machines) code (rw (T .holds-counts) at (pre .state)))))
+        (omega (
+          arith,
+          its-machine,
+          counts-length ms,
+          below-length (stateCounts ms) (statesOf (stateCounts ms) code) (code-states (T .machines) code (rw (T .holds-counts) at (pre .state))),
+        ))
 
   -- there are six machines at most
   pub counts-few : length counts ≤ 6
@@ -154,8 +155,8 @@ module _ {steps rows counts places : List ℕ} {code y : ℕ} (pre : JointPre st
     unset = λ j h. zeros 8 j;
     small = λ j. (omega (arith, zeros 8 j));
     rest = λ S ms x T.
-    ap (λ (l : List ℕ). numbered places (coded l (jointStep ms (statesOf (stateCounts ms) code) (record { input = x; output = y })))) (sym (T .holds-counts))
-    ∙ resume-start counts places (replicate 8 0) (jointStep ms (statesOf (stateCounts ms) code) (record { input = x; output = y }));
+        ap (λ (l : List ℕ). numbered places (coded l (jointStep ms (statesOf (stateCounts ms) code) (record { input = x; output = y })))) (sym (T .holds-counts))
+        ∙ resume-start counts places (replicate 8 0) (jointStep ms (statesOf (stateCounts ms) code) (record { input = x; output = y }));
   }
 
   module _ {target : ℕ} {marks : List ℕ} {m : ℕ} (J : Joining steps rows counts places code y target marks m) where

@@ -24,7 +24,7 @@ module _ (counts : List ℕ) (code : ℕ) where
   states-next m left h k e =
       let qs = drop (suc m) counts in
       let a : getD (statesOf counts code) m 0 ∷ drop (suc m) (statesOf counts code) ≡ left / product qs ∷ statesOf qs (left % product qs) =
-            sym (drop-cons (statesOf counts code) m 0 k) ∙ sym e ∙ (rw (drop-cons counts m 0 h)) in
+      sym (drop-cons (statesOf counts code) m 0 k) ∙ sym e ∙ (rw (drop-cons counts m 0 h)) in
       (cc, cc)
 
 -- the rows of the first m machines are there; rest is the product of the other counts, and left the code of the other states
@@ -71,11 +71,12 @@ module _ {counts xs : List ℕ} {P code : ℕ} (pre : RowsPre counts xs P) (h : 
 
       pub state-few : left / (rest / q) < 32
       state-few =
-          omega
-          (arith,
-          state-is,
-          count-few (pre .counts-of) m,
-          below-at counts (statesOf counts code) (its-states (pre .counts-of) code (rw (← (pre .states)) h)) m k)
+          omega (
+            arith,
+            state-is,
+            count-few (pre .counts-of) m,
+            below-at counts (statesOf counts code) (its-states (pre .counts-of) code (rw (← (pre .states)) h)) m k,
+          )
 
       pub row-next : RowFilling counts xs (set ys (code * 8 + m) ((m * 32 + left / (rest / q)) * 64)) code (rest / q) (left % (rest / q)) (m + 1)
       row-next = record {

@@ -13,7 +13,6 @@ ghost use Rattle.tables.specs.Tables.{CountsOfSome, HoldsRows, JointPre,
 ghost use Rattle.tables.specs.FillingRows.{RowsPre, RowFilled};
 ghost use Rattle.tables.specs.Insertions.{noPair};
 ghost use Rattle.tables.specs.FillingCheapest.{NotePre, Noted, FillPre, FilledFrom, FilledCheapest};
-
 use labels::Label;
 use labels::NO_PAIR;
 use machine::Ending;
@@ -107,11 +106,7 @@ pub fn fill_rows(counts: &[u8], size: usize, rows: &mut [u16])
 fn place(ranking: &[u8], i: usize) -> u8
     ensures { λ r. ⌜ r ≡ getD (now (ranking .entry)) i 6 ⌝ }
 {
-    if i < ranking.len() {
-        ranking[i]
-    } else {
-        6
-    }
+    if i < ranking.len() { ranking[i] } else { 6 }
 }
 
 // A ranking as six places.

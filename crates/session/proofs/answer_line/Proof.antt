@@ -22,7 +22,7 @@ word-bound c =
     let k = c .before .before .before .before in parsed-bounds _ .word-length _ _ (sym (k .parse .ensures .0) ∙ c .parsed .given .1)
 
 returns : tie.Need-returns
-returns c = 
+returns c =
     let k = c .before .before .write-bad-line in
     prints
     (bad-reply (c .before .before .before .before .before .before .before .before .before .before .before .before .before .before .args .card .now) (parsedLine (c .before .before .before .before .before .before .before .before .before .before .before .before .before .before .args .line .now)) (sym (c .before .before .before .before .before .before .before .before .parse .ensures .0) ∙ c .before .before .before .before .enum-told .given .1))
@@ -43,7 +43,7 @@ slice-aggregate-write-best-2 : tie.Need-slice-aggregate-write-best-2
 slice-aggregate-write-best-2 c = sym (length-take-le _ _ (omega (arith, word-bound (c .before .before .before), c .before .before .before .before .before .before .before .parse .kept .1 .1 .0)))
 
 returns-2 : tie.Need-returns-2
-returns-2 c = 
+returns-2 c =
     let k = c .before .before .write-best .ensures in
     let p = c .before .before .before .before .before .before .before .before .before .before .before .parse .ensures in
     let e = good-reply (c .before .before .before .before .before .before .before .before .before .before .before .before .before .before .before .before .before .args .card .now) (parsedLine (c .before .before .before .before .before .before .before .before .before .before .before .before .before .before .before .before .before .args .line .now)) (replicate 9 0) (replicate 100 0) (sym (p .0) ∙ c .before .before .before .before .before .before .before .parsed .given .1) (p .1 .0) (p .1 .1) in

@@ -10,7 +10,7 @@ use Rattle.session.proofs.write_best.Statement.{statement}
 use Rattle.session.proofs.write_best.Tie as tie
 
 returns : tie.Need-returns
-returns c = 
+returns c =
     let k = c .before .before .write-answer in
     let o = c .before .before .before .before .before .before .before .before .optimize .ensures in
     let s = c .before .before .before .before .before .before .before .before .before .before .before .before .before .before .before .args in

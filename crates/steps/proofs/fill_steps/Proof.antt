@@ -52,11 +52,10 @@ part-requires : tie.Need-part-requires Inv-loop μ-loop
 part-requires c κs = (c .before .before .before .before .before .before .pre .0, in-card (c .before))
 
 fill-machine-requires : tie.Need-fill-machine-requires Inv-loop μ-loop
-fill-machine-requires c κs = 
+fill-machine-requires c κs =
     let k = c .before .before in
     let s = k .before .before .before .before .before in
-    let card = s .args .card .now in
-    (
+    let card = s .args .card .now in (
       simp (length-take, length-drop) (omega (arith, below-six k, k .before .loop .inv .1 .size)),
       (symbolCount card, rw (c .part .ensures) (accepted card (s .pre .0) .part (k .before .loop .m) (in-card k))),
       s .pre .1,
@@ -69,21 +68,21 @@ loop-less : tie.Need-loop-less Inv-loop μ-loop
 loop-less c = omega arith
 
 loop-again : tie.Need-loop-again Inv-loop μ-loop
-loop-again c = 
+loop-again c =
     let w = c .before .before in
     let k = w .before .before .before in
     let s = k .before .before .before .before .before in
     let card = s .args .card .now in
     let m = k .before .loop .m in
     let h : HoldsMachine (machineAt (machinesOf card) m) (s .args .input) (w .fill-machine .last .0) =
-          rw (machine-at card m (in-card k), ← (w .before .part .ensures)) (w .fill-machine .ensures) in
+    rw (machine-at card m (in-card k), ← (w .before .part .ensures)) (w .fill-machine .ensures) in
     (omega arith, machines-next (machinesOf card) (s .args .input) (m * 2048) (m * 2048 + 2048 - m * 2048) (below-six k) refl (omega arith) (k .before .loop .inv .1) h)
 
 same-length : tie.Need-same-length Inv-loop μ-loop
 same-length c = omega (arith, c .before .loop .inv .1 .size, c .before .before .before .before .before .pre .2)
 
 returns : tie.Need-returns Inv-loop μ-loop
-returns c = 
+returns c =
     let l = c .before in
     let s = l .before .before .before .before in
     let card = s .args .card .now in

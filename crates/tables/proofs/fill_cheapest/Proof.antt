@@ -15,7 +15,7 @@ abbrev μ-loop : tie.MeasureT-loop
 μ-loop steps rows counts places size symbols table₀ from₀ table from = size - from
 
 loop-holds : tie.Need-loop-holds Inv-loop μ-loop
-loop-holds c = 
+loop-holds c =
     let k = c .before .before in
     (refl, columns-start (k .before .before .before .before .before .before .pre) (k .clear .last .0) (k .clear .ensures))
 
@@ -32,14 +32,14 @@ loop-less : tie.Need-loop-less Inv-loop μ-loop
 loop-less c = omega arith
 
 loop-again : tie.Need-loop-again Inv-loop μ-loop
-loop-again c = 
+loop-again c =
     let k = c .before .before in
     let l = k .before .before .before in
     let s = l .before .before .before .before .before .before .before .before .before in
     (k .fill-from .ensures .size ∙ l .loop .inv .0, columns-step (s .pre) (l .loop .inv .1) (k .before .before .loop-test .taken) (k .fill-from .ensures))
 
 same-length : tie.Need-same-length Inv-loop μ-loop
-same-length c = 
+same-length c =
     let l = c .before in
     let k = l .before .before .before in
     let s = k .before .before .before .before .before .before in

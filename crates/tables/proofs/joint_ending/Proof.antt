@@ -61,14 +61,14 @@ part-requires : tie.Need-part-requires Inv-loop μ-loop
 part-requires c κs = (c .before .before .before .before .before .before .pre .accepted, in-card (c .before))
 
 ending-requires : tie.Need-ending-requires Inv-loop μ-loop
-ending-requires c κs = 
+ending-requires c κs =
     let k = c .before .before in
     let s = k .before .before .before .before .before in
     let card = s .args .card .now in
     rw (c .part .ensures) (part-accepted (symbolCount card) (partOf card (k .before .loop .m)) (accepted card (s .pre .accepted) .part (k .before .loop .m) (in-card k)) .shape)
 
 returns : tie.Need-returns Inv-loop μ-loop
-returns c = 
+returns c =
     let a = c .before .before in
     let k = a .before .before .before in
     let s = k .before .before .before .before .before in
@@ -85,7 +85,7 @@ loop-less : tie.Need-loop-less Inv-loop μ-loop
 loop-less c = omega arith
 
 loop-again : tie.Need-loop-again Inv-loop μ-loop
-loop-again c = 
+loop-again c =
     let a = c .before .before .before in
     let k = a .before .before .before in
     let s = k .before .before .before .before .before in
@@ -96,7 +96,7 @@ number-requires : tie.Need-number-requires Inv-loop μ-loop
 number-requires c κs = let l = c .before .before in (l .before .before .before .before .pre .six, l .loop .inv .small)
 
 returns-2 : tie.Need-returns-2 Inv-loop μ-loop
-returns-2 c = 
+returns-2 c =
     let l = c .before .before .before in
     ending-end (l .before .before .before .before .pre) (omega (arith, l .before .machine-count .ensures)) (l .loop .inv) (c .number .result) (c .number .ensures)
 

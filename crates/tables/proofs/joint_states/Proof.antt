@@ -19,7 +19,7 @@ loop-holds : tie.Need-loop-holds Inv-loop μ-loop
 loop-holds c = (omega arith, states-start (c .before .pre))
 
 mul-states : tie.Need-mul-states Inv-loop μ-loop
-mul-states c = 
+mul-states c =
     let l = c .before .before .before in
     let b = states-bound (l .before .before .pre) (l .loop .m) (l .loop .states) (l .loop .inv .1) in
     omega (arith, mul-le-mul {n₂ = 128} {m₂ = 255} b (le-pred-of-lt (c .index .ensures .1)))
@@ -31,7 +31,7 @@ loop-less : tie.Need-loop-less Inv-loop μ-loop
 loop-less c = omega arith
 
 loop-again : tie.Need-loop-again Inv-loop μ-loop
-loop-again c = 
+loop-again c =
     let l = c .before .before .before in
     (omega arith, states-next (l .before .before .pre) (l .loop .m) (l .loop .states) (c .index .result) (c .before .before .loop-test .taken) (c .index .ensures .0) (l .loop .inv .1))
 

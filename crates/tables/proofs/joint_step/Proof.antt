@@ -62,7 +62,7 @@ shared-slice-read-step : tie.Need-shared-slice-read-step Inv-loop μ-loop
 shared-slice-read-step c = omega (arith, step (c .before), steps-size (c .before .before .before .before .before .before .before .before .pre))
 
 returns : tie.Need-returns Inv-loop μ-loop
-returns c = 
+returns c =
     let w = c .before .before in
     let k = w .before .before in
     joining-stuck (k .before .before .before .before .before .pre) (k .before .loop .inv) _ (k .loop-test .taken) (entry w) (c .if1 .taken)
@@ -90,7 +90,7 @@ loop-again c =
     joining-step (k .before .before .before .before .before .pre) (k .before .loop .inv) _ (k .loop-test .taken) (entry w) (c .before .before .before .if1 .left) _ (rw (q, c .wide2 .ensures .0))
 
 returns-2 : tie.Need-returns-2 Inv-loop μ-loop
-returns-2 c = 
+returns-2 c =
     let k = c .before .before .before in
     joining-end (k .before .before .before .before .pre) (k .loop .inv) (c .before .before .loop-test .left) (c .number .result) (c .number .ensures)
 

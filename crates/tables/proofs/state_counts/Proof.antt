@@ -57,7 +57,7 @@ part-requires : tie.Need-part-requires Inv-loop μ-loop
 part-requires c κs = (c .before .before .before .before .pre, in-card c)
 
 state-count-requires : tie.Need-state-count-requires Inv-loop μ-loop
-state-count-requires c κs = 
+state-count-requires c κs =
     let k = c .before in
     let s = k .before .before .before .before in
     let card = s .args .card .now in
@@ -76,19 +76,18 @@ loop-less : tie.Need-loop-less Inv-loop μ-loop
 loop-less c = omega arith
 
 loop-again : tie.Need-loop-again Inv-loop μ-loop
-loop-again c = 
+loop-again c =
     let k = c .before .before in
     let l = k .before in
     let card = l .before .before .before .args .card .now in
-    let ys = stateCounts (machinesOf card) in
-    (
+    let ys = stateCounts (machinesOf card) in (
       omega arith,
       simp length-set (l .loop .inv .1),
       take-next (l .loop .counts) ys (l .loop .m) (c .state-count .result) (omega (arith, few c)) (omega (arith, in-card k, counts-length (machinesOf card), machines-count card)) (count c) (l .loop .inv .2),
     )
 
 returns : tie.Need-returns Inv-loop μ-loop
-returns c = 
+returns c =
     let l = c .before in
     let card = l .before .before .before .args .card .now in
     let ys = stateCounts (machinesOf card) in

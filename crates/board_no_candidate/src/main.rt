@@ -1,0 +1,4 @@
+// The board on a large card that allows no candidate.
+fn main() {
+    session::run();
+}
