@@ -1,0 +1,543 @@
+// Tries the optimizer's call: rows 7 to 12 of the refusal table with their neighbours that pass, and the examples. A line for each case: the number,
+// profile, pair count and word length, the pairs, how many bytes of the answer slice still hold 9, and how many numbers of the work slice still hold 7.
+use candidate::Evaluation;
+
+// Card A: one final state, one arc, in {1}, out {1,2}.
+const CARD_A: [u8; 29] = [
+    1,
+    2,
+    6,
+    0,
+    23,
+    0,
+    1,
+    1,
+    1,
+    0,
+    0,
+    0,
+    0,
+    2,
+    0,
+    0,
+    0,
+    0,
+    0,
+    0,
+    0,
+    6,
+    0,
+    0,
+    0,
+    0,
+    0,
+    0,
+    0,
+];
+
+// Card A with another arc, in {0}, out {1,2}.
+const CARD_A_INSERTS: [u8; 49] = [
+    1,
+    2,
+    6,
+    0,
+    43,
+    0,
+    1,
+    2,
+    1,
+    0,
+    0,
+    0,
+    0,
+    2,
+    0,
+    0,
+    0,
+    0,
+    0,
+    0,
+    0,
+    6,
+    0,
+    0,
+    0,
+    0,
+    0,
+    0,
+    0,
+    0,
+    0,
+    0,
+    0,
+    1,
+    0,
+    0,
+    0,
+    0,
+    0,
+    0,
+    0,
+    6,
+    0,
+    0,
+    0,
+    0,
+    0,
+    0,
+    0,
+];
+
+// Card B: onset, insertion, deletion.
+const CARD_B: [u8; 264] = [
+    3,
+    2,
+    14,
+    0,
+    124,
+    0,
+    138,
+    0,
+    43,
+    0,
+    181,
+    0,
+    83,
+    0,
+    2,
+    6,
+    1,
+    1,
+    0,
+    0,
+    0,
+    0,
+    7,
+    0,
+    0,
+    0,
+    0,
+    0,
+    0,
+    0,
+    1,
+    0,
+    0,
+    0,
+    0,
+    0,
+    0,
+    0,
+    0,
+    1,
+    0,
+    0,
+    7,
+    0,
+    0,
+    0,
+    0,
+    0,
+    0,
+    0,
+    2,
+    0,
+    0,
+    0,
+    0,
+    0,
+    0,
+    0,
+    0,
+    0,
+    1,
+    0,
+    7,
+    0,
+    0,
+    0,
+    0,
+    0,
+    0,
+    0,
+    4,
+    0,
+    0,
+    0,
+    0,
+    0,
+    0,
+    0,
+    1,
+    1,
+    0,
+    0,
+    7,
+    0,
+    0,
+    0,
+    0,
+    0,
+    0,
+    0,
+    1,
+    0,
+    0,
+    0,
+    0,
+    0,
+    0,
+    0,
+    1,
+    1,
+    0,
+    0,
+    7,
+    0,
+    0,
+    0,
+    0,
+    0,
+    0,
+    0,
+    2,
+    0,
+    0,
+    0,
+    0,
+    0,
+    0,
+    0,
+    1,
+    0,
+    0,
+    0,
+    7,
+    0,
+    0,
+    0,
+    0,
+    0,
+    0,
+    0,
+    4,
+    0,
+    0,
+    0,
+    0,
+    0,
+    0,
+    0,
+    1,
+    2,
+    1,
+    0,
+    0,
+    0,
+    0,
+    6,
+    0,
+    0,
+    0,
+    0,
+    0,
+    0,
+    0,
+    7,
+    0,
+    0,
+    0,
+    0,
+    0,
+    0,
+    0,
+    0,
+    0,
+    1,
+    0,
+    1,
+    0,
+    0,
+    0,
+    0,
+    0,
+    0,
+    0,
+    6,
+    0,
+    0,
+    0,
+    0,
+    0,
+    0,
+    0,
+    1,
+    4,
+    1,
+    0,
+    0,
+    0,
+    0,
+    2,
+    0,
+    0,
+    0,
+    0,
+    0,
+    0,
+    0,
+    2,
+    0,
+    0,
+    0,
+    0,
+    0,
+    0,
+    0,
+    0,
+    0,
+    0,
+    0,
+    4,
+    0,
+    0,
+    0,
+    0,
+    0,
+    0,
+    0,
+    4,
+    0,
+    0,
+    0,
+    0,
+    0,
+    0,
+    0,
+    0,
+    0,
+    0,
+    0,
+    1,
+    0,
+    0,
+    0,
+    0,
+    0,
+    0,
+    0,
+    6,
+    0,
+    0,
+    0,
+    0,
+    0,
+    0,
+    0,
+    0,
+    0,
+    1,
+    0,
+    6,
+    0,
+    0,
+    0,
+    0,
+    0,
+    0,
+    0,
+    1,
+    0,
+    0,
+    0,
+    0,
+    0,
+    0,
+    0,
+];
+
+fn write(text: &[u8]) {
+    io::write_all(1, text);
+}
+
+fn write_number(number: u64) {
+    io::print_decimal(1, number);
+}
+
+fn write_count(count: u16) {
+    write(b" ");
+    write_number(count as u64);
+}
+
+fn write_pair(input: u8, output: u8) {
+    write(b" ");
+    write_number(input as u64);
+    write(b":");
+    write_number(output as u64);
+}
+
+fn write_pairs(answer: &[u8; 60], pairs: u16) {
+    let mut left = pairs;
+    let mut at = 0;
+    while left > 0 {
+        if at + 1 < 60 {
+            write_pair(answer[at], answer[at + 1]);
+            at += 2;
+        }
+        left -= 1;
+    }
+}
+
+fn write_evaluation(evaluation: Evaluation) {
+    let profile = evaluation.profile;
+    write_number(evaluation.number as u64);
+    write(b":");
+    write_count(profile.counts[0]);
+    write_count(profile.counts[1]);
+    write_count(profile.counts[2]);
+    write_count(profile.counts[3]);
+    write_count(profile.counts[4]);
+    write_count(profile.counts[5]);
+    write(b";");
+    write_count(evaluation.pairs);
+    write_count(evaluation.word_length);
+    write(b";");
+}
+
+// How many bytes are 9.
+fn nines(bytes: &[u8; 60]) -> u64 {
+    let mut count: u64 = 0;
+    let mut at = 0;
+    while at < 60 {
+        if bytes[at] == 9 {
+            count += 1;
+        }
+        at += 1;
+    }
+    count
+}
+
+// How many numbers are 7.
+fn sevens(numbers: &[u16; 400]) -> u64 {
+    let mut count: u64 = 0;
+    let mut at = 0;
+    while at < 400 {
+        if numbers[at] == 7 {
+            count += 1;
+        }
+        at += 1;
+    }
+    count
+}
+
+// The call on a card, with the first `room` numbers of a work slice of 7s and the first `bytes` bytes of an answer slice of 9s. The 7s are counted where
+// the call keeps them; a work slice that was used is left open.
+fn try_on(card: &[u8], ranking: &[u8], word: &[u8], room: usize, bytes: usize) {
+    let mut work = [7u16; 400];
+    let mut answer = [9u8; 60];
+    if room > 400 {
+        return;
+    }
+    if bytes > 60 {
+        return;
+    }
+    let evaluation = optimizer::optimize(
+        card,
+        ranking,
+        word,
+        &mut work[0..room],
+        &mut answer[0..bytes],
+    );
+    write_evaluation(evaluation);
+    write_pairs(&answer, evaluation.pairs);
+    write(b"; ");
+    write_number(nines(&answer));
+    if (1 <= evaluation.number) & (evaluation.number <= 9) {
+        write(b" ");
+        write_number(sevens(&work));
+    }
+    write(b"\n");
+}
+
+fn on_a(ranking: &[u8], word: &[u8], room: usize, bytes: usize) {
+    let card = CARD_A;
+    write(b"A ");
+    try_on(&card, ranking, word, room, bytes);
+}
+
+fn on_a_inserts(ranking: &[u8], word: &[u8]) {
+    let card = CARD_A_INSERTS;
+    write(b"A with insertions ");
+    try_on(&card, ranking, word, 400, 60);
+}
+
+fn on_b(ranking: &[u8], word: &[u8], room: usize, bytes: usize) {
+    let card = CARD_B;
+    write(b"B ");
+    try_on(&card, ranking, word, room, bytes);
+}
+
+// Refusals of the card come first.
+fn cards() {
+    let card = CARD_A;
+    write(b"none ");
+    try_on(&card[0..0], b"", b"", 0, 0);
+    write(b"short ");
+    try_on(&card[0..28], b"", b"", 0, 0);
+}
+
+fn rankings() {
+    on_b(b"", b"\x02", 400, 60);
+    on_b(b"\x00\x01", b"\x02", 400, 60);
+    on_b(b"\x00\x01\x01", b"\x02", 400, 60);
+    on_b(b"\x00\x01\x03", b"\x02", 400, 60);
+    on_b(b"\x00\x01\x02\x02", b"\x03", 0, 0);
+}
+
+fn words() {
+    on_a(b"\x00", b"", 400, 60);
+    on_a(b"\x00", b"\x00", 400, 60);
+    on_a(b"\x00", b"\x03", 400, 60);
+    on_a(b"\x00", b"\x01\x03", 0, 60);
+}
+
+fn long_words() {
+    let word = [1u8; 25];
+    on_a(b"\x00", &word[0..24], 400, 60);
+    on_a(b"\x00", &word[0..25], 400, 60);
+}
+
+fn rooms() {
+    on_a(b"\x00", b"\x01", 15, 60);
+    on_a(b"\x00", b"\x01", 16, 60);
+    on_b(b"\x00\x02\x01", b"\x02", 31, 60);
+    on_b(b"\x00\x02\x01", b"\x02", 32, 60);
+    on_a(b"\x00", b"\x02", 15, 0);
+}
+
+fn answers() {
+    on_a(b"\x00", b"\x02", 400, 0);
+    on_a(b"\x00", b"\x01", 400, 1);
+    on_a(b"\x00", b"\x01", 400, 2);
+    on_b(b"\x00\x02\x01", b"\x02", 400, 3);
+    on_b(b"\x00\x02\x01", b"\x02", 400, 4);
+}
+
+fn examples() {
+    on_a(b"\x00", b"\x01", 400, 60);
+    on_a(b"\x00", b"\x02", 400, 60);
+    on_b(b"\x00\x01\x02", b"\x02", 400, 60);
+    on_b(b"\x00\x02\x01", b"\x02", 400, 60);
+    on_b(b"\x01\x02\x00", b"\x02", 400, 60);
+    on_a_inserts(b"\x00", b"\x01");
+}
+
+fn main() {
+    cards();
+    rankings();
+    words();
+    long_words();
+    rooms();
+    answers();
+    examples();
+}
