@@ -1,0 +1,42 @@
+use mathlib.Core.Path.{_≡_, ap, sym, _∙_}
+use Rattle.ranking.specs.declared.Profile.{Profile}
+use Rattle.ranking.specs.Conditions.{DerivedCondition, derived, derivedFrom}
+use Rattle.engine.specs.Results.{profileOf, conditionNumbers}
+use borrow.Author.Needs.{needs}
+use Rattle.engine.proofs.pastaspur_condition.Statement.{statement}
+use Rattle.engine.proofs.pastaspur_condition.Tie as tie
+
+-- the condition, by the slices lent
+agreed : (c : tie.After-derive) → let a = c .before .before .before .args in
+    derived (c .derive .result) ≡ derivedFrom (a .machines) (profileOf (a .first .now)) (profileOf (a .second .now))
+agreed c =
+    let a = c .before .before .before .args in
+    c .derive .ensures
+    ∙ ap (λ (p : Profile). derivedFrom (a .machines) p (c .before .profile-of2 .result)) (c .before .before .profile-of .ensures)
+    ∙ ap (derivedFrom (a .machines) (profileOf (a .first .now))) (c .before .profile-of2 .ensures)
+
+returns : tie.Need-returns
+returns c =
+    let k = c .before .before in
+    let e = sym (ap derived (k .answer .given .1)) ∙ agreed (k .before .before) in
+    (ap (λ (r : DerivedCondition). r .number) e, ap (λ (r : DerivedCondition). conditionNumbers (r .condition)) e)
+
+returns-2 : tie.Need-returns-2
+returns-2 c =
+    let k = c .before .before .before in
+    let e = sym (ap derived (k .answer2 .given .1)) ∙ agreed (k .before .before) in
+    (c .number .ensures ∙ ap (λ (r : DerivedCondition). r .number) e, ap (λ (r : DerivedCondition). conditionNumbers (r .condition)) e)
+
+pub pastaspur-condition-spec : {M : Type 1} → statement M
+pastaspur-condition-spec =
+    tie.close
+    (tie.spec
+    (λ c κs. search needs)
+    (λ c κs. search needs)
+    (λ c κs. search needs)
+    (λ c. search needs)
+    (λ c. search needs)
+    (λ c κs. search needs)
+    (λ c. search needs)
+    returns
+    returns-2)

@@ -1,0 +1,11 @@
+use mathlib.Core.Path.{_≡_, ap}
+use Rattle.ranking.specs.declared.Finding.{Finding}
+use borrow.Author.Needs.{needs}
+use Rattle.engine.proofs.pastaspur_find_ranking.Statement.{statement}
+use Rattle.engine.proofs.pastaspur_find_ranking.Tie as tie
+
+returns : tie.Need-returns
+returns c = let e = c .before .before .find .ensures in (ap (λ (f : Finding). f .number) e, ap (λ (f : Finding). f .ranking) e)
+
+pub pastaspur-find-ranking-spec : {M : Type 1} → statement M
+pastaspur-find-ranking-spec = tie.close (tie.spec (λ c κs. search needs) (λ c. search needs) returns)

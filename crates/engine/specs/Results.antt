@@ -1,0 +1,37 @@
+-- What the exported calls write through their last pointer.
+use mathlib.Core.List.{List, [], _∷_, _++_}
+use mathlib.Core.Option.{Option, some, none}
+use Prim.Native.Nat.{ℕ}
+use Rattle.ranking.specs.declared.Profile.{Profile}
+use Rattle.ranking.specs.declared.Condition.{Condition}
+use Rattle.ranking.specs.declared.Order.{Order}
+use Rattle.ranking.specs.declared.Order.the-variants.{Better, Equal, Worse}
+use Rattle.card.specs.declared.PartPlace.{PartPlace}
+use Rattle.candidate.specs.declared.Evaluation.{Evaluation}
+
+-- the six counts, the pair count, the word length
+abbrev pub evaluationNumbers : Evaluation → List ℕ
+evaluationNumbers e = e .profile .counts ++ (e .pairs ∷ e .«word_length» ∷ [])
+
+-- the offset and the length of a part
+abbrev pub placeNumbers : PartPlace → List ℕ
+placeNumbers p = p .offset ∷ p .length ∷ []
+
+-- six counts as a profile
+abbrev pub profileOf : List ℕ → Profile
+profileOf counts = record { counts = counts }
+
+-- better, equal, worse
+abbrev pub orderNumber : Order → ℕ
+orderNumber Better = 1
+orderNumber Equal = 2
+orderNumber Worse = 3
+
+-- 0 where comparing was refused
+abbrev pub orderNumbers : Option Order → List ℕ
+orderNumbers none = 0 ∷ []
+orderNumbers (some o) = orderNumber o ∷ []
+
+-- W and L
+abbrev pub conditionNumbers : Condition → List ℕ
+conditionNumbers c = c .fewer ∷ c .more ∷ []

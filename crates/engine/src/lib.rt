@@ -1,0 +1,185 @@
+// The static library: the public calls as functions that C can call. include/pastaspur.h says what each is lent and answers.
+ghost use mathlib.Core.Path.{_≡_};
+ghost use mathlib.Core.List.{[], _∷_};
+ghost use Prim.Native.Nat.{ℕ};
+ghost use lib.ListN.{length};
+ghost use Rattle.ranking.specs.Harmony.{comparing};
+ghost use Rattle.ranking.specs.Conditions.{derivedFrom};
+ghost use Rattle.ranking.specs.Finder.{finding};
+ghost use Rattle.card.specs.Reading.{reading};
+ghost use Rattle.card.specs.Packing.{packing, packedTarget};
+ghost use Rattle.candidate.specs.Evaluating.{evaluating};
+ghost use Rattle.candidate.specs.Optimizing.{optimized};
+ghost use Rattle.optimizer.specs.Optimizes.{Optimizes};
+ghost use Rattle.engine.specs.Results.{evaluationNumbers, placeNumbers, orderNumber, orderNumbers, conditionNumbers, profileOf};
+use candidate::Evaluation;
+use ranking::Comparison;
+use ranking::Condition;
+use ranking::Derived;
+use ranking::Order;
+use ranking::Profile;
+
+// Writes the counts, the pair count and the word length of an evaluation, and answers its number.
+fn give_evaluation(evaluation: Evaluation, result: &mut [u16; 8]) -> u32
+    ensures { λ r. ⌜ (r ≡ evaluation .number) × (now (result .exit) ≡ evaluationNumbers evaluation) ⌝ }
+{
+    let profile = evaluation.profile;
+    *result = [
+        profile.count(0),
+        profile.count(1),
+        profile.count(2),
+        profile.count(3),
+        profile.count(4),
+        profile.count(5),
+        evaluation.pairs,
+        evaluation.word_length,
+    ];
+    evaluation.number as u32
+}
+
+// The best candidate for a word under a ranking: 1 to 12.
+#[no_mangle]
+pub extern "C" fn pastaspur_optimize(
+    card: &[u8],
+    ranking: &[u8],
+    word: &[u8],
+    work: &mut [u16],
+    answer: &mut [u8],
+    result: &mut [u16; 8],
+) -> u32
+    ensures { λ r. ⌜ r ≡ optimized (now (card .entry)) (now (ranking .entry)) (now (word .entry)) (length (now (work .entry))) (length (now (answer .entry))) .number ⌝ }
+    ensures { λ _. ⌜ now (result .exit) ≡ evaluationNumbers (optimized (now (card .entry)) (now (ranking .entry)) (now (word .entry)) (length (now (work .entry))) (length (now (answer .entry)))) ⌝ }
+    ensures { λ _. ⌜ Optimizes (now (card .entry)) (now (ranking .entry)) (now (word .entry)) (now (work .entry)) (now (work .exit)) (now (answer .entry)) (now (answer .exit)) (optimized (now (card .entry)) (now (ranking .entry)) (now (word .entry)) (length (now (work .entry))) (length (now (answer .entry)))) ⌝ }
+{
+    give_evaluation(
+        optimizer::optimize(card, ranking, word, work, answer),
+        result,
+    )
+}
+
+// Evaluates a candidate on a card: 1 to 6, 13, 14.
+#[no_mangle]
+pub extern "C" fn pastaspur_evaluate(card: &[u8], candidate: &[u8], result: &mut [u16; 8]) -> u32
+    ensures { λ r. ⌜ r ≡ evaluating (now (card .entry)) (now (candidate .entry)) .number ⌝ }
+    ensures { λ _. ⌜ now (result .exit) ≡ evaluationNumbers (evaluating (now (card .entry)) (now (candidate .entry))) ⌝ }
+{
+    give_evaluation(candidate::evaluate(card, candidate), result)
+}
+
+// Reads a part of a card, its offset and length: 1 to 6, 17.
+#[no_mangle]
+pub extern "C" fn pastaspur_read_part(card: &[u8], machine: u8, result: &mut [usize; 2]) -> u32
+    ensures { λ r. ⌜ r ≡ reading (now (card .entry)) machine .number ⌝ }
+    ensures { λ _. ⌜ now (result .exit) ≡ placeNumbers (reading (now (card .entry)) machine) ⌝ }
+{
+    let place = card::read_part(card, machine);
+    *result = [place.offset, place.length];
+    place.number as u32
+}
+
+// Packs parts, joined, into a card, and answers its length: 1, 17, 3 to 6, 18.
+#[no_mangle]
+pub extern "C" fn pastaspur_pack(
+    symbols: u8,
+    lengths: &[u16],
+    parts: &[u8],
+    target: &mut [u8],
+    result: &mut [usize; 1],
+) -> u32
+    ensures { λ r. ⌜ r ≡ packing symbols (now (lengths .entry)) (now (parts .entry)) (now (target .entry)) .number ⌝ }
+    ensures { λ _. ⌜ now (result .exit) ≡ packing symbols (now (lengths .entry)) (now (parts .entry)) (now (target .entry)) .length ∷ [] ⌝ }
+    ensures { λ _. ⌜ now (target .exit) ≡ packedTarget symbols (now (lengths .entry)) (now (parts .entry)) (now (target .entry)) ⌝ }
+{
+    let packed = card::pack(symbols, lengths, parts, target);
+    *result = [packed.length];
+    packed.number as u32
+}
+
+// The profile of six counts.
+fn profile_of(counts: &[u16; 6]) -> Profile
+    ensures { λ r. ⌜ r ≡ profileOf (now (counts .entry)) ⌝ }
+{
+    let counts = *counts;
+    Profile { counts }
+}
+
+// The number of an order.
+fn order_number(order: Order) -> u8
+    ensures { λ r. ⌜ r ≡ orderNumber order ⌝ }
+{
+    match order {
+        Order::Better => 1,
+        Order::Equal => 2,
+        Order::Worse => 3,
+    }
+}
+
+// Compares two profiles under a ranking: 1, 7.
+#[no_mangle]
+pub extern "C" fn pastaspur_compare(
+    machines: u8,
+    ranking: &[u8],
+    first: &[u16; 6],
+    second: &[u16; 6],
+    result: &mut [u8; 1],
+) -> u32
+    ensures { λ r. ⌜ r ≡ comparing machines (now (ranking .entry)) (profileOf (now (first .entry))) (profileOf (now (second .entry))) .number ⌝ }
+    ensures { λ _. ⌜ now (result .exit) ≡ orderNumbers (comparing machines (now (ranking .entry)) (profileOf (now (first .entry))) (profileOf (now (second .entry))) .order) ⌝ }
+{
+    let answer = ranking::harmony::compare(
+        machines,
+        ranking,
+        profile_of(first),
+        profile_of(second),
+    );
+    match answer {
+        Comparison::Ordered(order) => {
+            *result = [order_number(order)];
+            0
+        }
+        Comparison::Refused(refusal) => {
+            *result = [0];
+            refusal.number() as u32
+        }
+    }
+}
+
+// Derives the condition from two profiles: 1.
+#[no_mangle]
+pub extern "C" fn pastaspur_condition(
+    machines: u8,
+    first: &[u16; 6],
+    second: &[u16; 6],
+    result: &mut [u8; 2],
+) -> u32
+    ensures { λ r. ⌜ r ≡ derivedFrom machines (profileOf (now (first .entry))) (profileOf (now (second .entry))) .number ⌝ }
+    ensures { λ _. ⌜ now (result .exit) ≡ conditionNumbers (derivedFrom machines (profileOf (now (first .entry))) (profileOf (now (second .entry))) .condition) ⌝ }
+{
+    let answer = ranking::conditions::derive(machines, profile_of(first), profile_of(second));
+    match answer {
+        Derived::Condition(condition) => {
+            *result = [condition.fewer, condition.more];
+            0
+        }
+        Derived::Refused(refusal) => {
+            *result = [0, 0];
+            refusal.number() as u32
+        }
+    }
+}
+
+// The smallest ranking that fits every condition of a list: 1, 15, 16.
+#[no_mangle]
+pub extern "C" fn pastaspur_find_ranking(
+    machines: u8,
+    conditions: &[u8],
+    result: &mut [u8; 6],
+) -> u32
+    ensures { λ r. ⌜ r ≡ finding machines (now (conditions .entry)) .number ⌝ }
+    ensures { λ _. ⌜ now (result .exit) ≡ finding machines (now (conditions .entry)) .ranking ⌝ }
+{
+    let found = ranking::finder::find(machines, conditions);
+    let ranking = found.ranking;
+    *result = ranking;
+    found.number as u32
+}

@@ -1,0 +1,93 @@
+/* Pastaspur, the grammar engine of a pronouncing board: its calls for C and for whatever can call C.
+ *
+ * Link target/staticlib/libengine.a, which `rt staticlib engine` proves and writes. Of other libraries it needs memset alone.
+ *
+ * Every call
+ * - answers a refusal's number, 0 where it accepts its input. The first refusal met is the call's refusal (the table below).
+ * - writes its whole result, of fixed length, through its last pointer. On a refusal every number of the result is 0.
+ * - ends, and neither reads nor writes outside what it was lent, for every content of every slice.
+ *
+ * A slice is a pointer and a length in elements (not in bytes), and may be empty. The caller owes what a reference of Rattle owes:
+ * a pointer is not null, is aligned for its elements and leads to as many as the length says; it is not null for an empty slice
+ * either. What a call may write (work, answer, target, result) overlaps nothing else that the call is lent.
+ *
+ * Refusals
+ *    1  card under 2 bytes; machine count K not 1 to 6, symbol count S not 1 to 63
+ *    2  card under 2 + 4K bytes; offsets or end not as laid down
+ *    3  a machine's part under 2 bytes; its state count not 1 to 32, or its length not what its counts say
+ *    4  a state byte over 1; an arc's state too high; marks over 15; zero byte not 0; an empty set; a bit over S
+ *    5  two arcs of a state take one pair
+ *    6  product of the state counts, P, over 128
+ *    7  not a ranking: each of 0 to K - 1 once, the highest first
+ *    8  word length n not 1 to 24, a symbol 0 or over S
+ *    9  work slice under 8 * (n + 1) * P numbers
+ *   10  no complete candidate
+ *   11  the best profile has a count over 60,000
+ *   12  answer slice under 2 bytes for each pair of the best candidate
+ *   13  candidate odd in length, over 3,199 pairs, a symbol over S, or the pair 0:0
+ *   14  candidate not complete
+ *   15  condition list odd in length, over 64 pairs, W and L meet, a bit K or above
+ *   16  no ranking fits
+ *   17  sum of the lengths is not the length of the joined parts, or machine number not below K
+ *   18  target too short
+ */
+#ifndef PASTASPUR_H
+#define PASTASPUR_H
+
+#include <stddef.h>
+#include <stdint.h>
+
+#ifdef __cplusplus
+extern "C" {
+#endif
+
+/* What is enough for every accepted card and word: numbers of work, bytes of answer. */
+#define PASTASPUR_WORK_NUMBERS 25600
+#define PASTASPUR_ANSWER_BYTES 6398
+
+/* Answers the best candidate for a word under a ranking: refusals 1 to 12.
+ * result: the candidate's six counts in card order (unused places 0), its pair count, the word's length.
+ * answer: its pairs, in before out, fill the front; the other bytes, and on a refusal all of them, keep their values.
+ * work: kept on refusals 1 to 9; otherwise its contents are left open. */
+uint32_t pastaspur_optimize(const uint8_t *card, size_t card_len, const uint8_t *ranking, size_t ranking_len,
+                            const uint8_t *word, size_t word_len, uint16_t *work, size_t work_len,
+                            uint8_t *answer, size_t answer_len, uint16_t result[8]);
+
+/* Evaluates a candidate, pairs of bytes in and out: refusals 1 to 6, 13, 14.
+ * result: six counts in card order (unused places 0), the pair count, the length of the word spelled. */
+uint32_t pastaspur_evaluate(const uint8_t *card, size_t card_len, const uint8_t *candidate, size_t candidate_len,
+                            uint16_t result[8]);
+
+/* Reads a machine's part: refusals 1 to 6, 17.
+ * result: the part's offset in the card, its length. */
+uint32_t pastaspur_read_part(const uint8_t *card, size_t card_len, uint8_t machine, size_t result[2]);
+
+/* Packs parts, joined, into a card of as many machines as there are lengths: refusals 1, 17, 3 to 6, 18.
+ * result: the card's length.
+ * target: the card fills the front; the other bytes, and on a refusal all of them, keep their values. */
+uint32_t pastaspur_pack(uint8_t symbols, const uint16_t *lengths, size_t lengths_len, const uint8_t *parts, size_t parts_len,
+                        uint8_t *target, size_t target_len, size_t result[1]);
+
+/* What pastaspur_compare answers of the first profile; 0 on a refusal. */
+#define PASTASPUR_BETTER 1
+#define PASTASPUR_EQUAL 2
+#define PASTASPUR_WORSE 3
+
+/* Compares two profiles of that many machines under a ranking: refusals 1, 7. Counts from K on are not looked at.
+ * result: how the first stands to the second. */
+uint32_t pastaspur_compare(uint8_t machines, const uint8_t *ranking, size_t ranking_len, const uint16_t first[6],
+                           const uint16_t second[6], uint8_t result[1]);
+
+/* Derives the ranking condition from two profiles of that many machines: refusal 1. Counts from K on are not looked at.
+ * result: W, the machines where the first has fewer, and L, where it has more; bit i is machine i. */
+uint32_t pastaspur_condition(uint8_t machines, const uint16_t first[6], const uint16_t second[6], uint8_t result[2]);
+
+/* Finds the smallest ranking, as a byte string, that fits every condition of a list of byte pairs, W before L: refusals 1, 15, 16.
+ * result: the ranking, places from K on 0. */
+uint32_t pastaspur_find_ranking(uint8_t machines, const uint8_t *conditions, size_t conditions_len, uint8_t result[6]);
+
+#ifdef __cplusplus
+}
+#endif
+
+#endif
