@@ -1,4 +1,3 @@
-use mathlib.Core.Path.{_≡_, ap}
 use borrow.Author.Needs.{needs}
 use Rattle.optimizer.proofs.refused.Statement.{statement}
 use Rattle.optimizer.proofs.refused.Tie as tie
