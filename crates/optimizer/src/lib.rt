@@ -3,13 +3,13 @@ ghost use mathlib.Core.Path.{_≡_};
 ghost use Prim.Native.Nat.{_+_, _*_, _<_};
 ghost use lib.ListN.{length};
 ghost use Rattle.card.specs.Card.{cardRefusal, machinesOf};
-ghost use Rattle.candidate.specs.Evaluating.{refused};
 ghost use Rattle.product.specs.Nodes.{product, stateCounts};
 ghost use Rattle.labels.specs.LabelCost.{costOf};
 ghost use Rattle.optimizer.specs.Refusals.{numberOf, stageNumber};
 ghost use Rattle.optimizer.specs.Optimizes.{Optimizes};
 ghost use Rattle.optimizer.specs.Searching.{SearchPre, Searched, labelFits, RankingOfSome, CardOrder};
 use candidate::Evaluation;
+use candidate::refused;
 use labels::Label;
 use ranking::Profile;
 
@@ -64,18 +64,6 @@ impl Stage {
             Stage::Passed => 0,
             Stage::Refused(refusal) => refusal.number(),
         }
-    }
-}
-
-// The answer of a refusal.
-fn refused(number: u8) -> Evaluation
-    ensures { λ r. ⌜ r ≡ refused number ⌝ }
-{
-    Evaluation {
-        number,
-        profile: Profile::zero(),
-        pairs: 0,
-        word_length: 0,
     }
 }
 

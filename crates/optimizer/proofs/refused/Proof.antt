@@ -1,9 +1,0 @@
-use borrow.Author.Needs.{needs}
-use Rattle.optimizer.proofs.refused.Statement.{statement}
-use Rattle.optimizer.proofs.refused.Tie as tie
-
-returns : tie.Need-returns
-returns c = λ i. record { number = c .before .args .number; profile = c .zero .ensures i; pairs = 0; «word_length» = 0 }
-
-pub refused-spec : {M : Type 1} → statement M
-refused-spec = tie.close (tie.spec (λ c κs. search needs) returns)
