@@ -184,8 +184,8 @@ fn score(card: &[u8], candidate: &[u8]) -> Scored
     }
 }
 
-// The answer of a refusal.
-fn refused(number: u8) -> Evaluation
+// The answer of a refusal, for every call that answers an evaluation.
+pub fn refused(number: u8) -> Evaluation
     ensures { λ r. ⌜ r ≡ refused number ⌝ }
 {
     Evaluation {

@@ -1,6 +1,6 @@
 -- What the call answers, by the checks that the input passes and by the best candidate. Assumes nothing.
 use mathlib.Core.Path.{_≡_, refl, sym, _∙_, ap}
-use mathlib.Core.Bool.{Bool, true, false, _&&_}
+use mathlib.Core.Bool.{Bool, true}
 use mathlib.Core.List.{List, [], _∷_, _++_}
 use mathlib.Core.Option.{Option, some, none}
 use Prim.Native.Nat.{ℕ, zero, suc, _+_, _*_, _<_, _≤_}
@@ -8,14 +8,13 @@ use native.Mathlib.Nat.{mul-le-mul}
 use native.Mathlib.Decide.{decLt}
 use native.Mathlib.Omega.{arith}
 use lib.ListN.{length, getD, take, drop, length-append, length-drop, List·getD-eq-default}
-use lib.Dec.{leb, lit<}
-use borrow.Author.Tests.{le-leb, lt-leb, leb-true}
+use lib.Dec.{leb}
+use borrow.Author.Tests.{le-leb, lt-leb}
 use Rattle.basics.specs.Search.{allOf}
 use Rattle.basics.specs.Refusals.{unlessRefused}
 use Rattle.basics.proofs.Bools.{both}
 use Rattle.basics.proofs.Search.{all-at}
-use Rattle.ranking.specs.Rankings.{isRanking}
-use Rattle.card.specs.Layout.{machineCount, symbolCount}
+use Rattle.card.specs.Layout.{symbolCount}
 use Rattle.card.specs.Card.{cardRefusal, machinesOf}
 use Rattle.candidate.specs.Evaluating.{refused}
 use Rattle.candidate.specs.Best.{Form, nodeCount, best}
@@ -33,27 +32,6 @@ use Rattle.optimizer.specs.Searching.{searchRefusal, labelFits}
 -- ---- the checks 1 to 9
 
 module _ (card ranking word : List ℕ) (room : ℕ) where
-  pub card-refused : (n : ℕ) → cardRefusal card ≡ n → 0 < n → n ≡ inputRefusal card ranking word room
-  unfolding inputRefusal
-  card-refused zero e h = absurd (omega arith)
-  card-refused (suc n) e h = rw e
-
-  pub ranking-refused : cardRefusal card ≡ 0 → isRanking (machineCount card) ranking ≡ false → _≡_ {A = ℕ} 7 (inputRefusal card ranking word room)
-  unfolding inputRefusal
-  ranking-refused a b = rw (a, b)
-
-  pub word-refused : cardRefusal card ≡ 0 → isRanking (machineCount card) ranking ≡ true → soundWord (symbolCount card) word ≡ false → _≡_ {A = ℕ} 8 (inputRefusal card ranking word room)
-  unfolding inputRefusal
-  word-refused a b d = rw (a, b, d)
-
-  pub room-refused : cardRefusal card ≡ 0 → isRanking (machineCount card) ranking ≡ true → soundWord (symbolCount card) word ≡ true → room < 8 * nodeCount card word → _≡_ {A = ℕ} 9 (inputRefusal card ranking word room)
-  unfolding inputRefusal
-  room-refused a b d h = rw (a, b, d, lt-leb (8 * nodeCount card word) room h)
-
-  pub input-accepted : cardRefusal card ≡ 0 → isRanking (machineCount card) ranking ≡ true → soundWord (symbolCount card) word ≡ true → 8 * nodeCount card word ≤ room → _≡_ {A = ℕ} 0 (inputRefusal card ranking word room)
-  unfolding inputRefusal
-  input-accepted a b d h = rw (a, b, d, le-leb (8 * nodeCount card word) room h)
-
   -- a refusal's answer
   pub refused-result : (n answerRoom : ℕ) → n ≡ inputRefusal card ranking word room → 0 < n → refused n ≡ optimized card ranking word room answerRoom
   unfolding optimized optimizerRefusal
@@ -130,10 +108,6 @@ pub front-room : (n : ℕ) (l : List ℕ) → n ≤ length l → length (take n 
 front-room zero l h = refl
 front-room (suc n) [] h = absurd (omega arith)
 front-room (suc n) (x ∷ l) h = omega (arith, front-room n l (omega arith))
-
-pub positive : (n : ℕ) → (n ≡ 0 → ⊥) → 0 < n
-positive zero f = absurd (f refl)
-positive (suc n) f = omega arith
 
 -- a slice whose front was written has its length
 pub same-room : (n : ℕ) (l front : List ℕ) → n ≤ length l → length front ≡ length (take n l) → length (front ++ drop n l) ≡ length l

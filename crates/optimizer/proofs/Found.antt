@@ -22,10 +22,10 @@ use Rattle.paths.specs.Ranked.{Ranked, Less, less-total, rankedCosts}
 use Rattle.paths.specs.ByRanking.{ranked}
 use Rattle.paths.specs.Graph.{pathCost, run→cost}
 use Rattle.paths.specs.Labels.{Closed, Attained, lower-bound, unlabelled-none, held→run}
-use Rattle.paths.specs.Best.{IsBest, Before, before-total, best-unique}
+use Rattle.paths.specs.Best.{IsBest, before-total, best-unique}
 use Rattle.product.specs.Nodes.{stateCounts, codeOf}
 use Rattle.product.specs.Prices.{byRanking}
-use Rattle.product.specs.ProductGraph.{pairs, startNode, productGraph}
+use Rattle.product.specs.ProductGraph.{pairs, startNode}
 use Rattle.product.specs.BestCandidate.{Beats, better-profile, fewer-pairs, smaller-bytes, IsBestCandidate}
 use Rattle.product.specs.BestTheorem.{BestOfAll, best-is-best-of-all}
 use Rattle.product.specs.Laws.Accepted.{accepted-machines}

@@ -1,5 +1,5 @@
 -- The search, stage by stage: what the labels say, and what is answered. Assumes nothing.
-use mathlib.Core.Path.{_≡_, refl, sym, _∙_, ap}
+use mathlib.Core.Path.{_≡_, sym, _∙_, ap}
 use mathlib.Core.Bool.{true, false}
 use mathlib.Core.List.{List, _++_}
 use mathlib.Core.Option.{some, none}
@@ -10,17 +10,16 @@ use lib.ListN.{length, drop}
 use Rattle.basics.proofs.Bools.{clash}
 use Rattle.machine.specs.declared.Pair.{Pair}
 use Rattle.ranking.specs.declared.Profile.{Profile}
-use Rattle.ranking.specs.Rankings.{isRanking}
 use Rattle.ranking.specs.Lemmas.Rankings.{ranking-facts}
 use Rattle.card.specs.Layout.{machineCount, symbolCount}
-use Rattle.card.specs.Card.{cardRefusal, machinesOf}
+use Rattle.card.specs.Card.{machinesOf}
 use Rattle.card.specs.Accepted.{accepted}
 use Rattle.candidate.specs.declared.Evaluation.{Evaluation}
-use Rattle.candidate.specs.Candidates.{bytesOf, profileOf}
-use Rattle.candidate.specs.Evaluating.{profileWith, refused}
-use Rattle.candidate.specs.Best.{Form, best}
+use Rattle.candidate.specs.Candidates.{bytesOf}
+use Rattle.candidate.specs.Evaluating.{refused}
+use Rattle.candidate.specs.Best.{best}
 use Rattle.candidate.specs.Optimizing.{countsFit, evaluationOf, filled}
-use Rattle.paths.specs.Ranked.{Ranked, letterCount}
+use Rattle.paths.specs.Ranked.{letterCount}
 use Rattle.paths.specs.ByRanking.{ranked, ranked-letters}
 use Rattle.paths.specs.Labels.{Closed, Attained}
 use Rattle.labels.specs.declared.Label.{Label}

@@ -1,4 +1,5 @@
 -- definitions
+pub mod Refusals
 pub mod Optimizes
 pub mod Searching
 -- what accepted input promises

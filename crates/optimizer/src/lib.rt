@@ -3,25 +3,67 @@ ghost use mathlib.Core.Path.{_≡_};
 ghost use Prim.Native.Nat.{_+_, _*_, _<_};
 ghost use lib.ListN.{length};
 ghost use Rattle.card.specs.Card.{cardRefusal, machinesOf};
-ghost use Rattle.candidate.specs.Evaluating.{refused};
-ghost use Rattle.candidate.specs.Optimizing.{inputRefusal};
 ghost use Rattle.product.specs.Nodes.{product, stateCounts};
 ghost use Rattle.labels.specs.LabelCost.{costOf};
+ghost use Rattle.optimizer.specs.Refusals.{numberOf, stageNumber};
 ghost use Rattle.optimizer.specs.Optimizes.{Optimizes};
 ghost use Rattle.optimizer.specs.Searching.{SearchPre, Searched, labelFits, RankingOfSome, CardOrder};
 use candidate::Evaluation;
+use candidate::refused;
 use labels::Label;
 use ranking::Profile;
 
-// The answer of a refusal.
-fn refused(number: u8) -> Evaluation
-    ensures { λ r. ⌜ r ≡ refused number ⌝ }
-{
-    Evaluation {
-        number,
-        profile: Profile::zero(),
-        pairs: 0,
-        word_length: 0,
+mod checks; // checks.rt: the checks 1 to 9
+
+// Why the call is refused.
+pub enum Refusal {
+    Card(card::Refusal),
+    Ranking(ranking::Refusal),
+    Word(product::Refusal),
+    // The work slice is too short.
+    Work,
+    // No candidate is complete.
+    NoCandidate,
+    // The best profile has a count over 60,000.
+    Counts,
+    // The answer slice is too short.
+    Answer,
+}
+
+impl Refusal {
+    // Its number in the refusal table.
+    fn number(self) -> u8
+        ensures { λ r. ⌜ r ≡ numberOf self ⌝ }
+    {
+        match self {
+            Refusal::Card(refusal) => refusal.number(),
+            Refusal::Ranking(refusal) => refusal.number(),
+            Refusal::Word(refusal) => match refusal {
+                product::Refusal::Word => 8,
+            },
+            Refusal::Work => 9,
+            Refusal::NoCandidate => 10,
+            Refusal::Counts => 11,
+            Refusal::Answer => 12,
+        }
+    }
+}
+
+// What a checking stage answers.
+pub enum Stage {
+    Passed,
+    Refused(Refusal),
+}
+
+impl Stage {
+    // Its number: 0 where it passed.
+    fn number(self) -> u8
+        ensures { λ r. ⌜ r ≡ stageNumber self ⌝ }
+    {
+        match self {
+            Stage::Passed => 0,
+            Stage::Refused(refusal) => refusal.number(),
+        }
     }
 }
 
@@ -65,28 +107,6 @@ fn joint_states(card: &[u8]) -> usize
     tables::joint_states(&counts[..machines])
 }
 
-// The first of the refusals 1 to 9, with that many numbers in the work slice; 0 where there is none.
-fn input_refusal(card: &[u8], ranking: &[u8], word: &[u8], room: usize) -> u8
-    ensures { λ r. ⌜ r ≡ inputRefusal (now (card .entry)) (now (ranking .entry)) (now (word .entry)) room ⌝ }
-{
-    let answer = card::check(card);
-    let card::Stage::Passed = answer else {
-        return answer.number();
-    };
-    let answer = ranking::rankings::check_ranking(card[0], ranking);
-    let ranking::Stage::Passed = answer else {
-        return 7;
-    };
-    let answer = product::check_word(word, card::symbol_count(card));
-    let product::Stage::Passed = answer else {
-        return 8;
-    };
-    if room < (word.len() + 1) * joint_states(card) * 8 {
-        return 9;
-    }
-    0
-}
-
 // Whether no count is over 60,000.
 fn counts_fit(label: Label) -> bool
     ensures { λ r. ⌜ r ≡ labelFits label ⌝ }
@@ -111,14 +131,14 @@ fn search(
 {
     positions::label(work, card, ranking, word, size);
     if !labels::reached(work, 0) {
-        return refused(10);
+        return refused(Refusal::NoCandidate.number());
     }
     let label = labels::load(work, 0);
     if !counts_fit(label) {
-        return refused(11);
+        return refused(Refusal::Counts.number());
     }
     if answer.len() / 2 < label.pairs as usize {
-        return refused(12);
+        return refused(Refusal::Answer.number());
     }
     let profile = profile_of(label, ranking);
     walk::walk(work, card, ranking, word, size, answer);
@@ -140,10 +160,10 @@ pub fn optimize(
 ) -> Evaluation
     ensures { λ r. ⌜ Optimizes (now (card .entry)) (now (ranking .entry)) (now (word .entry)) (now (work .entry)) (now (work .exit)) (now (answer .entry)) (now (answer .exit)) r ⌝ }
 {
-    let number = input_refusal(card, ranking, word, work.len());
-    if number != 0 {
-        return refused(number);
-    }
+    let checked = checks::check_input(card, ranking, word, work.len());
+    let Stage::Passed = checked else {
+        return refused(checked.number());
+    };
     let size = joint_states(card);
     let nodes = (word.len() + 1) * size;
     search(card, ranking, word, size, &mut work[..nodes * 8], answer)

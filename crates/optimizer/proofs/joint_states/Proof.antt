@@ -1,4 +1,4 @@
-use mathlib.Core.Path.{_≡_, _∙_, ap}
+use mathlib.Core.Path.{_∙_, ap}
 use borrow.Author.Needs.{needs}
 use Rattle.product.specs.Nodes.{product}
 use Rattle.positions.proofs.Prefix.{front-is, front-length, front-fits, front-counts}

@@ -1,43 +1,47 @@
-use mathlib.Core.Path.{_≡_, refl, sym, _∙_}
+use mathlib.Core.Path.{_≡_, refl, sym, _∙_, ap}
 use Prim.Native.Nat.{_≤_, _<_, _+_, _*_}
 use native.Mathlib.Omega.{arith}
 use lib.ListN.{length}
 use borrow.Author.Needs.{needs}
 use Rattle.candidate.specs.Optimizing.{inputRefusal}
+use Rattle.optimizer.specs.Refusals.{stageNumber}
 use Rattle.optimizer.specs.AcceptedInput.{AcceptedInput, accepted-input}
-use Rattle.optimizer.proofs.Answers.{refused-result, refused-answer, searched-result, searched-answer, node-room, nodes-few, positive, front-room, same-room}
+use Rattle.optimizer.proofs.Refusals.{number-positive}
+use Rattle.optimizer.proofs.Answers.{refused-result, refused-answer, searched-result, searched-answer, node-room, nodes-few, front-room, same-room}
 use Rattle.optimizer.proofs.optimize.Statement.{statement}
 use Rattle.optimizer.proofs.optimize.Tie as tie
 
 returns : tie.Need-returns
 returns c =
-    let n = c .before .before .input-refusal in
-    let a = c .before .before .before .before .before .before .before .before .args in
-    let p = positive (n .result) (c .before .if1 .taken) in
+    let k = c .before .before .before .before in
+    let a = k .before .before .before .before .before .before .args in
+    let n = c .before .number in
+    let e = n .ensures ∙ k .check-input .ensures in
+    let p : 0 < n .result = omega (arith, ap stageNumber (c .before .before .enum-told2 .given .1), number-positive (c .before .before .enum-told2 .given .0 .0), n .ensures) in
     record {
-      result = c .refused .ensures ∙ refused-result (a .card .now) (a .ranking .now) (a .word .now) (length (a .work .now)) (n .result) (length (a .answer .now)) (n .ensures) p;
-      answer-slice = refused-answer (a .card .now) (a .ranking .now) (a .word .now) (length (a .work .now)) (n .result) (a .answer .now) (n .ensures) p;
+      result = c .refused .ensures ∙ refused-result (a .card .now) (a .ranking .now) (a .word .now) (length (a .work .now)) (n .result) (length (a .answer .now)) e p;
+      answer-slice = refused-answer (a .card .now) (a .ranking .now) (a .word .now) (length (a .work .now)) (n .result) (a .answer .now) e p;
       work-length = refl;
       work-kept = λ _. refl;
     }
 
 -- the input is accepted
-passed : (c : tie.Else1) → inputRefusal (c .before .before .before .before .before .before .before .args .card .now) (c .before .before .before .before .before .before .before .args .ranking .now) (c .before .before .before .before .before .before .before .args .word .now) (length (c .before .before .before .before .before .before .before .args .work .now)) ≡ 0
-passed c = sym (c .before .input-refusal .ensures) ∙ c .if1 .left
+passed : (c : tie.After-enum-told) → inputRefusal (c .before .before .before .before .before .before .before .before .args .card .now) (c .before .before .before .before .before .before .before .before .args .ranking .now) (c .before .before .before .before .before .before .before .before .args .word .now) (length (c .before .before .before .before .before .before .before .before .args .work .now)) ≡ 0
+passed c = sym (c .before .before .check-input .ensures) ∙ ap stageNumber (c .enum-told .given .1)
 
-accepts : (c : tie.Else1) → AcceptedInput (c .before .before .before .before .before .before .before .args .card .now) (c .before .before .before .before .before .before .before .args .ranking .now) (c .before .before .before .before .before .before .before .args .word .now) (length (c .before .before .before .before .before .before .before .args .work .now))
+accepts : (c : tie.After-enum-told) → AcceptedInput (c .before .before .before .before .before .before .before .before .args .card .now) (c .before .before .before .before .before .before .before .before .args .ranking .now) (c .before .before .before .before .before .before .before .before .args .word .now) (length (c .before .before .before .before .before .before .before .before .args .work .now))
 accepts c = accepted-input _ _ _ _ (passed c)
 
 joint-states-requires : tie.Need-joint-states-requires
 joint-states-requires c κs = accepts c .accepted
 
-few : (c : tie.After-joint-states) → (length (c .before .before .before .before .before .before .before .before .args .word .now) + 1) * c .joint-states .result ≤ 3200
-few c = let a = accepts (c .before) in nodes-few (c .before .before .before .before .before .before .before .before .args .card .now) (c .before .before .before .before .before .before .before .before .args .word .now) (a .accepted) (c .joint-states .result) (c .joint-states .ensures) (a .sound)
+few : (c : tie.After-joint-states) → (length (c .before .before .before .before .before .before .before .before .before .args .word .now) + 1) * c .joint-states .result ≤ 3200
+few c = let a = accepts (c .before) in nodes-few (c .before .before .before .before .before .before .before .before .before .args .card .now) (c .before .before .before .before .before .before .before .before .before .args .word .now) (a .accepted) (c .joint-states .result) (c .joint-states .ensures) (a .sound)
 
-fits : (c : tie.After-joint-states) → (length (c .before .before .before .before .before .before .before .before .args .word .now) + 1) * c .joint-states .result * 8 ≤ length (c .before .before .before .before .before .before .before .before .args .work .now)
+fits : (c : tie.After-joint-states) → (length (c .before .before .before .before .before .before .before .before .before .args .word .now) + 1) * c .joint-states .result * 8 ≤ length (c .before .before .before .before .before .before .before .before .before .args .work .now)
 fits c =
     let a = accepts (c .before) in
-    omega (arith, a .nodes-fit, node-room (c .before .before .before .before .before .before .before .before .args .card .now) (c .before .before .before .before .before .before .before .before .args .word .now) (a .accepted) (c .joint-states .result) (c .joint-states .ensures))
+    omega (arith, a .nodes-fit, node-room (c .before .before .before .before .before .before .before .before .before .args .card .now) (c .before .before .before .before .before .before .before .before .before .args .word .now) (a .accepted) (c .joint-states .result) (c .joint-states .ensures))
 
 mul-nodes : tie.Need-mul-nodes
 mul-nodes c = omega (arith, few c)
@@ -60,7 +64,7 @@ search-requires c κs =
 returns-2 : tie.Need-returns-2
 returns-2 c =
     let j = c .before .before .before .before .before .before .before in
-    let a = j .before .before .before .before .before .before .before .before .args in
+    let a = j .before .before .before .before .before .before .before .before .before .args in
     let s = c .before .before .before .before .search .ensures in
     let e = passed (j .before) in
     record {
@@ -74,6 +78,9 @@ pub optimize-spec : {M : Type 1} → statement M
 optimize-spec =
     tie.close
     (tie.spec
+    (λ c κs. search needs)
+    (λ c. search needs)
+    (λ c. search needs)
     (λ c κs. search needs)
     (λ c κs. search needs)
     returns

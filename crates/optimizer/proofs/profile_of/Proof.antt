@@ -1,8 +1,8 @@
-use mathlib.Core.Path.{_≡_, refl, sym, _∙_, ap}
-use Prim.Native.Nat.{_-_, _<_, _≤_, _+_}
+use mathlib.Core.Path.{refl}
+use Prim.Native.Nat.{_-_, _<_}
 use native.Mathlib.Omega.{arith}
 use borrow.Author.Needs.{needs}
-use lib.ListN.{length, getD}
+use lib.ListN.{length}
 use Rattle.optimizer.specs.Searching.{RankingOfSome}
 use Rattle.optimizer.proofs.Places.{Placed, placed-start, placed-next, placed-end, place-below}
 use Rattle.optimizer.proofs.profile_of.Statement.{statement}

@@ -1,13 +1,12 @@
-use mathlib.Core.Path.{_≡_, refl, sym, _∙_}
+use mathlib.Core.Path.{sym, _∙_, ap}
 use mathlib.Core.Bool.{true, false}
 use mathlib.Core.Option.{some}
-use Prim.Native.Nat.{_<_, _/_}
 use native.Mathlib.Omega.{arith}
 use borrow.Author.Needs.{needs}
 use borrow.Author.Tests.{not-true, not-false}
 use lib.ListN.{length}
 use Rattle.card.specs.Layout.{symbolCount}
-use Rattle.walk.specs.Walked.{WalkPre}
+use Rattle.candidate.specs.Evaluating.{refused}
 use Rattle.optimizer.specs.AcceptedInput.{short-word}
 use Rattle.optimizer.proofs.Stages.{start-there, some-ranking, none-answered, not-large, room-answered, walk-pre, best-answered}
 use Rattle.optimizer.proofs.search.Statement.{statement}
@@ -20,9 +19,10 @@ reached-requires c κs =
 
 returns : tie.Need-returns
 returns c =
-    let k = c .before .before .before .before .before .before in
+    let r = c .before .before .before in
+    let k = r .before .before .before .before in
     let s = k .before .before .before .before .before .before .before in
-    none-answered (s .pre) (k .label .ensures) (s .args .answer .now) (c .refused .result) (c .before .before .reached .ensures .unlabelled (not-true (c .before .before .reached .result) (c .before .if1 .taken))) (c .refused .ensures)
+    none-answered (s .pre) (k .label .ensures) (s .args .answer .now) (c .refused .result) (r .reached .ensures .unlabelled (not-true (r .reached .result) (c .before .before .if1 .taken))) (c .refused .ensures ∙ ap refused (c .before .number .ensures))
 
 load-requires : tie.Need-load-requires
 load-requires c κs =
@@ -31,20 +31,21 @@ load-requires c κs =
 
 returns-2 : tie.Need-returns-2
 returns-2 c =
-    let r = c .before .before .before .before .before .before in
+    let f = c .before .before .before in
+    let l = f .before in
+    let r = l .before .before .before in
     let k = r .before .before .before .before in
     let s = k .before .before .before .before .before .before .before in
-    let f = not-true (c .before .before .counts-fit .result) (c .before .if2 .taken) in
-    absurd (not-large (s .pre) (k .label .ensures) (c .before .before .before .load .result) (r .reached .ensures .label (not-false (r .reached .result) (c .before .before .before .before .before .if1 .left))) (c .before .before .before .load .ensures)
-    (sym (c .before .before .counts-fit .ensures) ∙ f))
+    let t = not-true (f .counts-fit .result) (c .before .before .if2 .taken) in
+    absurd (not-large (s .pre) (k .label .ensures) (l .load .result) (r .reached .ensures .label (not-false (r .reached .result) (l .before .before .if1 .left))) (l .load .ensures) (sym (f .counts-fit .ensures) ∙ t))
 
 returns-3 : tie.Need-returns-3
 returns-3 c =
-    let r = c .before .before .before .before .before .before .before .before in
+    let l = c .before .before .before .before .before .before in
+    let r = l .before .before .before in
     let k = r .before .before .before .before in
     let s = k .before .before .before .before .before .before .before in
-    let l = c .before .before .before .before .before in
-    room-answered (s .pre) (k .label .ensures) (l .load .result) (r .reached .ensures .label (not-false (r .reached .result) (l .before .before .if1 .left))) (l .load .ensures) (s .args .answer .now) (c .refused3 .result) (omega arith) (c .refused3 .ensures)
+    room-answered (s .pre) (k .label .ensures) (l .load .result) (r .reached .ensures .label (not-false (r .reached .result) (l .before .before .if1 .left))) (l .load .ensures) (s .args .answer .now) (c .refused3 .result) (omega arith) (c .refused3 .ensures ∙ ap refused (c .before .number3 .ensures))
 
 profile-of-requires : tie.Need-profile-of-requires
 profile-of-requires c κs = some-ranking (c .before .before .before .before .before .before .before .before .before .before .before .before .before .before .before .before .before .before .pre)
@@ -57,8 +58,8 @@ walk-requires c κs =
     let s = k .before .before .before .before .before .before .before in
     walk-pre (s .pre) (k .label .ensures) (l .load .result) (r .reached .ensures .label (not-false (r .reached .result) (l .before .before .if1 .left))) (l .load .ensures) (length (s .args .answer .now)) (λ h. (omega arith))
 
-cast-t25 : tie.Need-cast-t25
-cast-t25 c =
+cast-t31 : tie.Need-cast-t31
+cast-t31 c =
     let s = c .before .before .before .before .before .before .before .before .before .before .before .before .before .before .before .before .before .before .before .before .before .before .before .before in
     omega (arith, short-word (symbolCount (s .args .card .now)) (s .args .word .now) (s .pre .sound))
 
@@ -79,20 +80,23 @@ search-spec =
     (λ c κs. search needs)
     reached-requires
     (λ c κs. search needs)
+    (λ c κs. search needs)
     (λ c. search needs)
     returns
     load-requires
+    (λ c κs. search needs)
     (λ c κs. search needs)
     (λ c κs. search needs)
     (λ c. search needs)
     returns-2
     (λ c. search needs)
     (λ c κs. search needs)
+    (λ c κs. search needs)
     (λ c. search needs)
     returns-3
     profile-of-requires
     walk-requires
-    cast-t25
+    cast-t31
     (λ c. search needs)
     (λ c. search needs)
     returns-4)
