@@ -10,6 +10,7 @@ ghost use Prim.Native.Nat.{_≤_};
 ghost use lib.ListN.{length, take};
 ghost use Rattle.io.specs.Counts.{Counts};
 ghost use Rattle.card.specs.Layout.{machineCount};
+ghost use Rattle.lines.specs.Taking.{heldAfter};
 ghost use Rattle.session.specs.Printed.{bestLine, printed, Prints};
 
 // More bytes than any accepted card has: of a longer file the first ones are used.
@@ -76,7 +77,7 @@ fn print_answer(card: &[u8], line: &[u8]) {
 // `held` of them; the answer is how many bytes are then held of the line that goes on.
 fn answer_piece(card: &[u8], piece: &[u8], line: &mut [u8], held: usize) -> usize
     requires { ⌜ (held ≤ 201) × (length (now line) ≡ 201) ⌝ }
-    ensures { λ r. ⌜ r ≤ 201 ⌝ }
+    ensures { λ r. ⌜ (r ≤ 201) × (take r (now (line .exit)) ≡ heldAfter (take held (now (line .entry))) (now (piece .entry))) ⌝ }
 {
     let mut at = 0;
     let mut length = held;

@@ -1,15 +1,18 @@
-use mathlib.Core.Path.{sym, _≡_, _∙_}
+use mathlib.Core.Path.{_≡_, ap, sym, _∙_}
 use Prim.Native.Nat.{_-_, _<_, _≤_}
 use native.Mathlib.Omega.{arith}
-use lib.Seq.{length-take-le}
+use lib.Seq.{length-take-le, take-at}
 use borrow.Author.Needs.{needs}
+use lib.ListN.{take, drop}
+use Rattle.lines.specs.Taking.{heldAfter}
 use Rattle.lines.proofs.Bounds.{next-bounds}
+use Rattle.session.proofs.Pieces.{held-ended, held-open}
 use Rattle.session.proofs.answer_piece.Statement.{statement}
 use Rattle.session.proofs.answer_piece.Tie as tie
 use lib.ListN
 
 abbrev Inv-loop : tie.InvT-loop
-Inv-loop card piece line₀ held at₀ length₀ line at length = (at ≤ lib.ListN.length piece) × (length ≤ 201) × (lib.ListN.length line ≡ 201)
+Inv-loop card piece line₀ held at₀ length₀ line at length = (at ≤ lib.ListN.length piece) × (length ≤ 201) × (lib.ListN.length line ≡ 201) × (heldAfter (take length line) (drop at piece) ≡ heldAfter (take held line₀) piece)
 
 abbrev μ-loop : tie.MeasureT-loop
 μ-loop card piece line₀ held at₀ length₀ line at length = lib.ListN.length piece - at
@@ -33,13 +36,29 @@ loop-less : tie.Need-loop-less Inv-loop μ-loop
 loop-less c = omega (arith, bounds (c .before .before .before))
 
 loop-again : tie.Need-loop-again Inv-loop μ-loop
-loop-again c = omega (arith, bounds (c .before .before .before), c .before .before .before .before .before .before .before .next-line .kept .1 .1 .0)
+loop-again c =
+    let k = c .before .before .before .before .before .before .before in
+    let l = k .before .before .loop in
+    let e = sym (k .next-line .ensures .0) ∙ c .before .before .before .next .given .1 in (
+      bounds (c .before .before .before) .2,
+      omega arith,
+      omega (arith, k .next-line .kept .1 .1 .0),
+      held-ended (l .line) (c .before .before .before .before .before .before .before .before .before .before .before .before .before .args .piece .now) (l .length) (l .at) (l .inv .1) _ _ e
+          ∙ l .inv .3,
+    )
 
 same-length : tie.Need-same-length Inv-loop μ-loop
 same-length c = omega (arith, c .before .before .before .before .before .next-line .kept .1 .1 .0, c .before .before .before .before .before .before .before .before .before .before .before .pre .1)
 
 returns : tie.Need-returns Inv-loop μ-loop
-returns c = next-bounds _ _ _ (c .before .before .before .before .before .before .before .loop .inv .0) .open-length _ (sym (c .before .before .before .before .before .next-line .ensures .0) ∙ c .before .next2 .given .1)
+returns c =
+    let k = c .before .before .before .before .before in
+    let l = k .before .before .loop in
+    let e = sym (k .next-line .ensures .0) ∙ c .before .next2 .given .1 in
+    let o = held-open (l .line) (c .before .before .before .before .before .before .before .before .before .before .before .args .piece .now) (l .length) (l .at) (l .inv .1) _ e in (
+      next-bounds _ _ _ (l .inv .0) .open-length _ e,
+      ap (take (c .before .next2 .given .0 .0)) (k .next-line .ensures .1) ∙ take-at _ _ _ (sym (o .0)) ∙ o .1 ∙ l .inv .3,
+    )
 
 pub answer-piece-spec : {M : Type 1} → statement M
 answer-piece-spec =

@@ -1,0 +1,67 @@
+-- What is held of a line after a piece of the input, by the lines that end in it. Assumes nothing.
+use mathlib.Core.Path.{_≡_, refl, ap, sym, _∙_}
+use mathlib.Core.List.{List, [], _++_}
+use mathlib.Core.Option.{Option, some, none}
+use Prim.Native.Nat.{ℕ, _+_, _≤_}
+use native.Mathlib.Omega.{arith}
+use lib.ListN.{length, drop, take, length-take}
+use lib.Seq.{drop-drop}
+use Rattle.lines.specs.declared.Next.the-variants as next
+use Rattle.lines.specs.Text.{lineEnd, before, after}
+use Rattle.lines.specs.Input.{kept, nextOf}
+use Rattle.lines.specs.Taking.{heldAfter}
+use Rattle.lines.specs.LinesOfPieces.{next-ended, next-open}
+use Rattle.lines.proofs.Cutting.{before-short, after-some}
+
+module _ (line piece : List ℕ) (held from : ℕ) (few : held ≤ 201) where
+  -- the line's bytes so far
+  so-far : List ℕ
+  so-far = take held line
+
+  -- the rest of the piece
+  rest : List ℕ
+  rest = drop from piece
+
+  short : length so-far ≤ 201
+  unfolding so-far
+  short = simp length-take (omega arith)
+
+  -- what is kept of the line
+  now-kept : List ℕ
+  now-kept = kept (so-far ++ before lineEnd rest)
+
+  told-open : after lineEnd rest ≡ none → nextOf so-far from rest ≡ next.Open (length now-kept)
+  unfolding nextOf now-kept
+  told-open h = rw (nextOf, h)
+
+  told-line : {others : List ℕ} → after lineEnd rest ≡ some others → nextOf so-far from rest ≡ next.Line (length now-kept) (from + length (before lineEnd rest) + 1)
+  unfolding nextOf now-kept
+  told-line h = rw (nextOf, h)
+
+  -- where a line ends, nothing is held, and the piece goes on after it
+  pub held-ended : (n at : ℕ) → nextOf (take held line) from (drop from piece) ≡ next.Line n at
+      → heldAfter [] (drop at piece) ≡ heldAfter (take held line) (drop from piece)
+  unfolding so-far rest
+  held-ended n at e = go (after lineEnd rest) refl
+    where
+      go : (o : Option (List ℕ)) → after lineEnd rest ≡ o → heldAfter [] (drop at piece) ≡ heldAfter so-far rest
+      go none h = let f = sym (told-open h) ∙ e in let z : _≡_ {A = ℕ} 0 1 = cc in absurd (omega arith)
+      go (some others) h =
+          let f = sym (told-line h) ∙ e in
+          let place : at ≡ from + length (before lineEnd rest) + 1 = cc in
+          let found = after-some lineEnd rest (λ q. omega (arith, before-short lineEnd rest h)) in
+          let others-there : others ≡ drop (length (before lineEnd rest) + 1) rest = cc in
+          let there : at ≡ from + (length (before lineEnd rest) + 1) = omega (arith, place) in
+          let goes-on : drop at piece ≡ others =
+          ap (λ (k : ℕ). drop k piece) there ∙ sym (drop-drop (length (before lineEnd rest) + 1) from piece) ∙ sym others-there in
+          ap (heldAfter []) goes-on ∙ sym (next-ended rest so-far short h .1)
+
+  -- where none ends, what is kept of the line is held
+  pub held-open : (n : ℕ) → nextOf (take held line) from (drop from piece) ≡ next.Open n
+      → (n ≡ length (kept (take held line ++ before lineEnd (drop from piece)))) × (kept (take held line ++ before lineEnd (drop from piece)) ≡ heldAfter (take held line) (drop from piece))
+  unfolding so-far rest now-kept
+  held-open n e = go (after lineEnd rest) refl
+    where
+      go : (o : Option (List ℕ)) → after lineEnd rest ≡ o → (n ≡ length now-kept) × (now-kept ≡ heldAfter so-far rest)
+      go none h = let f = sym (told-open h) ∙ e in (cc, sym (next-open rest so-far short h .1))
+      go (some others) h = let f = sym (told-line h) ∙ e in let z : _≡_ {A = ℕ} 0 1 = cc in absurd (omega arith)
