@@ -1,12 +1,12 @@
 -- The machines of an accepted card by their numbers, and a profile by its places. Assumes nothing.
 use mathlib.Core.Path.{_≡_, refl, sym, ap, _∙_}
 use mathlib.Core.Bool.{Bool, true, false}
-use mathlib.Core.List.{List, [], _∷_, _++_, map}
+use mathlib.Core.List.{List, [], _++_, map}
 use mathlib.Core.Option.{Option, some, none}
-use Prim.Native.Nat.{ℕ, zero, suc, _+_, _-_, _<_, _≤_}
+use Prim.Native.Nat.{ℕ, zero, _+_, _-_, _<_, _≤_}
 use native.Mathlib.Decide.{decLt, ℕ-discrete}
 use native.Mathlib.Omega.{arith}
-use lib.ListN.{length, getD, set, replicate, length-set, length-append, length-replicate, length-map, getD-replicate, List·getD-append, List·getD-map, List·getD-eq-default}
+use lib.ListN.{length, getD, set, replicate, length-set, length-append, length-replicate, length-map, getD-replicate, List·getD-append, List·getD-eq-default}
 use lib.Seq.{ext-getD, getD-append-add, getD-set-same, getD-set-other}
 use Rattle.basics.specs.Search.{allOf}
 use Rattle.basics.proofs.Bools.{clash, fails}
@@ -15,24 +15,12 @@ use Rattle.machine.specs.declared.Pair.{Pair}
 use Rattle.machine.specs.Machine.{Machine}
 use Rattle.machine.specs.Part.{machineOf}
 use Rattle.ranking.specs.declared.Profile.{Profile}
-use Rattle.card.specs.Layout.{machineCount, partOf, partsOf}
+use Rattle.card.specs.Layout.{machineCount, partOf}
 use Rattle.card.specs.Card.{machinesOf}
-use Rattle.card.specs.Laws.Layout.{length-parts, part-at}
+use Rattle.card.specs.Laws.Search.{map-at}
+use Rattle.card.specs.Laws.Machines.{length-machines, machine-at}
 use Rattle.candidate.specs.Candidates.{marksOf, isSome, countOf, isComplete, profileOf}
 use Rattle.candidate.specs.Evaluating.{profileWith}
-
-pub length-machines : (card : List ℕ) → length (machinesOf card) ≡ machineCount card
-unfolding machinesOf
-length-machines card = length-map (partsOf card) machineOf ∙ length-parts card
-
-pub machine-at : (card : List ℕ) (i : ℕ) → i < machineCount card → getD (machinesOf card) i (machineOf []) ≡ machineOf (partOf card i)
-unfolding machinesOf
-machine-at card i h = List·getD-map machineOf (partsOf card) i [] ∙ ap machineOf (part-at card i h [])
-
-map-at : {A : Type 0} (f : A → ℕ) (l : List A) (i : ℕ) → i < length l → (d : A) → getD (map f l) i 0 ≡ f (getD l i d)
-map-at f [] i h d = absurd (omega arith)
-map-at f (x ∷ xs) zero h d = refl
-map-at f (x ∷ xs) (suc i) h d = map-at f xs i (omega arith) d
 
 -- 0 times 0 is 0 everywhere, past its end too
 zeros : (n i : ℕ) → _≡_ {A = ℕ} (getD (replicate n 0) i 0) 0
@@ -55,12 +43,12 @@ module _ (card : List ℕ) (c : List Pair) where
   not-complete i h e =
       let ms = machinesOf card in
       let f : Machine → Bool = λ m. isSome (marksOf c m) in
-      let q : f (getD ms i (machineOf [])) ≡ false = ap f (machine-at card i h) ∙ ap {A = Option ℕ} isSome e in
+      let q : f (getD ms i (machineOf [])) ≡ false = ap f (machine-at card i h (machineOf [])) ∙ ap {A = Option ℕ} isSome e in
       fails (allOf f ms) (λ t. clash (all-at f ms (machineOf []) t i (rw (length-machines card) h)) q)
 
   module _ (counts : List ℕ) (S : ScoredBelow card c (machineCount card) counts) where
     at-each : (i : ℕ) → i < length (machinesOf card) → marksOf c (getD (machinesOf card) i (machineOf [])) ≡ some (getD counts i 0)
-    at-each i h = let k : i < machineCount card = rw (length-machines card) at h in ap (marksOf c) (machine-at card i k) ∙ S .scored i k
+    at-each i h = let k : i < machineCount card = rw (length-machines card) at h in ap (marksOf c) (machine-at card i k (machineOf [])) ∙ S .scored i k
 
     pub all-complete : isComplete (machinesOf card) c ≡ true
     unfolding isComplete
@@ -68,7 +56,7 @@ module _ (card : List ℕ) (c : List Pair) where
 
     count-at : (i : ℕ) → i < length (machinesOf card) → getD (profileOf (machinesOf card) c) i 0 ≡ getD counts i 0
     unfolding profileOf
-    count-at i h = map-at (λ m. countOf (marksOf c m)) (machinesOf card) i h (machineOf []) ∙ ap countOf (at-each i h)
+    count-at i h = map-at (λ m. countOf (marksOf c m)) (machinesOf card) i h 0 (machineOf []) ∙ ap countOf (at-each i h)
 
     length-profile : length (profileOf (machinesOf card) c) ≡ machineCount card
     unfolding profileOf

@@ -4,6 +4,7 @@ pub mod Bytes
 pub mod Parts
 pub mod Places
 pub mod Layout
+pub mod Machines
 pub mod Repacked
 pub mod Packed
 pub mod Packable
