@@ -1,0 +1,460 @@
+//! The smallest call: from a call that fails, step by step to smaller ones that still fail, until no step does.
+
+use crate::call::Call;
+use crate::card::{lay_out, read_card};
+use crate::optimizer::best;
+use crate::ranking::is_ranking;
+use std::ops::Range;
+
+/// Makes a call smaller as long as it fails.
+pub fn smallest(call: &Call, fails: &dyn Fn(&Call) -> bool) -> Call {
+    let mut search = Search { call: call.clone(), fails };
+    loop {
+        let before = search.call.clone();
+        search.clear_slices();
+        search.drop_machines();
+        search.drop_arcs();
+        search.drop_states();
+        search.drop_symbols();
+        search.shorten_lists();
+        search.lower_bytes();
+        search.lower_numbers();
+        search.sort_the_ranking();
+        if search.call == before {
+            return before;
+        }
+    }
+}
+
+/// How large a call is, what weighs most first: elements lent, K and S, bits, sum, and the ranking as a number.
+fn size(call: &Call) -> [u64; 5] {
+    let mut call = call.clone();
+    let (machines, symbols) = counts(&call);
+    let mut elements: Vec<u64> = Vec::new();
+    elements.extend(byte_lists(&mut call).into_iter().flatten().map(|byte| *byte as u64));
+    elements.extend(number_lists(&mut call).into_iter().flatten().map(|number| *number as u64));
+    let length = elements.len() as u64;
+    elements.extend(profiles(&mut call).into_iter().flatten().map(|count| *count as u64));
+    if let Call::ReadPart { machine, .. } = call {
+        elements.push(machine as u64);
+    }
+    let bits = elements.iter().map(|element| element.count_ones() as u64).sum();
+    let order = ranking(&mut call).map_or(0, |list| list.iter().take(8).fold(0, |sum, &byte| sum << 8 | byte as u64));
+    [length, machines as u64 + symbols as u64, bits, elements.iter().sum(), order]
+}
+
+/// K and S as the call has them, 0 where it has none.
+fn counts(call: &Call) -> (u8, u8) {
+    match call {
+        Call::Optimize { card, .. } | Call::Evaluate { card, .. } | Call::ReadPart { card, .. } => {
+            (card.first().copied().unwrap_or(0), card.get(1).copied().unwrap_or(0))
+        }
+        Call::Pack { symbols, .. } => (0, *symbols),
+        Call::Compare { machines, .. } | Call::Condition { machines, .. } | Call::FindRanking { machines, .. } => {
+            (*machines, 0)
+        }
+    }
+}
+
+fn byte_lists(call: &mut Call) -> Vec<&mut Vec<u8>> {
+    match call {
+        Call::Optimize { card, ranking, word, answer, .. } => vec![word, answer, ranking, card],
+        Call::Evaluate { card, candidate } => vec![candidate, card],
+        Call::ReadPart { card, .. } => vec![card],
+        Call::Pack { parts, target, .. } => vec![target, parts],
+        Call::Compare { ranking, .. } => vec![ranking],
+        Call::Condition { .. } => vec![],
+        Call::FindRanking { conditions, .. } => vec![conditions],
+    }
+}
+
+fn number_lists(call: &mut Call) -> Vec<&mut Vec<u16>> {
+    match call {
+        Call::Optimize { work, .. } => vec![work],
+        Call::Pack { lengths, .. } => vec![lengths],
+        _ => vec![],
+    }
+}
+
+fn profiles(call: &mut Call) -> Vec<&mut [u16; 6]> {
+    match call {
+        Call::Compare { first, second, .. } | Call::Condition { first, second, .. } => vec![first, second],
+        _ => vec![],
+    }
+}
+
+fn ranking(call: &mut Call) -> Option<&mut Vec<u8>> {
+    match call {
+        Call::Optimize { ranking, .. } | Call::Compare { ranking, .. } => Some(ranking),
+        _ => None,
+    }
+}
+
+/// A part whose length is what its counts say, with whatever its fields hold.
+#[derive(Clone)]
+struct Part {
+    states: Vec<u8>,
+    arcs: Vec<[u8; 20]>,
+}
+
+/// Symbol count and parts of a card, or of what is to be packed.
+#[derive(Clone)]
+struct Grammar {
+    symbols: u8,
+    parts: Vec<Part>,
+}
+
+fn taken_apart(bytes: &[u8]) -> Option<Part> {
+    let (states, arcs) = (*bytes.first()? as usize, *bytes.get(1)? as usize);
+    if bytes.len() != 2 + states + 20 * arcs {
+        return None;
+    }
+    let arcs = bytes[2 + states..].chunks(20).map(|arc| arc.try_into().expect("20 bytes")).collect();
+    Some(Part { states: bytes[2..2 + states].to_vec(), arcs })
+}
+
+impl Part {
+    fn bytes(&self) -> Vec<u8> {
+        let counts = [self.states.len() as u8, self.arcs.len() as u8];
+        [&counts[..], &self.states, &self.arcs.concat()].concat()
+    }
+}
+
+/// A call's parts, if they lie where table or lengths say.
+fn grammar(call: &Call) -> Option<Grammar> {
+    let (symbols, mut rest, lengths): (u8, &[u8], Vec<usize>) = match call {
+        Call::Optimize { card, .. } | Call::Evaluate { card, .. } | Call::ReadPart { card, .. } => {
+            let table = card.get(2..2 + 4 * *card.first()? as usize)?;
+            let lengths = table.chunks(4).map(|row| row[2] as usize | (row[3] as usize) << 8).collect();
+            (card[1], &card[2 + table.len()..], lengths)
+        }
+        Call::Pack { symbols, lengths, parts, .. } => {
+            (*symbols, parts, lengths.iter().map(|&length| length as usize).collect())
+        }
+        _ => return None,
+    };
+    let mut parts = Vec::new();
+    for length in lengths {
+        parts.push(taken_apart(rest.get(..length)?)?);
+        rest = &rest[length..];
+    }
+    let grammar = Grammar { symbols, parts };
+    (with_grammar(call, &grammar) == *call).then_some(grammar)
+}
+
+/// The call with other parts.
+fn with_grammar(call: &Call, grammar: &Grammar) -> Call {
+    let mut call = call.clone();
+    let list: Vec<Vec<u8>> = grammar.parts.iter().map(Part::bytes).collect();
+    match &mut call {
+        Call::Optimize { card, .. } | Call::Evaluate { card, .. } | Call::ReadPart { card, .. } => {
+            *card = lay_out(grammar.symbols, &list);
+        }
+        Call::Pack { symbols, lengths, parts, .. } => {
+            *symbols = grammar.symbols;
+            *lengths = list.iter().map(|part| part.len() as u16).collect();
+            *parts = list.concat();
+        }
+        _ => (),
+    }
+    call
+}
+
+/// What the call needs of the slices whose length can be too short: numbers of work, bytes of answer or target.
+fn needs(call: &Call) -> Option<(usize, usize)> {
+    match call {
+        Call::Optimize { card, ranking, word, .. } => {
+            let card = read_card(card).ok()?;
+            let right = is_ranking(card.machines.len(), ranking) && word.len() <= 24;
+            let symbols = word.iter().all(|&symbol| symbol != 0 && symbol <= card.symbols);
+            let pairs = if right && symbols { best(&card, ranking, word).map_or(0, |pairs| pairs.len()) } else { 0 };
+            Some((8 * (word.len() + 1) * card.states(), 2 * pairs))
+        }
+        Call::Pack { lengths, parts, .. } => Some((0, 2 + 4 * lengths.len() + parts.len())),
+        _ => None,
+    }
+}
+
+/// The later call with slices that are as much too short or too long as those of the earlier one.
+fn refitted(earlier: &Call, later: &Call) -> Option<Call> {
+    let ((work_before, slice_before), (work_after, slice_after)) = (needs(earlier)?, needs(later)?);
+    let moved = |length: usize, before: usize, after: usize| (length + after).saturating_sub(before);
+    let mut call = later.clone();
+    match &mut call {
+        Call::Optimize { work, answer, .. } => {
+            work.resize(moved(work.len(), work_before, work_after), 0);
+            answer.resize(moved(answer.len(), slice_before, slice_after), 0);
+        }
+        Call::Pack { target, .. } => target.resize(moved(target.len(), slice_before, slice_after), 0),
+        _ => (),
+    }
+    Some(call)
+}
+
+/// A machine's number after others have gone.
+fn renumbered(number: u8, gone: &Range<usize>) -> Option<u8> {
+    match number as usize {
+        low if low < gone.start => Some(number),
+        high if high >= gone.end => Some(number - gone.len() as u8),
+        _ => None,
+    }
+}
+
+/// The bits of a set of machines or symbols after some have gone.
+fn without_bits(set: u64, gone: &Range<usize>) -> u64 {
+    let low = (1u64 << gone.start) - 1;
+    set & low | set.checked_shr(gone.end as u32).unwrap_or(0) << gone.start
+}
+
+/// The call without some machines.
+fn without_machines(call: &Call, gone: &Range<usize>) -> Option<Call> {
+    let mut call = match grammar(call) {
+        Some(mut grammar) => {
+            grammar.parts.drain(gone.clone());
+            with_grammar(call, &grammar)
+        }
+        None => call.clone(),
+    };
+    if let Some(list) = ranking(&mut call) {
+        *list = list.iter().filter_map(|&number| renumbered(number, gone)).collect();
+    }
+    for profile in profiles(&mut call) {
+        profile.copy_within(gone.end.min(6).., gone.start.min(6));
+        profile[6 - gone.len()..].fill(0);
+    }
+    match &mut call {
+        Call::ReadPart { machine, .. } => *machine = renumbered(*machine, gone).unwrap_or(0),
+        Call::Compare { machines, .. } | Call::Condition { machines, .. } => *machines -= gone.len() as u8,
+        Call::FindRanking { machines, conditions } => {
+            *machines -= gone.len() as u8;
+            for set in conditions {
+                *set = without_bits(*set as u64, gone) as u8;
+            }
+        }
+        _ => (),
+    }
+    Some(call)
+}
+
+/// The call without some states of a machine, and without their arcs.
+fn without_states(call: &Call, machine: usize, gone: &Range<usize>) -> Option<Call> {
+    let mut grammar = grammar(call)?;
+    let part = &mut grammar.parts[machine];
+    part.states.drain(gone.clone());
+    part.arcs.retain_mut(|arc| match (renumbered(arc[0], gone), renumbered(arc[1], gone)) {
+        (Some(from), Some(to)) => {
+            (arc[0], arc[1]) = (from, to);
+            true
+        }
+        _ => false,
+    });
+    Some(with_grammar(call, &grammar))
+}
+
+/// The call without some symbols, counted from 0 for symbol 1: none of them is left in sets, word or candidate.
+fn without_symbols(call: &Call, gone: &Range<usize>) -> Option<Call> {
+    let mut grammar = grammar(call)?;
+    let symbols = gone.start + 1..gone.end + 1;
+    grammar.symbols -= gone.len() as u8;
+    for part in &mut grammar.parts {
+        for arc in &mut part.arcs {
+            for place in [4, 12] {
+                let set = u64::from_le_bytes(arc[place..place + 8].try_into().expect("8 bytes"));
+                arc[place..place + 8].copy_from_slice(&without_bits(set, &symbols).to_le_bytes());
+            }
+        }
+        // an arc that took nothing else
+        part.arcs.retain(|arc| arc[4..12] != [0; 8] && arc[12..] != [0; 8]);
+    }
+    let mut call = with_grammar(call, &grammar);
+    if let Call::Optimize { word: list, .. } | Call::Evaluate { candidate: list, .. } = &mut call {
+        *list = list.iter().filter_map(|&symbol| renumbered(symbol, &symbols)).collect();
+    }
+    Some(call)
+}
+
+struct Search<'a> {
+    call: Call,
+    fails: &'a dyn Fn(&Call) -> bool,
+}
+
+impl Search<'_> {
+    /// Takes a smaller call if it fails too.
+    fn try_one(&mut self, call: &Call) -> bool {
+        let better = size(call) < size(&self.call) && (self.fails)(call);
+        if better {
+            self.call = call.clone();
+        }
+        better
+    }
+
+    /// Takes the call, or the same with slices refitted.
+    fn attempt(&mut self, call: Option<Call>) -> bool {
+        let Some(call) = call else { return false };
+        if self.try_one(&call) {
+            return true;
+        }
+        let refitted = refitted(&self.call, &call).filter(|other| *other != call);
+        refitted.is_some_and(|other| self.try_one(&other))
+    }
+
+    /// Takes away stretches of something that there are so many of, from all to single ones.
+    fn shorten(&mut self, length: &dyn Fn(&Call) -> usize, without: &dyn Fn(&Call, Range<usize>) -> Option<Call>) {
+        let mut stretch = length(&self.call);
+        while stretch > 0 {
+            let mut start = 0;
+            while start < length(&self.call) {
+                let end = (start + stretch).min(length(&self.call));
+                if !self.attempt(without(&self.call, start..end)) {
+                    start += stretch;
+                }
+            }
+            stretch /= 2;
+        }
+    }
+
+    fn drop_machines(&mut self) {
+        let length = |call: &Call| match call {
+            Call::Compare { machines, .. } | Call::Condition { machines, .. } | Call::FindRanking { machines, .. } => {
+                (*machines).min(6) as usize
+            }
+            _ => grammar(call).map_or(0, |grammar| grammar.parts.len()),
+        };
+        self.shorten(&length, &|call, gone| without_machines(call, &gone));
+    }
+
+    fn drop_states(&mut self) {
+        let machines = grammar(&self.call).map_or(0, |grammar| grammar.parts.len());
+        for machine in 0..machines {
+            let length = |call: &Call| grammar(call).map_or(0, |grammar| grammar.parts[machine].states.len());
+            self.shorten(&length, &|call, gone| without_states(call, machine, &gone));
+        }
+    }
+
+    fn drop_arcs(&mut self) {
+        let machines = grammar(&self.call).map_or(0, |grammar| grammar.parts.len());
+        for machine in 0..machines {
+            let length = |call: &Call| grammar(call).map_or(0, |grammar| grammar.parts[machine].arcs.len());
+            let without = |call: &Call, gone: Range<usize>| {
+                let mut grammar = grammar(call)?;
+                grammar.parts[machine].arcs.drain(gone);
+                Some(with_grammar(call, &grammar))
+            };
+            self.shorten(&length, &without);
+        }
+    }
+
+    fn drop_symbols(&mut self) {
+        let length = |call: &Call| grammar(call).map_or(0, |grammar| grammar.symbols.min(63) as usize);
+        self.shorten(&length, &|call, gone| without_symbols(call, &gone));
+    }
+
+    /// Zeros in the slices that are only there to be written.
+    fn clear_slices(&mut self) {
+        let mut call = self.call.clone();
+        match &mut call {
+            Call::Optimize { work, answer, .. } => {
+                work.fill(0);
+                answer.fill(0);
+            }
+            Call::Pack { target, .. } => target.fill(0),
+            _ => (),
+        }
+        self.attempt(Some(call));
+    }
+
+    /// Takes elements away from every list, by twos and one by one.
+    fn shorten_lists(&mut self) {
+        for list in 0..number_lists(&mut self.call).len() {
+            let length = |call: &Call| number_lists(&mut call.clone())[list].len();
+            let without = |call: &Call, gone: Range<usize>| {
+                let mut call = call.clone();
+                number_lists(&mut call)[list].drain(gone);
+                Some(call)
+            };
+            self.shorten(&length, &without);
+        }
+        for list in 0..byte_lists(&mut self.call).len() {
+            for unit in [2, 1] {
+                let length = |call: &Call| byte_lists(&mut call.clone())[list].len() / unit;
+                let without = |call: &Call, gone: Range<usize>| {
+                    let mut call = call.clone();
+                    byte_lists(&mut call)[list].drain(unit * gone.start..unit * gone.end);
+                    Some(call)
+                };
+                self.shorten(&length, &without);
+            }
+        }
+    }
+
+    /// Lowers a number in every way that may help: to 0, to 1, by a bit, by one.
+    fn lower(&mut self, number: &dyn Fn(&mut Call) -> Option<u16>, set: &dyn Fn(&mut Call, u16)) {
+        while let Some(old) = number(&mut self.call.clone()).filter(|&old| old > 0) {
+            let without_a_bit = (0..16).rev().filter(|bit| old >> bit & 1 == 1).map(|bit| old ^ 1 << bit);
+            let lowered = [0, 1].into_iter().chain(without_a_bit).chain([old - 1]).any(|new| {
+                let mut call = self.call.clone();
+                set(&mut call, new);
+                new < old && self.attempt(Some(call))
+            });
+            if !lowered {
+                return;
+            }
+        }
+    }
+
+    fn lower_bytes(&mut self) {
+        for list in 0..byte_lists(&mut self.call).len() {
+            for place in 0..byte_lists(&mut self.call)[list].len() {
+                self.lower(&|call| byte_lists(call)[list].get(place).map(|&byte| byte as u16), &|call, new| {
+                    byte_lists(call)[list][place] = new as u8;
+                });
+            }
+        }
+    }
+
+    /// Lowers the counts of profiles and what else is a number.
+    fn lower_numbers(&mut self) {
+        for profile in 0..profiles(&mut self.call).len() {
+            for place in 0..6 {
+                self.lower(&|call| Some(profiles(call)[profile][place]), &|call, new| {
+                    profiles(call)[profile][place] = new;
+                });
+            }
+        }
+        for list in 0..number_lists(&mut self.call).len() {
+            for place in 0..number_lists(&mut self.call)[list].len() {
+                self.lower(&|call| number_lists(call)[list].get(place).copied(), &|call, new| {
+                    number_lists(call)[list][place] = new;
+                });
+            }
+        }
+        fn other(call: &mut Call) -> Option<&mut u8> {
+            match call {
+                Call::ReadPart { machine: number, .. }
+                | Call::Pack { symbols: number, .. }
+                | Call::Compare { machines: number, .. }
+                | Call::Condition { machines: number, .. }
+                | Call::FindRanking { machines: number, .. } => Some(number),
+                _ => None,
+            }
+        }
+        self.lower(&|call| other(call).map(|number| *number as u16), &|call, new| {
+            if let Some(number) = other(call) {
+                *number = new as u8;
+            }
+        });
+    }
+
+    fn sort_the_ranking(&mut self) {
+        let length = ranking(&mut self.call).map_or(0, |list| list.len());
+        for first in 0..length {
+            for second in first + 1..length {
+                let mut call = self.call.clone();
+                if let Some(list) = ranking(&mut call).filter(|list| second < list.len()) {
+                    list.swap(first, second);
+                    self.attempt(Some(call));
+                }
+            }
+        }
+    }
+}
