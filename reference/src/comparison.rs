@@ -41,7 +41,7 @@ pub struct Failure {
 }
 
 /// Compares on so many calls by chance, up to the first one that is answered in another way.
-pub fn compare(engine: &dyn Engine, seed: u64, count: usize) -> Result<Coverage, Failure> {
+pub fn compare(engine: &dyn Engine, seed: u64, count: usize) -> Result<Coverage, Box<Failure>> {
     let generator = Generator::default();
     let mut seeds = Random::new(seed);
     let mut coverage = Coverage::default();
@@ -50,7 +50,7 @@ pub fn compare(engine: &dyn Engine, seed: u64, count: usize) -> Result<Coverage,
         let call = generator.call(&mut Random::new(seeds.number()));
         let expected = reference(&call);
         if !differences(&expected, &engine.answer(&call)).is_empty() {
-            return Err(Failure { case, call });
+            return Err(Box::new(Failure { case, call }));
         }
         coverage.take(&call, &expected);
     }

@@ -6,6 +6,7 @@ pub mod candidate;
 pub mod card;
 pub mod cases;
 pub mod comparison;
+pub mod corpus;
 pub mod coverage;
 #[cfg(feature = "engine")]
 pub mod engine;

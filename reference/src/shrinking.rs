@@ -15,6 +15,8 @@ pub fn smallest(call: &Call, fails: &dyn Fn(&Call) -> bool) -> Call {
         search.drop_machines();
         search.drop_arcs();
         search.drop_states();
+        search.merge_states();
+        search.shorten_parts();
         search.drop_symbols();
         search.shorten_lists();
         search.lower_bytes();
@@ -90,34 +92,11 @@ fn ranking(call: &mut Call) -> Option<&mut Vec<u8>> {
     }
 }
 
-/// A part whose length is what its counts say, with whatever its fields hold.
-#[derive(Clone)]
-struct Part {
-    states: Vec<u8>,
-    arcs: Vec<[u8; 20]>,
-}
-
 /// Symbol count and parts of a card, or of what is to be packed.
 #[derive(Clone)]
 struct Grammar {
     symbols: u8,
-    parts: Vec<Part>,
-}
-
-fn taken_apart(bytes: &[u8]) -> Option<Part> {
-    let (states, arcs) = (*bytes.first()? as usize, *bytes.get(1)? as usize);
-    if bytes.len() != 2 + states + 20 * arcs {
-        return None;
-    }
-    let arcs = bytes[2 + states..].chunks(20).map(|arc| arc.try_into().expect("20 bytes")).collect();
-    Some(Part { states: bytes[2..2 + states].to_vec(), arcs })
-}
-
-impl Part {
-    fn bytes(&self) -> Vec<u8> {
-        let counts = [self.states.len() as u8, self.arcs.len() as u8];
-        [&counts[..], &self.states, &self.arcs.concat()].concat()
-    }
+    parts: Vec<Vec<u8>>,
 }
 
 /// A call's parts, if they lie where table or lengths say.
@@ -135,7 +114,7 @@ fn grammar(call: &Call) -> Option<Grammar> {
     };
     let mut parts = Vec::new();
     for length in lengths {
-        parts.push(taken_apart(rest.get(..length)?)?);
+        parts.push(rest.get(..length)?.to_vec());
         rest = &rest[length..];
     }
     let grammar = Grammar { symbols, parts };
@@ -145,10 +124,10 @@ fn grammar(call: &Call) -> Option<Grammar> {
 /// The call with other parts.
 fn with_grammar(call: &Call, grammar: &Grammar) -> Call {
     let mut call = call.clone();
-    let list: Vec<Vec<u8>> = grammar.parts.iter().map(Part::bytes).collect();
+    let list = &grammar.parts;
     match &mut call {
         Call::Optimize { card, .. } | Call::Evaluate { card, .. } | Call::ReadPart { card, .. } => {
-            *card = lay_out(grammar.symbols, &list);
+            *card = lay_out(grammar.symbols, list);
         }
         Call::Pack { symbols, lengths, parts, .. } => {
             *symbols = grammar.symbols;
@@ -158,6 +137,43 @@ fn with_grammar(call: &Call, grammar: &Grammar) -> Call {
         _ => (),
     }
     call
+}
+
+/// A part whose length is what its counts say, with whatever its fields hold.
+#[derive(Clone)]
+struct Part {
+    states: Vec<u8>,
+    arcs: Vec<[u8; 20]>,
+}
+
+impl Part {
+    fn read(bytes: &[u8]) -> Option<Part> {
+        let (states, arcs) = (*bytes.first()? as usize, *bytes.get(1)? as usize);
+        if bytes.len() != 2 + states + 20 * arcs {
+            return None;
+        }
+        let arcs = bytes[2 + states..].chunks(20).map(|arc| arc.try_into().expect("20 bytes")).collect();
+        Some(Part { states: bytes[2..2 + states].to_vec(), arcs })
+    }
+
+    fn bytes(&self) -> Vec<u8> {
+        let counts = [self.states.len() as u8, self.arcs.len() as u8];
+        [&counts[..], &self.states, &self.arcs.concat()].concat()
+    }
+}
+
+/// A machine's part, if it can be taken apart.
+fn part(call: &Call, machine: usize) -> Option<Part> {
+    Part::read(grammar(call)?.parts.get(machine)?)
+}
+
+/// The call with one part changed, if that can be taken apart.
+fn with_part(call: &Call, machine: usize, change: impl Fn(&mut Part)) -> Option<Call> {
+    let mut grammar = grammar(call)?;
+    let mut part = Part::read(grammar.parts.get(machine)?)?;
+    change(&mut part);
+    grammar.parts[machine] = part.bytes();
+    Some(with_grammar(call, &grammar))
 }
 
 /// What the call needs of the slices whose length can be too short: numbers of work, bytes of answer or target.
@@ -238,17 +254,36 @@ fn without_machines(call: &Call, gone: &Range<usize>) -> Option<Call> {
 
 /// The call without some states of a machine, and without their arcs.
 fn without_states(call: &Call, machine: usize, gone: &Range<usize>) -> Option<Call> {
-    let mut grammar = grammar(call)?;
-    let part = &mut grammar.parts[machine];
-    part.states.drain(gone.clone());
-    part.arcs.retain_mut(|arc| match (renumbered(arc[0], gone), renumbered(arc[1], gone)) {
-        (Some(from), Some(to)) => {
-            (arc[0], arc[1]) = (from, to);
-            true
+    with_part(call, machine, |part| {
+        part.states.drain(gone.clone());
+        part.arcs.retain_mut(|arc| match (renumbered(arc[0], gone), renumbered(arc[1], gone)) {
+            (Some(from), Some(to)) => {
+                (arc[0], arc[1]) = (from, to);
+                true
+            }
+            _ => false,
+        });
+    })
+}
+
+/// The call with two states of a machine made one, the lower, and each arc once.
+fn with_one_state_for_two(call: &Call, machine: usize, low: usize, high: usize) -> Option<Call> {
+    with_part(call, machine, |part| {
+        part.states[low] |= part.states[high];
+        part.states.remove(high);
+        let gone = high..high + 1;
+        let mut arcs: Vec<[u8; 20]> = Vec::new();
+        for arc in &part.arcs {
+            let mut arc = *arc;
+            for place in [0, 1] {
+                arc[place] = renumbered(arc[place], &gone).unwrap_or(low as u8);
+            }
+            if !arcs.contains(&arc) {
+                arcs.push(arc);
+            }
         }
-        _ => false,
-    });
-    Some(with_grammar(call, &grammar))
+        part.arcs = arcs;
+    })
 }
 
 /// The call without some symbols, counted from 0 for symbol 1: none of them is left in sets, word or candidate.
@@ -256,7 +291,8 @@ fn without_symbols(call: &Call, gone: &Range<usize>) -> Option<Call> {
     let mut grammar = grammar(call)?;
     let symbols = gone.start + 1..gone.end + 1;
     grammar.symbols -= gone.len() as u8;
-    for part in &mut grammar.parts {
+    for bytes in &mut grammar.parts {
+        let Some(mut part) = Part::read(bytes) else { continue };
         for arc in &mut part.arcs {
             for place in [4, 12] {
                 let set = u64::from_le_bytes(arc[place..place + 8].try_into().expect("8 bytes"));
@@ -265,10 +301,23 @@ fn without_symbols(call: &Call, gone: &Range<usize>) -> Option<Call> {
         }
         // an arc that took nothing else
         part.arcs.retain(|arc| arc[4..12] != [0; 8] && arc[12..] != [0; 8]);
+        *bytes = part.bytes();
     }
     let mut call = with_grammar(call, &grammar);
     if let Call::Optimize { word: list, .. } | Call::Evaluate { candidate: list, .. } = &mut call {
         *list = list.iter().filter_map(|&symbol| renumbered(symbol, &symbols)).collect();
+    }
+    Some(call)
+}
+
+/// What is to be packed, as much shorter at the end as one of its lengths.
+fn with_shorter_length(call: &Call, place: usize, less: usize) -> Option<Call> {
+    let mut call = call.clone();
+    let Call::Pack { lengths, parts, .. } = &mut call else { return None };
+    lengths[place] = lengths[place].checked_sub(less as u16)?;
+    parts.truncate(parts.len().checked_sub(less)?);
+    if lengths[place] == 0 && less > 0 {
+        lengths.remove(place);
     }
     Some(call)
 }
@@ -323,24 +372,66 @@ impl Search<'_> {
         self.shorten(&length, &|call, gone| without_machines(call, &gone));
     }
 
+    /// How many parts there are that can be told apart.
+    fn machines(&self) -> usize {
+        grammar(&self.call).map_or(0, |grammar| grammar.parts.len())
+    }
+
     fn drop_states(&mut self) {
-        let machines = grammar(&self.call).map_or(0, |grammar| grammar.parts.len());
-        for machine in 0..machines {
-            let length = |call: &Call| grammar(call).map_or(0, |grammar| grammar.parts[machine].states.len());
+        for machine in 0..self.machines() {
+            let length = |call: &Call| part(call, machine).map_or(0, |part| part.states.len());
             self.shorten(&length, &|call, gone| without_states(call, machine, &gone));
         }
     }
 
+    fn merge_states(&mut self) {
+        for machine in 0..self.machines() {
+            let mut high = part(&self.call, machine).map_or(0, |part| part.states.len());
+            while high > 1 {
+                high -= 1;
+                for low in 0..high {
+                    if self.attempt(with_one_state_for_two(&self.call, machine, low, high)) {
+                        break;
+                    }
+                }
+            }
+        }
+    }
+
     fn drop_arcs(&mut self) {
-        let machines = grammar(&self.call).map_or(0, |grammar| grammar.parts.len());
-        for machine in 0..machines {
-            let length = |call: &Call| grammar(call).map_or(0, |grammar| grammar.parts[machine].arcs.len());
+        for machine in 0..self.machines() {
+            let length = |call: &Call| part(call, machine).map_or(0, |part| part.arcs.len());
+            let without =
+                |call: &Call, gone: Range<usize>| with_part(call, machine, |part| drop(part.arcs.drain(gone.clone())));
+            self.shorten(&length, &without);
+        }
+    }
+
+    /// Takes bytes away from a part that cannot be taken apart, or from what is packed with lengths that do not fit.
+    fn shorten_parts(&mut self) {
+        for machine in 0..self.machines() {
+            let length = |call: &Call| match grammar(call) {
+                Some(grammar) if part(call, machine).is_none() => grammar.parts[machine].len(),
+                _ => 0,
+            };
             let without = |call: &Call, gone: Range<usize>| {
                 let mut grammar = grammar(call)?;
-                grammar.parts[machine].arcs.drain(gone);
+                grammar.parts[machine].drain(gone);
                 Some(with_grammar(call, &grammar))
             };
             self.shorten(&length, &without);
+        }
+        if let (Call::Pack { lengths, parts, .. }, None) = (&self.call, grammar(&self.call)) {
+            let mut less = parts.len();
+            let places = lengths.len();
+            while less > 0 {
+                for place in (0..places).rev() {
+                    while number_lists(&mut self.call)[0].len() > place
+                        && self.attempt(with_shorter_length(&self.call, place, less))
+                    {}
+                }
+                less /= 2;
+            }
         }
     }
 
@@ -414,8 +505,16 @@ impl Search<'_> {
 
     /// Lowers the counts of profiles and what else is a number.
     fn lower_numbers(&mut self) {
-        for profile in 0..profiles(&mut self.call).len() {
-            for place in 0..6 {
+        for place in 0..6 {
+            // both profiles alike first
+            let mut call = self.call.clone();
+            if let [first, second] = &mut profiles(&mut call)[..] {
+                let both = first[place].min(second[place]);
+                first[place] -= both;
+                second[place] -= both;
+                self.attempt(Some(call));
+            }
+            for profile in 0..profiles(&mut self.call).len() {
                 self.lower(&|call| Some(profiles(call)[profile][place]), &|call, new| {
                     profiles(call)[profile][place] = new;
                 });

@@ -10,7 +10,7 @@ use std::process::ExitCode;
 use std::time::Instant;
 
 /// How many calls a run compares, and the fewest of a run that has to meet every refusal and every size.
-const COUNT: usize = 120_000;
+const COUNT: usize = 200_000;
 const WHOLE_RUN: usize = 100_000;
 
 fn main() -> ExitCode {

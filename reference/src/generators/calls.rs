@@ -11,6 +11,9 @@ use crate::random::Random;
 use crate::samples::{self, CARD_A};
 use crate::Profile;
 
+/// The first length that 16 bits do not hold.
+const TOO_WIDE: usize = 65_536;
+
 /// Makes calls by chance.
 pub struct Generator {
     /// Cards A and B.
@@ -48,7 +51,7 @@ impl Generator {
     fn card(&self, random: &mut Random) -> Card {
         if random.percent(3) {
             self.examples[random.below(self.examples.len())].clone()
-        } else if random.below(1_000) == 0 {
+        } else if random.below(600) == 0 {
             self.heaviest[random.below(self.heaviest.len())].clone()
         } else {
             any_card(random)
@@ -140,6 +143,7 @@ impl Generator {
             3 => 0,
             4 => exact + 1,
             5 => exact + random.below(100),
+            6 if random.percent(2) => random.below(exact) + TOO_WIDE,
             _ => exact,
         };
         Call::Pack { symbols, lengths, parts, target: random.bytes(target) }
@@ -160,6 +164,7 @@ fn work_length(random: &mut Random, need: usize) -> usize {
         5 => need + random.below(100),
         6 => need.max(25_600),
         7 if random.percent(20) => 25_601,
+        8 if random.percent(2) => random.below(need) + TOO_WIDE,
         _ => need,
     }
 }
@@ -177,6 +182,7 @@ fn answer_length(random: &mut Random, pairs: usize) -> usize {
         6 | 7 => exact + random.below(100),
         8 => 6_398,
         9 if random.percent(20) => 6_399,
+        10 if random.percent(2) => random.below(exact + 1) + TOO_WIDE,
         _ => exact,
     }
 }
@@ -188,6 +194,8 @@ fn long_candidate(random: &mut Random) -> Call {
     let mut candidate = walk(random, &read, pairs);
     if random.percent(10) {
         damage_a_candidate(random, &mut candidate, read.symbols);
+    } else if random.percent(2) {
+        candidate.resize(2 * random.below(100) + TOO_WIDE, 1);
     }
     Call::Evaluate { card: samples::card(read.symbols, &read.machines), candidate }
 }
@@ -196,7 +204,7 @@ fn long_candidate(random: &mut Random) -> Call {
 /// than the parts are; none, or too many: refusals 1, 3 and 17.
 fn damage_the_lengths(random: &mut Random, lengths: &mut Vec<u16>, parts: &mut Vec<u8>) {
     let place = random.below(lengths.len());
-    match random.below(9) {
+    match random.below(10) {
         0 => lengths[place] = lengths[place].wrapping_add(1),
         1 => lengths[place] = lengths[place].wrapping_sub(1),
         2 => parts.push(0),
@@ -212,6 +220,11 @@ fn damage_the_lengths(random: &mut Random, lengths: &mut Vec<u16>, parts: &mut V
             lengths[place] = lengths[place].wrapping_add(more);
             let other = random.below(lengths.len());
             lengths[other] = lengths[other].wrapping_sub(more);
+        }
+        8 if random.percent(5) => {
+            // parts that are as long as lengths can say
+            *lengths = vec![u16::MAX; lengths.len()];
+            parts.resize(lengths.len() * u16::MAX as usize, 0);
         }
         _ => {
             let other = random.below(lengths.len());
@@ -283,6 +296,7 @@ fn find_ranking(random: &mut Random) -> Call {
         0 => random.between(62, 66),
         1 => random.between(10, 64),
         2 => 64,
+        3 if random.percent(10) => random.between(67, 300),
         _ => random.below(8),
     };
     let unfit = random.one_of(&[0, 0, 10, 100]);

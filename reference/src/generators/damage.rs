@@ -229,7 +229,7 @@ pub fn perhaps_damaged(random: &mut Random, card: &Card, share: usize) -> Vec<u8
 /// Bytes that are no ranking any more, or one of other machines: refusal 7.
 pub fn damage_a_ranking(random: &mut Random, ranking: &mut Vec<u8>) {
     let machines = ranking.len();
-    match random.below(8) {
+    match random.below(9) {
         0 => ranking.clear(),
         1 => {
             ranking.pop();
@@ -239,6 +239,7 @@ pub fn damage_a_ranking(random: &mut Random, ranking: &mut Vec<u8>) {
         4 if machines > 0 => ranking[random.below(machines)] = machines as u8,
         5 if machines > 0 => ranking[random.below(machines)] = random.one_of(&[255, 128, 8, 64]),
         6 if machines > 1 => ranking[random.below(machines)] = ranking[random.below(machines)],
+        7 => ranking.resize(256 + machines, 0), // a length that 8 bits do not hold
         _ => {
             let length = random.below(12);
             *ranking = random.bytes(length);
@@ -252,7 +253,7 @@ pub fn damage_a_word(random: &mut Random, word: &mut Vec<u8>, symbols: u8) {
     match random.below(6) {
         0 => word.clear(),
         1 => word.resize(25, 1),
-        2 => word.resize(random.between(26, 255), symbols),
+        2 => word.resize(random.between(26, 290), symbols),
         3 if !word.is_empty() => word[place] = 0,
         4 if !word.is_empty() => word[place] = symbols.wrapping_add(1),
         _ if !word.is_empty() => word[place] = random.one_of(&[64, 128, 255]),
