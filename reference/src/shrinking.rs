@@ -8,7 +8,7 @@ use std::ops::Range;
 
 /// Makes a call smaller as long as it fails.
 pub fn smallest(call: &Call, fails: &dyn Fn(&Call) -> bool) -> Call {
-    let mut search = Search { call: call.clone(), fails };
+    let mut search = Search { call: call.clone(), size: size(&mut call.clone()), fails };
     loop {
         let before = search.call.clone();
         search.clear_slices();
@@ -18,6 +18,7 @@ pub fn smallest(call: &Call, fails: &dyn Fn(&Call) -> bool) -> Call {
         search.merge_states();
         search.shorten_parts();
         search.drop_symbols();
+        search.clear_lists();
         search.shorten_lists();
         search.lower_bytes();
         search.lower_numbers();
@@ -29,20 +30,28 @@ pub fn smallest(call: &Call, fails: &dyn Fn(&Call) -> bool) -> Call {
 }
 
 /// How large a call is, what weighs most first: elements lent, K and S, bits, sum, and the ranking as a number.
-fn size(call: &Call) -> [u64; 5] {
-    let mut call = call.clone();
-    let (machines, symbols) = counts(&call);
-    let mut elements: Vec<u64> = Vec::new();
-    elements.extend(byte_lists(&mut call).into_iter().flatten().map(|byte| *byte as u64));
-    elements.extend(number_lists(&mut call).into_iter().flatten().map(|number| *number as u64));
-    let length = elements.len() as u64;
-    elements.extend(profiles(&mut call).into_iter().flatten().map(|count| *count as u64));
-    if let Call::ReadPart { machine, .. } = call {
-        elements.push(machine as u64);
+fn size(call: &mut Call) -> [u64; 5] {
+    let (machines, symbols) = counts(call);
+    let (mut bits, mut sum) = (0, 0);
+    let mut add = |element: u16| {
+        bits += element.count_ones() as u64;
+        sum += element as u64;
+    };
+    let mut length = 0;
+    for list in byte_lists(call) {
+        length += list.len() as u64;
+        list.iter().for_each(|&byte| add(byte as u16));
     }
-    let bits = elements.iter().map(|element| element.count_ones() as u64).sum();
-    let order = ranking(&mut call).map_or(0, |list| list.iter().take(8).fold(0, |sum, &byte| sum << 8 | byte as u64));
-    [length, machines as u64 + symbols as u64, bits, elements.iter().sum(), order]
+    for list in number_lists(call) {
+        length += list.len() as u64;
+        list.iter().for_each(|&number| add(number));
+    }
+    profiles(call).into_iter().flatten().for_each(|count| add(*count));
+    if let Call::ReadPart { machine, .. } = call {
+        add(*machine as u16);
+    }
+    let order = ranking(call).map_or(0, |list| list.iter().take(8).fold(0, |sum, &byte| sum << 8 | byte as u64));
+    [length, machines as u64 + symbols as u64, bits, sum, order]
 }
 
 /// K and S as the call has them, 0 where it has none.
@@ -266,7 +275,14 @@ fn without_states(call: &Call, machine: usize, gone: &Range<usize>) -> Option<Ca
     })
 }
 
-/// The call with two states of a machine made one, the lower, and each arc once.
+/// Whether two arcs of a state take one pair; 0:0 is none.
+fn clash(first: &[u8; 20], second: &[u8; 20]) -> bool {
+    let set = |arc: &[u8; 20], place: usize| u64::from_le_bytes(arc[place..place + 8].try_into().expect("8 bytes"));
+    let [inputs, outputs] = [4, 12].map(|place| set(first, place) & set(second, place));
+    first[0] == second[0] && inputs != 0 && outputs != 0 && (inputs, outputs) != (1, 1)
+}
+
+/// The call with two states of a machine made one, the lower, without arcs that clash then.
 fn with_one_state_for_two(call: &Call, machine: usize, low: usize, high: usize) -> Option<Call> {
     with_part(call, machine, |part| {
         part.states[low] |= part.states[high];
@@ -278,7 +294,7 @@ fn with_one_state_for_two(call: &Call, machine: usize, low: usize, high: usize) 
             for place in [0, 1] {
                 arc[place] = renumbered(arc[place], &gone).unwrap_or(low as u8);
             }
-            if !arcs.contains(&arc) {
+            if !arcs.iter().any(|other| clash(other, &arc)) {
                 arcs.push(arc);
             }
         }
@@ -324,37 +340,51 @@ fn with_shorter_length(call: &Call, place: usize, less: usize) -> Option<Call> {
 
 struct Search<'a> {
     call: Call,
+    size: [u64; 5],
     fails: &'a dyn Fn(&Call) -> bool,
 }
 
 impl Search<'_> {
     /// Takes a smaller call if it fails too.
-    fn try_one(&mut self, call: &Call) -> bool {
-        let better = size(call) < size(&self.call) && (self.fails)(call);
+    fn try_one(&mut self, call: &mut Call) -> bool {
+        let size = size(call);
+        let better = size < self.size && (self.fails)(call);
         if better {
             self.call = call.clone();
+            self.size = size;
         }
         better
     }
 
     /// Takes the call, or the same with slices refitted.
     fn attempt(&mut self, call: Option<Call>) -> bool {
-        let Some(call) = call else { return false };
-        if self.try_one(&call) {
+        let Some(mut call) = call else { return false };
+        if self.try_one(&mut call) {
             return true;
         }
         let refitted = refitted(&self.call, &call).filter(|other| *other != call);
-        refitted.is_some_and(|other| self.try_one(&other))
+        refitted.is_some_and(|mut other| self.try_one(&mut other))
     }
 
-    /// Takes away stretches of something that there are so many of, from all to single ones.
-    fn shorten(&mut self, length: &dyn Fn(&Call) -> usize, without: &dyn Fn(&Call, Range<usize>) -> Option<Call>) {
-        let mut stretch = length(&self.call);
+    /// Tries every stretch of something that there is so much of, from the whole to single ones; after a stretch that is
+    /// taken away, the next one stands in its place.
+    fn stretches(
+        &mut self,
+        length: &dyn Fn(&mut Call) -> usize,
+        takes_away: bool,
+        without: &dyn Fn(&Call, Range<usize>) -> Option<Call>,
+    ) {
+        let mut stretch = length(&mut self.call);
         while stretch > 0 {
             let mut start = 0;
-            while start < length(&self.call) {
-                let end = (start + stretch).min(length(&self.call));
-                if !self.attempt(without(&self.call, start..end)) {
+            let mut last = None;
+            while start < length(&mut self.call) {
+                let end = (start + stretch).min(length(&mut self.call));
+                let call = without(&self.call, start..end);
+                // where all is alike, one stretch is as good as another
+                let taken = call != last && self.attempt(call.clone());
+                last = call;
+                if !(taken && takes_away) {
                     start += stretch;
                 }
             }
@@ -362,8 +392,12 @@ impl Search<'_> {
         }
     }
 
+    fn shorten(&mut self, length: &dyn Fn(&mut Call) -> usize, without: &dyn Fn(&Call, Range<usize>) -> Option<Call>) {
+        self.stretches(length, true, without);
+    }
+
     fn drop_machines(&mut self) {
-        let length = |call: &Call| match call {
+        let length = |call: &mut Call| match call {
             Call::Compare { machines, .. } | Call::Condition { machines, .. } | Call::FindRanking { machines, .. } => {
                 (*machines).min(6) as usize
             }
@@ -379,7 +413,7 @@ impl Search<'_> {
 
     fn drop_states(&mut self) {
         for machine in 0..self.machines() {
-            let length = |call: &Call| part(call, machine).map_or(0, |part| part.states.len());
+            let length = |call: &mut Call| part(call, machine).map_or(0, |part| part.states.len());
             self.shorten(&length, &|call, gone| without_states(call, machine, &gone));
         }
     }
@@ -400,7 +434,7 @@ impl Search<'_> {
 
     fn drop_arcs(&mut self) {
         for machine in 0..self.machines() {
-            let length = |call: &Call| part(call, machine).map_or(0, |part| part.arcs.len());
+            let length = |call: &mut Call| part(call, machine).map_or(0, |part| part.arcs.len());
             let without =
                 |call: &Call, gone: Range<usize>| with_part(call, machine, |part| drop(part.arcs.drain(gone.clone())));
             self.shorten(&length, &without);
@@ -410,7 +444,7 @@ impl Search<'_> {
     /// Takes bytes away from a part that cannot be taken apart, or from what is packed with lengths that do not fit.
     fn shorten_parts(&mut self) {
         for machine in 0..self.machines() {
-            let length = |call: &Call| match grammar(call) {
+            let length = |call: &mut Call| match grammar(call) {
                 Some(grammar) if part(call, machine).is_none() => grammar.parts[machine].len(),
                 _ => 0,
             };
@@ -436,7 +470,7 @@ impl Search<'_> {
     }
 
     fn drop_symbols(&mut self) {
-        let length = |call: &Call| grammar(call).map_or(0, |grammar| grammar.symbols.min(63) as usize);
+        let length = |call: &mut Call| grammar(call).map_or(0, |grammar| grammar.symbols.min(63) as usize);
         self.shorten(&length, &|call, gone| without_symbols(call, &gone));
     }
 
@@ -454,10 +488,23 @@ impl Search<'_> {
         self.attempt(Some(call));
     }
 
+    /// Zeros in stretches of every list of bytes.
+    fn clear_lists(&mut self) {
+        for list in 0..byte_lists(&mut self.call).len() {
+            let length = |call: &mut Call| byte_lists(call)[list].len();
+            let cleared = |call: &Call, stretch: Range<usize>| {
+                let mut other = call.clone();
+                byte_lists(&mut other)[list][stretch].fill(0);
+                (other != *call).then_some(other)
+            };
+            self.stretches(&length, false, &cleared);
+        }
+    }
+
     /// Takes elements away from every list, by twos and one by one.
     fn shorten_lists(&mut self) {
         for list in 0..number_lists(&mut self.call).len() {
-            let length = |call: &Call| number_lists(&mut call.clone())[list].len();
+            let length = |call: &mut Call| number_lists(call)[list].len();
             let without = |call: &Call, gone: Range<usize>| {
                 let mut call = call.clone();
                 number_lists(&mut call)[list].drain(gone);
@@ -467,7 +514,7 @@ impl Search<'_> {
         }
         for list in 0..byte_lists(&mut self.call).len() {
             for unit in [2, 1] {
-                let length = |call: &Call| byte_lists(&mut call.clone())[list].len() / unit;
+                let length = |call: &mut Call| byte_lists(call)[list].len() / unit;
                 let without = |call: &Call, gone: Range<usize>| {
                     let mut call = call.clone();
                     byte_lists(&mut call)[list].drain(unit * gone.start..unit * gone.end);
@@ -480,7 +527,7 @@ impl Search<'_> {
 
     /// Lowers a number in every way that may help: to 0, to 1, by a bit, by one.
     fn lower(&mut self, number: &dyn Fn(&mut Call) -> Option<u16>, set: &dyn Fn(&mut Call, u16)) {
-        while let Some(old) = number(&mut self.call.clone()).filter(|&old| old > 0) {
+        while let Some(old) = number(&mut self.call).filter(|&old| old > 0) {
             let without_a_bit = (0..16).rev().filter(|bit| old >> bit & 1 == 1).map(|bit| old ^ 1 << bit);
             let lowered = [0, 1].into_iter().chain(without_a_bit).chain([old - 1]).any(|new| {
                 let mut call = self.call.clone();

@@ -62,6 +62,9 @@ impl Generator {
         let read = self.card(random);
         let mut ranking = any_ranking(random, read.machines.len());
         let mut word = any_word(random, read.symbols);
+        if read.states() == 128 && random.percent(40) {
+            word.resize(24, 1);
+        }
         let found = best(&read, &ranking, &word);
         if found.is_none() && random.percent(60) {
             // without a candidate there is less to compare
@@ -81,7 +84,7 @@ impl Generator {
     }
 
     fn evaluate(&self, random: &mut Random) -> Call {
-        if random.percent(4) {
+        if random.percent(5) {
             return long_candidate(random);
         }
         let read = self.card(random);
@@ -293,7 +296,7 @@ fn find_ranking(random: &mut Random) -> Call {
     let machines = any_count(random);
     let hidden = any_ranking(random, machines.min(7) as usize);
     let pairs = match random.below(10) {
-        0 => random.between(62, 66),
+        0 => random.between(63, 65),
         1 => random.between(10, 64),
         2 => 64,
         3 if random.percent(10) => random.between(67, 300),
