@@ -35,7 +35,7 @@ pub fn profile(machines: &[Machine], candidate: &[Pair]) -> Option<Profile> {
 
 pub fn evaluate(card: &[u8], bytes: &[u8]) -> Result<Evaluation, Refusal> {
     let card = read_card(card)?;
-    if bytes.len() % 2 != 0 || bytes.len() / 2 > 3199 {
+    if bytes.len() % 2 == 1 || bytes.len() / 2 > 3199 {
         return Err(13);
     }
     let candidate: Vec<Pair> = bytes.chunks(2).map(|pair| (pair[0], pair[1])).collect();

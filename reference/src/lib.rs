@@ -1,14 +1,23 @@
 //! A second implementation of the grammar engine, written from the requirements alone and by other methods than the
 //! verified engine's, to compare with. It is plain, and slow where that keeps it plain.
 
+pub mod call;
 pub mod candidate;
 pub mod card;
 pub mod cases;
+pub mod comparison;
+pub mod corpus;
+pub mod coverage;
+#[cfg(feature = "engine")]
+pub mod engine;
+pub mod generators;
+pub mod lent;
 pub mod lines;
 pub mod optimizer;
 pub mod random;
 pub mod ranking;
 pub mod samples;
+pub mod shrinking;
 
 /// The number of a refusal in the refusal table. An accepted call is an `Ok`.
 pub type Refusal = u8;

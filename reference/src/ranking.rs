@@ -51,7 +51,7 @@ pub fn find_ranking(count: u8, list: &[u8]) -> Result<[u8; 6], Refusal> {
     if !(1..=6).contains(&count) {
         return Err(1);
     }
-    if list.len() % 2 != 0 || list.len() / 2 > 64 {
+    if list.len() % 2 == 1 || list.len() / 2 > 64 {
         return Err(15);
     }
     let conditions: Vec<(u8, u8)> = list.chunks(2).map(|pair| (pair[0], pair[1])).collect();

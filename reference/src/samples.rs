@@ -48,7 +48,7 @@ pub fn card_b() -> Vec<u8> {
 }
 
 /// `count` sets that share out the symbols, none of them empty, by chance.
-fn shared_out(random: &mut Random, symbols: impl Iterator<Item = u8>, count: usize) -> Vec<u64> {
+pub fn shared_out(random: &mut Random, symbols: impl Iterator<Item = u8>, count: usize) -> Vec<u64> {
     let mut list: Vec<u8> = symbols.collect();
     random.shuffle(&mut list);
     (0..count).map(|place| set(list.iter().skip(place).step_by(count).copied())).collect()

@@ -1,0 +1,129 @@
+//! A call with its whole input, what comes back from it, and what answers calls: this implementation or another.
+
+use crate::candidate::{evaluate, Evaluation};
+use crate::card::{pack, read_part};
+use crate::optimizer::optimize;
+use crate::ranking::{compare, condition, find_ranking};
+use crate::{Profile, Refusal};
+use std::cmp::Ordering;
+
+/// One of the seven public calls with all that it is lent, as include/pastaspur.h has them.
+#[derive(Clone, Debug, PartialEq, Eq, Hash)]
+pub enum Call {
+    Optimize { card: Vec<u8>, ranking: Vec<u8>, word: Vec<u8>, work: Vec<u16>, answer: Vec<u8> },
+    Evaluate { card: Vec<u8>, candidate: Vec<u8> },
+    ReadPart { card: Vec<u8>, machine: u8 },
+    Pack { symbols: u8, lengths: Vec<u16>, parts: Vec<u8>, target: Vec<u8> },
+    Compare { machines: u8, ranking: Vec<u8>, first: Profile, second: Profile },
+    Condition { machines: u8, first: Profile, second: Profile },
+    FindRanking { machines: u8, conditions: Vec<u8> },
+}
+
+/// A call's kind, its name, and the refusals that it can answer. Of 11 no example is known: 3,199 pairs of at most 15
+/// marks make 47,985.
+pub const KINDS: [(&str, &[u32]); 7] = [
+    ("optimize", &[1, 2, 3, 4, 5, 6, 7, 8, 9, 10, 12]),
+    ("evaluate", &[1, 2, 3, 4, 5, 6, 13, 14]),
+    ("read part", &[1, 2, 3, 4, 5, 6, 17]),
+    ("pack", &[1, 3, 4, 5, 6, 17, 18]),
+    ("compare", &[1, 7]),
+    ("condition", &[1]),
+    ("find ranking", &[1, 15, 16]),
+];
+
+impl Call {
+    /// The place of its kind in `KINDS`.
+    pub fn kind(&self) -> usize {
+        match self {
+            Call::Optimize { .. } => 0,
+            Call::Evaluate { .. } => 1,
+            Call::ReadPart { .. } => 2,
+            Call::Pack { .. } => 3,
+            Call::Compare { .. } => 4,
+            Call::Condition { .. } => 5,
+            Call::FindRanking { .. } => 6,
+        }
+    }
+
+    pub fn name(&self) -> &'static str {
+        KINDS[self.kind()].0
+    }
+}
+
+/// What a call leaves.
+#[derive(Clone, Debug, PartialEq, Eq)]
+pub struct Outcome {
+    /// The refusal's number, 0 where the call is accepted.
+    pub number: u32,
+    /// The numbers of the result in the order of include/pastaspur.h.
+    pub result: Vec<usize>,
+    /// The answer or target slice at exit, whole; empty for the other calls.
+    pub slice: Vec<u8>,
+    /// Whether the work slice holds what it held before.
+    pub work_kept: bool,
+    /// What was written and may not be: inputs, and memory around whatever was lent.
+    pub trespasses: Vec<String>,
+}
+
+/// Whatever answers calls.
+pub trait Engine {
+    fn answer(&self, call: &Call) -> Outcome;
+}
+
+impl<F: Fn(&Call) -> Outcome> Engine for F {
+    fn answer(&self, call: &Call) -> Outcome {
+        self(call)
+    }
+}
+
+/// An outcome from a number and result, the result of that many numbers being all 0 on a refusal.
+fn outcome(answer: Result<Vec<usize>, Refusal>, numbers: usize, slice: Vec<u8>) -> Outcome {
+    let (number, result) = match answer {
+        Ok(result) => (0, result),
+        Err(number) => (number as u32, vec![0; numbers]),
+    };
+    Outcome { number, result, slice, work_kept: true, trespasses: vec![] }
+}
+
+fn evaluation(found: Evaluation) -> Vec<usize> {
+    let counts = found.profile.iter().map(|&count| count as usize);
+    counts.chain([found.pairs, found.word_length]).collect()
+}
+
+fn numbers(bytes: impl IntoIterator<Item = u8>) -> Vec<usize> {
+    bytes.into_iter().map(usize::from).collect()
+}
+
+/// The answer of this implementation.
+pub fn reference(call: &Call) -> Outcome {
+    match call {
+        Call::Optimize { card, ranking, word, work, answer } => {
+            let mut slice = answer.clone();
+            let found = optimize(card, ranking, word, work.len(), &mut slice);
+            outcome(found.map(evaluation), 8, slice)
+        }
+        Call::Evaluate { card, candidate } => outcome(evaluate(card, candidate).map(evaluation), 8, vec![]),
+        Call::ReadPart { card, machine } => {
+            outcome(read_part(card, *machine).map(|(offset, length)| vec![offset, length]), 2, vec![])
+        }
+        Call::Pack { symbols, lengths, parts, target } => {
+            let mut slice = target.clone();
+            let found = pack(*symbols, lengths, parts, &mut slice);
+            outcome(found.map(|length| vec![length]), 1, slice)
+        }
+        Call::Compare { machines, ranking, first, second } => {
+            let order = |order| match order {
+                Ordering::Less => vec![1],
+                Ordering::Equal => vec![2],
+                Ordering::Greater => vec![3],
+            };
+            outcome(compare(*machines, ranking, first, second).map(order), 1, vec![])
+        }
+        Call::Condition { machines, first, second } => {
+            outcome(condition(*machines, first, second).map(|(fewer, more)| numbers([fewer, more])), 2, vec![])
+        }
+        Call::FindRanking { machines, conditions } => {
+            outcome(find_ranking(*machines, conditions).map(numbers), 6, vec![])
+        }
+    }
+}

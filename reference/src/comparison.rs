@@ -1,0 +1,177 @@
+//! Another engine against this implementation, on calls by chance.
+
+use crate::call::{reference, Call, Engine, Outcome};
+use crate::card::read_card;
+use crate::coverage::Coverage;
+use crate::generators::Generator;
+use crate::random::Random;
+use crate::shrinking::smallest;
+use std::fmt::Write;
+
+/// What of an engine's outcome is not as it should be. The work slice is kept by refusals 1 to 9; afterwards its contents
+/// are left open.
+pub fn differences(expected: &Outcome, found: &Outcome) -> Vec<String> {
+    let mut list = Vec::new();
+    if found.number != expected.number {
+        list.push("number".to_string());
+    }
+    if found.result != expected.result {
+        list.push("result".to_string());
+    }
+    if found.slice != expected.slice {
+        list.push("lent slice at exit".to_string());
+    }
+    if (1..=9).contains(&expected.number) && !found.work_kept {
+        list.push("work slice not kept".to_string());
+    }
+    list.extend(found.trespasses.iter().map(|place| format!("written: {place}")));
+    list
+}
+
+/// Whether an engine answers a call in another way.
+fn differs(engine: &dyn Engine, call: &Call) -> bool {
+    !differences(&reference(call), &engine.answer(call)).is_empty()
+}
+
+/// A call that an engine answers in another way, found as the case of that number.
+#[derive(Debug)]
+pub struct Failure {
+    pub case: usize,
+    pub call: Call,
+}
+
+/// Compares on so many calls by chance, up to the first one that is answered in another way.
+pub fn compare(engine: &dyn Engine, seed: u64, count: usize) -> Result<Coverage, Box<Failure>> {
+    let generator = Generator::default();
+    let mut seeds = Random::new(seed);
+    let mut coverage = Coverage::default();
+    for case in 1..=count {
+        // a case depends on the seed and its number alone
+        let call = generator.call(&mut Random::new(seeds.number()));
+        let expected = reference(&call);
+        if !differences(&expected, &engine.answer(&call)).is_empty() {
+            return Err(Box::new(Failure { case, call }));
+        }
+        coverage.take(&call, &expected);
+    }
+    Ok(coverage)
+}
+
+fn hexadecimal(bytes: &[u8]) -> String {
+    match bytes {
+        [] => "nothing".to_string(),
+        [first, rest @ ..] if rest.len() >= 16 && rest.iter().all(|byte| byte == first) => {
+            format!("{} bytes of {first:02x}", bytes.len())
+        }
+        _ => bytes.iter().map(|byte| format!("{byte:02x}")).collect::<Vec<_>>().join(" "),
+    }
+}
+
+fn numbers(list: &[u16]) -> String {
+    match list {
+        [] => "nothing".to_string(),
+        [first, rest @ ..] if rest.len() >= 8 && rest.iter().all(|number| number == first) => {
+            format!("{} numbers of {first}", list.len())
+        }
+        _ => list.iter().map(u16::to_string).collect::<Vec<_>>().join(" "),
+    }
+}
+
+fn symbols(set: u64) -> String {
+    let symbols = (0..64).filter(|symbol| set >> symbol & 1 == 1);
+    format!("{{{}}}", symbols.map(|symbol| symbol.to_string()).collect::<Vec<_>>().join(","))
+}
+
+/// An accepted card's machines in words.
+fn describe_card(card: &[u8]) -> String {
+    let Ok(card) = read_card(card) else { return String::new() };
+    let mut text = format!("  the card: {} symbols\n", card.symbols);
+    for (place, machine) in card.machines.iter().enumerate() {
+        let finals: Vec<String> =
+            (0..machine.finals.len()).filter(|&state| machine.finals[state]).map(|state| state.to_string()).collect();
+        let states = machine.finals.len();
+        writeln!(text, "    machine {place}: {states} states, final {{{}}}", finals.join(",")).unwrap();
+        for arc in &machine.arcs {
+            let (inputs, outputs) = (symbols(arc.inputs), symbols(arc.outputs));
+            writeln!(text, "      {} to {}, {} marks, in {inputs}, out {outputs}", arc.from, arc.to, arc.marks)
+                .unwrap();
+        }
+    }
+    text
+}
+
+/// A call whole: its slices in hexadecimal, and an accepted card in words as well.
+pub fn describe(call: &Call) -> String {
+    let mut text = format!("{}\n", call.name());
+    let mut field = |name: &str, value: String| writeln!(text, "  {name:<10} {value}").unwrap();
+    match call {
+        Call::Optimize { card, ranking, word, work, answer } => {
+            field("card", hexadecimal(card));
+            field("ranking", hexadecimal(ranking));
+            field("word", hexadecimal(word));
+            field("work", numbers(work));
+            field("answer", hexadecimal(answer));
+        }
+        Call::Evaluate { card, candidate } => {
+            field("card", hexadecimal(card));
+            field("candidate", hexadecimal(candidate));
+        }
+        Call::ReadPart { card, machine } => {
+            field("card", hexadecimal(card));
+            field("machine", machine.to_string());
+        }
+        Call::Pack { symbols, lengths, parts, target } => {
+            field("symbols", symbols.to_string());
+            field("lengths", numbers(lengths));
+            field("parts", hexadecimal(parts));
+            field("target", hexadecimal(target));
+        }
+        Call::Compare { machines, ranking, first, second } => {
+            field("machines", machines.to_string());
+            field("ranking", hexadecimal(ranking));
+            field("first", numbers(first));
+            field("second", numbers(second));
+        }
+        Call::Condition { machines, first, second } => {
+            field("machines", machines.to_string());
+            field("first", numbers(first));
+            field("second", numbers(second));
+        }
+        Call::FindRanking { machines, conditions } => {
+            field("machines", machines.to_string());
+            field("conditions", hexadecimal(conditions));
+        }
+    }
+    if let Call::Optimize { card, .. } | Call::Evaluate { card, .. } | Call::ReadPart { card, .. } = call {
+        text += &describe_card(card);
+    }
+    text
+}
+
+fn describe_outcome(outcome: &Outcome) -> String {
+    let result: Vec<String> = outcome.result.iter().map(usize::to_string).collect();
+    let mut text = format!("number {}, result {}, lent slice ", outcome.number, result.join(" "));
+    text += &hexadecimal(&outcome.slice);
+    if !outcome.work_kept {
+        text += ", work slice changed";
+    }
+    text
+}
+
+impl Failure {
+    /// The smallest call that this one leads to and that is still answered in another way.
+    pub fn smallest(&self, engine: &dyn Engine) -> Call {
+        smallest(&self.call, &|call| differs(engine, call))
+    }
+
+    /// The smallest call whole, and what each side answers.
+    pub fn report(&self, engine: &dyn Engine) -> String {
+        let call = self.smallest(engine);
+        let (expected, found) = (reference(&call), engine.answer(&call));
+        let mut text = format!("the smallest call that still is: {}", describe(&call));
+        writeln!(text, "reference: {}", describe_outcome(&expected)).unwrap();
+        writeln!(text, "engine:    {}", describe_outcome(&found)).unwrap();
+        writeln!(text, "not alike: {}", differences(&expected, &found).join(", ")).unwrap();
+        text
+    }
+}

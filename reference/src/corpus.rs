@@ -1,0 +1,225 @@
+//! A corpus of calls for a test program of the gate: a file with the calls, and the lines that have to be printed.
+//!
+//! The file is one call after another: a byte for its kind, 1 to 7 in the order of `KINDS`, and its fields. Numbers have 16
+//! bits, the lower byte first. A list is its length and its elements. Of the work slice only the length is given, of the
+//! answer and target slices their length and the byte that they are filled with.
+
+use crate::call::{reference, Call, Outcome, KINDS};
+use crate::generators::Generator;
+use crate::random::Random;
+use crate::samples;
+use std::collections::BTreeMap;
+
+pub struct Corpus {
+    pub cases: Vec<u8>,
+    pub lines: String,
+    pub count: usize,
+}
+
+const SEED: u64 = 1998;
+
+/// The most bytes of a file, and of the calls in it that take more than `LARGE`.
+const MOST: usize = 400_000;
+const MOST_OF_LARGE: usize = 100_000;
+const LARGE: usize = 1_200;
+
+/// How many calls of a kind that answer a number are in it.
+fn wanted(kind: usize, number: u32) -> usize {
+    match (KINDS[kind].0, number) {
+        ("optimize", 0) => 110,
+        ("evaluate", 0) => 40,
+        ("compare" | "find ranking", 0) => 24,
+        ("optimize", 12) => 20,
+        (_, 0 | 13..=16) => 14,
+        ("optimize", _) => 8,
+        _ => 5,
+    }
+}
+
+/// Whether the test program's memory holds the call.
+fn fits(call: &Call) -> bool {
+    match call {
+        Call::Optimize { card, ranking, word, work, answer } => {
+            card.len() <= 32_000
+                && ranking.len() <= 255
+                && word.len() <= 255
+                && work.len() <= 25_600
+                && answer.len() <= 6_398
+        }
+        Call::Evaluate { card, candidate } => card.len() <= 32_000 && candidate.len() <= 6_402,
+        Call::ReadPart { card, .. } => card.len() <= 32_000,
+        Call::Pack { lengths, parts, target, .. } => {
+            lengths.len() <= 7 && parts.len() <= 32_000 && target.len() <= 32_000
+        }
+        Call::Compare { ranking, .. } => ranking.len() <= 255,
+        Call::Condition { .. } => true,
+        Call::FindRanking { conditions, .. } => conditions.len() <= 255,
+    }
+}
+
+/// The call with the slice that it writes filled with one byte.
+fn filled(mut call: Call) -> Call {
+    if let Call::Optimize { answer: slice, .. } | Call::Pack { target: slice, .. } = &mut call {
+        let byte = slice.first().copied().unwrap_or(0);
+        slice.fill(byte);
+    }
+    call
+}
+
+/// Writes fields.
+#[derive(Default)]
+struct Fields(Vec<u8>);
+
+impl Fields {
+    fn byte(&mut self, byte: u8) {
+        self.0.push(byte);
+    }
+
+    fn number(&mut self, number: usize) {
+        let number = u16::try_from(number).expect("a number of 16 bits");
+        self.0.extend(number.to_le_bytes());
+    }
+
+    fn bytes(&mut self, bytes: &[u8]) {
+        self.number(bytes.len());
+        self.0.extend(bytes);
+    }
+
+    fn numbers(&mut self, numbers: &[u16]) {
+        for &number in numbers {
+            self.number(number as usize);
+        }
+    }
+
+    /// A slice that is written: its length, and what it is filled with.
+    fn slice(&mut self, slice: &[u8]) {
+        self.number(slice.len());
+        self.byte(slice.first().copied().unwrap_or(0));
+    }
+}
+
+fn fields(call: &Call) -> Vec<u8> {
+    let mut fields = Fields::default();
+    fields.byte(call.kind() as u8 + 1);
+    match call {
+        Call::Optimize { card, ranking, word, work, answer } => {
+            fields.bytes(card);
+            fields.bytes(ranking);
+            fields.bytes(word);
+            fields.number(work.len());
+            fields.slice(answer);
+        }
+        Call::Evaluate { card, candidate } => {
+            fields.bytes(card);
+            fields.bytes(candidate);
+        }
+        Call::ReadPart { card, machine } => {
+            fields.bytes(card);
+            fields.byte(*machine);
+        }
+        Call::Pack { symbols, lengths, parts, target } => {
+            fields.byte(*symbols);
+            fields.number(lengths.len());
+            fields.numbers(lengths);
+            fields.bytes(parts);
+            fields.slice(target);
+        }
+        Call::Compare { machines, ranking, first, second } => {
+            fields.byte(*machines);
+            fields.bytes(ranking);
+            fields.numbers(first);
+            fields.numbers(second);
+        }
+        Call::Condition { machines, first, second } => {
+            fields.byte(*machines);
+            fields.numbers(first);
+            fields.numbers(second);
+        }
+        Call::FindRanking { machines, conditions } => {
+            fields.byte(*machines);
+            fields.bytes(conditions);
+        }
+    }
+    fields.0
+}
+
+/// A whole slice in one number: each byte times its place, counted from 1, added up modulo 1,000,000,007.
+fn sum(slice: &[u8]) -> u64 {
+    slice.iter().zip(1..).fold(0, |sum, (&byte, place)| (sum + place * byte as u64) % 1_000_000_007)
+}
+
+fn joined(numbers: &[usize], between: &str) -> String {
+    numbers.iter().map(usize::to_string).collect::<Vec<_>>().join(between)
+}
+
+/// What the test program prints for a call.
+fn line(call: &Call, outcome: &Outcome) -> String {
+    let Outcome { number, result, slice, .. } = outcome;
+    match call {
+        Call::Optimize { .. } => {
+            format!("optimize {number} {} {} {}", joined(&result[..6], ","), joined(&result[6..], " "), sum(slice))
+        }
+        Call::Evaluate { .. } => {
+            format!("evaluate {number} {} {}", joined(&result[..6], ","), joined(&result[6..], " "))
+        }
+        Call::ReadPart { .. } => format!("part {number} {}", joined(result, " ")),
+        Call::Pack { .. } => format!("pack {number} {} {}", joined(result, " "), sum(slice)),
+        Call::Compare { .. } => format!("compare {number} {}", joined(result, " ")),
+        Call::Condition { .. } => format!("condition {number} {}", joined(result, " ")),
+        Call::FindRanking { .. } => format!("ranking {number} {}", joined(result, ",")),
+    }
+}
+
+/// The longest best candidate that there is, in slices that just hold it and that just do not, and its evaluation.
+fn longest() -> Vec<Call> {
+    let card = samples::chain();
+    let call = |answer: usize| {
+        let (card, work) = (card.clone(), vec![0; 25_600]);
+        Call::Optimize { card, ranking: vec![1, 0], word: vec![3; 24], work, answer: vec![170; answer] }
+    };
+    let candidate = reference(&call(6_398)).slice;
+    let with_another = [&candidate[..], &[0, 1]].concat();
+    let evaluate = |candidate| Call::Evaluate { card: card.clone(), candidate };
+    vec![call(6_398), call(6_397), evaluate(candidate), evaluate(with_another)]
+}
+
+/// Calls by chance until there are as many of each kind and number as wanted.
+pub fn corpus() -> Corpus {
+    let generator = Generator::default();
+    let mut random = Random::new(SEED);
+    let mut corpus = Corpus { cases: vec![], lines: String::new(), count: 0 };
+    let mut add = |call: &Call, outcome: &Outcome| {
+        corpus.cases.extend(fields(call));
+        corpus.lines += &line(call, outcome);
+        corpus.lines.push('\n');
+        corpus.count += 1;
+    };
+    for call in longest() {
+        add(&call, &reference(&call));
+    }
+    let numbers = |kind: usize| [0].into_iter().chain(KINDS[kind].1.iter().copied());
+    let mut missing: BTreeMap<(usize, u32), usize> = (0..KINDS.len())
+        .flat_map(|kind| numbers(kind).map(move |number| ((kind, number), wanted(kind, number))))
+        .collect();
+    let mut large = 0;
+    while missing.values().any(|&count| count > 0) {
+        let call = filled(generator.call(&mut random));
+        if !fits(&call) {
+            continue;
+        }
+        let length = fields(&call).len();
+        if length > LARGE && large + length > MOST_OF_LARGE {
+            continue;
+        }
+        let outcome = reference(&call);
+        let count = missing.get_mut(&(call.kind(), outcome.number)).expect("a refusal of this call");
+        if *count == 0 {
+            continue;
+        }
+        *count -= 1;
+        large += if length > LARGE { length } else { 0 };
+        add(&call, &outcome);
+    }
+    assert!(corpus.cases.len() <= MOST);
+    corpus
+}

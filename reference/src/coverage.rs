@@ -1,0 +1,205 @@
+//! What a comparison met: how often each call answered each number, and the sizes of what it was lent.
+
+use crate::call::{reference, Call, Outcome, KINDS};
+use std::collections::BTreeMap;
+use std::fmt;
+
+/// How often something was met.
+type Counts = BTreeMap<i64, u64>;
+
+/// How often a call has to answer each of its refusals, and slices to have each of the lengths around a limit.
+const OFTEN: u64 = 100;
+
+/// What an answer of the optimizer can have.
+const TRAITS: [&str; 6] =
+    ["an insertion", "an insertion at its end", "a deletion", "another symbol", "marks", "insertions without marks"];
+
+/// Which of `TRAITS` these pairs and counts have.
+fn traits(pairs: &[u8], counts: &[usize]) -> [bool; 6] {
+    let any = |test: fn(u8, u8) -> bool| pairs.chunks(2).any(|pair| test(pair[0], pair[1]));
+    let inserts = any(|input, _| input == 0);
+    let marks = counts.iter().any(|&count| count > 0);
+    [
+        inserts,
+        pairs.chunks(2).next_back().is_some_and(|pair| pair[0] == 0),
+        any(|_, output| output == 0),
+        any(|input, output| input != 0 && output != 0 && input != output),
+        marks,
+        inserts && !marks,
+    ]
+}
+
+#[derive(Default)]
+pub struct Coverage {
+    /// For each call in the order of `KINDS`, how often it answered each number.
+    numbers: [Counts; 7],
+    /// Of the optimizer's calls that got past check 9: K, P, S, n, and the pairs of those that are answered.
+    machines: Counts,
+    states: Counts,
+    symbols: Counts,
+    words: Counts,
+    pairs: Counts,
+    /// How often an answer has each of `TRAITS`.
+    traits: [u64; 6],
+    /// Lengths of slices, less what is needed.
+    work: Counts,
+    answer: Counts,
+    target: Counts,
+    /// Pairs of candidates that are evaluated, and of lists of conditions, less the most that are taken.
+    candidates: Counts,
+    conditions: Counts,
+}
+
+fn count(counts: &mut Counts, value: usize) {
+    *counts.entry(value as i64).or_default() += 1;
+}
+
+/// Counts a difference that is small.
+fn count_around(counts: &mut Counts, value: usize, limit: usize) {
+    let difference = value as i64 - limit as i64;
+    if difference.abs() <= 2 {
+        *counts.entry(difference).or_default() += 1;
+    }
+}
+
+/// The state counts' product of a card that is laid out as it should.
+fn product(card: &[u8]) -> usize {
+    let offset = |machine: usize| card[2 + 4 * machine] as usize | (card[3 + 4 * machine] as usize) << 8;
+    (0..card[0] as usize).map(|machine| card[offset(machine)] as usize).product()
+}
+
+/// The pairs of the best candidate, if there is one. Where the answer slice was too short the call does not say them.
+fn best_pairs(call: &Call, outcome: &Outcome) -> Option<usize> {
+    let mut call = call.clone();
+    match (&mut call, outcome.number) {
+        (Call::Optimize { answer, .. }, 12) => {
+            answer.resize(6_398, 0);
+            Some(reference(&call).result[6])
+        }
+        (_, 0) => Some(outcome.result[6]),
+        _ => None,
+    }
+}
+
+impl Coverage {
+    /// Takes a call in, with its right outcome.
+    pub fn take(&mut self, call: &Call, outcome: &Outcome) {
+        count(&mut self.numbers[call.kind()], outcome.number as usize);
+        match call {
+            Call::Optimize { card, word, work, answer, .. } if matches!(outcome.number, 0 | 9..) => {
+                let need = 8 * (word.len() + 1) * product(card);
+                count_around(&mut self.work, work.len(), need);
+                if outcome.number != 9 {
+                    count(&mut self.machines, card[0] as usize);
+                    count(&mut self.symbols, card[1] as usize);
+                    count(&mut self.states, product(card));
+                    count(&mut self.words, word.len());
+                }
+                if outcome.number == 0 {
+                    let pairs = &outcome.slice[..2 * outcome.result[6]];
+                    for (times, met) in self.traits.iter_mut().zip(traits(pairs, &outcome.result[..6])) {
+                        *times += met as u64;
+                    }
+                }
+                if let Some(pairs) = best_pairs(call, outcome) {
+                    count_around(&mut self.answer, answer.len(), 2 * pairs);
+                    count(&mut self.pairs, pairs);
+                }
+            }
+            Call::Evaluate { candidate, .. } if !(1..=6).contains(&outcome.number) => {
+                count_around(&mut self.candidates, candidate.len() / 2, 3_199);
+            }
+            Call::Pack { lengths, parts, target, .. } if matches!(outcome.number, 0 | 18) => {
+                count_around(&mut self.target, target.len(), 2 + 4 * lengths.len() + parts.len());
+            }
+            Call::FindRanking { conditions, .. } if outcome.number != 1 => {
+                count_around(&mut self.conditions, conditions.len() / 2, 64);
+            }
+            _ => (),
+        }
+    }
+
+    /// What was not met as often as a whole run has to.
+    pub fn missing(&self) -> Vec<String> {
+        let mut missing = Vec::new();
+        let mut ask = |what: String, counts: &Counts, value: i64, often: u64| {
+            let times = counts.get(&value).copied().unwrap_or(0);
+            if times < often {
+                missing.push(format!("{what}: {times} times, {often} are asked"));
+            }
+        };
+        for ((name, refusals), counts) in KINDS.iter().zip(&self.numbers) {
+            for &number in [0].iter().chain(*refusals) {
+                ask(format!("{name} answers {number}"), counts, number as i64, OFTEN);
+            }
+        }
+        for (name, counts, values) in [
+            ("machines", &self.machines, 1..=6),
+            ("symbols", &self.symbols, 1..=63),
+            ("symbols of a word", &self.words, 1..=24),
+        ] {
+            for value in values {
+                ask(format!("{value} {name}"), counts, value, 1);
+            }
+        }
+        for value in [1, 128] {
+            ask(format!("{value} joined states"), &self.states, value, 1);
+        }
+        for (name, &times) in TRAITS.iter().zip(&self.traits) {
+            ask(format!("an answer with {name}"), &Counts::from([(0, times)]), 0, OFTEN);
+        }
+        ask("3199 pairs answered".to_string(), &self.pairs, 3_199, 1);
+        for (name, counts, values) in [
+            ("work slice", &self.work, -1..=1),
+            ("answer slice", &self.answer, -2..=2),
+            ("target slice", &self.target, -2..=1),
+            ("candidate", &self.candidates, -1..=1),
+            ("list of conditions", &self.conditions, -1..=1),
+        ] {
+            for value in values {
+                ask(format!("{name} at its limit {value:+}"), counts, value, OFTEN);
+            }
+        }
+        missing
+    }
+}
+
+/// The lowest and the highest value, and how many there are.
+fn range(counts: &Counts) -> String {
+    match (counts.keys().next(), counts.keys().next_back()) {
+        (Some(lowest), Some(highest)) => format!("{lowest} to {highest}, {} different", counts.len()),
+        _ => "none".to_string(),
+    }
+}
+
+fn each(counts: &Counts, sign: bool) -> String {
+    let text = |(value, times): (&i64, &u64)| match sign {
+        true => format!("{value:+}: {times}"),
+        false => format!("{value}: {times}"),
+    };
+    counts.iter().map(text).collect::<Vec<_>>().join("  ")
+}
+
+impl fmt::Display for Coverage {
+    fn fmt(&self, text: &mut fmt::Formatter) -> fmt::Result {
+        writeln!(text, "how often each call answered each number (0 accepted, 11 is never met: no example is known)")?;
+        for ((name, _), counts) in KINDS.iter().zip(&self.numbers) {
+            writeln!(text, "  {name:<13}{:>7}  {}", counts.values().sum::<u64>(), each(counts, false))?;
+        }
+        writeln!(text, "of the optimizer's calls past check 9")?;
+        writeln!(text, "  machines, K          {}", each(&self.machines, false))?;
+        writeln!(text, "  joined states, P     {}", range(&self.states))?;
+        writeln!(text, "  symbols, S           {}", range(&self.symbols))?;
+        writeln!(text, "  word lengths         {}", range(&self.words))?;
+        writeln!(text, "  pairs of the best    {}", range(&self.pairs))?;
+        for (name, times) in TRAITS.iter().zip(&self.traits) {
+            writeln!(text, "  answers with {name:<25} {times}")?;
+        }
+        writeln!(text, "lengths around their limits")?;
+        writeln!(text, "  work slice           {}", each(&self.work, true))?;
+        writeln!(text, "  answer slice         {}", each(&self.answer, true))?;
+        writeln!(text, "  target slice         {}", each(&self.target, true))?;
+        writeln!(text, "  pairs of a candidate {}", each(&self.candidates, true))?;
+        write!(text, "  pairs of conditions  {}", each(&self.conditions, true))
+    }
+}

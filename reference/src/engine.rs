@@ -1,0 +1,235 @@
+//! The proved engine, through the static library's interface for C (include/pastaspur.h).
+
+use crate::call::{Call, Engine, Outcome};
+use crate::lent::Lent;
+use crate::random::Random;
+use std::hash::{DefaultHasher, Hash, Hasher};
+
+extern "C" {
+    fn pastaspur_optimize(
+        card: *const u8,
+        card_len: usize,
+        ranking: *const u8,
+        ranking_len: usize,
+        word: *const u8,
+        word_len: usize,
+        work: *mut u16,
+        work_len: usize,
+        answer: *mut u8,
+        answer_len: usize,
+        result: *mut u16,
+    ) -> u32;
+    fn pastaspur_evaluate(
+        card: *const u8,
+        card_len: usize,
+        candidate: *const u8,
+        candidate_len: usize,
+        result: *mut u16,
+    ) -> u32;
+    fn pastaspur_read_part(card: *const u8, card_len: usize, machine: u8, result: *mut usize) -> u32;
+    fn pastaspur_pack(
+        symbols: u8,
+        lengths: *const u16,
+        lengths_len: usize,
+        parts: *const u8,
+        parts_len: usize,
+        target: *mut u8,
+        target_len: usize,
+        result: *mut usize,
+    ) -> u32;
+    fn pastaspur_compare(
+        machines: u8,
+        ranking: *const u8,
+        ranking_len: usize,
+        first: *const u16,
+        second: *const u16,
+        result: *mut u8,
+    ) -> u32;
+    fn pastaspur_condition(machines: u8, first: *const u16, second: *const u16, result: *mut u8) -> u32;
+    fn pastaspur_find_ranking(machines: u8, conditions: *const u8, conditions_len: usize, result: *mut u8) -> u32;
+}
+
+/// The memory of one call, lent between guards, and what was written that may not be.
+struct Lender {
+    random: Random,
+    trespasses: Vec<String>,
+}
+
+impl Lender {
+    /// Guards of 8 to 23 elements by chance, so that slices of bytes start at any address.
+    fn lend<T: Copy + Eq>(&mut self, contents: &[T], element: fn(u64) -> T) -> Lent<T> {
+        let length = self.random.between(8, 23);
+        let guard: Vec<T> = (0..length).map(|_| element(self.random.number())).collect();
+        Lent::new(contents, &guard)
+    }
+
+    fn bytes(&mut self, contents: &[u8]) -> Lent<u8> {
+        self.lend(contents, |number| number as u8)
+    }
+
+    fn shorts(&mut self, contents: &[u16]) -> Lent<u16> {
+        self.lend(contents, |number| number as u16)
+    }
+
+    /// A result's memory, which holds anything but zeros before the call.
+    fn result<T: Copy + Eq>(&mut self, length: usize, element: fn(u64) -> T) -> Lent<T> {
+        let contents: Vec<T> = (0..length).map(|_| element(self.random.number() | 1)).collect();
+        self.lend(&contents, element)
+    }
+
+    /// What a call may write, after it: nothing around it is written.
+    fn around<T: Copy + Eq>(&mut self, name: &str, lent: &Lent<T>) {
+        if !lent.guards_kept() {
+            self.trespasses.push(format!("around {name}"));
+        }
+    }
+
+    /// What a call may only read, after it.
+    fn read_only<T: Copy + Eq>(&mut self, name: &str, lent: &Lent<T>) {
+        if !lent.contents_kept() {
+            self.trespasses.push(name.to_string());
+        }
+        self.around(name, lent);
+    }
+
+    fn outcome<T: Copy + Eq>(
+        mut self,
+        number: u32,
+        result: Lent<T>,
+        wide: fn(T) -> usize,
+        slice: &[u8],
+        work_kept: bool,
+    ) -> Outcome {
+        self.around("result", &result);
+        let result = result.contents().iter().map(|&element| wide(element)).collect();
+        Outcome { number, result, slice: slice.to_vec(), work_kept, trespasses: self.trespasses }
+    }
+}
+
+/// The static library.
+pub struct Library;
+
+impl Engine for Library {
+    fn answer(&self, call: &Call) -> Outcome {
+        // the guards depend on the call alone, so that a call can be tried again
+        let mut hasher = DefaultHasher::new();
+        call.hash(&mut hasher);
+        let mut lender = Lender { random: Random::new(hasher.finish()), trespasses: vec![] };
+        match call {
+            Call::Optimize { card, ranking, word, work, answer } => {
+                let (mut card, mut ranking) = (lender.bytes(card), lender.bytes(ranking));
+                let (mut word, mut work, mut answer) = (lender.bytes(word), lender.shorts(work), lender.bytes(answer));
+                let mut result = lender.result(8, |number| number as u16);
+                // SAFETY: each pointer leads to as many elements as are said; none overlaps another
+                let number = unsafe {
+                    pastaspur_optimize(
+                        card.pointer(),
+                        card.length(),
+                        ranking.pointer(),
+                        ranking.length(),
+                        word.pointer(),
+                        word.length(),
+                        work.pointer(),
+                        work.length(),
+                        answer.pointer(),
+                        answer.length(),
+                        result.pointer(),
+                    )
+                };
+                lender.read_only("card", &card);
+                lender.read_only("ranking", &ranking);
+                lender.read_only("word", &word);
+                lender.around("work", &work);
+                lender.around("answer", &answer);
+                lender.outcome(number, result, usize::from, answer.contents(), work.contents_kept())
+            }
+            Call::Evaluate { card, candidate } => {
+                let (mut card, mut candidate) = (lender.bytes(card), lender.bytes(candidate));
+                let mut result = lender.result(8, |number| number as u16);
+                // SAFETY: as above
+                let number = unsafe {
+                    pastaspur_evaluate(
+                        card.pointer(),
+                        card.length(),
+                        candidate.pointer(),
+                        candidate.length(),
+                        result.pointer(),
+                    )
+                };
+                lender.read_only("card", &card);
+                lender.read_only("candidate", &candidate);
+                lender.outcome(number, result, usize::from, &[], true)
+            }
+            Call::ReadPart { card, machine } => {
+                let mut card = lender.bytes(card);
+                let mut result = lender.result(2, |number| number as usize);
+                // SAFETY: as above
+                let number = unsafe { pastaspur_read_part(card.pointer(), card.length(), *machine, result.pointer()) };
+                lender.read_only("card", &card);
+                lender.outcome(number, result, |element| element, &[], true)
+            }
+            Call::Pack { symbols, lengths, parts, target } => {
+                let (mut lengths, mut parts) = (lender.shorts(lengths), lender.bytes(parts));
+                let mut target = lender.bytes(target);
+                let mut result = lender.result(1, |number| number as usize);
+                // SAFETY: as above
+                let number = unsafe {
+                    pastaspur_pack(
+                        *symbols,
+                        lengths.pointer(),
+                        lengths.length(),
+                        parts.pointer(),
+                        parts.length(),
+                        target.pointer(),
+                        target.length(),
+                        result.pointer(),
+                    )
+                };
+                lender.read_only("lengths", &lengths);
+                lender.read_only("parts", &parts);
+                lender.around("target", &target);
+                lender.outcome(number, result, |element| element, target.contents(), true)
+            }
+            Call::Compare { machines, ranking, first, second } => {
+                let mut ranking = lender.bytes(ranking);
+                let (mut first, mut second) = (lender.shorts(first), lender.shorts(second));
+                let mut result = lender.result(1, |number| number as u8);
+                // SAFETY: as above, and both profiles have six counts
+                let number = unsafe {
+                    pastaspur_compare(
+                        *machines,
+                        ranking.pointer(),
+                        ranking.length(),
+                        first.pointer(),
+                        second.pointer(),
+                        result.pointer(),
+                    )
+                };
+                lender.read_only("ranking", &ranking);
+                lender.read_only("first", &first);
+                lender.read_only("second", &second);
+                lender.outcome(number, result, usize::from, &[], true)
+            }
+            Call::Condition { machines, first, second } => {
+                let (mut first, mut second) = (lender.shorts(first), lender.shorts(second));
+                let mut result = lender.result(2, |number| number as u8);
+                // SAFETY: as above, and both profiles have six counts
+                let number =
+                    unsafe { pastaspur_condition(*machines, first.pointer(), second.pointer(), result.pointer()) };
+                lender.read_only("first", &first);
+                lender.read_only("second", &second);
+                lender.outcome(number, result, usize::from, &[], true)
+            }
+            Call::FindRanking { machines, conditions } => {
+                let mut conditions = lender.bytes(conditions);
+                let mut result = lender.result(6, |number| number as u8);
+                // SAFETY: as above
+                let number = unsafe {
+                    pastaspur_find_ranking(*machines, conditions.pointer(), conditions.length(), result.pointer())
+                };
+                lender.read_only("conditions", &conditions);
+                lender.outcome(number, result, usize::from, &[], true)
+            }
+        }
+    }
+}

@@ -1,0 +1,8 @@
+//! Calls by chance: cards of every size, words, rankings, candidates and slices, right ones and damaged ones.
+
+mod calls;
+mod candidates;
+mod cards;
+mod damage;
+
+pub use calls::Generator;

@@ -1,0 +1,328 @@
+//! Whole calls by chance.
+
+use super::candidates::{damage_a_candidate, walk};
+use super::cards::{any_card, any_ranking, any_word, open_card};
+use super::damage::{add_states, damage_a_part, damage_a_ranking, damage_a_word, perhaps_damaged};
+use crate::call::Call;
+use crate::candidate::Pair;
+use crate::card::{read_card, Card, Machine};
+use crate::optimizer::best;
+use crate::random::Random;
+use crate::samples::{self, CARD_A};
+use crate::Profile;
+
+/// The first length that 16 bits do not hold.
+const TOO_WIDE: usize = 65_536;
+
+/// Makes calls by chance.
+pub struct Generator {
+    /// Cards A and B.
+    examples: Vec<Card>,
+    /// The heaviest cards, on which the search takes long.
+    heaviest: Vec<Card>,
+}
+
+impl Default for Generator {
+    fn default() -> Generator {
+        let read = |bytes: Vec<u8>| read_card(&bytes).expect("a card that is accepted");
+        let heaviest =
+            [samples::chain(), samples::chain_full(), samples::shortcuts(), samples::full(), samples::none()];
+        Generator {
+            examples: vec![read(CARD_A.to_vec()), read(samples::card_b())],
+            heaviest: heaviest.map(read).to_vec(),
+        }
+    }
+}
+
+impl Generator {
+    /// A call of any kind.
+    pub fn call(&self, random: &mut Random) -> Call {
+        match random.below(100) {
+            0..=44 => self.optimize(random),
+            45..=64 => self.evaluate(random),
+            65..=72 => self.read_part(random),
+            73..=82 => self.pack(random),
+            83..=88 => compare(random),
+            89..=91 => condition(random),
+            _ => find_ranking(random),
+        }
+    }
+
+    fn card(&self, random: &mut Random) -> Card {
+        if random.percent(3) {
+            self.examples[random.below(self.examples.len())].clone()
+        } else if random.below(600) == 0 {
+            self.heaviest[random.below(self.heaviest.len())].clone()
+        } else {
+            any_card(random)
+        }
+    }
+
+    fn optimize(&self, random: &mut Random) -> Call {
+        let read = self.card(random);
+        let mut ranking = any_ranking(random, read.machines.len());
+        let mut word = any_word(random, read.symbols);
+        if read.states() == 128 && random.percent(40) {
+            word.resize(24, 1);
+        }
+        let found = best(&read, &ranking, &word);
+        if found.is_none() && random.percent(60) {
+            // without a candidate there is less to compare
+            return self.optimize(random);
+        }
+        let card = perhaps_damaged(random, &read, 30);
+        if random.percent(4) {
+            damage_a_ranking(random, &mut ranking);
+        }
+        if random.percent(4) {
+            damage_a_word(random, &mut word, read.symbols);
+        }
+        let work = work_length(random, 8 * (word.len() + 1) * read.states());
+        let answer = answer_length(random, found.map_or(word.len(), |candidate| candidate.len()));
+        let work = (0..work).map(|_| random.number() as u16).collect();
+        Call::Optimize { card, ranking, word, work, answer: random.bytes(answer) }
+    }
+
+    fn evaluate(&self, random: &mut Random) -> Call {
+        if random.percent(5) {
+            return long_candidate(random);
+        }
+        let read = self.card(random);
+        let card = perhaps_damaged(random, &read, 20);
+        let mut candidate = match random.below(10) {
+            0..=4 => {
+                let ranking = any_ranking(random, read.machines.len());
+                let word = any_word(random, read.symbols);
+                best(&read, &ranking, &word).map_or(vec![], bytes_of)
+            }
+            5..=8 => {
+                let pairs = random.below(30);
+                walk(random, &read, pairs)
+            }
+            _ => {
+                let most = random.one_of(&[read.symbols as usize, 63, 255]);
+                (0..random.below(40)).map(|_| random.between(0, most) as u8).collect()
+            }
+        };
+        if random.percent(30) {
+            damage_a_candidate(random, &mut candidate, read.symbols);
+        }
+        Call::Evaluate { card, candidate }
+    }
+
+    fn read_part(&self, random: &mut Random) -> Call {
+        let read = self.card(random);
+        let machines = read.machines.len();
+        let machine = match random.below(8) {
+            0 => machines,
+            1 => random.one_of(&[6, 7, 128, 255]),
+            _ => random.below(machines),
+        };
+        Call::ReadPart { card: perhaps_damaged(random, &read, 40), machine: machine as u8 }
+    }
+
+    fn pack(&self, random: &mut Random) -> Call {
+        let Card { symbols, mut machines, .. } = self.card(random);
+        if random.percent(5) {
+            add_states(random, &mut machines);
+        }
+        let mut parts: Vec<Vec<u8>> = machines.iter().map(Machine::part).collect();
+        let times = random.one_of(&[0, 0, 1, 2]);
+        for _ in 0..times {
+            let place = random.below(parts.len());
+            damage_a_part(random, symbols, &mut parts[place]);
+        }
+        let mut lengths: Vec<u16> = parts.iter().map(|part| part.len() as u16).collect();
+        let mut parts = parts.concat();
+        if random.percent(15) {
+            damage_the_lengths(random, &mut lengths, &mut parts);
+        }
+        let symbols = if random.percent(4) { random.one_of(&[0, 64, 65, 128, 255]) } else { symbols };
+        let exact = 2 + 4 * lengths.len() + parts.len();
+        let target = match random.below(12) {
+            0 => exact - 1,
+            1 => exact - 2,
+            2 => random.below(exact),
+            3 => 0,
+            4 => exact + 1,
+            5 => exact + random.below(100),
+            6 if random.percent(2) => random.below(exact) + TOO_WIDE,
+            _ => exact,
+        };
+        Call::Pack { symbols, lengths, parts, target: random.bytes(target) }
+    }
+}
+
+fn bytes_of(candidate: Vec<Pair>) -> Vec<u8> {
+    candidate.into_iter().flat_map(|(input, output)| [input, output]).collect()
+}
+
+/// What is needed, a little less or more, nothing, or what is enough for every card.
+fn work_length(random: &mut Random, need: usize) -> usize {
+    match random.below(20) {
+        0 => need - 1,
+        1 => random.below(need),
+        2 if random.percent(20) => 0,
+        3 | 4 => need + 1,
+        5 => need + random.below(100),
+        6 => need.max(25_600),
+        7 if random.percent(20) => 25_601,
+        8 if random.percent(2) => random.below(need) + TOO_WIDE,
+        _ => need,
+    }
+}
+
+/// Twice the pairs, a little less or more, nothing, or what is enough for every card.
+fn answer_length(random: &mut Random, pairs: usize) -> usize {
+    let exact = 2 * pairs;
+    match random.below(20) {
+        0 => exact.saturating_sub(2),
+        1 => exact.saturating_sub(1),
+        2 if random.percent(20) => 0,
+        3 => random.below(exact + 1),
+        4 => exact + 1,
+        5 => exact + 2,
+        6 | 7 => exact + random.below(100),
+        8 => 6_398,
+        9 if random.percent(20) => 6_399,
+        10 if random.percent(2) => random.below(exact + 1) + TOO_WIDE,
+        _ => exact,
+    }
+}
+
+/// A candidate of about as many pairs as evaluation takes, on a card where it may be complete.
+fn long_candidate(random: &mut Random) -> Call {
+    let read = open_card(random);
+    let pairs = random.one_of(&[3_197, 3_198, 3_198, 3_199, 3_199, 3_200, 3_200, 3_201, 4_000]);
+    let mut candidate = walk(random, &read, pairs);
+    if random.percent(10) {
+        damage_a_candidate(random, &mut candidate, read.symbols);
+    } else if random.percent(2) {
+        candidate.resize(2 * random.below(100) + TOO_WIDE, 1);
+    }
+    Call::Evaluate { card: samples::card(read.symbols, &read.machines), candidate }
+}
+
+/// Lengths whose sum is not that of the parts, or is so only for numbers of 16 bits, which wrap; lengths at other places
+/// than the parts are; none, or too many: refusals 1, 3 and 17.
+fn damage_the_lengths(random: &mut Random, lengths: &mut Vec<u16>, parts: &mut Vec<u8>) {
+    let place = random.below(lengths.len());
+    match random.below(10) {
+        0 => lengths[place] = lengths[place].wrapping_add(1),
+        1 => lengths[place] = lengths[place].wrapping_sub(1),
+        2 => parts.push(0),
+        3 => {
+            parts.pop();
+        }
+        4 => random.shuffle(lengths),
+        5 => lengths.clear(),
+        6 => lengths.resize(random.between(7, 9), 0),
+        7 => {
+            // 65,536 more, shared out among two machines
+            let more = random.between(1, 65_535) as u16;
+            lengths[place] = lengths[place].wrapping_add(more);
+            let other = random.below(lengths.len());
+            lengths[other] = lengths[other].wrapping_sub(more);
+        }
+        8 if random.percent(5) => {
+            // parts that are as long as lengths can say
+            *lengths = vec![u16::MAX; lengths.len()];
+            parts.resize(lengths.len() * u16::MAX as usize, 0);
+        }
+        _ => {
+            let other = random.below(lengths.len());
+            let more = lengths[other].min(random.one_of(&[1, 20, 21]));
+            lengths[other] -= more;
+            lengths[place] += more;
+        }
+    }
+}
+
+/// A machine count, at times a wrong one.
+fn any_count(random: &mut Random) -> u8 {
+    if random.percent(8) {
+        random.one_of(&[0, 7, 8, 9, 128, 255])
+    } else {
+        random.between(1, 6) as u8
+    }
+}
+
+/// Two profiles: alike in some places, and of small or any counts.
+fn any_profiles(random: &mut Random) -> (Profile, Profile) {
+    let most = random.one_of(&[1, 2, 300, 65_535]);
+    let alike = random.one_of(&[0, 50, 80, 100]);
+    let first: Profile = std::array::from_fn(|_| random.between(0, most) as u16);
+    let second = first.map(|count| match random.below(3) {
+        _ if random.percent(alike) => count,
+        0 => count.saturating_add(1),
+        1 => count.saturating_sub(1),
+        _ => random.between(0, most) as u16,
+    });
+    (first, second)
+}
+
+fn compare(random: &mut Random) -> Call {
+    let machines = any_count(random);
+    let (first, second) = any_profiles(random);
+    let mut ranking = any_ranking(random, machines.min(8) as usize);
+    if random.percent(15) {
+        damage_a_ranking(random, &mut ranking);
+    }
+    Call::Compare { machines, ranking, first, second }
+}
+
+fn condition(random: &mut Random) -> Call {
+    let (first, second) = any_profiles(random);
+    Call::Condition { machines: any_count(random), first, second }
+}
+
+/// A condition that a ranking fits: its highest machine of those looked at is in W.
+fn fitting_condition(random: &mut Random, ranking: &[u8]) -> (u8, u8) {
+    let (mut fewer, mut more) = (0, 0);
+    let share = random.one_of(&[20, 50]);
+    for &machine in ranking {
+        if random.percent(share) {
+            if fewer == 0 || random.percent(40) {
+                fewer |= 1 << machine;
+            } else {
+                more |= 1 << machine;
+            }
+        }
+    }
+    (fewer, more)
+}
+
+fn find_ranking(random: &mut Random) -> Call {
+    let machines = any_count(random);
+    let hidden = any_ranking(random, machines.min(7) as usize);
+    let pairs = match random.below(10) {
+        0 => random.between(63, 65),
+        1 => random.between(10, 64),
+        2 => 64,
+        3 if random.percent(10) => random.between(67, 300),
+        _ => random.below(8),
+    };
+    let unfit = random.one_of(&[0, 0, 10, 100]);
+    let mut conditions = Vec::new();
+    for _ in 0..pairs {
+        let (fewer, more) = fitting_condition(random, &hidden);
+        if random.percent(unfit) {
+            conditions.extend([more, fewer]);
+        } else {
+            conditions.extend([fewer, more]);
+        }
+    }
+    if random.percent(20) && !conditions.is_empty() {
+        let place = random.below(conditions.len());
+        match random.below(5) {
+            0 => conditions.push(random.byte()),
+            1 => {
+                conditions.pop();
+            }
+            2 => conditions[place] |= conditions[place ^ 1],
+            3 => conditions[place] |= 1 << machines.min(7),
+            _ => conditions[place] = random.byte(),
+        }
+    }
+    Call::FindRanking { machines, conditions }
+}

@@ -1,0 +1,606 @@
+//! The smallest call: from a call that fails, step by step to smaller ones that still fail, until no step does.
+
+use crate::call::Call;
+use crate::card::{lay_out, read_card};
+use crate::optimizer::best;
+use crate::ranking::is_ranking;
+use std::ops::Range;
+
+/// Makes a call smaller as long as it fails.
+pub fn smallest(call: &Call, fails: &dyn Fn(&Call) -> bool) -> Call {
+    let mut search = Search { call: call.clone(), size: size(&mut call.clone()), fails };
+    loop {
+        let before = search.call.clone();
+        search.clear_slices();
+        search.drop_machines();
+        search.drop_arcs();
+        search.drop_states();
+        search.merge_states();
+        search.shorten_parts();
+        search.drop_symbols();
+        search.clear_lists();
+        search.shorten_lists();
+        search.lower_bytes();
+        search.lower_numbers();
+        search.sort_the_ranking();
+        if search.call == before {
+            return before;
+        }
+    }
+}
+
+/// How large a call is, what weighs most first: elements lent, K and S, bits, sum, and the ranking as a number.
+fn size(call: &mut Call) -> [u64; 5] {
+    let (machines, symbols) = counts(call);
+    let (mut bits, mut sum) = (0, 0);
+    let mut add = |element: u16| {
+        bits += element.count_ones() as u64;
+        sum += element as u64;
+    };
+    let mut length = 0;
+    for list in byte_lists(call) {
+        length += list.len() as u64;
+        list.iter().for_each(|&byte| add(byte as u16));
+    }
+    for list in number_lists(call) {
+        length += list.len() as u64;
+        list.iter().for_each(|&number| add(number));
+    }
+    profiles(call).into_iter().flatten().for_each(|count| add(*count));
+    if let Call::ReadPart { machine, .. } = call {
+        add(*machine as u16);
+    }
+    let order = ranking(call).map_or(0, |list| list.iter().take(8).fold(0, |sum, &byte| sum << 8 | byte as u64));
+    [length, machines as u64 + symbols as u64, bits, sum, order]
+}
+
+/// K and S as the call has them, 0 where it has none.
+fn counts(call: &Call) -> (u8, u8) {
+    match call {
+        Call::Optimize { card, .. } | Call::Evaluate { card, .. } | Call::ReadPart { card, .. } => {
+            (card.first().copied().unwrap_or(0), card.get(1).copied().unwrap_or(0))
+        }
+        Call::Pack { symbols, .. } => (0, *symbols),
+        Call::Compare { machines, .. } | Call::Condition { machines, .. } | Call::FindRanking { machines, .. } => {
+            (*machines, 0)
+        }
+    }
+}
+
+fn byte_lists(call: &mut Call) -> Vec<&mut Vec<u8>> {
+    match call {
+        Call::Optimize { card, ranking, word, answer, .. } => vec![word, answer, ranking, card],
+        Call::Evaluate { card, candidate } => vec![candidate, card],
+        Call::ReadPart { card, .. } => vec![card],
+        Call::Pack { parts, target, .. } => vec![target, parts],
+        Call::Compare { ranking, .. } => vec![ranking],
+        Call::Condition { .. } => vec![],
+        Call::FindRanking { conditions, .. } => vec![conditions],
+    }
+}
+
+fn number_lists(call: &mut Call) -> Vec<&mut Vec<u16>> {
+    match call {
+        Call::Optimize { work, .. } => vec![work],
+        Call::Pack { lengths, .. } => vec![lengths],
+        _ => vec![],
+    }
+}
+
+fn profiles(call: &mut Call) -> Vec<&mut [u16; 6]> {
+    match call {
+        Call::Compare { first, second, .. } | Call::Condition { first, second, .. } => vec![first, second],
+        _ => vec![],
+    }
+}
+
+fn ranking(call: &mut Call) -> Option<&mut Vec<u8>> {
+    match call {
+        Call::Optimize { ranking, .. } | Call::Compare { ranking, .. } => Some(ranking),
+        _ => None,
+    }
+}
+
+/// Symbol count and parts of a card, or of what is to be packed.
+#[derive(Clone)]
+struct Grammar {
+    symbols: u8,
+    parts: Vec<Vec<u8>>,
+}
+
+/// A call's parts, if they lie where table or lengths say.
+fn grammar(call: &Call) -> Option<Grammar> {
+    let (symbols, mut rest, lengths): (u8, &[u8], Vec<usize>) = match call {
+        Call::Optimize { card, .. } | Call::Evaluate { card, .. } | Call::ReadPart { card, .. } => {
+            let table = card.get(2..2 + 4 * *card.first()? as usize)?;
+            let lengths = table.chunks(4).map(|row| row[2] as usize | (row[3] as usize) << 8).collect();
+            (card[1], &card[2 + table.len()..], lengths)
+        }
+        Call::Pack { symbols, lengths, parts, .. } => {
+            (*symbols, parts, lengths.iter().map(|&length| length as usize).collect())
+        }
+        _ => return None,
+    };
+    let mut parts = Vec::new();
+    for length in lengths {
+        parts.push(rest.get(..length)?.to_vec());
+        rest = &rest[length..];
+    }
+    let grammar = Grammar { symbols, parts };
+    (with_grammar(call, &grammar) == *call).then_some(grammar)
+}
+
+/// The call with other parts.
+fn with_grammar(call: &Call, grammar: &Grammar) -> Call {
+    let mut call = call.clone();
+    let list = &grammar.parts;
+    match &mut call {
+        Call::Optimize { card, .. } | Call::Evaluate { card, .. } | Call::ReadPart { card, .. } => {
+            *card = lay_out(grammar.symbols, list);
+        }
+        Call::Pack { symbols, lengths, parts, .. } => {
+            *symbols = grammar.symbols;
+            *lengths = list.iter().map(|part| part.len() as u16).collect();
+            *parts = list.concat();
+        }
+        _ => (),
+    }
+    call
+}
+
+/// A part whose length is what its counts say, with whatever its fields hold.
+#[derive(Clone)]
+struct Part {
+    states: Vec<u8>,
+    arcs: Vec<[u8; 20]>,
+}
+
+impl Part {
+    fn read(bytes: &[u8]) -> Option<Part> {
+        let (states, arcs) = (*bytes.first()? as usize, *bytes.get(1)? as usize);
+        if bytes.len() != 2 + states + 20 * arcs {
+            return None;
+        }
+        let arcs = bytes[2 + states..].chunks(20).map(|arc| arc.try_into().expect("20 bytes")).collect();
+        Some(Part { states: bytes[2..2 + states].to_vec(), arcs })
+    }
+
+    fn bytes(&self) -> Vec<u8> {
+        let counts = [self.states.len() as u8, self.arcs.len() as u8];
+        [&counts[..], &self.states, &self.arcs.concat()].concat()
+    }
+}
+
+/// A machine's part, if it can be taken apart.
+fn part(call: &Call, machine: usize) -> Option<Part> {
+    Part::read(grammar(call)?.parts.get(machine)?)
+}
+
+/// The call with one part changed, if that can be taken apart.
+fn with_part(call: &Call, machine: usize, change: impl Fn(&mut Part)) -> Option<Call> {
+    let mut grammar = grammar(call)?;
+    let mut part = Part::read(grammar.parts.get(machine)?)?;
+    change(&mut part);
+    grammar.parts[machine] = part.bytes();
+    Some(with_grammar(call, &grammar))
+}
+
+/// What the call needs of the slices whose length can be too short: numbers of work, bytes of answer or target.
+fn needs(call: &Call) -> Option<(usize, usize)> {
+    match call {
+        Call::Optimize { card, ranking, word, .. } => {
+            let card = read_card(card).ok()?;
+            let right = is_ranking(card.machines.len(), ranking) && word.len() <= 24;
+            let symbols = word.iter().all(|&symbol| symbol != 0 && symbol <= card.symbols);
+            let pairs = if right && symbols { best(&card, ranking, word).map_or(0, |pairs| pairs.len()) } else { 0 };
+            Some((8 * (word.len() + 1) * card.states(), 2 * pairs))
+        }
+        Call::Pack { lengths, parts, .. } => Some((0, 2 + 4 * lengths.len() + parts.len())),
+        _ => None,
+    }
+}
+
+/// The later call with slices that are as much too short or too long as those of the earlier one.
+fn refitted(earlier: &Call, later: &Call) -> Option<Call> {
+    let ((work_before, slice_before), (work_after, slice_after)) = (needs(earlier)?, needs(later)?);
+    let moved = |length: usize, before: usize, after: usize| (length + after).saturating_sub(before);
+    let mut call = later.clone();
+    match &mut call {
+        Call::Optimize { work, answer, .. } => {
+            work.resize(moved(work.len(), work_before, work_after), 0);
+            answer.resize(moved(answer.len(), slice_before, slice_after), 0);
+        }
+        Call::Pack { target, .. } => target.resize(moved(target.len(), slice_before, slice_after), 0),
+        _ => (),
+    }
+    Some(call)
+}
+
+/// A machine's number after others have gone.
+fn renumbered(number: u8, gone: &Range<usize>) -> Option<u8> {
+    match number as usize {
+        low if low < gone.start => Some(number),
+        high if high >= gone.end => Some(number - gone.len() as u8),
+        _ => None,
+    }
+}
+
+/// The bits of a set of machines or symbols after some have gone.
+fn without_bits(set: u64, gone: &Range<usize>) -> u64 {
+    let low = (1u64 << gone.start) - 1;
+    set & low | set.checked_shr(gone.end as u32).unwrap_or(0) << gone.start
+}
+
+/// The call without some machines.
+fn without_machines(call: &Call, gone: &Range<usize>) -> Option<Call> {
+    let mut call = match grammar(call) {
+        Some(mut grammar) => {
+            grammar.parts.drain(gone.clone());
+            with_grammar(call, &grammar)
+        }
+        None => call.clone(),
+    };
+    if let Some(list) = ranking(&mut call) {
+        *list = list.iter().filter_map(|&number| renumbered(number, gone)).collect();
+    }
+    for profile in profiles(&mut call) {
+        profile.copy_within(gone.end.min(6).., gone.start.min(6));
+        profile[6 - gone.len()..].fill(0);
+    }
+    match &mut call {
+        Call::ReadPart { machine, .. } => *machine = renumbered(*machine, gone).unwrap_or(0),
+        Call::Compare { machines, .. } | Call::Condition { machines, .. } => *machines -= gone.len() as u8,
+        Call::FindRanking { machines, conditions } => {
+            *machines -= gone.len() as u8;
+            for set in conditions {
+                *set = without_bits(*set as u64, gone) as u8;
+            }
+        }
+        _ => (),
+    }
+    Some(call)
+}
+
+/// The call without some states of a machine, and without their arcs.
+fn without_states(call: &Call, machine: usize, gone: &Range<usize>) -> Option<Call> {
+    with_part(call, machine, |part| {
+        part.states.drain(gone.clone());
+        part.arcs.retain_mut(|arc| match (renumbered(arc[0], gone), renumbered(arc[1], gone)) {
+            (Some(from), Some(to)) => {
+                (arc[0], arc[1]) = (from, to);
+                true
+            }
+            _ => false,
+        });
+    })
+}
+
+/// Whether two arcs of a state take one pair; 0:0 is none.
+fn clash(first: &[u8; 20], second: &[u8; 20]) -> bool {
+    let set = |arc: &[u8; 20], place: usize| u64::from_le_bytes(arc[place..place + 8].try_into().expect("8 bytes"));
+    let [inputs, outputs] = [4, 12].map(|place| set(first, place) & set(second, place));
+    first[0] == second[0] && inputs != 0 && outputs != 0 && (inputs, outputs) != (1, 1)
+}
+
+/// The call with two states of a machine made one, the lower, without arcs that clash then.
+fn with_one_state_for_two(call: &Call, machine: usize, low: usize, high: usize) -> Option<Call> {
+    with_part(call, machine, |part| {
+        part.states[low] |= part.states[high];
+        part.states.remove(high);
+        let gone = high..high + 1;
+        let mut arcs: Vec<[u8; 20]> = Vec::new();
+        for arc in &part.arcs {
+            let mut arc = *arc;
+            for place in [0, 1] {
+                arc[place] = renumbered(arc[place], &gone).unwrap_or(low as u8);
+            }
+            if !arcs.iter().any(|other| clash(other, &arc)) {
+                arcs.push(arc);
+            }
+        }
+        part.arcs = arcs;
+    })
+}
+
+/// The call without some symbols, counted from 0 for symbol 1: none of them is left in sets, word or candidate.
+fn without_symbols(call: &Call, gone: &Range<usize>) -> Option<Call> {
+    let mut grammar = grammar(call)?;
+    let symbols = gone.start + 1..gone.end + 1;
+    grammar.symbols -= gone.len() as u8;
+    for bytes in &mut grammar.parts {
+        let Some(mut part) = Part::read(bytes) else { continue };
+        for arc in &mut part.arcs {
+            for place in [4, 12] {
+                let set = u64::from_le_bytes(arc[place..place + 8].try_into().expect("8 bytes"));
+                arc[place..place + 8].copy_from_slice(&without_bits(set, &symbols).to_le_bytes());
+            }
+        }
+        // an arc that took nothing else
+        part.arcs.retain(|arc| arc[4..12] != [0; 8] && arc[12..] != [0; 8]);
+        *bytes = part.bytes();
+    }
+    let mut call = with_grammar(call, &grammar);
+    if let Call::Optimize { word: list, .. } | Call::Evaluate { candidate: list, .. } = &mut call {
+        *list = list.iter().filter_map(|&symbol| renumbered(symbol, &symbols)).collect();
+    }
+    Some(call)
+}
+
+/// What is to be packed, as much shorter at the end as one of its lengths.
+fn with_shorter_length(call: &Call, place: usize, less: usize) -> Option<Call> {
+    let mut call = call.clone();
+    let Call::Pack { lengths, parts, .. } = &mut call else { return None };
+    lengths[place] = lengths[place].checked_sub(less as u16)?;
+    parts.truncate(parts.len().checked_sub(less)?);
+    if lengths[place] == 0 && less > 0 {
+        lengths.remove(place);
+    }
+    Some(call)
+}
+
+struct Search<'a> {
+    call: Call,
+    size: [u64; 5],
+    fails: &'a dyn Fn(&Call) -> bool,
+}
+
+impl Search<'_> {
+    /// Takes a smaller call if it fails too.
+    fn try_one(&mut self, call: &mut Call) -> bool {
+        let size = size(call);
+        let better = size < self.size && (self.fails)(call);
+        if better {
+            self.call = call.clone();
+            self.size = size;
+        }
+        better
+    }
+
+    /// Takes the call, or the same with slices refitted.
+    fn attempt(&mut self, call: Option<Call>) -> bool {
+        let Some(mut call) = call else { return false };
+        if self.try_one(&mut call) {
+            return true;
+        }
+        let refitted = refitted(&self.call, &call).filter(|other| *other != call);
+        refitted.is_some_and(|mut other| self.try_one(&mut other))
+    }
+
+    /// Tries every stretch of something that there is so much of, from the whole to single ones; after a stretch that is
+    /// taken away, the next one stands in its place.
+    fn stretches(
+        &mut self,
+        length: &dyn Fn(&mut Call) -> usize,
+        takes_away: bool,
+        without: &dyn Fn(&Call, Range<usize>) -> Option<Call>,
+    ) {
+        let mut stretch = length(&mut self.call);
+        while stretch > 0 {
+            let mut start = 0;
+            let mut last = None;
+            while start < length(&mut self.call) {
+                let end = (start + stretch).min(length(&mut self.call));
+                let call = without(&self.call, start..end);
+                // where all is alike, one stretch is as good as another
+                let taken = call != last && self.attempt(call.clone());
+                last = call;
+                if !(taken && takes_away) {
+                    start += stretch;
+                }
+            }
+            stretch /= 2;
+        }
+    }
+
+    fn shorten(&mut self, length: &dyn Fn(&mut Call) -> usize, without: &dyn Fn(&Call, Range<usize>) -> Option<Call>) {
+        self.stretches(length, true, without);
+    }
+
+    fn drop_machines(&mut self) {
+        let length = |call: &mut Call| match call {
+            Call::Compare { machines, .. } | Call::Condition { machines, .. } | Call::FindRanking { machines, .. } => {
+                (*machines).min(6) as usize
+            }
+            _ => grammar(call).map_or(0, |grammar| grammar.parts.len()),
+        };
+        self.shorten(&length, &|call, gone| without_machines(call, &gone));
+    }
+
+    /// How many parts there are that can be told apart.
+    fn machines(&self) -> usize {
+        grammar(&self.call).map_or(0, |grammar| grammar.parts.len())
+    }
+
+    fn drop_states(&mut self) {
+        for machine in 0..self.machines() {
+            let length = |call: &mut Call| part(call, machine).map_or(0, |part| part.states.len());
+            self.shorten(&length, &|call, gone| without_states(call, machine, &gone));
+        }
+    }
+
+    fn merge_states(&mut self) {
+        for machine in 0..self.machines() {
+            let mut high = part(&self.call, machine).map_or(0, |part| part.states.len());
+            while high > 1 {
+                high -= 1;
+                for low in 0..high {
+                    if self.attempt(with_one_state_for_two(&self.call, machine, low, high)) {
+                        break;
+                    }
+                }
+            }
+        }
+    }
+
+    fn drop_arcs(&mut self) {
+        for machine in 0..self.machines() {
+            let length = |call: &mut Call| part(call, machine).map_or(0, |part| part.arcs.len());
+            let without =
+                |call: &Call, gone: Range<usize>| with_part(call, machine, |part| drop(part.arcs.drain(gone.clone())));
+            self.shorten(&length, &without);
+        }
+    }
+
+    /// Takes bytes away from a part that cannot be taken apart, or from what is packed with lengths that do not fit.
+    fn shorten_parts(&mut self) {
+        for machine in 0..self.machines() {
+            let length = |call: &mut Call| match grammar(call) {
+                Some(grammar) if part(call, machine).is_none() => grammar.parts[machine].len(),
+                _ => 0,
+            };
+            let without = |call: &Call, gone: Range<usize>| {
+                let mut grammar = grammar(call)?;
+                grammar.parts[machine].drain(gone);
+                Some(with_grammar(call, &grammar))
+            };
+            self.shorten(&length, &without);
+        }
+        if let (Call::Pack { lengths, parts, .. }, None) = (&self.call, grammar(&self.call)) {
+            let mut less = parts.len();
+            let places = lengths.len();
+            while less > 0 {
+                for place in (0..places).rev() {
+                    while number_lists(&mut self.call)[0].len() > place
+                        && self.attempt(with_shorter_length(&self.call, place, less))
+                    {}
+                }
+                less /= 2;
+            }
+        }
+    }
+
+    fn drop_symbols(&mut self) {
+        let length = |call: &mut Call| grammar(call).map_or(0, |grammar| grammar.symbols.min(63) as usize);
+        self.shorten(&length, &|call, gone| without_symbols(call, &gone));
+    }
+
+    /// Zeros in the slices that are only there to be written.
+    fn clear_slices(&mut self) {
+        let mut call = self.call.clone();
+        match &mut call {
+            Call::Optimize { work, answer, .. } => {
+                work.fill(0);
+                answer.fill(0);
+            }
+            Call::Pack { target, .. } => target.fill(0),
+            _ => (),
+        }
+        self.attempt(Some(call));
+    }
+
+    /// Zeros in stretches of every list of bytes.
+    fn clear_lists(&mut self) {
+        for list in 0..byte_lists(&mut self.call).len() {
+            let length = |call: &mut Call| byte_lists(call)[list].len();
+            let cleared = |call: &Call, stretch: Range<usize>| {
+                let mut other = call.clone();
+                byte_lists(&mut other)[list][stretch].fill(0);
+                (other != *call).then_some(other)
+            };
+            self.stretches(&length, false, &cleared);
+        }
+    }
+
+    /// Takes elements away from every list, by twos and one by one.
+    fn shorten_lists(&mut self) {
+        for list in 0..number_lists(&mut self.call).len() {
+            let length = |call: &mut Call| number_lists(call)[list].len();
+            let without = |call: &Call, gone: Range<usize>| {
+                let mut call = call.clone();
+                number_lists(&mut call)[list].drain(gone);
+                Some(call)
+            };
+            self.shorten(&length, &without);
+        }
+        for list in 0..byte_lists(&mut self.call).len() {
+            for unit in [2, 1] {
+                let length = |call: &mut Call| byte_lists(call)[list].len() / unit;
+                let without = |call: &Call, gone: Range<usize>| {
+                    let mut call = call.clone();
+                    byte_lists(&mut call)[list].drain(unit * gone.start..unit * gone.end);
+                    Some(call)
+                };
+                self.shorten(&length, &without);
+            }
+        }
+    }
+
+    /// Lowers a number in every way that may help: to 0, to 1, by a bit, by one.
+    fn lower(&mut self, number: &dyn Fn(&mut Call) -> Option<u16>, set: &dyn Fn(&mut Call, u16)) {
+        while let Some(old) = number(&mut self.call).filter(|&old| old > 0) {
+            let without_a_bit = (0..16).rev().filter(|bit| old >> bit & 1 == 1).map(|bit| old ^ 1 << bit);
+            let lowered = [0, 1].into_iter().chain(without_a_bit).chain([old - 1]).any(|new| {
+                let mut call = self.call.clone();
+                set(&mut call, new);
+                new < old && self.attempt(Some(call))
+            });
+            if !lowered {
+                return;
+            }
+        }
+    }
+
+    fn lower_bytes(&mut self) {
+        for list in 0..byte_lists(&mut self.call).len() {
+            for place in 0..byte_lists(&mut self.call)[list].len() {
+                self.lower(&|call| byte_lists(call)[list].get(place).map(|&byte| byte as u16), &|call, new| {
+                    byte_lists(call)[list][place] = new as u8;
+                });
+            }
+        }
+    }
+
+    /// Lowers the counts of profiles and what else is a number.
+    fn lower_numbers(&mut self) {
+        for place in 0..6 {
+            // both profiles alike first
+            let mut call = self.call.clone();
+            if let [first, second] = &mut profiles(&mut call)[..] {
+                let both = first[place].min(second[place]);
+                first[place] -= both;
+                second[place] -= both;
+                self.attempt(Some(call));
+            }
+            for profile in 0..profiles(&mut self.call).len() {
+                self.lower(&|call| Some(profiles(call)[profile][place]), &|call, new| {
+                    profiles(call)[profile][place] = new;
+                });
+            }
+        }
+        for list in 0..number_lists(&mut self.call).len() {
+            for place in 0..number_lists(&mut self.call)[list].len() {
+                self.lower(&|call| number_lists(call)[list].get(place).copied(), &|call, new| {
+                    number_lists(call)[list][place] = new;
+                });
+            }
+        }
+        fn other(call: &mut Call) -> Option<&mut u8> {
+            match call {
+                Call::ReadPart { machine: number, .. }
+                | Call::Pack { symbols: number, .. }
+                | Call::Compare { machines: number, .. }
+                | Call::Condition { machines: number, .. }
+                | Call::FindRanking { machines: number, .. } => Some(number),
+                _ => None,
+            }
+        }
+        self.lower(&|call| other(call).map(|number| *number as u16), &|call, new| {
+            if let Some(number) = other(call) {
+                *number = new as u8;
+            }
+        });
+    }
+
+    fn sort_the_ranking(&mut self) {
+        let length = ranking(&mut self.call).map_or(0, |list| list.len());
+        for first in 0..length {
+            for second in first + 1..length {
+                let mut call = self.call.clone();
+                if let Some(list) = ranking(&mut call).filter(|list| second < list.len()) {
+                    list.swap(first, second);
+                    self.attempt(Some(call));
+                }
+            }
+        }
+    }
+}

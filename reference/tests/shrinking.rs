@@ -1,0 +1,358 @@
+//! Engines that are wrong in a known way are found out by calls made by chance, and the smallest call shows how.
+
+use reference::call::{reference, Call, Outcome};
+use reference::candidate::Pair;
+use reference::card::{read_card, read_machine, Card};
+use reference::comparison::{compare, describe};
+use reference::optimizer::best;
+use reference::samples::{arc, machine, set};
+
+/// The smallest call on which the engine is found out, from a few thousand made by chance.
+fn found_out(engine: impl Fn(&Call) -> Outcome) -> Call {
+    let failure = compare(&engine, 7, 5_000).err().expect("a call that is answered in another way");
+    let call = failure.smallest(&engine);
+    println!("case {}: {}", failure.case, describe(&call));
+    call
+}
+
+/// The optimizer by another way of choosing, on every call that gets as far as choosing.
+fn choosing(choose: impl Fn(&Card, &[u8], &[u8]) -> Option<Vec<Pair>>) -> impl Fn(&Call) -> Outcome {
+    move |call| {
+        let right = reference(call);
+        let Call::Optimize { card, ranking, word, answer, .. } = call else { return right };
+        if !matches!(right.number, 0 | 10 | 12) {
+            return right;
+        }
+        let read = read_card(card).unwrap();
+        let refused = |number| Outcome { number, result: vec![0; 8], slice: answer.clone(), ..right.clone() };
+        let Some(candidate) = choose(&read, ranking, word) else { return refused(10) };
+        let bytes: Vec<u8> = candidate.iter().flat_map(|&(input, output)| [input, output]).collect();
+        if answer.len() < bytes.len() {
+            return refused(12);
+        }
+        let evaluated = reference(&Call::Evaluate { card: card.clone(), candidate: bytes.clone() });
+        let mut slice = answer.clone();
+        slice[..bytes.len()].copy_from_slice(&bytes);
+        Outcome { slice, result: evaluated.result, ..right }
+    }
+}
+
+/// Sizes of a call of the optimizer that is accepted.
+struct Sizes {
+    machines: usize,
+    states: usize,
+    arcs: usize,
+    symbols: u8,
+    word: usize,
+    answer: usize,
+}
+
+fn sizes(call: &Call) -> Sizes {
+    let Call::Optimize { card, word, work, answer, .. } = call else { panic!("a call of the optimizer") };
+    let card = read_card(card).expect("a card that is accepted");
+    assert_eq!(work.len(), 8 * (word.len() + 1) * card.states());
+    Sizes {
+        machines: card.machines.len(),
+        states: card.states(),
+        arcs: card.machines.iter().map(|machine| machine.arcs.len()).sum(),
+        symbols: card.symbols,
+        word: word.len(),
+        answer: answer.len(),
+    }
+}
+
+#[test]
+fn comparing_in_card_order() {
+    let call = found_out(choosing(|card, ranking, word| {
+        let mut sorted = ranking.to_vec();
+        sorted.sort();
+        best(card, &sorted, word)
+    }));
+    // two machines that disagree on two pairs
+    let Sizes { machines, states, arcs, symbols, word, .. } = sizes(&call);
+    assert_eq!((machines, states, symbols, word), (2, 1, 1, 1));
+    assert!(arcs <= 4, "{arcs} arcs");
+}
+
+/// Candidates that insert after the last symbol left out, by a machine that tells whether a symbol was read last.
+#[test]
+fn insertions_only_before_symbols() {
+    let call = found_out(choosing(|card, ranking, word| {
+        let (empty, segment, any) = (set([0]), set(1..card.symbols + 1), set(0..card.symbols + 1));
+        let arcs = [0, 1].map(|from| [arc(from, 0, 0, empty, segment), arc(from, 1, 0, segment, any)]).concat();
+        let mut with_another = card.clone();
+        with_another.machines.push(machine(&[false, true], arcs));
+        best(&with_another, &[ranking, &[card.machines.len() as u8]].concat(), word)
+    }));
+    // a symbol is read, and then one has to be inserted
+    let Sizes { machines, states, arcs, symbols, word, .. } = sizes(&call);
+    assert_eq!((machines, arcs, symbols, word), (1, 2, 1, 1));
+    assert!(states <= 3, "{states} states");
+}
+
+/// Of equal profiles with equally many pairs the greatest output first, by cards whose outputs are numbered backwards.
+#[test]
+fn the_greatest_of_equals() {
+    let call = found_out(choosing(|card, ranking, word| {
+        let backwards = |output: u8| if output == 0 { 0 } else { card.symbols + 1 - output };
+        let mut turned = card.clone();
+        for arc in turned.machines.iter_mut().flat_map(|machine| &mut machine.arcs) {
+            arc.outputs = set((0..card.symbols + 1).filter(|&output| arc.outputs >> backwards(output) & 1 == 1));
+        }
+        let candidate = best(&turned, ranking, word)?;
+        Some(candidate.iter().map(|&(input, output)| (input, backwards(output))).collect())
+    }));
+    // an arc with two outputs
+    let Sizes { machines, states, arcs, symbols, word, answer } = sizes(&call);
+    assert_eq!((machines, states, arcs, symbols, word, answer), (1, 1, 1, 2, 1, 2));
+}
+
+/// Insertions at one position at most once: a loop of them called endless.
+#[test]
+fn no_two_insertions_in_a_row() {
+    let call = found_out(choosing(|card, ranking, word| {
+        let (empty, segment, any) = (set([0]), set(1..card.symbols + 1), set(0..card.symbols + 1));
+        let arcs = vec![arc(0, 1, 0, empty, segment), arc(0, 0, 0, segment, any), arc(1, 0, 0, segment, any)];
+        let mut with_another = card.clone();
+        with_another.machines.push(machine(&[true, true], arcs));
+        best(&with_another, &[ranking, &[card.machines.len() as u8]].concat(), word)
+    }));
+    let Sizes { machines, states, arcs, symbols, word, .. } = sizes(&call);
+    assert_eq!((machines, symbols, word), (1, 1, 1));
+    assert!(states <= 4 && arcs <= 3, "{states} states, {arcs} arcs");
+}
+
+#[test]
+fn refusal_12_before_searching() {
+    let call = found_out(|call| {
+        let right = reference(call);
+        match call {
+            Call::Optimize { word, answer, .. } if right.number == 10 && answer.len() < 2 * word.len() => {
+                Outcome { number: 12, ..right }
+            }
+            _ => right,
+        }
+    });
+    let Sizes { machines, states, arcs, word, answer, .. } = sizes(&call);
+    assert_eq!((machines, states, arcs, word, answer), (1, 1, 0, 1, 0));
+}
+
+/// The answer slice filled up behind the pairs.
+#[test]
+fn bytes_not_kept() {
+    let call = found_out(|call| {
+        let mut right = reference(call);
+        if matches!(call, Call::Optimize { .. }) && right.number == 0 {
+            right.slice[2 * right.result[6]..].fill(255);
+        }
+        right
+    });
+    let Sizes { machines, states, arcs, symbols, word, answer } = sizes(&call);
+    assert_eq!((machines, states, arcs, symbols, word, answer), (1, 1, 1, 1, 1, 3));
+}
+
+/// The work slice used before check 9. After it the contents are left open.
+#[test]
+fn work_not_kept() {
+    let engine = |late: u32| {
+        move |call: &Call| {
+            let right = reference(call);
+            let touched = matches!(call, Call::Optimize { .. }) && right.number >= late;
+            Outcome { work_kept: !touched, ..right }
+        }
+    };
+    let Call::Optimize { word, work, .. } = found_out(engine(9)) else { panic!("a call of the optimizer") };
+    assert_eq!((word.len(), work.len()), (1, 0));
+    assert!(compare(&engine(10), 7, 1_000).is_ok());
+}
+
+/// Memory around the work slice written for words of five symbols or more.
+#[test]
+fn trespasses() {
+    let call = found_out(|call| {
+        let mut right = reference(call);
+        match call {
+            Call::Optimize { word, .. } if word.len() >= 5 && matches!(right.number, 0 | 10..) => {
+                right.trespasses.push("around work".to_string());
+            }
+            _ => (),
+        }
+        right
+    });
+    let Sizes { machines, states, arcs, symbols, word, answer } = sizes(&call);
+    assert_eq!((machines, states, arcs, symbols, word, answer), (1, 1, 0, 1, 5, 0));
+}
+
+/// A number in the result of a refusal: the smallest call that is refused so.
+#[test]
+fn results_on_refusals() {
+    let on = |number: u32| {
+        found_out(move |call| {
+            let mut right = reference(call);
+            if right.number == number {
+                right.result[0] = 1;
+            }
+            right
+        })
+    };
+    let none = || vec![];
+    let nothing = Call::Optimize { card: none(), ranking: none(), word: none(), work: vec![], answer: none() };
+    assert_eq!(on(1), nothing);
+    assert_eq!(on(7), Call::Compare { machines: 1, ranking: vec![], first: [0; 6], second: [0; 6] });
+    let not_final = vec![1, 1, 6, 0, 3, 0, 1, 0, 0];
+    assert_eq!(on(14), Call::Evaluate { card: not_final, candidate: vec![] });
+    assert_eq!(on(16), Call::FindRanking { machines: 1, conditions: vec![0, 1] });
+    assert_eq!(on(18), Call::Pack { symbols: 1, lengths: vec![3], parts: vec![1, 0, 0], target: vec![] });
+}
+
+/// An arc of 0:0 alone taken for one that clashes.
+#[test]
+fn clashes_of_no_pair() {
+    let call = found_out(|call| {
+        let right = reference(call);
+        let Call::ReadPart { card, .. } = call else { return right };
+        let clash = right.number != 5
+            && read_card(card).is_ok_and(|card| {
+                card.machines.iter().any(|machine| {
+                    let doubtful =
+                        |state| machine.arcs.iter().filter(|arc| arc.from == state && arc.takes(0, 0)).count();
+                    (0..machine.finals.len()).any(|state| doubtful(state) > 1)
+                })
+            });
+        if clash {
+            return Outcome { number: 5, result: vec![0; 2], ..right };
+        }
+        right
+    });
+    let Call::ReadPart { card, machine } = call else { panic!("a call that reads a part") };
+    // two arcs of one state, with 0:0 alone
+    let arcs = [[0, 0, 0, 0, 1, 0, 0, 0, 0, 0, 0, 0, 1, 0, 0, 0, 0, 0, 0, 0]; 2].concat();
+    assert_eq!((card, machine), ([&[1, 1, 6, 0, 43, 0, 1, 2, 0], &arcs[..]].concat(), 0));
+}
+
+/// Check 6 before the machines are checked.
+#[test]
+fn the_order_of_the_checks() {
+    let call = found_out(|call| {
+        let right = reference(call);
+        let Call::Pack { lengths, parts, .. } = call else { return right };
+        let mut starts = lengths.iter().scan(0, |sum, &length| {
+            *sum += length as usize;
+            Some(*sum - length as usize)
+        });
+        let product = starts.try_fold(1usize, |product, start| Some(product * *parts.get(start)? as usize));
+        match product {
+            Some(129..) if matches!(right.number, 3..=5) => Outcome { number: 6, ..right },
+            _ => right,
+        }
+    });
+    let Call::Pack { lengths, parts, target, .. } = call else { panic!("a call that packs") };
+    assert!(lengths.len() <= 6 && parts.len() <= 20 && target.is_empty(), "{lengths:?} {parts:?}");
+}
+
+#[test]
+fn packing() {
+    // a packer that writes nothing
+    let call = found_out(|call| match call {
+        Call::Pack { target, .. } => Outcome { slice: target.clone(), ..reference(call) },
+        _ => reference(call),
+    });
+    let Call::Pack { symbols, lengths, parts, target } = call else { panic!("a call that packs") };
+    assert_eq!((symbols, lengths, parts, target), (1, vec![3], vec![1, 0, 0], vec![0; 9]));
+
+    // lengths added as numbers of 16 bits, which wrap
+    let call = found_out(|call| {
+        let right = reference(call);
+        let Call::Pack { lengths, parts, .. } = call else { return right };
+        let sum = lengths.iter().fold(0u16, |sum, &length| sum.wrapping_add(length));
+        match right.number {
+            17 if sum as usize == parts.len() => Outcome { number: 3, ..right },
+            _ => right,
+        }
+    });
+    let Call::Pack { lengths, parts, .. } = call else { panic!("a call that packs") };
+    assert_eq!((lengths.iter().map(|&length| length as usize).sum::<usize>(), parts), (65_536, vec![]));
+}
+
+#[test]
+fn evaluating_one_pair_more() {
+    let call = found_out(|call| {
+        let right = reference(call);
+        match call {
+            Call::Evaluate { candidate, .. } if right.number == 13 && candidate.len() == 6_400 => {
+                Outcome { number: 14, ..right }
+            }
+            _ => right,
+        }
+    });
+    let Call::Evaluate { card, candidate } = call else { panic!("a call that evaluates") };
+    assert_eq!((card.len(), candidate), (9, vec![0; 6_400]));
+}
+
+#[test]
+fn comparing_and_finding() {
+    // every place looked at, those from K on as well
+    let call = found_out(|call| match call {
+        Call::Compare { ranking, first, second, .. } => {
+            let right = reference(call);
+            let beyond = (ranking.len().min(6)..6).find(|&place| first[place] != second[place]);
+            match (right.result[0], beyond) {
+                (2, Some(place)) => {
+                    let result = vec![if first[place] < second[place] { 1 } else { 3 }];
+                    Outcome { result, ..right }
+                }
+                _ => right,
+            }
+        }
+        _ => reference(call),
+    });
+    let Call::Compare { machines, ranking, first, second } = call else { panic!("a call that compares") };
+    assert_eq!((machines, ranking), (1, vec![0]));
+    assert_eq!(first.iter().chain(&second).sum::<u16>(), 1);
+
+    // a finder that always gives 0, 1, 2
+    let call = found_out(|call| match call {
+        Call::FindRanking { machines, .. } => {
+            let right = reference(call);
+            let sorted = (0..6).map(|place| if place < *machines as usize { place } else { 0 }).collect();
+            match right.number {
+                0 => Outcome { result: sorted, ..right },
+                _ => right,
+            }
+        }
+        _ => reference(call),
+    });
+    assert_eq!(call, Call::FindRanking { machines: 2, conditions: vec![0b10, 0b01] });
+
+    // 64 pairs refused
+    let call = found_out(|call| match call {
+        Call::FindRanking { machines: 1.., conditions } if conditions.len() == 128 => {
+            Outcome { number: 15, result: vec![0; 6], ..reference(call) }
+        }
+        _ => reference(call),
+    });
+    assert_eq!(call, Call::FindRanking { machines: 1, conditions: vec![0; 128] });
+}
+
+/// Sixteen marks let through in cards of one machine.
+#[test]
+fn marks_of_sixteen() {
+    let call = found_out(|call| {
+        let right = reference(call);
+        let Call::ReadPart { card, .. } = call else { return right };
+        let Some(part) = card.get(6..).filter(|_| card[0] == 1 && right.number == 4) else { return right };
+        let mut lowered = part.to_vec();
+        let states = part[0] as usize;
+        for arc in lowered.get_mut(2 + states..).into_iter().flat_map(|arcs| arcs.chunks_mut(20)) {
+            if arc.len() == 20 && arc[2] == 16 {
+                arc[2] = 15;
+            }
+        }
+        match read_machine(&lowered, card[1]) {
+            Ok(_) => Outcome { number: 0, ..right },
+            Err(_) => right,
+        }
+    });
+    let Call::ReadPart { card, .. } = call else { panic!("a call that reads a part") };
+    assert_eq!((card.len(), card[11]), (29, 16));
+}
