@@ -20,60 +20,57 @@ pub struct Row {
 #[derive(Clone, Copy, PartialEq)]
 enum Constraint {
     Insertions,
-    Deletions,
+    DeletionsAndChanges,
     Shapes,
 }
 
-/// How a state of a random machine shares out the pairs: so many arcs for the insertions; so many classes of inputs, and
-/// for each of them one arc for the deletion and so many for the other outputs.
+/// How a state of a random machine shares out the pairs: so many arcs for the insertions; so many classes of inputs, each
+/// with an arc for the deletion, one for the outputs of the same class, and so many for the other outputs.
 #[derive(Clone, Copy)]
 struct Sharing {
     insertions: usize,
-    inputs: usize,
-    outputs: usize,
+    classes: usize,
+    changes: usize,
 }
 
-impl Sharing {
-    const fn new(insertions: usize, inputs: usize, outputs: usize) -> Sharing {
-        Sharing { insertions, inputs, outputs }
-    }
+/// The sharing with those numbers.
+const fn by(insertions: usize, classes: usize, changes: usize) -> Sharing {
+    Sharing { insertions, classes, changes }
 }
 
-/// `count` sets that share out the symbols 1 to `symbols`, by chance. Without `all` one set more is made and left out, so
-/// that its symbols are in none.
-fn shared_out(random: &mut Random, symbols: u8, count: usize, all: bool) -> Vec<u64> {
-    let mut list: Vec<u8> = (1..=symbols).collect();
+/// `count` sets that share out the symbols of a set by chance. Without `all` one set more is made and left out, so that its
+/// symbols are in none.
+fn shared_out(random: &mut Random, symbols: u64, count: usize, all: bool) -> Vec<u64> {
+    let mut list: Vec<u8> = (0..64).filter(|symbol| symbols >> symbol & 1 == 1).collect();
     random.shuffle(&mut list);
     let classes = if all { count } else { count + 1 };
     (0..count).map(|class| set(list.iter().skip(class).step_by(classes).copied())).collect()
 }
 
-/// The marks of an arc: a constraint on insertions or deletions has one or two for them and none else, one on shapes has
-/// none for half of the arcs, one for a third, two for the rest.
-fn marks(random: &mut Random, constraint: Constraint, about: Constraint) -> u16 {
-    match constraint {
-        Constraint::Shapes => [0, 0, 0, 1, 1, 2][random.below(6)],
-        _ if constraint == about => 1 + random.below(2) as u16,
-        _ => 0,
-    }
-}
-
 /// A machine with a sharing for each state. Where an arc leads to is left to chance. In one state of six some pairs are
-/// taken by no arc.
+/// taken by no arc. A constraint on shapes has no mark, one or two for each arc by chance; the others have one or two for
+/// what they are about, and none else.
 fn random_machine(random: &mut Random, symbols: u8, constraint: Constraint, states: &[Sharing]) -> Machine {
+    let all_symbols = set(1..=symbols);
     let mut arcs: Vec<Arc> = Vec::new();
     for (from, sharing) in states.iter().enumerate() {
         let all = random.below(6) > 0;
-        let mut add = |random: &mut Random, about, inputs, outputs| {
-            arcs.push(arc(from, random.below(states.len()), marks(random, constraint, about), inputs, outputs));
+        let mut add = |random: &mut Random, concerned, inputs, outputs| {
+            let marks = match constraint {
+                Constraint::Shapes => [0, 1, 1, 2][random.below(4)],
+                _ if constraint == concerned => 1 + random.below(2) as u16,
+                _ => 0,
+            };
+            arcs.push(arc(from, random.below(states.len()), marks, inputs, outputs));
         };
-        for outputs in shared_out(random, symbols, sharing.insertions, all) {
+        for outputs in shared_out(random, all_symbols, sharing.insertions, all) {
             add(random, Constraint::Insertions, set([0]), outputs);
         }
-        for inputs in shared_out(random, symbols, sharing.inputs, true) {
-            add(random, Constraint::Deletions, inputs, set([0]));
-            for outputs in shared_out(random, symbols, sharing.outputs, all) {
-                add(random, Constraint::Shapes, inputs, outputs);
+        for class in shared_out(random, all_symbols, sharing.classes, true) {
+            add(random, Constraint::DeletionsAndChanges, class, set([0]));
+            add(random, Constraint::Shapes, class, class);
+            for outputs in shared_out(random, all_symbols & !class, sharing.changes, all) {
+                add(random, Constraint::DeletionsAndChanges, class, outputs);
             }
         }
     }
@@ -81,13 +78,15 @@ fn random_machine(random: &mut Random, symbols: u8, constraint: Constraint, stat
     machine(&finals, arcs)
 }
 
-/// A card with a constraint on insertions, one on deletions, and others on shapes.
+/// A card with a constraint on insertions, one on deletions and changes, and others on shapes.
 fn random_card(random: &mut Random, symbols: u8, machines: &[&[Sharing]]) -> Vec<u8> {
-    let constraints = [Constraint::Insertions, Constraint::Deletions].into_iter();
-    let constraints = constraints.chain(std::iter::repeat(Constraint::Shapes));
-    let machines: Vec<Machine> =
-        machines.iter().zip(constraints).map(|(states, about)| random_machine(random, symbols, about, states)).collect();
-    card(symbols, &machines)
+    let constraint = |place| match place {
+        0 => Constraint::Insertions,
+        1 => Constraint::DeletionsAndChanges,
+        _ => Constraint::Shapes,
+    };
+    let machine = |(place, states): (usize, &&[Sharing])| random_machine(random, symbols, constraint(place), states);
+    card(symbols, &machines.iter().enumerate().map(machine).collect::<Vec<_>>())
 }
 
 fn random_case(random: &mut Random, card: &[u8], length: usize) -> Case {
@@ -97,20 +96,15 @@ fn random_case(random: &mut Random, card: &[u8], length: usize) -> Case {
     Case { card: card.to_vec(), ranking, word }
 }
 
-/// K = 4, S = 20, n = 8; P is 16, 24 and 32, with 20 to 36 arcs a machine.
+/// K = 4, S = 20, n = 8; P is 16, 24 and 32.
 fn medium() -> Vec<Case> {
     let mut random = Random::new(8);
-    let few = Sharing::new(2, 2, 2);
-    let more = Sharing::new(3, 2, 3);
-    let one = Sharing::new(4, 4, 4);
-    let cards: [&[&[Sharing]]; 3] = [
-        &[&[one], &[one], &[few; 4], &[few; 4]],
-        &[&[one], &[more; 2], &[more; 3], &[few; 4]],
-        &[&[more; 2], &[more; 2], &[more; 2], &[few; 4]],
-    ];
+    let (one, two, three, four) = ([by(4, 10, 2)], [by(4, 5, 2); 2], [by(3, 4, 2); 3], [by(2, 3, 2); 4]);
+    let cards: [[&[Sharing]; 4]; 3] =
+        [[&one, &one, &four, &four], [&one, &two, &three, &four], [&two, &two, &two, &four]];
     let mut cases = Vec::new();
     for machines in cards {
-        let card = random_card(&mut random, 20, machines);
+        let card = random_card(&mut random, 20, &machines);
         cases.extend((0..4).map(|_| random_case(&mut random, &card, 8)));
     }
     cases
@@ -119,12 +113,10 @@ fn medium() -> Vec<Case> {
 /// K = 6, S = 63, n = 24, P = 128, 230 arcs a machine.
 fn large() -> Vec<Case> {
     let mut random = Random::new(24);
-    let half = Sharing::new(31, 4, 20);
-    let (quarter, other) = (Sharing::new(9, 4, 11), Sharing::new(10, 4, 11));
+    let (two, four) = ([by(31, 7, 10); 2], [by(9, 6, 6), by(9, 6, 6), by(10, 6, 6), by(10, 6, 6)]);
     let mut cases = Vec::new();
     for _ in 0..2 {
-        let machines: [&[Sharing]; 6] = [&[half; 2], &[half; 2], &[half; 2], &[half; 2], &[half; 2], &[quarter, quarter, other, other]];
-        let card = random_card(&mut random, 63, &machines);
+        let card = random_card(&mut random, 63, &[&two, &two, &two, &two, &two, &four]);
         cases.extend((0..2).map(|_| random_case(&mut random, &card, 24)));
     }
     cases
