@@ -1,5 +1,5 @@
-// The file's fields, each known by its place. Numbers have 16 bits, the low byte first; bytes and lists of numbers have how many they are before them,
-// as such a number. What the file is too short for is nowhere, and so is all that comes after it.
+// The fields of the file's cases. A number has 16 bits, the low byte first; bytes, and numbers, have a number before them that says how many they are; a
+// profile is six numbers. A field is known by its place. What the file is too short for is nowhere, and so is what comes after it.
 use ranking::Profile;
 ghost use Prim.Native.Nat.{_<_};
 

@@ -1,153 +1,44 @@
-// Runs the corpus: makes the call that each case of the file `cases` asks, and writes a line with all that it answers. The cases and the lines that
-// are expected are made by the second implementation, in reference/.
-mod fields; // what a case is made of
-mod writing; // what a line is made of
+// Runs the corpus: makes the call that each case of the file `cases` asks, and writes a line with what it answers, as calls.rt has it. The second
+// implementation, in reference/, makes the cases and the lines that are expected.
+//
+// A case is a byte that says its kind, and its fields (fields.rt):
+//
+//     1 optimize    card, ranking, word: bytes; numbers of work, bytes of answer: a number each; what the answer is filled with: a byte
+//     2 evaluate    card, candidate: bytes
+//     3 read part   card: bytes; machine: a byte
+//     4 pack        symbols: a byte; lengths: numbers; parts: bytes; bytes of target: a number; what it is filled with: a byte
+//     5 compare     machines: a byte; ranking: bytes; two profiles
+//     6 derive      machines: a byte; two profiles
+//     7 find        machines: a byte; conditions: bytes
+//
+// A case of another kind, one that the file ends in and one that asks to be lent more than there is are faulty. Each of the functions for a kind goes
+// from the place of the first field to the place after the last, which is nowhere for a faulty case.
+mod calls;
+mod fields;
+mod writing;
 
+use calls::compare;
+use calls::derive;
+use calls::evaluate;
+use calls::find;
+use calls::lend_and_optimize;
+use calls::lend_and_pack;
+use calls::read_part;
 use fields::NOWHERE;
 use fields::after;
 use fields::after_bytes;
 use fields::after_numbers;
 use fields::byte_at;
 use fields::bytes_at;
-use fields::number_at;
 use fields::numbers_at;
 use fields::profile_at;
 use fields::size_at;
-use ranking::Comparison;
-use ranking::Derived;
-use ranking::Profile;
 use writing::end_line;
-use writing::write;
 use writing::write_bad_case;
-use writing::write_byte;
-use writing::write_evaluation;
-use writing::write_finding;
-use writing::write_order;
-use writing::write_size;
-use writing::write_slice;
 ghost use Rattle.io.specs.Counts.{Counts};
 
-// One byte more than the file may have, so that a longer one is known.
+// One byte more than the file may have.
 const FILE_BYTES: usize = 409601;
-
-// The most that a case may ask to be lent.
-const WORK_NUMBERS: usize = 25600;
-
-const ANSWER_BYTES: usize = 6398;
-
-const TARGET_BYTES: usize = 32000;
-
-fn optimize(card: &[u8], ranking: &[u8], word: &[u8], work: &mut [u16], answer: &mut [u8]) {
-    let evaluation = optimizer::optimize(card, ranking, word, work, answer);
-    write(b"optimize");
-    write_evaluation(evaluation);
-    write_slice(answer);
-}
-
-// Lends so many numbers of work, and so many bytes, each `fill`, for the answer. Answers whether there are as many.
-fn lend_and_optimize(
-    card: &[u8],
-    ranking: &[u8],
-    word: &[u8],
-    room: usize,
-    bytes: usize,
-    fill: u8,
-) -> bool {
-    if room > WORK_NUMBERS {
-        return false;
-    }
-    if bytes > ANSWER_BYTES {
-        return false;
-    }
-    let mut work = [0u16; WORK_NUMBERS];
-    let mut answer = [fill; ANSWER_BYTES];
-    optimize(
-        card,
-        ranking,
-        word,
-        &mut work[0..room],
-        &mut answer[0..bytes],
-    );
-    true
-}
-
-fn evaluate(card: &[u8], candidate: &[u8]) {
-    write(b"evaluate");
-    write_evaluation(candidate::evaluate(card, candidate));
-}
-
-fn read_part(card: &[u8], machine: u8) {
-    let place = card::read_part(card, machine);
-    write(b"part");
-    write_byte(place.number);
-    write_size(place.offset);
-    write_size(place.length);
-}
-
-fn pack(symbols: u8, lengths: &[u16], parts: &[u8], target: &mut [u8]) {
-    let packed = card::pack(symbols, lengths, parts, target);
-    write(b"pack");
-    write_byte(packed.number);
-    write_size(packed.length);
-    write_slice(target);
-}
-
-// Lends a target of so many bytes, each `fill`, and packs the first parts, as many as `machines`. Answers whether there are as many.
-fn lend_and_pack(
-    symbols: u8,
-    lengths: [u16; 7],
-    machines: usize,
-    parts: &[u8],
-    bytes: usize,
-    fill: u8,
-) -> bool {
-    if machines > 7 {
-        return false;
-    }
-    if bytes > TARGET_BYTES {
-        return false;
-    }
-    let mut target = [fill; TARGET_BYTES];
-    pack(symbols, &lengths[0..machines], parts, &mut target[0..bytes]);
-    true
-}
-
-fn compare(machines: u8, ranking: &[u8], first: Profile, second: Profile) {
-    write(b"compare");
-    match ranking::harmony::compare(machines, ranking, first, second) {
-        Comparison::Ordered(order) => {
-            write_byte(0);
-            write_order(order);
-        }
-        Comparison::Refused(refusal) => {
-            write_byte(refusal.number());
-            write_byte(0);
-        }
-    }
-}
-
-fn derive(machines: u8, first: Profile, second: Profile) {
-    write(b"condition");
-    match ranking::conditions::derive(machines, first, second) {
-        Derived::Condition(condition) => {
-            write_byte(0);
-            write_byte(condition.fewer);
-            write_byte(condition.more);
-        }
-        Derived::Refused(refusal) => {
-            write_byte(refusal.number());
-            write_byte(0);
-            write_byte(0);
-        }
-    }
-}
-
-fn find(machines: u8, conditions: &[u8]) {
-    write(b"ranking");
-    write_finding(ranking::finder::find(machines, conditions));
-}
-
-// The cases of each kind: from the place of the fields to the place after them, which is nowhere for a faulty case.
 
 fn optimize_case(file: &[u8], card: usize) -> usize {
     let ranking = after_bytes(file, card);
@@ -262,7 +153,7 @@ fn case(file: &[u8], at: usize) -> usize {
     }
 }
 
-// Every case, up to the first faulty one. A case has a byte at least, so there are not more cases than bytes.
+// Every case, up to the first that is faulty. A case has a byte at least, so there are not more cases than bytes.
 fn cases(file: &[u8]) {
     let mut at = 0;
     for _ in 0..file.len() {
@@ -291,12 +182,17 @@ fn read_file(bytes: &mut [u8]) -> usize
     n
 }
 
-fn main() {
-    let mut file = [0u8; FILE_BYTES];
-    let n = read_file(&mut file);
-    if n == FILE_BYTES {
+// Runs the file, read into a buffer that is longer than it: one that fills the buffer is too long.
+fn run(file: &mut [u8]) {
+    let n = read_file(file);
+    if n == file.len() {
         write_bad_case();
         return;
     }
     cases(&file[..n]);
+}
+
+fn main() {
+    let mut file = [0u8; FILE_BYTES];
+    run(&mut file);
 }
