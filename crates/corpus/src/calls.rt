@@ -1,0 +1,129 @@
+// The calls. Each writes its line but for the end: the call's name, the refusal's number, and the rest of what it answers. A lent slice is written in
+// short, as it is after the call.
+use crate::writing::write;
+use crate::writing::write_byte;
+use crate::writing::write_evaluation;
+use crate::writing::write_finding;
+use crate::writing::write_order;
+use crate::writing::write_size;
+use crate::writing::write_slice;
+use ranking::Comparison;
+use ranking::Derived;
+use ranking::Profile;
+
+// What there is to lend.
+const WORK_NUMBERS: usize = 25600;
+
+const ANSWER_BYTES: usize = 6398;
+
+const TARGET_BYTES: usize = 32000;
+
+fn optimize(card: &[u8], ranking: &[u8], word: &[u8], work: &mut [u16], answer: &mut [u8]) {
+    let evaluation = optimizer::optimize(card, ranking, word, work, answer);
+    write(b"optimize");
+    write_evaluation(evaluation);
+    write_slice(answer);
+}
+
+// With so many numbers of work, and an answer of so many bytes, each `fill`. Answers whether there is as much to lend.
+pub fn lend_and_optimize(
+    card: &[u8],
+    ranking: &[u8],
+    word: &[u8],
+    room: usize,
+    bytes: usize,
+    fill: u8,
+) -> bool {
+    if room > WORK_NUMBERS {
+        return false;
+    }
+    if bytes > ANSWER_BYTES {
+        return false;
+    }
+    let mut work = [0u16; WORK_NUMBERS];
+    let mut answer = [fill; ANSWER_BYTES];
+    optimize(
+        card,
+        ranking,
+        word,
+        &mut work[0..room],
+        &mut answer[0..bytes],
+    );
+    true
+}
+
+pub fn evaluate(card: &[u8], candidate: &[u8]) {
+    write(b"evaluate");
+    write_evaluation(candidate::evaluate(card, candidate));
+}
+
+pub fn read_part(card: &[u8], machine: u8) {
+    let place = card::read_part(card, machine);
+    write(b"part");
+    write_byte(place.number);
+    write_size(place.offset);
+    write_size(place.length);
+}
+
+fn pack(symbols: u8, lengths: &[u16], parts: &[u8], target: &mut [u8]) {
+    let packed = card::pack(symbols, lengths, parts, target);
+    write(b"pack");
+    write_byte(packed.number);
+    write_size(packed.length);
+    write_slice(target);
+}
+
+// With the first lengths, as many as `machines`, and a target of so many bytes, each `fill`. Answers whether there is as much to lend.
+pub fn lend_and_pack(
+    symbols: u8,
+    lengths: [u16; 7],
+    machines: usize,
+    parts: &[u8],
+    bytes: usize,
+    fill: u8,
+) -> bool {
+    if machines > 7 {
+        return false;
+    }
+    if bytes > TARGET_BYTES {
+        return false;
+    }
+    let mut target = [fill; TARGET_BYTES];
+    pack(symbols, &lengths[0..machines], parts, &mut target[0..bytes]);
+    true
+}
+
+pub fn compare(machines: u8, ranking: &[u8], first: Profile, second: Profile) {
+    write(b"compare");
+    match ranking::harmony::compare(machines, ranking, first, second) {
+        Comparison::Ordered(order) => {
+            write_byte(0);
+            write_order(order);
+        }
+        Comparison::Refused(refusal) => {
+            write_byte(refusal.number());
+            write_byte(0);
+        }
+    }
+}
+
+pub fn derive(machines: u8, first: Profile, second: Profile) {
+    write(b"condition");
+    match ranking::conditions::derive(machines, first, second) {
+        Derived::Condition(condition) => {
+            write_byte(0);
+            write_byte(condition.fewer);
+            write_byte(condition.more);
+        }
+        Derived::Refused(refusal) => {
+            write_byte(refusal.number());
+            write_byte(0);
+            write_byte(0);
+        }
+    }
+}
+
+pub fn find(machines: u8, conditions: &[u8]) {
+    write(b"ranking");
+    write_finding(ranking::finder::find(machines, conditions));
+}

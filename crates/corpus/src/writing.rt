@@ -1,0 +1,102 @@
+// The words of a line: numbers in decimal, each with a space before it or, in a list, a comma.
+use candidate::Evaluation;
+use ranking::Finding;
+use ranking::Order;
+use ranking::Profile;
+ghost use Prim.Native.Nat.{_≤_};
+
+// What sums over slices are taken modulo.
+const PRIME: u64 = 1000000007;
+
+pub fn write(text: &[u8]) {
+    io::write_all(1, text);
+}
+
+pub fn end_line() {
+    write(b"\n");
+}
+
+// The line of a faulty case.
+pub fn write_bad_case() {
+    write(b"bad case\n");
+}
+
+fn write_number(number: u64) {
+    write(b" ");
+    io::print_decimal(1, number);
+}
+
+pub fn write_byte(byte: u8) {
+    write_number(byte as u64);
+}
+
+pub fn write_size(size: usize) {
+    write_number(size as u64);
+}
+
+fn write_count(count: u16) {
+    write_number(count as u64);
+}
+
+fn write_next_count(count: u16) {
+    write(b",");
+    io::print_decimal(1, count as u64);
+}
+
+fn write_next_machine(machine: u8) {
+    write(b",");
+    io::print_decimal(1, machine as u64);
+}
+
+fn write_profile(profile: Profile) {
+    write_count(profile.counts[0]);
+    write_next_count(profile.counts[1]);
+    write_next_count(profile.counts[2]);
+    write_next_count(profile.counts[3]);
+    write_next_count(profile.counts[4]);
+    write_next_count(profile.counts[5]);
+}
+
+// Number, profile, pair count, word length.
+pub fn write_evaluation(evaluation: Evaluation) {
+    write_byte(evaluation.number);
+    write_profile(evaluation.profile);
+    write_count(evaluation.pairs);
+    write_count(evaluation.word_length);
+}
+
+// Number and ranking.
+pub fn write_finding(finding: Finding) {
+    write_byte(finding.number);
+    write_byte(finding.ranking[0]);
+    write_next_machine(finding.ranking[1]);
+    write_next_machine(finding.ranking[2]);
+    write_next_machine(finding.ranking[3]);
+    write_next_machine(finding.ranking[4]);
+    write_next_machine(finding.ranking[5]);
+}
+
+// Better is 1, equal 2, worse 3.
+pub fn write_order(order: Order) {
+    match order {
+        Order::Better => write_byte(1),
+        Order::Equal => write_byte(2),
+        Order::Worse => write_byte(3),
+    }
+}
+
+// A byte times its place, from 1, small enough to be added.
+fn weighed(byte: u8, at: usize) -> u64
+    ensures { λ r. ⌜ r ≤ 255000001785 ⌝ }
+{
+    (at as u64 % PRIME + 1) * byte as u64
+}
+
+// A slice in short: the sum of its weighed bytes modulo a prime.
+pub fn write_slice(bytes: &[u8]) {
+    let mut sum: u64 = 0;
+    for at in 0..bytes.len() {
+        sum = (sum + weighed(bytes[at], at)) % PRIME;
+    }
+    write_number(sum);
+}
