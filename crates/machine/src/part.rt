@@ -12,6 +12,7 @@ use crate::Arc;
 use crate::Pair;
 use crate::Refusal;
 use crate::Stage;
+use crate::sets;
 
 // A byte as a number to index with.
 pub fn index(x: u8) -> usize
@@ -58,15 +59,16 @@ pub fn read_arc(part: &[u8], at: usize) -> Arc
     }
 }
 
-// Whether the arc at a place leaves the state and takes the pair; its sets are read only if it leaves the state.
-pub fn takes_from(part: &[u8], at: usize, state: u8, pair: Pair) -> bool
-    requires { ⌜ (at + 20 ≤ length (now part)) × (pair .input < 64) × (pair .output < 64) ⌝ }
-    ensures { λ r. ⌜ r ≡ takesFrom (arcAt (now (part .entry)) at) state pair ⌝ }
+// Whether the arc at a place leaves the state and takes a pair, by the set of its input and the set of its output; the arc's sets are
+// read only if it leaves the state.
+pub fn takes_from(part: &[u8], at: usize, state: u8, input: u64, output: u64) -> bool
+    requires { ⌜ at + 20 ≤ length (now part) ⌝ }
+    ensures { λ r. ⌜ ((pair : Pair) → input ≡ 2 ^ pair .input → output ≡ 2 ^ pair .output → r ≡ takesFrom (arcAt (now (part .entry)) at) state pair) ⌝ }
 {
     if part[at] != state {
         return false;
     }
-    read_arc(part, at).takes(pair)
+    read_arc(part, at).takes(input, output)
 }
 
 // Whether the arc at a place clashes with an arc; its sets are read only if it leaves the same state.
@@ -127,10 +129,11 @@ pub fn check_arcs(part: &[u8], symbols: u8) -> Stage
     ensures { λ r. ⌜ stageNumber r ≡ refuse 4 (soundArcs symbols (now (part .entry))) ⌝ }
 {
     let states = part[0];
+    let last = sets::set_of(symbols);
     let mut at = 2 + index(states);
     let mut left = part[1];
     while left > 0 {
-        if !read_arc(part, at).is_sound(states, symbols) {
+        if !read_arc(part, at).is_sound(states, last) {
             return Stage::Refused(Refusal::Field);
         }
         at += 20;
