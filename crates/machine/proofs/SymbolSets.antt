@@ -73,7 +73,7 @@ pub record LeastAt (d w t : ℕ) : Type 0 where
   pub others : (n : ℕ) → (n ≡ t → ⊥) → member w n ≡ true → member (w - 1) n ≡ true
 
 -- a symbol but 0 of a set is one of its half
-member-half : (w n : ℕ) → member w (suc n) ≡ member (w / 2) n
+pub member-half : (w n : ℕ) → member w (suc n) ≡ member (w / 2) n
 member-half w n = ap (λ (x : ℕ). eqb (x % 2) 1) (ap (λ (k : ℕ). w / 2 ^ k) (omega arith) ∙ sym (shr-shr w 1 n))
 
 pub least-at : (d w : ℕ) → 0 < w → w < 2 ^ d → LeastAt d w (trailingZeros d w)

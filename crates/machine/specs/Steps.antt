@@ -1,9 +1,9 @@
 -- Steps and endings of an accepted part: at most one arc of a state takes a pair, and the bounds of what is handed back. Assumes nothing.
 use mathlib.Core.Path.{_≡_, refl, sym, ap, _∙_}
-use mathlib.Core.Bool.{Bool, true, false, _&&_}
+use mathlib.Core.Bool.{Bool, true, false}
 use mathlib.Core.List.{List, [], _∷_, map}
 use mathlib.Core.Option.{Option, some, none}
-use Prim.Native.Nat.{ℕ, zero, suc, _+_, _<_, _≤_}
+use Prim.Native.Nat.{ℕ, zero, suc, _<_, _≤_}
 use native.Mathlib.Omega.{arith}
 use lib.Dec.{eqb, ltb}
 use lib.ListN.{length, getD, List·getD-eq-default}
@@ -20,7 +20,7 @@ use Rattle.machine.specs.Part.{stateCount, stateBytes, arcsOf, machineOf
 use Rattle.machine.specs.Accepted.{finals-count, accepted, sound-facts, taken-within}
 
 -- two arcs that take a pair from a state clash
-clash-at : (a b : Arc) (s : ℕ) (p : Pair) → p .input < 64 → p .output < 64 → isPair p ≡ true → takesFrom a s p ≡ true → takesFrom b s p ≡ true → clash a b ≡ true
+pub clash-at : (a b : Arc) (s : ℕ) (p : Pair) → p .input < 64 → p .output < 64 → isPair p ≡ true → takesFrom a s p ≡ true → takesFrom b s p ≡ true → clash a b ≡ true
 unfolding clash takeOnePair
 clash-at a b s p hx hy q ta tb =
     let ea = eqb-true (a .from) s (left (eqb (a .from) s) (takes a p) ta) in

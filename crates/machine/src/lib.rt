@@ -7,7 +7,7 @@ ghost use lib.ListN.{getD};
 ghost use Rattle.basics.specs.Sets.{member};
 ghost use Rattle.machine.specs.Refusals.{stageNumber};
 ghost use Rattle.machine.specs.Symbols.{emptySymbol, isPair, withinSymbols};
-ghost use Rattle.machine.specs.Machine.{startState, takes, takeOnePair, stepOf, stepped, endingOf, ended};
+ghost use Rattle.machine.specs.Machine.{startState, takes, stepOf, stepped, endingOf, ended};
 ghost use Rattle.machine.specs.Part.{stateCount, arcCount, arcsOf, machineOf, shaped, soundArc, partRefusal};
 
 pub mod sets; // sets.rt: sets of symbols
@@ -72,16 +72,6 @@ impl Arc {
         } else {
             0
         }
-    }
-
-    // Whether both arcs take some pair: whether their sets have a pair in common that is not 0:0.
-    pub fn shares_pair(self, other: Arc) -> bool
-        ensures { λ r. ⌜ r ≡ takeOnePair self other ⌝ }
-    {
-        let inputs = self.inputs & other.inputs;
-        let outputs = self.outputs & other.outputs;
-        let empty = sets::set_of(Pair::EMPTY);
-        (inputs != 0) & (outputs != 0) & ((inputs != empty) | (outputs != empty))
     }
 
     // Whether the fields are in range, in a machine of `states` states and for S symbols; `last` is the set of S.

@@ -1,13 +1,11 @@
 -- One arc more in a machine's stretch. Assumes nothing.
 use mathlib.Core.Path.{_≡_, refl, sym, _∙_, ap}
-use mathlib.Core.Logic.{_⊎_, inl, inr}
 use mathlib.Core.Bool.{Bool, true, false, cond}
-use mathlib.Core.List.{List, [], _∷_}
-use mathlib.Core.Option.{Option, some, none}
-use Prim.Native.Nat.{ℕ, zero, suc, _+_, _-_, _*_, _<_, _≤_}
+use mathlib.Core.List.{List, _∷_}
+use mathlib.Core.Option.{some, none}
+use Prim.Native.Nat.{ℕ, suc, _+_, _*_, _<_, _≤_}
 use native.Mathlib.Decide.{ℕ-discrete, decLt}
 use native.Mathlib.Omega.{arith}
-use lib.Dec.{eqb}
 use lib.ListN.{length, getD, take, drop, replicate, getD-replicate, length-replicate}
 use lib.Seq.{drop-cons, drop-length, getD-take, getD-drop}
 use borrow.Author.Tests.{eq-eqb, ne-eqb}
@@ -15,7 +13,6 @@ use borrow.Rule.Slice.PartMut.{putMid}
 use Rattle.basics.specs.Sets.{member}
 use Rattle.basics.proofs.Search.{all-at}
 use Rattle.machine.specs.declared.Arc.{Arc}
-use Rattle.machine.specs.declared.Pair.{Pair}
 use Rattle.machine.specs.Machine.{takes, takesFrom, stepAmong}
 use Rattle.machine.specs.Part.{stateCount, arcCount, arcsOf, machineOf, shaped, soundArc}
 use Rattle.machine.specs.Accepted.{shape-facts, finals-count, accepted, sound-facts}

@@ -1,7 +1,6 @@
 use Prim.Native.Nat.{ℕ, _+_, _*_}
 use mathlib.Core.Path.{sym, ap, _∙_}
 use native.Mathlib.Omega.{arith}
-use borrow.Author.Needs.{needs}
 use Rattle.machine.specs.Part.{stateCount, arcCount, arcAt}
 use Rattle.machine.specs.Accepted.{shape-facts}
 use Rattle.machine.proofs.Arcs.{arc-at}

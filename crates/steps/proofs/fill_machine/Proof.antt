@@ -19,35 +19,27 @@ Inv-loop stretch₀ part input states end left₀ stretch left =
 abbrev μ-loop : tie.MeasureT-loop
 μ-loop stretch₀ part input states end left₀ stretch left = left
 
--- src/lib.rt:74:9
 state-count-requires : tie.Need-state-count-requires Inv-loop μ-loop
 state-count-requires c κs = let s = c .before .before in accepted (s .pre .1 .0) (s .args .part .now) (s .pre .1 .1) .shape
 
--- src/lib.rt:75:15
 mul-end : tie.Need-mul-end Inv-loop μ-loop
 mul-end c = let s = c .before .before .before in omega (arith, c .state-count .ensures, shape-facts (s .args .part .now) (accepted (s .pre .1 .0) (s .args .part .now) (s .pre .1 .1) .shape))
 
--- src/lib.rt:76:11
 sub-clear : tie.Need-sub-clear Inv-loop μ-loop
 sub-clear c = omega arith
 
--- src/lib.rt:76:11
 part-clear-start : tie.Need-part-clear-start Inv-loop μ-loop
 part-clear-start c = omega arith
 
--- src/lib.rt:76:11
 part-clear-end : tie.Need-part-clear-end Inv-loop μ-loop
 part-clear-end c = let s = c .before .before .before in omega (arith, c .state-count .ensures, s .pre .0, shape-facts (s .args .part .now) (accepted (s .pre .1 .0) (s .args .part .now) (s .pre .1 .1) .shape))
 
--- src/lib.rt:76:5
 clear-requires : tie.Need-clear-requires Inv-loop μ-loop
 clear-requires c κs = tt
 
--- src/lib.rt:77:9
 arc-count-requires : tie.Need-arc-count-requires Inv-loop μ-loop
 arc-count-requires c κs = let s = c .before .before .before .before .before .before .before in accepted (s .pre .1 .0) (s .args .part .now) (s .pre .1 .1) .shape
 
--- src/lib.rt:78:5
 loop-holds : tie.Need-loop-holds Inv-loop μ-loop
 loop-holds c =
     let k = c .before .before .before in
@@ -66,17 +58,11 @@ loop-holds c =
           entered-none (stateCount part) (arcsOf part) x xs (k .clear .last .0) end _ (c .arc-count .result) (k .clear .ensures) (length-take-le end xs room) (omega (arith, n .ensures)) room (omega (arith, arcs-count part (2 + stateCount part) (arcCount part))),
     )
 
--- src/lib.rt:79:9
-sub-left : tie.Need-sub-left Inv-loop μ-loop
-sub-left c = search needs
-
--- src/lib.rt:80:28
 nth-arc-requires : tie.Need-nth-arc-requires Inv-loop μ-loop
 nth-arc-requires c κs =
     let s = c .before .before .before .before .before .before .before .before .before .before .before in
     (accepted (s .pre .1 .0) (s .args .part .now) (s .pre .1 .1) .shape, c .before .before .before .before .before .before .before .before .state-count .ensures, omega arith)
 
--- src/lib.rt:80:9
 enter-arc-requires : tie.Need-enter-arc-requires Inv-loop μ-loop
 enter-arc-requires c κs =
     let l = c .before .before .before in
@@ -84,11 +70,6 @@ enter-arc-requires c κs =
     let b = arc-bounds (s .args .part .now) (s .pre .1) (l .loop .left - 1) (omega arith) (c .nth-arc .result) (c .nth-arc .ensures (c .nth-arc .result)) in
     (l .loop .inv .1, b .from, b .to, b .marks)
 
--- src/lib.rt:78:5
-loop-less : tie.Need-loop-less Inv-loop μ-loop
-loop-less c = search needs
-
--- src/lib.rt:78:5
 loop-again : tie.Need-loop-again Inv-loop μ-loop
 loop-again c =
     let k = c .before .before in
@@ -103,11 +84,9 @@ loop-again c =
           entered-next (stateCount part) (arcsOf part) x (l .loop .left - 1) (l .loop .left) a (q .states) (omega arith) (omega (arith, arcs-count part (2 + stateCount part) (arcCount part))) (k .before .nth-arc .ensures a) (l .loop .inv .2 x e) (k .enter-arc .ensures x e),
     )
 
--- src/lib.rt:70:1
 same-length : tie.Need-same-length Inv-loop μ-loop
 same-length c = omega (arith, c .before .loop .inv .1, c .before .before .before .before .before .before .before .before .before .before .pre .0)
 
--- src/lib.rt:70:1
 returns : tie.Need-returns Inv-loop μ-loop
 returns c =
     let s = c .before .before .before .before .before .before .before .before .before .before in
@@ -127,10 +106,10 @@ fill-machine-spec =
     clear-requires
     arc-count-requires
     loop-holds
-    sub-left
+    (λ c. search needs)
     nth-arc-requires
     enter-arc-requires
-    loop-less
+    (λ c. search needs)
     loop-again
     same-length
     returns)
