@@ -6,7 +6,9 @@ use Rattle.machine.proofs.part.note_arc.Tie as tie
 
 returns : tie.Need-returns
 unfolding arcAt
-returns c = other-arc _ _ _ (c .if1 .taken)
+returns c =
+    let a = c .before .before .before .before .args in
+    other-arc (arcAt (a .part .now) (a .at)) (a .from) (a .taken .now) (c .if1 .taken)
 
 returns-2 : tie.Need-returns-2
 unfolding arcAt
