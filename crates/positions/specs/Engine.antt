@@ -2,7 +2,8 @@
 use mathlib.Core.Path.{_≡_}
 use mathlib.Core.Bool.{true}
 use mathlib.Core.List.{List}
-use Prim.Native.Nat.{ℕ}
+use Prim.Native.Nat.{ℕ, _*_, _≤_}
+use lib.ListN.{length}
 use Rattle.ranking.specs.Rankings.{isRanking}
 use Rattle.card.specs.Layout.{machineCount, symbolCount}
 use Rattle.card.specs.Card.{cardRefusal, machinesOf}
@@ -35,9 +36,16 @@ pub record Looked (card ranking rs cs ps : List ℕ) : Type 0 where
   pub counts : cs ≡ stateCounts (machinesOf card)
   pub places : ps ≡ sixPlaces ranking
 
+-- room for a table of steps and for one of the joint steps of P codes
+pub record Lent (ss js : List ℕ) (P : ℕ) : Type 0 where
+  pub steps : length ss ≡ 12288
+  pub joint : P * 64 ≤ length js
+
 -- what filling the table of the cheapest insertions needs
-pub record InsertionsPre (card ranking rs cs ps : List ℕ) (P : ℕ) : Type 0 where
+pub record InsertionsPre (card ranking cs ps ks : List ℕ) (P : ℕ) : Type 0 where
   pub accepted : cardRefusal card ≡ 0
   pub ranks : isRanking (machineCount card) ranking ≡ true
   pub size : P ≡ product (stateCounts (machinesOf card))
-  pub looked : Looked card ranking rs cs ps
+  pub counts : cs ≡ stateCounts (machinesOf card)
+  pub places : ps ≡ sixPlaces ranking
+  pub room : P * P ≤ length ks
