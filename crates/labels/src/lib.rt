@@ -31,30 +31,44 @@ pub const NO_PAIR: u32 = 4294967295;
 pub fn better(a: Label, b: Label) -> bool
     ensures { λ r. ⌜ r ≡ isLess 6 (costOf a) (costOf b) ⌝ }
 {
-    (a.first < b.first)
-        | ((a.first == b.first)
-            & ((a.second < b.second)
-                | ((a.second == b.second)
-                    & ((a.third < b.third)
-                        | ((a.third == b.third)
-                            & ((a.fourth < b.fourth)
-                                | ((a.fourth == b.fourth)
-                                    & ((a.fifth < b.fifth)
-                                        | ((a.fifth == b.fifth)
-                                            & ((a.sixth < b.sixth)
-                                                | ((a.sixth == b.sixth)
-                                                    & (a.pairs < b.pairs))))))))))))
+    if a.first != b.first {
+        return a.first < b.first;
+    }
+    if a.second != b.second {
+        return a.second < b.second;
+    }
+    if a.third != b.third {
+        return a.third < b.third;
+    }
+    if a.fourth != b.fourth {
+        return a.fourth < b.fourth;
+    }
+    if a.fifth != b.fifth {
+        return a.fifth < b.fifth;
+    }
+    if a.sixth != b.sixth {
+        return a.sixth < b.sixth;
+    }
+    a.pairs < b.pairs
 }
 
 // Whether a and b are the same.
 pub fn same(a: Label, b: Label) -> bool
     ensures { λ r. ⌜ r ≡ isSame 6 (costOf a) (costOf b) ⌝ }
 {
-    (a.first == b.first)
-        & ((a.second == b.second)
-            & ((a.third == b.third)
-                & ((a.fourth == b.fourth)
-                    & ((a.fifth == b.fifth) & ((a.sixth == b.sixth) & (a.pairs == b.pairs))))))
+    if a.first != b.first {
+        return false;
+    }
+    if a.second != b.second {
+        return false;
+    }
+    if a.third != b.third {
+        return false;
+    }
+    if a.fourth != b.fourth {
+        return false;
+    }
+    (a.fifth == b.fifth) & ((a.sixth == b.sixth) & (a.pairs == b.pairs))
 }
 
 // The label with one pair more in front of its path.
