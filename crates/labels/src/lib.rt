@@ -1,10 +1,12 @@
 // Labels of nodes in a lent slice, and the settling of one position by Dijkstra's method.
 ghost use mathlib.Core.Path.{_≡_};
-ghost use Prim.Native.Nat.{_+_, _^_, _<_};
+ghost use Prim.Native.Nat.{_+_, _*_, _^_, _≤_, _<_};
+ghost use lib.ListN.{length};
 ghost use Rattle.paths.specs.Ranked.{add};
 ghost use Rattle.labels.specs.Marks.{marksOf};
 ghost use Rattle.labels.specs.LabelCost.{costOf, isLess, isSame, RoomFor};
 ghost use Rattle.labels.specs.Work.{HasNode, HasNodes, costAt, Reached, Stored, Cleared};
+ghost use Rattle.labels.specs.Listing.{Listed, RowListed};
 ghost use Rattle.labels.specs.Lowering.{Compared, Lowered, Visited};
 ghost use Rattle.labels.specs.Selecting.{Selected, ContestPre, Contest};
 ghost use Rattle.labels.specs.Spreading.{SpreadPre, Spread};
@@ -173,6 +175,48 @@ pub fn visit(work: &mut [u16], node: usize, marks: u32, label: Label)
         if marks < MARKS {
             lower(work, node, plus(label, marks));
         }
+    }
+}
+
+// A node's number and a pair's marks as one number, the pair from that node.
+fn listed(from: usize, marks: u32) -> u32
+    requires { ⌜ (from < 128) × (marks < 16 ^ 6) ⌝ }
+    ensures { λ r. ⌜ r ≡ from * 16777216 + marks ⌝ }
+{
+    from as u32 * MARKS + marks
+}
+
+// Makes the row of the pairs to one node a list of them. The place that is written is never past the one that is read.
+fn list_row(table: &mut [u32], size: usize, to: usize)
+    requires { ⌜ (size * size ≤ length (now table)) × (size ≤ 128) × (to < size) ⌝ }
+    ensures { λ _. ⌜ RowListed (now (table .entry)) (now (table .exit)) size to ⌝ }
+{
+    let row = to * size;
+    let mut kept = 0;
+    let mut from = 0;
+    while from < size {
+        let marks = table[row + from];
+        if marks < MARKS {
+            table[row + kept] = listed(from, marks);
+            kept += 1;
+        }
+        from += 1;
+    }
+    if kept < size {
+        table[row + kept] = NO_PAIR;
+    }
+}
+
+// Makes each row of a table of size rows a list: in the place of a number for each node, the marks of the cheapest pair from it, a number for each
+// pair, the node's times 2^24 and its marks, and NO_PAIR after the last one.
+pub fn list_pairs(table: &mut [u32], size: usize)
+    requires { ⌜ (size * size ≤ length (now table)) × (size ≤ 128) ⌝ }
+    ensures { λ _. ⌜ Listed (now (table .entry)) (now (table .exit)) size ⌝ }
+{
+    let mut to = 0;
+    while to < size {
+        list_row(table, size, to);
+        to += 1;
     }
 }
 
