@@ -1,6 +1,6 @@
 -- The arcs of a part: the tests of one arc, and how a loop over them goes on. Assumes nothing.
 use mathlib.Core.Path.{_≡_, refl, sym, ap, _∙_}
-use mathlib.Core.Bool.{Bool, true, false, not, _&&_}
+use mathlib.Core.Bool.{Bool, true, false}
 use mathlib.Core.List.{List, [], _∷_}
 use mathlib.Core.Option.{Option, some, none}
 use Prim.Native.Nat.{ℕ, zero, suc, _+_, _-_, _*_, _<_, _≤_}
@@ -9,11 +9,11 @@ use lib.ListN.{length, getD}
 use native.Mathlib.Nat.{not-suc-le-zero}
 use native.Mathlib.Numerals.{sub-one}
 use borrow.Author.Tests.{eq-eqb, ne-eqb}
-use Rattle.basics.specs.Search.{allOf, pairwise}
-use Rattle.basics.proofs.Search.{all-none, all-next, all-fails, pairwise-none, pairwise-next, pairwise-fails}
+use Rattle.basics.specs.Search.{allOf}
+use Rattle.basics.proofs.Search.{all-none, all-next, all-fails}
 use Rattle.machine.specs.declared.Arc.{Arc}
 use Rattle.machine.specs.declared.Pair.{Pair}
-use Rattle.machine.specs.Machine.{takes, takesFrom, stepAmong, takeOnePair, clash}
+use Rattle.machine.specs.Machine.{takes, takesFrom, stepAmong}
 use Rattle.machine.specs.Part.{arcAt, arcsAt}
 
 -- the state that an arc leaves decides first
@@ -23,15 +23,6 @@ module _ (a : Arc) (s : ℕ) (p : Pair) where
 
   pub leaves-other : (a .from ≡ s → ⊥) → takesFrom a s p ≡ false
   leaves-other e = rw (ne-eqb (a .from) s e)
-
-module _ (a b : Arc) where
-  pub same-state : b .from ≡ a .from → clash a b ≡ takeOnePair a b
-  unfolding clash
-  same-state e = rw (eq-eqb (a .from) (b .from) (sym e))
-
-  pub other-state : (b .from ≡ a .from → ⊥) → clash a b ≡ false
-  unfolding clash
-  other-state e = rw (ne-eqb (a .from) (b .from) (λ q. e (sym q)))
 
 -- the first of n arcs, and the others
 arcs-cons : (l : List ℕ) (at n : ℕ) → 0 < n → arcsAt l at n ≡ arcAt l at ∷ arcsAt l (at + 20) (n - 1)
@@ -67,16 +58,6 @@ module _ (l : List ℕ) (at n : ℕ) where
 
     pub all-end : n ≤ 0 → allOf f (arcsAt l at n) ≡ z → true ≡ z
     all-end h i = sym (all-none f (arcs-none l at n h)) ∙ i
-
-  module _ (f : Arc → Arc → Bool) (z : Bool) where
-    pub pairwise-go-on : 0 < n → allOf (f (arcAt l at)) (arcsAt l (at + 20) (n - 1)) ≡ true → pairwise f (arcsAt l at n) ≡ z → pairwise f (arcsAt l (at + 20) (n - 1)) ≡ z
-    pairwise-go-on h t i = pairwise-next f (arcs-cons l at n h) t ∙ i
-
-    pub pairwise-stop : 0 < n → allOf (f (arcAt l at)) (arcsAt l (at + 20) (n - 1)) ≡ false → pairwise f (arcsAt l at n) ≡ z → false ≡ z
-    pairwise-stop h t i = sym (pairwise-fails f (arcs-cons l at n h) t) ∙ i
-
-    pub pairwise-end : n ≤ 0 → pairwise f (arcsAt l at n) ≡ z → true ≡ z
-    pairwise-end h i = sym (pairwise-none f (arcs-none l at n h)) ∙ i
 
   module _ (s : ℕ) (p : Pair) (z : Option (ℕ × ℕ)) where
     pub step-go-on : 0 < n → takesFrom (arcAt l at) s p ≡ false → stepAmong (arcsAt l at n) s p ≡ z → stepAmong (arcsAt l (at + 20) (n - 1)) s p ≡ z

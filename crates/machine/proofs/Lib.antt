@@ -1,5 +1,6 @@
 pub mod SymbolSets
-pub mod SharedPairs
+pub mod SetLoops
 pub mod Stages
 pub mod Arcs
+pub mod Clashes
 pub mod States

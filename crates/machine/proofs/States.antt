@@ -7,12 +7,12 @@ use Prim.Native.Nat.{ℕ, _+_, _<_, _≤_}
 use native.Mathlib.Numerals.{add-one}
 use native.Mathlib.Omega.{arith}
 use lib.Dec.{eqb}
-use lib.ListN.{length, getD, take, length-map, List·getD-map, List·getD-eq-default}
-use lib.Seq.{slice, slice-cons, length-slice, getD-drop, getD-take}
+use lib.ListN.{length, getD, take, List·getD-map, List·getD-eq-default}
+use lib.Seq.{slice, slice-cons, getD-drop, getD-take}
 use borrow.Author.Tests.{eq-eqb, ne-eqb}
 use Rattle.machine.specs.Machine.{endingOf}
 use Rattle.machine.specs.Part.{stateCount, stateBytes, machineOf, shaped}
-use Rattle.machine.specs.Accepted.{shape-facts}
+use Rattle.machine.specs.Accepted.{finals-count}
 
 -- the first of the bytes from a place to an end, and the others
 pub bytes-cons : (l : List ℕ) (at end : ℕ) → at < end → end ≤ length l → slice at end l ≡ getD l at 0 ∷ slice (at + 1) end l
@@ -36,7 +36,6 @@ module _ (part : List ℕ) (s : ℕ) where
   pub no-state : shaped part ≡ true → stateCount part ≤ s → none ≡ endingOf (machineOf part) s
   unfolding endingOf machineOf
   no-state t h =
-      let n : length (stateBytes part) ≡ stateCount part = length-slice 2 (2 + stateCount part) part (omega (arith, shape-facts part t)) ∙ omega arith in
-      let e : length (map (λ b. eqb b 1) (stateBytes part)) ≡ stateCount part = length-map (stateBytes part) (λ b. eqb b 1) ∙ n in
+      let e : length (map (λ b. eqb b 1) (stateBytes part)) ≡ stateCount part = finals-count part t in
       let d : getD (map (λ b. eqb b 1) (stateBytes part)) s false ≡ false = List·getD-eq-default (map (λ b. eqb b 1) (stateBytes part)) false (omega arith) in
       rw d

@@ -1,11 +1,12 @@
 -- What the checks of a part promise: its shape, the verdict of each, the fields of its arcs. Assumes nothing.
-use mathlib.Core.Path.{_≡_, refl}
+use mathlib.Core.Path.{_≡_, refl, _∙_}
 use mathlib.Core.Bool.{Bool, true, false, not, _&&_}
 use mathlib.Core.List.{List, [], _∷_}
 use Prim.Native.Nat.{ℕ, _+_, _*_, _^_, _<_, _≤_}
 use native.Mathlib.Omega.{arith}
 use lib.Dec.{eqb, ltb, leb}
-use lib.ListN.{length}
+use lib.ListN.{length, length-map}
+use lib.Seq.{length-slice}
 use borrow.Author.Tests.{ltb-true, leb-true, leb-false, eqb-true}
 use Rattle.basics.specs.Refusals.{refuse, firstOf}
 use Rattle.basics.specs.Sets.{member}
@@ -14,7 +15,7 @@ use Rattle.basics.proofs.Sets.{member-beyond}
 use Rattle.machine.specs.declared.Arc.{Arc}
 use Rattle.machine.specs.declared.Pair.{Pair}
 use Rattle.machine.specs.Machine.{takes}
-use Rattle.machine.specs.Part.{stateCount, arcCount, shaped, soundSet, soundArc, soundStates, soundArcs, noClash, partRefusal}
+use Rattle.machine.specs.Part.{stateCount, arcCount, stateBytes, machineOf, shaped, soundSet, soundArc, soundStates, soundArcs, noClash, partRefusal}
 
 -- a part that passes refusal 3
 pub record Shaped (part : List ℕ) : Type 0 where
@@ -38,6 +39,14 @@ shape-facts l t =
       states = leb-true (stateCount l) 32 (right (a && b) d abd);
       whole = eqb-true (length l) (2 + stateCount l + 20 * arcCount l) (right (a && b && d) e t);
     }
+
+-- its machine has as many states as the part says
+pub finals-count : (part : List ℕ) → shaped part ≡ true → length (machineOf part .finals) ≡ stateCount part
+unfolding machineOf
+finals-count part t =
+    length-map (stateBytes part) (λ b. eqb b 1)
+    ∙ length-slice 2 (2 + stateCount part) part (omega (arith, shape-facts part t))
+    ∙ omega arith
 
 -- a part that passes all three
 pub record Accepted (S : ℕ) (part : List ℕ) : Type 0 where

@@ -2,5 +2,6 @@ pub mod Refusals
 pub mod Symbols
 pub mod Machine
 pub mod Part
+pub mod Clashes
 pub mod Accepted
 pub mod Steps

@@ -1,13 +1,12 @@
 -- Steps and endings of an accepted part: at most one arc of a state takes a pair, and the bounds of what is handed back. Assumes nothing.
 use mathlib.Core.Path.{_≡_, refl, sym, ap, _∙_}
-use mathlib.Core.Bool.{Bool, true, false, _&&_}
+use mathlib.Core.Bool.{Bool, true, false}
 use mathlib.Core.List.{List, [], _∷_, map}
 use mathlib.Core.Option.{Option, some, none}
-use Prim.Native.Nat.{ℕ, zero, suc, _+_, _<_, _≤_}
+use Prim.Native.Nat.{ℕ, zero, suc, _<_, _≤_}
 use native.Mathlib.Omega.{arith}
 use lib.Dec.{eqb, ltb}
-use lib.ListN.{length, getD, length-map, List·getD-eq-default}
-use lib.Seq.{length-slice}
+use lib.ListN.{length, getD, List·getD-eq-default}
 use borrow.Author.Tests.{ltb-true, ltb-false, eqb-true, eq-eqb, not-true}
 use Rattle.basics.specs.Search.{someBelow}
 use Rattle.basics.proofs.Bools.{clash as never, both, left, right}
@@ -18,10 +17,10 @@ use Rattle.machine.specs.declared.Pair.{Pair}
 use Rattle.machine.specs.Symbols.{isPair}
 use Rattle.machine.specs.Machine.{takes, takesFrom, stepAmong, stepOf, endingOf, bothTake, takeOnePair, clash}
 use Rattle.machine.specs.Part.{stateCount, stateBytes, arcsOf, machineOf, soundArc, apart, partRefusal}
-use Rattle.machine.specs.Accepted.{shape-facts, accepted, sound-facts, taken-within}
+use Rattle.machine.specs.Accepted.{finals-count, accepted, sound-facts, taken-within}
 
 -- two arcs that take a pair from a state clash
-clash-at : (a b : Arc) (s : ℕ) (p : Pair) → p .input < 64 → p .output < 64 → isPair p ≡ true → takesFrom a s p ≡ true → takesFrom b s p ≡ true → clash a b ≡ true
+pub clash-at : (a b : Arc) (s : ℕ) (p : Pair) → p .input < 64 → p .output < 64 → isPair p ≡ true → takesFrom a s p ≡ true → takesFrom b s p ≡ true → clash a b ≡ true
 unfolding clash takeOnePair
 clash-at a b s p hx hy q ta tb =
     let ea = eqb-true (a .from) s (left (eqb (a .from) s) (takes a p) ta) in
@@ -114,10 +113,7 @@ module _ (S : ℕ) (part : List ℕ) (ok : partRefusal S part ≡ 0) where
       finals = map (λ b. eqb b 1) (stateBytes part)
 
       count : length finals ≡ stateCount part
-      count =
-          length-map (stateBytes part) (λ b. eqb b 1)
-          ∙ length-slice 2 (2 + stateCount part) part (omega (arith, shape-facts part (accepted S part ok .shape)))
-          ∙ omega arith
+      count = finals-count part (accepted S part ok .shape)
 
       go : (b : Bool) → ltb s (stateCount part) ≡ b → (f : Bool) → getD finals s false ≡ f → (s < stateCount part) × (m ≤ 15)
       go b h false f = let z : _≡_ {A = Option ℕ} none (some m) = rw f at e in let z : _≡_ {A = ℕ} 0 1 = cc in absurd (omega arith)

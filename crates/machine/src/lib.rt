@@ -1,13 +1,13 @@
 // Constraint machines: pairs of symbols, arcs, the check of a machine part, steps and endings.
 ghost use mathlib.Core.Path.{_≡_};
 ghost use mathlib.Core.Bool.{true};
-ghost use Prim.Native.Nat.{ℕ, _<_};
+ghost use Prim.Native.Nat.{ℕ, _<_, _^_};
 ghost use lib.Dec.{eqb};
 ghost use lib.ListN.{getD};
 ghost use Rattle.basics.specs.Sets.{member};
 ghost use Rattle.machine.specs.Refusals.{stageNumber};
 ghost use Rattle.machine.specs.Symbols.{emptySymbol, isPair, withinSymbols};
-ghost use Rattle.machine.specs.Machine.{startState, takes, takeOnePair, stepOf, stepped, endingOf, ended};
+ghost use Rattle.machine.specs.Machine.{startState, takes, stepOf, stepped, endingOf, ended};
 ghost use Rattle.machine.specs.Part.{stateCount, arcCount, arcsOf, machineOf, shaped, soundArc, partRefusal};
 
 pub mod sets; // sets.rt: sets of symbols
@@ -56,18 +56,16 @@ pub struct Arc {
 }
 
 impl Arc {
-    // Whether the arc takes a pair.
-    pub fn takes(self, pair: Pair) -> bool
-        requires { ⌜ (pair .input < 64) × (pair .output < 64) ⌝ }
-        ensures { λ r. ⌜ r ≡ takes self pair ⌝ }
+    // Whether the arc takes a pair, by the set of its input and the set of its output.
+    pub fn takes(self, input: u64, output: u64) -> bool
+        ensures { λ r. ⌜ ((pair : Pair) → input ≡ 2 ^ pair .input → output ≡ 2 ^ pair .output → r ≡ takes self pair) ⌝ }
     {
-        sets::holds(self.inputs, pair.input) & sets::holds(self.outputs, pair.output)
+        sets::holds(self.inputs, input) & sets::holds(self.outputs, output)
     }
 
-    // The outputs with which the arc takes an input, as a set.
-    pub fn outputs_for(self, input: u8) -> u64
-        requires { ⌜ input < 64 ⌝ }
-        ensures { λ r. ⌜ ((y : ℕ) → member r y ≡ takes self (record { input = input; output = y })) ⌝ }
+    // The outputs with which the arc takes an input, as a set, by the set of the input.
+    pub fn outputs_for(self, input: u64) -> u64
+        ensures { λ r. ⌜ ((x y : ℕ) → input ≡ 2 ^ x → member r y ≡ takes self (record { input = x; output = y })) ⌝ }
     {
         if sets::holds(self.inputs, input) {
             self.outputs
@@ -76,27 +74,16 @@ impl Arc {
         }
     }
 
-    // Whether both arcs take some pair: whether their sets have a pair in common that is not 0:0.
-    pub fn shares_pair(self, other: Arc) -> bool
-        ensures { λ r. ⌜ r ≡ takeOnePair self other ⌝ }
-    {
-        let inputs = self.inputs & other.inputs;
-        let outputs = self.outputs & other.outputs;
-        let empty = sets::set_of(Pair::EMPTY);
-        (inputs != 0) & (outputs != 0) & ((inputs != empty) | (outputs != empty))
-    }
-
-    // Whether the fields are in range, in a machine of `states` states and for `symbols` symbols.
-    pub fn is_sound(self, states: u8, symbols: u8) -> bool
-        requires { ⌜ symbols < 64 ⌝ }
-        ensures { λ r. ⌜ r ≡ soundArc symbols states self ⌝ }
+    // Whether the fields are in range, in a machine of `states` states and for S symbols; `last` is the set of S.
+    pub fn is_sound(self, states: u8, last: u64) -> bool
+        ensures { λ r. ⌜ ((S : ℕ) → last ≡ 2 ^ S → r ≡ soundArc S states self) ⌝ }
     {
         (self.from < states)
             & (self.to < states)
             & (self.marks <= 15)
             & (self.reserved == 0)
-            & sets::is_sound(self.inputs, symbols)
-            & sets::is_sound(self.outputs, symbols)
+            & sets::is_sound(self.inputs, last)
+            & sets::is_sound(self.outputs, last)
     }
 }
 
@@ -149,12 +136,12 @@ pub fn arc_count(part: &[u8]) -> usize
     part::index(part[1])
 }
 
-// The arc i of a part.
-pub fn nth_arc(part: &[u8], i: usize) -> Arc
-    requires { ⌜ (shaped (now part) ≡ true) × (i < arcCount (now part)) ⌝ }
+// The arc i of a part of `states` states.
+pub fn nth_arc(part: &[u8], states: usize, i: usize) -> Arc
+    requires { ⌜ (shaped (now part) ≡ true) × (states ≡ stateCount (now part)) × (i < arcCount (now part)) ⌝ }
     ensures { λ r. ⌜ ((d : Arc) → getD (arcsOf (now (part .entry))) i d ≡ r) ⌝ }
 {
-    part::read_arc(part, 2 + part::index(part[0]) + 20 * i)
+    part::read_arc(part, 2 + states + 20 * i)
 }
 
 // A place in a machine: the state that it is in.
@@ -190,10 +177,12 @@ impl Position {
         ensures { λ r. ⌜ stepped r ≡ stepOf (machineOf (now (part .entry))) (self .state) pair ⌝ }
     {
         let state = self.state;
+        let input = sets::set_of(pair.input);
+        let output = sets::set_of(pair.output);
         let mut at = 2 + part::index(part[0]);
         let mut left = part[1];
         while left > 0 {
-            if part::takes_from(part, at, state, pair) {
+            if part::takes_from(part, at, state, input, output) {
                 return Step::Moved(
                     Position {
                         state: part[at + 1],

@@ -3,15 +3,17 @@ ghost use mathlib.Core.Path.{_≡_};
 ghost use mathlib.Core.Bool.{true};
 ghost use Prim.Native.Nat.{_+_, _*_, _^_, _<_, _≤_};
 ghost use lib.ListN.{length};
-ghost use Rattle.basics.specs.Search.{allOf};
+ghost use Rattle.basics.specs.Search.{pairwise};
 ghost use Rattle.basics.specs.Refusals.{refuse};
 ghost use Rattle.machine.specs.Refusals.{numberOf, stageNumber};
-ghost use Rattle.machine.specs.Machine.{takesFrom, clash};
-ghost use Rattle.machine.specs.Part.{halfAt, wordAt, arcAt, arcsAt, shaped, soundStates, soundArcs, noClash, apart};
+ghost use Rattle.machine.specs.Machine.{takes, takesFrom};
+ghost use Rattle.machine.specs.Part.{stateCount, halfAt, wordAt, arcAt, arcsOf, shaped, soundStates, soundArcs, noClash};
+ghost use Rattle.machine.specs.Clashes.{pairsWith, apartFrom, PairsNoted, LeavesStates};
 use crate::Arc;
 use crate::Pair;
 use crate::Refusal;
 use crate::Stage;
+use crate::sets;
 
 // A byte as a number to index with.
 pub fn index(x: u8) -> usize
@@ -58,27 +60,16 @@ pub fn read_arc(part: &[u8], at: usize) -> Arc
     }
 }
 
-// Whether the arc at a place leaves the state and takes the pair; its sets are read only if it leaves the state.
-pub fn takes_from(part: &[u8], at: usize, state: u8, pair: Pair) -> bool
-    requires { ⌜ (at + 20 ≤ length (now part)) × (pair .input < 64) × (pair .output < 64) ⌝ }
-    ensures { λ r. ⌜ r ≡ takesFrom (arcAt (now (part .entry)) at) state pair ⌝ }
+// Whether the arc at a place leaves the state and takes a pair, by the set of its input and the set of its output; the arc's sets are
+// read only if it leaves the state.
+pub fn takes_from(part: &[u8], at: usize, state: u8, input: u64, output: u64) -> bool
+    requires { ⌜ at + 20 ≤ length (now part) ⌝ }
+    ensures { λ r. ⌜ ((pair : Pair) → input ≡ 2 ^ pair .input → output ≡ 2 ^ pair .output → r ≡ takesFrom (arcAt (now (part .entry)) at) state pair) ⌝ }
 {
     if part[at] != state {
         return false;
     }
-    read_arc(part, at).takes(pair)
-}
-
-// Whether the arc at a place clashes with an arc; its sets are read only if it leaves the same state.
-fn clashes_with(part: &[u8], at: usize, arc: Arc) -> bool
-    requires { ⌜ at + 20 ≤ length (now part) ⌝ }
-    ensures { λ r. ⌜ r ≡ clash arc (arcAt (now (part .entry)) at) ⌝ }
-{
-    let from = arc.from;
-    if part[at] != from {
-        return false;
-    }
-    arc.shares_pair(read_arc(part, at))
+    read_arc(part, at).takes(input, output)
 }
 
 // The answer of a stage that is one test.
@@ -127,10 +118,11 @@ pub fn check_arcs(part: &[u8], symbols: u8) -> Stage
     ensures { λ r. ⌜ stageNumber r ≡ refuse 4 (soundArcs symbols (now (part .entry))) ⌝ }
 {
     let states = part[0];
+    let last = sets::set_of(symbols);
     let mut at = 2 + index(states);
     let mut left = part[1];
     while left > 0 {
-        if !read_arc(part, at).is_sound(states, symbols) {
+        if !read_arc(part, at).is_sound(states, last) {
             return Stage::Refused(Refusal::Field);
         }
         at += 20;
@@ -139,38 +131,78 @@ pub fn check_arcs(part: &[u8], symbols: u8) -> Stage
     Stage::Passed
 }
 
-// Refusal 5, one arc: it clashes with none of `count` arcs from `start`.
-fn check_apart(part: &[u8], start: usize, count: u8, arc: Arc) -> Stage
-    requires { ⌜ start + 20 * count ≤ length (now part) ⌝ }
-    ensures { λ r. ⌜ stageNumber r ≡ refuse 5 (allOf (apart arc) (arcsAt (now (part .entry)) start count)) ⌝ }
+// The inputs of a set that make a pair with an output: all of them, but for 0 with 0.
+fn pairs_with(inputs: u64, output: usize) -> u64
+    ensures { λ r. ⌜ r ≡ pairsWith inputs output ⌝ }
 {
-    let mut at = start;
-    let mut left = count;
+    if output == 0 {
+        return inputs / 2 * 2;
+    }
+    inputs
+}
+
+// Refusal 5, the pairs of one arc: whether one of them is taken. If not, they are noted as taken: `taken` has, for each output, the
+// inputs of the pairs that are taken.
+fn note_pairs(taken: &mut [u64], arc: Arc) -> bool
+    requires { ⌜ length (now taken) ≡ 64 ⌝ }
+    ensures { λ r. ⌜ PairsNoted (takes arc) (now (taken .entry)) (now (taken .exit)) r ⌝ }
+{
+    let inputs = arc.inputs;
+    let mut left = arc.outputs;
     while left > 0 {
-        if clashes_with(part, at, arc) {
+        let y = sets::least(left);
+        let pairs = pairs_with(inputs, y);
+        let before = taken[y];
+        if before & pairs != 0 {
+            return true;
+        }
+        taken[y] = before | pairs;
+        left = sets::without_least(left);
+    }
+    false
+}
+
+// Refusal 5, one arc: whether it leaves the state and takes a pair that is taken. If not, its pairs from the state are noted.
+fn note_arc(taken: &mut [u64], part: &[u8], at: usize, from: u8) -> bool
+    requires { ⌜ (length (now taken) ≡ 64) × (at + 20 ≤ length (now part)) ⌝ }
+    ensures { λ r. ⌜ PairsNoted (takesFrom (arcAt (now (part .entry)) at) from) (now (taken .entry)) (now (taken .exit)) r ⌝ }
+{
+    if part[at] != from {
+        return false;
+    }
+    note_pairs(taken, read_arc(part, at))
+}
+
+// Refusal 5, one state: no two arcs of it take one pair. The arcs are gone through from the last to the first.
+fn check_state(part: &[u8], states: usize, from: u8) -> Stage
+    requires { ⌜ (shaped (now part) ≡ true) × (states ≡ stateCount (now part)) ⌝ }
+    ensures { λ r. ⌜ stageNumber r ≡ refuse 5 (pairwise (apartFrom from) (arcsOf (now (part .entry)))) ⌝ }
+{
+    let mut taken = [0; 64];
+    let mut left = index(part[1]);
+    while left > 0 {
+        left -= 1;
+        if note_arc(&mut taken, part, 2 + states + 20 * left, from) {
             return Stage::Refused(Refusal::Clash);
         }
-        at += 20;
-        left -= 1;
     }
     Stage::Passed
 }
 
-// Refusal 5: no two arcs clash.
+// Refusal 5: no two arcs clash, if every arc leaves a state of the machine. Each state is checked for itself.
 pub fn check_clashes(part: &[u8]) -> Stage
-    requires { ⌜ shaped (now part) ≡ true ⌝ }
+    requires { ⌜ (shaped (now part) ≡ true) × LeavesStates (now part) ⌝ }
     ensures { λ r. ⌜ stageNumber r ≡ refuse 5 (noClash (now (part .entry))) ⌝ }
 {
-    let mut at = 2 + index(part[0]);
-    let mut left = part[1];
-    while left > 0 {
-        let arc = read_arc(part, at);
-        at += 20;
-        left -= 1;
-        let answer = check_apart(part, at, left, arc);
+    let states = part[0];
+    let count = index(states);
+    let mut from = 0;
+    while from < states {
+        let answer = check_state(part, count, from);
         let Stage::Passed = answer else {
             return answer;
         };
+        from += 1;
     }
     Stage::Passed
 }

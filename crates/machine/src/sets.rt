@@ -1,7 +1,10 @@
 // Sets of symbols as 64-bit numbers: bit n is symbol n, bit 0 the empty symbol.
 ghost use mathlib.Core.Path.{_≡_};
-ghost use Prim.Native.Nat.{_<_, _^_};
+ghost use mathlib.Core.Bool.{true, not, _&&_};
+ghost use Prim.Native.Nat.{ℕ, _<_, _^_};
+ghost use lib.Dec.{eqb};
 ghost use Rattle.basics.specs.Sets.{member};
+ghost use Rattle.machine.specs.Symbols.{leastOf};
 ghost use Rattle.machine.specs.Part.{soundSet};
 
 const POWERS: [u64; 64] = [
@@ -79,18 +82,32 @@ pub fn set_of(symbol: u8) -> u64
     POWERS[symbol as usize]
 }
 
-// Whether a set has a symbol.
-pub fn holds(set: u64, symbol: u8) -> bool
-    requires { ⌜ symbol < 64 ⌝ }
-    ensures { λ r. ⌜ r ≡ member set symbol ⌝ }
+// Whether a set has a symbol; `one` is the set of that symbol.
+pub fn holds(set: u64, one: u64) -> bool
+    ensures { λ r. ⌜ ((symbol : ℕ) → one ≡ 2 ^ symbol → r ≡ member set symbol) ⌝ }
 {
-    set & set_of(symbol) != 0
+    set & one != 0
 }
 
-// Whether a set is not empty and has no bit over `symbols`.
-pub fn is_sound(set: u64, symbols: u8) -> bool
-    requires { ⌜ symbols < 64 ⌝ }
-    ensures { λ r. ⌜ r ≡ soundSet symbols set ⌝ }
+// Whether a set is not empty and has no bit over S; `last` is the set of S.
+pub fn is_sound(set: u64, last: u64) -> bool
+    ensures { λ r. ⌜ ((S : ℕ) → last ≡ 2 ^ S → r ≡ soundSet S set) ⌝ }
 {
-    (set != 0) & (set / 2 < set_of(symbols))
+    (set != 0) & (set / 2 < last)
+}
+
+// The least symbol of a set that is not empty.
+pub fn least(set: u64) -> usize
+    requires { ⌜ 0 < set ⌝ }
+    ensures { λ r. ⌜ (r ≡ leastOf set) × (r < 64) × (member set r ≡ true) ⌝ }
+{
+    u64::trailing_zeros(set) as usize
+}
+
+// A set that is not empty without its least symbol.
+pub fn without_least(set: u64) -> u64
+    requires { ⌜ 0 < set ⌝ }
+    ensures { λ r. ⌜ (r < set) × ((n : ℕ) → member r n ≡ (member set n && not (eqb n (leastOf set)))) ⌝ }
+{
+    set & (set - 1)
 }

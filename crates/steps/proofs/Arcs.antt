@@ -1,13 +1,11 @@
 -- One arc more in a machine's stretch. Assumes nothing.
 use mathlib.Core.Path.{_≡_, refl, sym, _∙_, ap}
-use mathlib.Core.Logic.{_⊎_, inl, inr}
 use mathlib.Core.Bool.{Bool, true, false, cond}
-use mathlib.Core.List.{List, [], _∷_}
-use mathlib.Core.Option.{Option, some, none}
-use Prim.Native.Nat.{ℕ, zero, suc, _+_, _-_, _*_, _<_, _≤_}
+use mathlib.Core.List.{List, _∷_}
+use mathlib.Core.Option.{some, none}
+use Prim.Native.Nat.{ℕ, suc, _+_, _*_, _<_, _≤_}
 use native.Mathlib.Decide.{ℕ-discrete, decLt}
 use native.Mathlib.Omega.{arith}
-use lib.Dec.{eqb}
 use lib.ListN.{length, getD, take, drop, replicate, getD-replicate, length-replicate}
 use lib.Seq.{drop-cons, drop-length, getD-take, getD-drop}
 use borrow.Author.Tests.{eq-eqb, ne-eqb}
@@ -15,10 +13,9 @@ use borrow.Rule.Slice.PartMut.{putMid}
 use Rattle.basics.specs.Sets.{member}
 use Rattle.basics.proofs.Search.{all-at}
 use Rattle.machine.specs.declared.Arc.{Arc}
-use Rattle.machine.specs.declared.Pair.{Pair}
 use Rattle.machine.specs.Machine.{takes, takesFrom, stepAmong}
-use Rattle.machine.specs.Part.{stateCount, arcCount, arcsOf, machineOf, soundArc}
-use Rattle.machine.specs.Accepted.{shape-facts, accepted, sound-facts}
+use Rattle.machine.specs.Part.{stateCount, arcCount, arcsOf, machineOf, shaped, soundArc}
+use Rattle.machine.specs.Accepted.{shape-facts, finals-count, accepted, sound-facts}
 use Rattle.machine.proofs.Arcs.{arcs-count}
 use Rattle.steps.specs.StepTable.{stepCode, HoldsMachine}
 use Rattle.steps.specs.Filling.{AcceptedPart, RowWritten, ArcEntered}
@@ -69,22 +66,28 @@ arc-entered xs ys arc x a k outputs e n f p q o r l w =
         go (yes h) = put-before a k xs ys (omega arith) size (s * 64 + y) (omega arith)
         go (no h) = put-after a k xs ys (omega arith) size (s * 64 + y) (omega arith)
 
--- the arcs from i on are entered
-pub record ArcsEntered (zs : List ℕ) (arcs : List Arc) (x i : ℕ) : Type 0 where
-  pub size : length zs ≡ 2048
-  pub entry : (s y : ℕ) → s < 32 → y < 64 → getD zs (s * 64 + y) 0 ≡ stepCode (stepAmong (drop i arcs) s (record { input = x; output = y }))
+-- the arcs from i on are entered in the rows of Q states
+pub record ArcsEntered (Q : ℕ) (zs : List ℕ) (arcs : List Arc) (x i : ℕ) : Type 0 where
+  pub entry : (s y : ℕ) → s < Q → y < 64 → getD zs (s * 64 + y) 0 ≡ stepCode (stepAmong (drop i arcs) s (record { input = x; output = y }))
 
-module _ (arcs : List Arc) (x : ℕ) where
-  pub entered-none : (zs : List ℕ) (n i : ℕ) → zs ≡ replicate n 65535 → n ≡ 2048 → i ≡ length arcs → ArcsEntered zs arcs x i
+module _ (Q : ℕ) (arcs : List Arc) (x : ℕ) where
+  -- none, where the rows are cleared
+  pub entered-none : (xs ws : List ℕ) (k n i : ℕ) → ws ≡ replicate n 65535 → n ≡ k → k ≡ Q * 64 → k ≤ length xs → i ≡ length arcs → ArcsEntered Q (putMid 0 k xs ws) arcs x i
   unfolding stepAmong
-  entered-none zs n i e h q = record { size = ap length e ∙ length-replicate n 65535 ∙ h; entry = λ s y hs hy. at s y (omega arith) }
+  entered-none xs ws k n i e m r h q = record { entry = λ s y hs hy. at s y (omega arith) }
     where
-      at : (s y : ℕ) → s * 64 + y < n → getD zs (s * 64 + y) 0 ≡ stepCode (stepAmong (drop i arcs) s (record { input = x; output = y }))
-      at s y b = rw (e, q, drop-length arcs) (getD-replicate n (s * 64 + y) 65535 0 b)
+      size : length ws ≡ k
+      size = ap length e ∙ length-replicate n 65535 ∙ m
 
-  pub entered-next : {zs ws : List ℕ} (i j : ℕ) (a : Arc) → j ≡ suc i → i < length arcs → getD arcs i a ≡ a → ArcsEntered zs arcs x j → ArcEntered zs ws a x → ArcsEntered ws arcs x i
+      at : (s y : ℕ) → s * 64 + y < k → getD (putMid 0 k xs ws) (s * 64 + y) 0 ≡ stepCode (stepAmong (drop i arcs) s (record { input = x; output = y }))
+      at s y b =
+          ap (λ (j : ℕ). getD (putMid 0 k xs ws) j 0) (omega arith)
+          ∙ put-inside 0 k xs ws (omega arith) size (s * 64 + y) b
+          ∙ (rw (e, q, drop-length arcs) (getD-replicate n (s * 64 + y) 65535 0 (omega arith)))
+
+  pub entered-next : {zs ws : List ℕ} (i j : ℕ) (a : Arc) → Q ≤ 32 → j ≡ suc i → i < length arcs → getD arcs i a ≡ a → ArcsEntered Q zs arcs x j → ArcEntered zs ws a x → ArcsEntered Q ws arcs x i
   unfolding stepAmong
-  entered-next {zs} {ws} i j a q h g p w = record { size = w .size ∙ p .size; entry = λ s y hs hy. w .entry s y hs hy ∙ at s y (p .entry s y hs hy) (takesFrom a s (record { input = x; output = y })) refl }
+  entered-next {zs} {ws} i j a few q h g p w = record { entry = λ s y hs hy. w .entry s y (omega arith) hy ∙ at s y (p .entry s y hs hy) (takesFrom a s (record { input = x; output = y })) refl }
     where
       here : drop i arcs ≡ a ∷ drop j arcs
       here = drop-cons arcs i a h ∙ ap (λ (b : Arc). b ∷ drop (suc i) arcs) g ∙ ap (λ (n : ℕ). a ∷ drop n arcs) (sym q)
@@ -95,9 +98,12 @@ module _ (arcs : List Arc) (x : ℕ) where
       at s y r false t = rw (here, t, stepAmong) r
 
 -- all of them
-pub entered-all : (part : List ℕ) (x : ℕ) {zs : List ℕ} {i : ℕ} → i ≤ 0 → ArcsEntered zs (arcsOf part) x i → HoldsMachine (machineOf part) x zs
+pub entered-all : (part : List ℕ) (x : ℕ) {zs : List ℕ} {i : ℕ} → shaped part ≡ true → length zs ≡ 2048 → i ≤ 0 → ArcsEntered (stateCount part) zs (arcsOf part) x i → HoldsMachine (machineOf part) x zs
 unfolding machineOf
-entered-all part x {zs} {i} h p = record { size = p .size; step = λ s y hs hy. p .entry s y hs hy ∙ ap (λ (n : ℕ). stepCode (stepAmong (drop n (arcsOf part)) s (record { input = x; output = y }))) z }
+entered-all part x {zs} {i} t size h p = record {
+  size = size;
+  step = λ s y hs hy. p .entry s y (omega (arith, finals-count part t)) hy ∙ ap (λ (n : ℕ). stepCode (stepAmong (drop n (arcsOf part)) s (record { input = x; output = y }))) z;
+}
   where
     z : i ≡ 0
     z = omega arith

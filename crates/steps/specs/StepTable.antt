@@ -22,13 +22,13 @@ stepPlace m s y = rowPlace m s + y
 abbrev pub machineAt : List Machine → ℕ → Machine
 machineAt ms m = getD ms m (record { finals = []; arcs = [] })
 
--- the steps of one machine, on the input x
+-- the steps of one machine from its states, on the input x
 pub record HoldsMachine (machine : Machine) (x : ℕ) (stretch : List ℕ) : Type 0 where
   pub size : length stretch ≡ 2048
-  pub step : (s y : ℕ) → s < 32 → y < 64 → getD stretch (s * 64 + y) 0 ≡ stepCode (stepOf machine s (record { input = x; output = y }))
+  pub step : (s y : ℕ) → s < length (machine .finals) → y < 64 → getD stretch (s * 64 + y) 0 ≡ stepCode (stepOf machine s (record { input = x; output = y }))
 
--- the steps of all machines, on the input x
+-- the steps of all machines from their states, on the input x
 pub record HoldsSteps (machines : List Machine) (x : ℕ) (table : List ℕ) : Type 0 where
   pub size : length table ≡ 12288
-  pub step : (m s y : ℕ) → m < length machines → s < 32 → y < 64
+  pub step : (m s y : ℕ) → m < length machines → s < length (machineAt machines m .finals) → y < 64
       → getD table (stepPlace m s y) 0 ≡ stepCode (stepOf (machineAt machines m) s (record { input = x; output = y }))

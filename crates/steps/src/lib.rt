@@ -1,12 +1,13 @@
 // Tables of steps: for one input symbol, where each machine goes from each state with each output.
 ghost use mathlib.Core.Path.{_≡_};
-ghost use Prim.Native.Nat.{_+_, _*_, _<_, _≤_};
+ghost use Prim.Native.Nat.{ℕ, _+_, _*_, _^_, _<_, _≤_};
 ghost use lib.ListN.{length, replicate};
 ghost use Rattle.machine.specs.Part.{machineOf};
 ghost use Rattle.card.specs.Card.{machinesOf, cardRefusal};
 ghost use Rattle.steps.specs.StepTable.{HoldsMachine, HoldsSteps};
 ghost use Rattle.steps.specs.Filling.{AcceptedPart, RowWritten, ArcEntered};
 use machine::Arc;
+use machine::sets;
 
 // The number of a pair that no arc takes.
 pub const NO_STEP: u16 = 65535;
@@ -43,20 +44,17 @@ fn write_row(row: &mut [u16], outputs: u64, entry: u16)
     ensures { λ _. ⌜ RowWritten (now (row .entry)) (now (row .exit)) outputs entry ⌝ }
 {
     let mut left = outputs;
-    let mut y = 0;
     while left > 0 {
-        if left % 2 == 1 {
-            row[y] = entry;
-        }
-        left /= 2;
-        y += 1;
+        let y = sets::least(left);
+        row[y] = entry;
+        left = sets::without_least(left);
     }
 }
 
-// Writes the step by an arc at each pair of the input that the arc takes.
-fn enter_arc(stretch: &mut [u16], arc: Arc, input: u8)
-    requires { ⌜ (length (now stretch) ≡ 2048) × (arc .from < 32) × (arc .to < 32) × (arc .marks ≤ 15) × (input < 64) ⌝ }
-    ensures { λ _. ⌜ ArcEntered (now (stretch .entry)) (now (stretch .exit)) arc input ⌝ }
+// Writes the step by an arc at each pair of the input that the arc takes, by the set of the input.
+fn enter_arc(stretch: &mut [u16], arc: Arc, input: u64)
+    requires { ⌜ (length (now stretch) ≡ 2048) × (arc .from < 32) × (arc .to < 32) × (arc .marks ≤ 15) ⌝ }
+    ensures { λ _. ⌜ ((x : ℕ) → input ≡ 2 ^ x → ArcEntered (now (stretch .entry)) (now (stretch .exit)) arc x) ⌝ }
 {
     let from = index(arc.from) * 64;
     let to = from + 64;
@@ -67,16 +65,19 @@ fn enter_arc(stretch: &mut [u16], arc: Arc, input: u8)
     );
 }
 
-// Fills a machine's stretch of the table: its arcs from the last to the first, since the first that takes a pair is the step.
-fn fill_machine(stretch: &mut [u16], part: &[u8], input: u8)
-    requires { ⌜ (length (now stretch) ≡ 2048) × AcceptedPart (now part) × (input < 64) ⌝ }
-    ensures { λ _. ⌜ HoldsMachine (machineOf (now (part .entry))) input (now (stretch .exit)) ⌝ }
+// Fills the rows of a machine's states in its stretch of the table, by the set of the input: the arcs from the last to the first, since
+// the first that takes a pair is the step. The rows past its states are left as they are.
+fn fill_machine(stretch: &mut [u16], part: &[u8], input: u64)
+    requires { ⌜ (length (now stretch) ≡ 2048) × AcceptedPart (now part) ⌝ }
+    ensures { λ _. ⌜ ((x : ℕ) → input ≡ 2 ^ x → HoldsMachine (machineOf (now (part .entry))) x (now (stretch .exit))) ⌝ }
 {
-    clear(stretch);
+    let states = machine::state_count(part);
+    let end = states * 64;
+    clear(&mut stretch[0..end]);
     let mut left = machine::arc_count(part);
     while left > 0 {
         left -= 1;
-        enter_arc(stretch, machine::nth_arc(part, left), input);
+        enter_arc(stretch, machine::nth_arc(part, states, left), input);
     }
 }
 
@@ -86,11 +87,12 @@ pub fn fill_steps(card: &[u8], input: u8, table: &mut [u16])
     ensures { λ _. ⌜ HoldsSteps (machinesOf (now (card .entry))) input (now (table .exit)) ⌝ }
 {
     let machines = card::machine_count(card);
+    let set = sets::set_of(input);
     let mut m = 0;
     while m < machines {
         let from = m * 2048;
         let to = from + 2048;
-        fill_machine(&mut table[from..to], card::part(card, m), input);
+        fill_machine(&mut table[from..to], card::part(card, m), set);
         m += 1;
     }
 }

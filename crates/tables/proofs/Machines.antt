@@ -52,10 +52,13 @@ module _ {S : ℕ} {ms : List Machine} {x : ℕ} {steps rows counts : List ℕ} 
   pub machine-below : m < length ms
   machine-below = rw (T .holds-counts, counts-length ms) at hm
 
-  state-few : getD (statesOf (stateCounts ms) code) m 0 < 32
-  state-few =
+  state-below : getD (statesOf (stateCounts ms) code) m 0 < stateCountOf (machineAt ms m)
+  state-below =
       let b = below-at (stateCounts ms) (statesOf (stateCounts ms) code) (code-states (T .machines) code below-product) m (omega (arith, counts-length ms, machine-below)) in
-      omega (arith, b, count-at ms m, T .machines .states m)
+      omega (arith, b, count-at ms m)
+
+  state-few : getD (statesOf (stateCounts ms) code) m 0 < 32
+  state-few = omega (arith, state-below, T .machines .states m)
 
   pub row-is : getD rows (code * 8 + m) 0 ≡ (m * 32 + getD (statesOf (stateCounts ms) code) m 0) * 64
   row-is = T .holds-rows .row code m below-product (omega (arith, counts-length ms, machine-below))
@@ -70,4 +73,4 @@ module _ {S : ℕ} {ms : List Machine} {x : ℕ} {steps rows counts : List ℕ} 
   pub entry-is : getD steps (getD rows (code * 8 + m) 0 + y) 0 ≡ stepCode (stepOf (machineAt ms m) (getD (statesOf (stateCounts ms) code) m 0) (record { input = x; output = y }))
   entry-is =
       ap (λ (n : ℕ). getD steps (n + y) 0) row-is
-      ∙ T .holds-steps .step m (getD (statesOf (stateCounts ms) code) m 0) y machine-below state-few hy
+      ∙ T .holds-steps .step m (getD (statesOf (stateCounts ms) code) m 0) y machine-below state-below hy

@@ -9,6 +9,7 @@ use Rattle.basics.specs.Refusals.{refuse, firstOf}
 use Rattle.basics.proofs.Refusals.{last-one}
 use Rattle.machine.specs.Part.{shaped, soundStates, soundArcs, noClash, partRefusal}
 use Rattle.machine.proofs.Stages.{passed-test, passed-on, refused-up}
+use Rattle.machine.proofs.Clashes.{sound-leaves}
 use Rattle.machine.proofs.check.Statement.{statement}
 use Rattle.machine.proofs.check.Tie as tie
 
@@ -69,7 +70,9 @@ returns-3 c =
     refused-up (c .enum-told6 .given .1) _ (from-5 (a .part .now)) (c .before .before .check-arcs .ensures) ∙ sym (after-states (c .before .before .before))
 
 check-clashes-requires : tie.Need-check-clashes-requires
-check-clashes-requires c κs = is-shaped (c .before .before .before .before .before .before)
+check-clashes-requires c κs =
+    let a = c .before .before .before .before .before .before .before .before .before .before .args in
+    (is-shaped (c .before .before .before .before .before .before), sound-leaves (a .symbols) (a .part .now) (passed-test (c .enum-told5 .given .1) 4 _ (lit< tt) (c .before .before .check-arcs .ensures)))
 
 returns-4 : tie.Need-returns-4
 unfolding from-5

@@ -7,18 +7,18 @@ use Rattle.steps.proofs.enter_arc.Statement.{statement}
 use Rattle.steps.proofs.enter_arc.Tie as tie
 
 returns : tie.Need-returns
-returns c =
+returns c x one =
     let k = c .before .before in
     let i = k .before .before .before .before in
     let s = i .before .before in
     let xs = s .args .stretch .now in
     let a = i .index .result * 64 in
-    arc-entered xs (k .write-row .last .0) (s .args .arc) (s .args .input) a (a + 64 - a) (k .before .before .outputs-for .result) (k .before .step-code .result)
+    arc-entered xs (k .write-row .last .0) (s .args .arc) x a (a + 64 - a) (k .before .before .outputs-for .result) (k .before .step-code .result)
     (s .pre .0)
     (s .pre .1)
     (omega arith)
     (omega arith)
-    (k .before .before .outputs-for .ensures)
+    (λ y. k .before .before .outputs-for .ensures x y one)
     (k .before .step-code .ensures)
     (simp (length-take, length-drop) (omega arith))
     (k .write-row .ensures)

@@ -1,34 +1,34 @@
-use Prim.Native.Nat.{ℕ, _+_, _-_, _*_, _≤_, _<_}
-use mathlib.Core.Path.{_≡_, refl, sym, ap, _∙_}
+use Prim.Native.Nat.{_+_, _-_, _*_, _≤_, _<_}
+use mathlib.Core.Path.{refl}
 use native.Mathlib.Omega.{arith}
 use borrow.Author.Needs.{needs}
-use lib.ListN.{length, length-take, length-drop}
+use lib.ListN.{length-take, length-drop}
 use Rattle.card.specs.Layout.{machineCount, symbolCount}
 use Rattle.card.specs.Card.{machinesOf}
 use Rattle.card.specs.Accepted.{accepted}
 use Rattle.steps.specs.StepTable.{machineAt, HoldsMachine}
-use Rattle.steps.proofs.Machines.{machines-count, machine-at, MachinesFilled, machines-start, machines-next, machines-end}
+use Rattle.steps.proofs.Machines.{machines-count, machine-at, few-states, MachinesFilled, machines-start, machines-next, machines-end}
 use Rattle.steps.proofs.fill_steps.Statement.{statement}
 use Rattle.steps.proofs.fill_steps.Tie as tie
 
 abbrev Inv-loop : tie.InvT-loop
-Inv-loop card input table₀ machines m₀ table m = (m ≤ machines) × MachinesFilled (machinesOf card) input table m
+Inv-loop card input table₀ machines set m₀ table m = (m ≤ machines) × MachinesFilled (machinesOf card) input table m
 
 abbrev μ-loop : tie.MeasureT-loop
-μ-loop card input table₀ machines m₀ table m = machines - m
+μ-loop card input table₀ machines set m₀ table m = machines - m
 
 -- the machine's number is below K, which is 6 at most
-in-card : (c : tie.In-loop Inv-loop μ-loop) → c .before .loop .m < machineCount (c .before .before .before .before .before .args .card .now)
-in-card c = omega (arith, c .before .before .machine-count .ensures)
+in-card : (c : tie.In-loop Inv-loop μ-loop) → c .before .loop .m < machineCount (c .before .before .before .before .before .before .args .card .now)
+in-card c = omega (arith, c .before .before .before .machine-count .ensures)
 
 below-six : (c : tie.In-loop Inv-loop μ-loop) → c .before .loop .m < 6
-below-six c = let s = c .before .before .before .before .before in omega (arith, in-card c, accepted (s .args .card .now) (s .pre .0) .head .counts)
+below-six c = let s = c .before .before .before .before .before .before in omega (arith, in-card c, accepted (s .args .card .now) (s .pre .0) .head .counts)
 
 machine-count-requires : tie.Need-machine-count-requires Inv-loop μ-loop
 machine-count-requires c κs = c .before .before .pre .0
 
 loop-holds : tie.Need-loop-holds Inv-loop μ-loop
-loop-holds c = let s = c .before .before .before in (omega arith, machines-start (machinesOf (s .args .card .now)) (s .args .input) (s .args .table .now) (s .pre .2))
+loop-holds c = let s = c .before .before .before .before in (omega arith, machines-start (machinesOf (s .args .card .now)) (s .args .input) (s .args .table .now) (s .pre .2))
 
 mul-from : tie.Need-mul-from Inv-loop μ-loop
 mul-from c = omega (arith, below-six c)
@@ -49,16 +49,15 @@ part-fill-machine-end : tie.Need-part-fill-machine-end Inv-loop μ-loop
 part-fill-machine-end c = omega (arith, below-six c, c .before .loop .inv .1 .size)
 
 part-requires : tie.Need-part-requires Inv-loop μ-loop
-part-requires c κs = (c .before .before .before .before .before .before .pre .0, in-card (c .before))
+part-requires c κs = (c .before .before .before .before .before .before .before .pre .0, in-card (c .before))
 
 fill-machine-requires : tie.Need-fill-machine-requires Inv-loop μ-loop
 fill-machine-requires c κs =
     let k = c .before .before in
-    let s = k .before .before .before .before .before in
+    let s = k .before .before .before .before .before .before in
     let card = s .args .card .now in (
       simp (length-take, length-drop) (omega (arith, below-six k, k .before .loop .inv .1 .size)),
       (symbolCount card, rw (c .part .ensures) (accepted card (s .pre .0) .part (k .before .loop .m) (in-card k))),
-      s .pre .1,
     )
 
 add-m : tie.Need-add-m Inv-loop μ-loop
@@ -71,22 +70,22 @@ loop-again : tie.Need-loop-again Inv-loop μ-loop
 loop-again c =
     let w = c .before .before in
     let k = w .before .before .before in
-    let s = k .before .before .before .before .before in
+    let s = k .before .before .before .before .before .before in
     let card = s .args .card .now in
     let m = k .before .loop .m in
     let h : HoldsMachine (machineAt (machinesOf card) m) (s .args .input) (w .fill-machine .last .0) =
-    rw (machine-at card m (in-card k), ← (w .before .part .ensures)) (w .fill-machine .ensures) in
-    (omega arith, machines-next (machinesOf card) (s .args .input) (m * 2048) (m * 2048 + 2048 - m * 2048) (below-six k) refl (omega arith) (k .before .loop .inv .1) h)
+    rw (machine-at card m (in-card k), ← (w .before .part .ensures)) (w .fill-machine .ensures (s .args .input) (k .before .before .set-of .ensures)) in
+    (omega arith, machines-next (machinesOf card) (s .args .input) (m * 2048) (m * 2048 + 2048 - m * 2048) (below-six k) (λ j q. few-states card (s .pre .0) j (omega (arith, in-card k))) refl (omega arith) (k .before .loop .inv .1) h)
 
 same-length : tie.Need-same-length Inv-loop μ-loop
-same-length c = omega (arith, c .before .loop .inv .1 .size, c .before .before .before .before .before .pre .2)
+same-length c = omega (arith, c .before .loop .inv .1 .size, c .before .before .before .before .before .before .pre .2)
 
 returns : tie.Need-returns Inv-loop μ-loop
 returns c =
     let l = c .before in
-    let s = l .before .before .before .before in
+    let s = l .before .before .before .before .before in
     let card = s .args .card .now in
-    machines-end (machinesOf card) (s .args .input) (omega (arith, machines-count card, l .before .machine-count .ensures)) (l .loop .inv .1)
+    machines-end (machinesOf card) (s .args .input) (omega (arith, machines-count card, l .before .before .machine-count .ensures)) (l .loop .inv .1)
 
 pub fill-steps-spec : {M : Type 1} → statement M
 fill-steps-spec =
@@ -95,6 +94,7 @@ fill-steps-spec =
     Inv-loop
     μ-loop
     machine-count-requires
+    (λ c κs. search needs)
     loop-holds
     mul-from
     add-to

@@ -9,16 +9,16 @@ use Rattle.machine.proofs.Arc.outputs_for.Tie as tie
 
 returns : tie.Need-returns
 unfolding takes
-returns c y =
+returns c x y i =
     let a = c .before .before .args in
-    let e : member (a .self .inputs) (a .input) ≡ true = sym (c .before .holds .ensures) ∙ c .if1 .taken in
+    let e : member (a .self .inputs) x ≡ true = sym (c .before .holds .ensures x i) ∙ c .if1 .taken in
     rw e
 
 returns-2 : tie.Need-returns-2
 unfolding takes
-returns-2 c y =
+returns-2 c x y i =
     let a = c .before .before .args in
-    let e : member (a .self .inputs) (a .input) ≡ false = sym (c .before .holds .ensures) ∙ c .if1 .left in
+    let e : member (a .self .inputs) x ≡ false = sym (c .before .holds .ensures x i) ∙ c .if1 .left in
     rw (e, no-member y)
 
 pub outputs-for-spec : {M : Type 1} → statement M

@@ -1,8 +1,9 @@
-use Prim.Native.Nat.{_≤_, _+_, _*_}
+use Prim.Native.Nat.{_≤_, _+_, _*_, _^_}
 use mathlib.Core.Path.{_≡_, sym, _∙_}
 use native.Mathlib.Omega.{arith}
 use lib.ListN.{length}
 use borrow.Author.Needs.{needs}
+use Rattle.machine.specs.declared.Pair.{Pair}
 use Rattle.machine.specs.Machine.{stepAmong}
 use Rattle.machine.specs.Part.{arcAt, arcsAt, arcsOf, machineOf}
 use Rattle.machine.specs.Accepted.{shape-facts}
@@ -11,35 +12,40 @@ use Rattle.machine.proofs.Position.step.Statement.{statement}
 use Rattle.machine.proofs.Position.step.Tie as tie
 
 abbrev Inv-loop : tie.InvT-loop
-Inv-loop part pair state at₀ left₀ at left =
-    (at + 20 * left ≤ length part) × (stepAmong (arcsAt part at left) state pair ≡ stepAmong (arcsOf part) state pair)
+Inv-loop part state input output at₀ left₀ at left =
+    (at + 20 * left ≤ length part) × ((pair : Pair) → input ≡ 2 ^ pair .input → output ≡ 2 ^ pair .output → stepAmong (arcsAt part at left) state pair ≡ stepAmong (arcsOf part) state pair)
 
 abbrev μ-loop : tie.MeasureT-loop
-μ-loop part pair state at₀ left₀ at left = left
+μ-loop part state input output at₀ left₀ at left = left
 
 shared-slice-read-index : tie.Need-shared-slice-read-index Inv-loop μ-loop
-shared-slice-read-index c = omega (arith, shape-facts _ (c .before .before .pre .0))
+shared-slice-read-index c = omega (arith, shape-facts _ (c .before .before .before .before .pre .0))
 
 shared-slice-read-left : tie.Need-shared-slice-read-left Inv-loop μ-loop
-shared-slice-read-left c = omega (arith, shape-facts _ (c .before .before .before .before .pre .0))
+shared-slice-read-left c = omega (arith, shape-facts _ (c .before .before .before .before .before .before .pre .0))
 
 loop-holds : tie.Need-loop-holds Inv-loop μ-loop
-loop-holds c = (omega (arith, shape-facts _ (c .before .before .before .before .pre .0)), rw (c .before .index .ensures .0))
+loop-holds c = (omega (arith, shape-facts _ (c .before .before .before .before .before .before .pre .0)), λ pair i o. rw (c .before .index .ensures .0))
 
 returns : tie.Need-returns Inv-loop μ-loop
 unfolding arcAt machineOf
 returns c =
     let k = c .before .before .before .before in
-    step-stop _ _ _ _ _ _ (k .loop-test .taken) (sym (c .before .before .before .takes-from .ensures) ∙ c .before .before .if1 .taken) (k .before .loop .inv .1)
+    let o = k .before .before .before .before .before in
+    let pair = o .before .before .before .args .pair in
+    step-stop _ _ _ _ pair _ (k .loop-test .taken) (sym (c .before .before .before .takes-from .ensures pair (o .before .set-of .ensures) (o .set-of2 .ensures)) ∙ c .before .before .if1 .taken) (k .before .loop .inv .1 pair (o .before .set-of .ensures) (o .set-of2 .ensures))
 
 loop-again : tie.Need-loop-again Inv-loop μ-loop
 loop-again c =
     let k = c .before .before in
-    (search needs, step-go-on _ _ _ _ _ _ (k .loop-test .taken) (sym (c .before .takes-from .ensures) ∙ c .if1 .left) (k .before .loop .inv .1))
+    (search needs, λ pair i o. step-go-on _ _ _ _ _ _ (k .loop-test .taken) (sym (c .before .takes-from .ensures pair i o) ∙ c .if1 .left) (k .before .loop .inv .1 pair i o))
 
 returns-2 : tie.Need-returns-2 Inv-loop μ-loop
 unfolding machineOf
-returns-2 c = step-end _ _ _ _ _ _ (c .loop-test .left) (c .before .loop .inv .1)
+returns-2 c =
+    let o = c .before .before .before .before .before in
+    let pair = o .before .before .before .args .pair in
+    step-end _ _ _ _ pair _ (c .loop-test .left) (c .before .loop .inv .1 pair (o .before .set-of .ensures) (o .set-of2 .ensures))
 
 pub step-spec : {M : Type 1} → statement M
 step-spec =
@@ -47,6 +53,8 @@ step-spec =
     (tie.spec
     Inv-loop
     μ-loop
+    (λ c κs. search needs)
+    (λ c κs. search needs)
     shared-slice-read-index
     (λ c κs. search needs)
     (λ c. search needs)

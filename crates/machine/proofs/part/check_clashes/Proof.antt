@@ -1,54 +1,57 @@
-use Prim.Native.Nat.{_≤_, _+_, _*_}
-use mathlib.Core.Path.{_≡_, ap, _∙_}
+use Prim.Native.Nat.{_≤_, _-_}
+use mathlib.Core.Path.{_≡_, ap, sym, _∙_}
+use mathlib.Core.Bool.{true}
 use native.Mathlib.Omega.{arith}
 use lib.Dec.{lit<}
-use lib.ListN.{length}
 use borrow.Author.Needs.{needs}
-use Rattle.basics.specs.Search.{pairwise}
+use Rattle.basics.specs.Search.{pairwise, everyBelow}
 use Rattle.basics.specs.Refusals.{refuse}
-use Rattle.machine.specs.Part.{arcsAt, apart, noClash}
+use Rattle.basics.proofs.Below.{every-start, every-next, every-at}
+use Rattle.machine.specs.Part.{stateCount, arcsOf}
 use Rattle.machine.specs.Accepted.{shape-facts}
+use Rattle.machine.specs.Clashes.{apartFrom}
 use Rattle.machine.proofs.Stages.{passed-test, refused-test}
-use Rattle.machine.proofs.Arcs.{pairwise-go-on, pairwise-stop, pairwise-end}
+use Rattle.machine.proofs.Clashes.{state-clash, states-apart}
 use Rattle.machine.proofs.part.check_clashes.Statement.{statement}
 use Rattle.machine.proofs.part.check_clashes.Tie as tie
 
 abbrev Inv-loop : tie.InvT-loop
-Inv-loop part at₀ left₀ at left =
-    (at + 20 * left ≤ length part) × (pairwise apart (arcsAt part at left) ≡ noClash part)
+Inv-loop part states count from₀ from = (from ≤ states) × (everyBelow (λ s. pairwise (apartFrom s) (arcsOf part)) from ≡ true)
 
 abbrev μ-loop : tie.MeasureT-loop
-μ-loop part at₀ left₀ at left = left
+μ-loop part states count from₀ from = states - from
 
-shared-slice-read-index : tie.Need-shared-slice-read-index Inv-loop μ-loop
-shared-slice-read-index c = omega (arith, shape-facts _ (c .before .before .pre))
+shared-slice-read-states : tie.Need-shared-slice-read-states Inv-loop μ-loop
+shared-slice-read-states c = omega (arith, shape-facts _ (c .before .before .pre .0))
 
-shared-slice-read-left : tie.Need-shared-slice-read-left Inv-loop μ-loop
-shared-slice-read-left c = omega (arith, shape-facts _ (c .before .before .before .before .pre))
+index-requires : tie.Need-index-requires Inv-loop μ-loop
+index-requires c κs = tt
 
 loop-holds : tie.Need-loop-holds Inv-loop μ-loop
-loop-holds c = (omega (arith, shape-facts _ (c .before .before .before .before .pre)), rw (c .before .index .ensures .0))
+loop-holds c = (omega arith, every-start (λ s. pairwise (apartFrom s) (arcsOf _)))
 
-loop-again : tie.Need-loop-again Inv-loop μ-loop
-loop-again c =
-    let k = c .before .before .before .before in (
-      search needs,
-      pairwise-go-on _ _ _ _ _ (k .loop-test .taken)
-          (passed-test (c .enum-told .given .1) 5 _ (lit< tt) (rw (← c .before .before .before .read-arc .ensures) (c .before .before .check-apart .ensures)))
-          (k .before .loop .inv .1),
-    )
+check-state-requires : tie.Need-check-state-requires Inv-loop μ-loop
+check-state-requires c κs = (c .before .before .before .before .before .pre .0, c .before .before .index .ensures .0)
 
 returns : tie.Need-returns Inv-loop μ-loop
 returns c =
-    let k = c .before .before .before .before in
-    let e = c .before .before .check-apart .ensures in
+    let l = arcsOf (c .before .before .before .before .before .before .before .before .args .part .now) in
+    let e = c .before .before .check-state .ensures in
     let f = refused-test (c .enum-told2 .given .1) 5 _ e in
-    e
-    ∙ ap (refuse 5)
-    (f ∙ pairwise-stop _ _ _ apart _ (k .loop-test .taken) (rw (← c .before .before .before .read-arc .ensures) f) (k .before .loop .inv .1))
+    e ∙ ap (refuse 5) (f ∙ sym (state-clash (c .before .before .before .before .loop .from) l f))
+
+loop-again : tie.Need-loop-again Inv-loop μ-loop
+loop-again c =
+    let l = arcsOf (c .before .before .before .before .before .before .before .before .args .part .now) in
+    let k = c .before .before .before .before .loop in
+    (search needs, every-next (λ s. pairwise (apartFrom s) l) (k .from) (k .inv .1) (passed-test (c .enum-told .given .1) 5 _ (lit< tt) (c .before .before .check-state .ensures)))
 
 returns-2 : tie.Need-returns-2 Inv-loop μ-loop
-returns-2 c = ap (refuse 5) (pairwise-end _ _ _ _ _ (c .loop-test .left) (c .before .loop .inv .1))
+returns-2 c =
+    let s = c .before .before .before .before .before in
+    let part = s .args .part .now in
+    let k = c .before .loop in
+    ap (refuse 5) (sym (states-apart (stateCount part) (arcsOf part) (s .pre .1) (λ n h. every-at (λ s. pairwise (apartFrom s) (arcsOf part)) (k .from) (k .inv .1) n (omega arith))))
 
 pub check-clashes-spec : {M : Type 1} → statement M
 check-clashes-spec =
@@ -56,18 +59,14 @@ check-clashes-spec =
     (tie.spec
     Inv-loop
     μ-loop
-    shared-slice-read-index
-    (λ c κs. search needs)
-    (λ c. search needs)
-    shared-slice-read-left
+    shared-slice-read-states
+    index-requires
     loop-holds
-    (λ c κs. search needs)
+    check-state-requires
     (λ c. search needs)
     (λ c. search needs)
-    (λ c κs. search needs)
+    returns
     (λ c. search needs)
     (λ c. search needs)
     loop-again
-    (λ c. search needs)
-    returns
     returns-2)

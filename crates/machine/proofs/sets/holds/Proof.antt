@@ -4,7 +4,7 @@ use Rattle.machine.proofs.sets.holds.Statement.{statement}
 use Rattle.machine.proofs.sets.holds.Tie as tie
 
 returns : tie.Need-returns
-returns c = rw (c .set-of .ensures) (meets-one (c .before .args .set) (c .before .args .symbol) (search needs))
+returns c symbol e = rw e (meets-one (c .args .set) symbol (search needs))
 
 pub holds-spec : {M : Type 1} → statement M
-holds-spec = tie.close (tie.spec (λ c κs. search needs) returns)
+holds-spec = tie.close (tie.spec returns)

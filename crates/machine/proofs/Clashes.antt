@@ -1,0 +1,282 @@
+-- Refusal 5, a state at a time: the pairs noted, and what the checks of all states say of all arcs. Assumes nothing.
+use mathlib.Core.Path.{_≡_, refl, sym, ap, _∙_, subst}
+use mathlib.Core.Bool.{Bool, true, false, not, _&&_, _||_, cond, and-false, or-false}
+use mathlib.Core.List.{List, [], _∷_}
+use Prim.Native.Nat.{ℕ, zero, suc, _+_, _*_, _/_, _%_, _^_, _<_, _≤_}
+use native.Mathlib.Nat.{div-one}
+use native.Mathlib.Decide.{ℕ-discrete}
+use native.Mathlib.Omega.{arith}
+use lib.Bits.{bitAnd, bitOr}
+use lib.Dec.{eqb, ltb}
+use lib.ListN.{length, getD, set, drop, replicate, getD-replicate, drop-of-length-le}
+use lib.Seq.{drop-cons, getD-set-same, getD-set-other}
+use borrow.Author.Tests.{eqb-true, eq-eqb, ne-eqb, lt-ltb, ltb-true}
+use Rattle.basics.specs.Search.{allOf, pairwise, someBelow}
+use Rattle.basics.specs.Sets.{member}
+use Rattle.basics.proofs.Bools.{clash as never, both, left, right, fails, left-fails, right-fails}
+use Rattle.basics.proofs.Search.{pairwise-next, pairwise-fails}
+use Rattle.basics.proofs.Below.{finds-below}
+use Rattle.basics.proofs.Sets.{no-member, its-member, member-and, member-or}
+use Rattle.machine.specs.declared.Arc.{Arc}
+use Rattle.machine.specs.declared.Pair.{Pair}
+use Rattle.machine.specs.Symbols.{emptySymbol, isPair}
+use Rattle.machine.specs.Machine.{takes, takesFrom, bothTake, takeOnePair, clash}
+use Rattle.machine.specs.Part.{stateCount, arcCount, arcAt, arcsOf, soundArc, soundArcs, apart}
+use Rattle.machine.specs.Accepted.{sound-facts}
+use Rattle.machine.specs.Steps.{clash-at}
+use Rattle.machine.specs.Clashes.{LeavesStates, apartFrom, pairsWith, noted, takenFrom, Taken, PairsNoted}
+use Rattle.machine.proofs.SymbolSets.{member-half}
+use Rattle.machine.proofs.SetLoops.{Passed, with-true, passed-none, still-old, passed-next, passed-all}
+use Rattle.machine.proofs.Arcs.{leaves, leaves-other, arc-at, arcs-count}
+
+-- the inputs that make a pair with an output
+pub pairs-member : (w : ℕ) (p : Pair) → member (pairsWith w (p .output)) (p .input) ≡ (isPair p && member w (p .input))
+pairs-member w p = go (eqb (p .output) emptySymbol) refl (p .input)
+  where
+    go : (b : Bool) → eqb (p .output) emptySymbol ≡ b → (x : ℕ)
+        → member (cond (eqb (p .output) emptySymbol) (w / 2 * 2) w) x ≡ (not (eqb x emptySymbol && eqb (p .output) emptySymbol) && member w x)
+    go true e zero = rw (e, div-one) (ne-eqb (w / 2 * 2 % 2) 1 (omega arith))
+    go true e (suc x) =
+        let half : w / 2 * 2 / 2 ≡ w / 2 = omega arith in
+        rw (e, ne-eqb (suc x) 0 (omega arith)) (member-half (w / 2 * 2) x ∙ ap (λ (n : ℕ). member n x) half ∙ sym (member-half w x))
+    go false e x = rw (e, and-false (eqb x emptySymbol))
+
+-- in and out are in the sets
+abbrev pub inSets : ℕ → ℕ → Pair → Bool
+inSets inputs outputs p = member inputs (p .input) && member outputs (p .output)
+
+-- the pairs of an arc: the outputs gone through are noted, and were not
+pub record PairsPassed (before now : List ℕ) (inputs outputs left : ℕ) : Type 0 where
+  pub passed : Passed (λ k. getD before k 0) (λ k. bitOr (getD before k 0) (pairsWith inputs k)) (λ k. getD now k 0) outputs left
+  pub clean : (k : ℕ) → member outputs k ≡ true → member left k ≡ false → bitAnd (getD before k 0) (pairsWith inputs k) ≡ 0
+
+module _ (before : List ℕ) (inputs outputs : ℕ) where
+  pub pairs-none : PairsPassed before before inputs outputs outputs
+  pairs-none = record {
+    passed = passed-none (λ k. getD before k 0) (λ k. bitOr (getD before k 0) (pairsWith inputs k)) outputs;
+    clean = λ k t f. absurd (never t f);
+  }
+
+  -- a pair with the output y was noted
+  pub pair-found : (after : List ℕ) (y : ℕ) → y < 64 → member outputs y ≡ true → bitAnd (getD before y 0) (pairsWith inputs y) < 2 ^ 64
+      → (bitAnd (getD before y 0) (pairsWith inputs y) ≡ 0 → ⊥) → PairsNoted (inSets inputs outputs) before after true
+  pair-found after y h t b n =
+      let w = bitAnd (getD before y 0) (pairsWith inputs y) in
+      let q = its-member 64 w b (omega arith) in
+      let p : Pair = record { input = q .0; output = y } in
+      let m : (noted before p && member (pairsWith inputs y) (q .0)) ≡ true = sym (member-and (getD before y 0) (pairsWith inputs y) (q .0)) ∙ q .2 in
+      let i : (isPair p && member inputs (q .0)) ≡ true = sym (pairs-member inputs p) ∙ right (noted before p) (member (pairsWith inputs y) (q .0)) m in
+      record {
+        found = λ e. (
+          p,
+          q .1,
+          h,
+          left (isPair p) (member inputs (q .0)) i,
+          both (right (isPair p) (member inputs (q .0)) i) t,
+          left (noted before p) (member (pairsWith inputs y) (q .0)) m,
+        );
+        clean = λ e. absurd (never refl e);
+        after-is = λ e. absurd (never refl e);
+      }
+
+  module _ (now : List ℕ) (rest : ℕ) (P : PairsPassed before now inputs outputs rest) where
+    -- what is noted at an output that is left
+    pub not-yet : (y : ℕ) → member rest y ≡ true → getD now y 0 ≡ getD before y 0
+    not-yet = still-old (λ k. getD before k 0) (λ k. bitOr (getD before k 0) (pairsWith inputs k)) outputs (λ k. getD now k 0) rest (P .passed)
+
+    -- the pairs with the output y are noted
+    pub pairs-next : (y after v : ℕ) → y < length now → member rest y ≡ true → ((k : ℕ) → member after k ≡ (member rest k && not (eqb k y)))
+        → bitAnd (getD before y 0) (pairsWith inputs y) ≡ 0 → v ≡ bitOr (getD before y 0) (pairsWith inputs y) → PairsPassed before (set now y v) inputs outputs after
+    pairs-next y after v h t f z e = record {
+      passed =
+          passed-next (λ k. getD before k 0) (λ k. bitOr (getD before k 0) (pairsWith inputs k)) outputs (λ k. getD now k 0) rest (P .passed) (λ k. getD (set now y v) k 0) after y t f
+          (getD-set-same now y v 0 h ∙ e) (λ k n. getD-set-other now y k v 0 n);
+      clean = λ k o l. at k o l (ℕ-discrete k y);
+    }
+      where
+        at : (k : ℕ) → member outputs k ≡ true → member after k ≡ false → Dec (k ≡ y) → bitAnd (getD before k 0) (pairsWith inputs k) ≡ 0
+        at k o l (yes q) = rw q z
+        at k o l (no q) = P .clean k o (sym (f k ∙ ap (λ (b : Bool). member rest k && not b) (ne-eqb k y q) ∙ with-true (member rest k)) ∙ l)
+
+    -- all of them are noted
+    pub pairs-end : rest ≤ 0 → PairsNoted (inSets inputs outputs) before now false
+    pairs-end h = record { found = λ e. absurd (never e refl); clean = λ e p b i t. unmet p i t; after-is = λ e p b. at p (member outputs (p .output)) refl }
+      where
+        none : rest ≡ 0
+        none = omega arith
+
+        unmet : (p : Pair) → isPair p ≡ true → inSets inputs outputs p ≡ true → noted before p ≡ false
+        unmet p i t =
+            let x = member inputs (p .input) in
+            let y = member outputs (p .output) in
+            let z = P .clean (p .output) (right x y t) (rw none (no-member (p .output))) in
+            let m : member (pairsWith inputs (p .output)) (p .input) ≡ true = pairs-member inputs p ∙ both i (left x y t) in
+            let e : (noted before p && member (pairsWith inputs (p .output)) (p .input)) ≡ false =
+            sym (member-and (getD before (p .output) 0) (pairsWith inputs (p .output)) (p .input)) ∙ (rw z (no-member (p .input))) in
+            fails (noted before p) (λ q. never (both q m) e)
+
+        at : (p : Pair) (b : Bool) → member outputs (p .output) ≡ b → noted now p ≡ (noted before p || (isPair p && inSets inputs outputs p))
+        at p b o = ap (λ (n : ℕ). member n (p .input)) (passed-all (λ k. getD before k 0) (λ k. bitOr (getD before k 0) (pairsWith inputs k)) outputs (λ k. getD now k 0) rest (P .passed) h (p .output)) ∙ go b o
+          where
+            go : (b : Bool) → member outputs (p .output) ≡ b
+                → member (cond (member outputs (p .output)) (bitOr (getD before (p .output) 0) (pairsWith inputs (p .output))) (getD before (p .output) 0)) (p .input)
+                ≡ (noted before p || (isPair p && inSets inputs outputs p))
+            go true o =
+                rw (o, with-true (member inputs (p .input)))
+                (member-or (getD before (p .output) 0) (pairsWith inputs (p .output)) (p .input) ∙ ap (λ (c : Bool). noted before p || c) (pairs-member inputs p))
+            go false o = rw (o, and-false (member inputs (p .input)), and-false (isPair p)) (sym (or-false (noted before p)))
+
+-- the arc of one state
+module _ (arc : Arc) (s : ℕ) where
+  pub other-arc : (before : List ℕ) → (arc .from ≡ s → ⊥) → PairsNoted (takesFrom arc s) before before false
+  other-arc before n = record {
+    found = λ e. absurd (never e refl);
+    clean = λ e p b i t. absurd (never t (leaves-other arc s p n));
+    after-is = λ e p b. rw (leaves-other arc s p n, and-false (isPair p)) (sym (or-false (noted before p)));
+  }
+
+  pub this-arc : (before after : List ℕ) (met : Bool) → arc .from ≡ s → PairsNoted (takes arc) before after met → PairsNoted (takesFrom arc s) before after met
+  this-arc before after met e N = let q : takes arc ≡ takesFrom arc s = λ i p. sym (leaves arc s p e) i in subst (λ (f : Pair → Bool). PairsNoted f before after met) q N
+
+-- the arcs of one state, one more
+pub taken-none : (s : ℕ) → Taken s [] (replicate 64 0)
+unfolding takenFrom
+taken-none s = record { pairs = λ p h. ap (λ (n : ℕ). member n (p .input)) (getD-replicate 64 (p .output) 0 0 h) ∙ no-member (p .input) ∙ sym (and-false (isPair p)) }
+
+module _ (s : ℕ) (a : Arc) where
+  -- no arc of the rest takes a pair that this one takes
+  apart-all : (rest : List Arc) → ((p : Pair) → p .output < 64 → isPair p ≡ true → takesFrom a s p ≡ true → takenFrom s rest p ≡ false) → allOf (apartFrom s a) rest ≡ true
+  unfolding takenFrom allOf clash takeOnePair
+  apart-all [] h = refl
+  apart-all (b ∷ rest) h =
+      both (go (eqb (a .from) s) refl (clash a b) refl) (apart-all rest (λ p l i t. right-fails (takesFrom b s p) (takenFrom s rest p) (h p l i t)))
+    where
+      go : (e : Bool) → eqb (a .from) s ≡ e → (d : Bool) → clash a b ≡ d → not (eqb (a .from) s && clash a b) ≡ true
+      go false e d f = rw e
+      go true e false f = rw (e, f)
+      go true e true f =
+          let same = eqb-true (a .from) (b .from) (left (eqb (a .from) (b .from)) (takeOnePair a b) f) in
+          let x = finds-below (λ x. someBelow (λ y. bothTake a b (record { input = x; output = y })) 64) 64 (right (eqb (a .from) (b .from)) (takeOnePair a b) f) in
+          let y = finds-below (λ y. bothTake a b (record { input = x .0; output = y })) 64 (x .2) in
+          let p : Pair = record { input = x .0; output = y .0 } in
+          let ia : (isPair p && takes a p) ≡ true = left (isPair p && takes a p) (takes b p) (y .2) in
+          let tb : takesFrom b s p ≡ true = both (eq-eqb (b .from) s (sym same ∙ eqb-true (a .from) s e)) (right (isPair p && takes a p) (takes b p) (y .2)) in
+          absurd (never tb (left-fails (takesFrom b s p) (takenFrom s rest p) (h p (y .1) (left (isPair p) (takes a p) ia) (both e (right (isPair p) (takes a p) ia)))))
+
+  -- an arc of the rest takes a pair that this one takes
+  apart-fails : (rest : List Arc) (p : Pair) → p .input < 64 → p .output < 64 → isPair p ≡ true → takesFrom a s p ≡ true → takenFrom s rest p ≡ true → allOf (apartFrom s a) rest ≡ false
+  unfolding takenFrom allOf
+  apart-fails [] p x y i t u = absurd (never u refl)
+  apart-fails (b ∷ rest) p x y i t u = go (takesFrom b s p) refl (apart-fails rest p x y i t)
+    where
+      leaves-s : eqb (a .from) s ≡ true
+      leaves-s = left (eqb (a .from) s) (takes a p) t
+
+      go : (d : Bool) → takesFrom b s p ≡ d → (takenFrom s rest p ≡ true → allOf (apartFrom s a) rest ≡ false) → (apartFrom s a b && allOf (apartFrom s a) rest) ≡ false
+      go true e r = rw (leaves-s, clash-at a b s p x y i t e)
+      go false e r = ap (λ (d : Bool). apartFrom s a b && d) (r (rw e at u)) ∙ and-false (apartFrom s a b)
+
+  module _ {rest : List Arc} {before after : List ℕ} (T : Taken s rest before) where
+    pub taken-next : PairsNoted (takesFrom a s) before after false → Taken s (a ∷ rest) after
+    unfolding takenFrom
+    taken-next N = record { pairs = λ p h. N .after-is refl p h ∙ ap (λ (b : Bool). b || (isPair p && takesFrom a s p)) (T .pairs p h) ∙ go (isPair p) (takesFrom a s p) (takenFrom s rest p) }
+      where
+        go : (i t u : Bool) → ((i && u) || (i && t)) ≡ (i && (t || u))
+        go false t u = refl
+        go true true true = refl
+        go true true false = refl
+        go true false true = refl
+        go true false false = refl
+
+    pub apart-next : PairsNoted (takesFrom a s) before after false → allOf (apartFrom s a) rest ≡ true
+    apart-next N = apart-all rest (λ p h i t. fails (takenFrom s rest p) (λ u. never (T .pairs p h ∙ both i u) (N .clean refl p h i t)))
+
+    pub apart-stop : PairsNoted (takesFrom a s) before after true → allOf (apartFrom s a) rest ≡ false
+    apart-stop N =
+        let w = N .found refl in
+        let p = w .0 in
+        apart-fails rest p (w .1) (w .2) (w .3) (w .4) (right (isPair p) (takenFrom s rest p) (sym (T .pairs p (w .2)) ∙ w .5))
+
+-- all states
+all-weaker : (f g : Arc → Bool) → ((a : Arc) → f a ≡ true → g a ≡ true) → (arcs : List Arc) → allOf f arcs ≡ true → allOf g arcs ≡ true
+unfolding allOf
+all-weaker f g h [] t = refl
+all-weaker f g h (a ∷ rest) t = both (h a (left (f a) (allOf f rest) t)) (all-weaker f g h rest (right (f a) (allOf f rest) t))
+
+apart-from : (s : ℕ) (a b : Arc) → apart a b ≡ true → apartFrom s a b ≡ true
+apart-from s a b t = go (eqb (a .from) s) (clash a b) t
+  where
+    go : (e d : Bool) → not d ≡ true → not (e && d) ≡ true
+    go true d q = q
+    go false d q = refl
+
+-- where no two arcs clash, none of a state do
+pub state-apart : (s : ℕ) (arcs : List Arc) → pairwise apart arcs ≡ true → pairwise (apartFrom s) arcs ≡ true
+unfolding pairwise
+state-apart s [] t = refl
+state-apart s (a ∷ rest) t =
+    both (all-weaker (apart a) (apartFrom s a) (apart-from s a) rest (left (allOf (apart a) rest) (pairwise apart rest) t)) (state-apart s rest (right (allOf (apart a) rest) (pairwise apart rest) t))
+
+pub state-clash : (s : ℕ) (arcs : List Arc) → pairwise (apartFrom s) arcs ≡ false → pairwise apart arcs ≡ false
+state-clash s arcs f = fails (pairwise apart arcs) (λ t. never (state-apart s arcs t) f)
+
+-- where every arc leaves one of Q states, and none of any of these clash, no two do
+pub states-apart : (Q : ℕ) (arcs : List Arc) → allOf (λ a. ltb (a .from) Q) arcs ≡ true → ((s : ℕ) → s < Q → pairwise (apartFrom s) arcs ≡ true) → pairwise apart arcs ≡ true
+unfolding pairwise allOf
+states-apart Q [] l h = refl
+states-apart Q (a ∷ rest) l h =
+    let q = ltb-true (a .from) Q (left (ltb (a .from) Q) (allOf (λ b. ltb (b .from) Q) rest) l) in
+    both
+    (all-weaker (apartFrom (a .from) a) (apart a) (λ b t. (rw (eq-eqb (a .from) (a .from) refl) at t)) rest (left (allOf (apartFrom (a .from) a) rest) (pairwise (apartFrom (a .from)) rest) (h (a .from) q)))
+    (states-apart Q rest (right (ltb (a .from) Q) (allOf (λ b. ltb (b .from) Q) rest) l) (λ s k. right (allOf (apartFrom s a) rest) (pairwise (apartFrom s) rest) (h s k)))
+
+pub sound-leaves : (S : ℕ) (part : List ℕ) → soundArcs S part ≡ true → LeavesStates part
+sound-leaves S part t =
+    all-weaker (soundArc S (stateCount part)) (λ a. ltb (a .from) (stateCount part)) (λ a q. lt-ltb (a .from) (stateCount part) (sound-facts S (stateCount part) a q .from)) (arcsOf part) t
+
+-- the check of one state has passed the arcs from i on
+pub record StateChecked (part : List ℕ) (s : ℕ) (taken : List ℕ) (i : ℕ) : Type 0 where
+  pub arcs : i ≤ arcCount part
+  pub size : length taken ≡ 64
+  pub taken-is : Taken s (drop i (arcsOf part)) taken
+  pub apart-is : pairwise (apartFrom s) (drop i (arcsOf part)) ≡ true
+
+pairwise-drop : {A : Type 0} (f : A → A → Bool) (i : ℕ) (l : List A) → pairwise f l ≡ true → pairwise f (drop i l) ≡ true
+unfolding pairwise
+pairwise-drop f zero l t = t
+pairwise-drop f (suc i) [] t = refl
+pairwise-drop f (suc i) (x ∷ l) t = pairwise-drop f i l (right (allOf (f x) l) (pairwise f l) t)
+
+module _ (part : List ℕ) (s : ℕ) where
+  arcs-left : (i at : ℕ) → i < arcCount part → at ≡ 2 + stateCount part + 20 * i → drop i (arcsOf part) ≡ arcAt part at ∷ drop (suc i) (arcsOf part)
+  arcs-left i at h e =
+      let a = arcAt part at in
+      drop-cons (arcsOf part) i a (omega (arith, arcs-count part (2 + stateCount part) (arcCount part)))
+      ∙ ap (λ (b : Arc). b ∷ drop (suc i) (arcsOf part)) (arc-at part (2 + stateCount part) (arcCount part) i h a ∙ ap (arcAt part) (sym e))
+
+  pub state-start : (i : ℕ) → i ≡ arcCount part → StateChecked part s (replicate 64 0) i
+  unfolding pairwise
+  state-start i e =
+      let none : drop i (arcsOf part) ≡ [] = drop-of-length-le (arcsOf part) {i = i} (omega (arith, arcs-count part (2 + stateCount part) (arcCount part))) in
+      record { arcs = omega arith; size = refl; taken-is = rw none (taken-none s); apart-is = rw none }
+
+  module _ {taken : List ℕ} {j : ℕ} (C : StateChecked part s taken j) where
+    module _ (i at : ℕ) (more : j ≡ suc i) (place : at ≡ 2 + stateCount part + 20 * i) (after : List ℕ) where
+      here : drop i (arcsOf part) ≡ arcAt part at ∷ drop j (arcsOf part)
+      here = arcs-left i at (omega (arith, C .arcs)) place ∙ ap (λ (n : ℕ). arcAt part at ∷ drop n (arcsOf part)) (sym more)
+
+      pub state-next : length after ≡ 64 → PairsNoted (takesFrom (arcAt part at) s) taken after false → StateChecked part s after i
+      state-next z N = record {
+        arcs = omega (arith, C .arcs);
+        size = z;
+        taken-is = rw here (taken-next s (arcAt part at) (C .taken-is) N);
+        apart-is = sym (pairwise-next (apartFrom s) here (apart-next s (arcAt part at) (C .taken-is) N)) ∙ C .apart-is;
+      }
+
+      pub state-stop : PairsNoted (takesFrom (arcAt part at) s) taken after true → pairwise (apartFrom s) (arcsOf part) ≡ false
+      state-stop N =
+          let f = pairwise-fails (apartFrom s) here (apart-stop s (arcAt part at) (C .taken-is) N) in
+          fails (pairwise (apartFrom s) (arcsOf part)) (λ t. never (pairwise-drop (apartFrom s) i (arcsOf part) t) f)
+
+    pub state-end : j ≤ 0 → pairwise (apartFrom s) (arcsOf part) ≡ true
+    state-end h = let z : j ≡ 0 = omega arith in rw z at (C .apart-is)
