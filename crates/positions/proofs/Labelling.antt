@@ -8,15 +8,14 @@ use lib.ListN.{length, getD, replicate, length-replicate, getD-replicate}
 use Rattle.card.specs.Card.{machinesOf}
 use Rattle.paths.specs.Positions.{Done, done-start}
 use Rattle.labels.specs.Work.{stateOf, labelOf, Cleared}
-use Rattle.labels.specs.Settling.{SettlePre, Settled}
+use Rattle.labels.specs.Settling.{SettlePreListed, SettledListed}
 use Rattle.labels.proofs.Work.{blank-state}
 use Rattle.labels.proofs.Clearing.{cleared-blank}
 use Rattle.labels.proofs.Room.{attained-room}
-use Rattle.card.specs.Layout.{symbolCount}
 use Rattle.tables.specs.Places.{sixPlaces}
 use Rattle.tables.specs.JointTable.{HoldsJoint}
-use Rattle.tables.specs.Insertions.{noPair, HoldsCheapest}
-use Rattle.positions.specs.Engine.{engineGraph, placeOf, Looked}
+use Rattle.tables.specs.Insertions.{noPair}
+use Rattle.positions.specs.Engine.{engineGraph, placeOf, Looked, Insertions}
 use Rattle.positions.specs.Entering.{EnterPre, Tried, EndsTried}
 use Rattle.positions.specs.Labelling.{TablesFit, PositionPre, PositionEntered, PositionsDone, LabelPre}
 use Rattle.positions.proofs.Edges.{node-below, place-high, few-nodes, positioned, within, small-marks}
@@ -46,12 +45,14 @@ module _ {card ranking word rs cs ps xs : List ℕ} {P i : ℕ} (Q : PositionPre
       let d : Done (engineGraph card ranking word) (placeOf card) (labelOf xs) (suc (length word)) = rw q at (Q .done) in
       record { size = T .size; fresh = λ w a. T .fresh w (blank w a); entered = rw q (ends-entered (Q .setting) xs ys d T) }
 
-  module _ {ys ks : List ℕ} (H : HoldsCheapest (symbolCount card) (machinesOf card) (sixPlaces ranking) ks) (E : PositionEntered card ranking word xs ys i) where
-    pub settle-ready : SettlePre ys ks (i * P) P
-    settle-ready = position-pre (Q .setting) ks H i (Q .within) ys (E .size ∙ Q .room) (E .fresh) (E .entered)
+  module _ {ys ls : List ℕ} (H : Insertions card ranking ls P) (E : PositionEntered card ranking word xs ys i) where
+    pub settle-ready : SettlePreListed ys ls (i * P) P
+    settle-ready = record { ks = H .ks; pre = position-pre (Q .setting) (H .ks) (H .holds) i (Q .within) ys (E .size ∙ Q .room) (E .fresh) (E .entered); listed = H .listed }
 
-    pub position-labelled : {zs : List ℕ} → Settled ys zs ks (i * P) P → PositionsDone card ranking word xs zs i
-    position-labelled {zs} S = record { size = S .size ∙ E .size; done = position-settled (Q .setting) ks H i (Q .within) ys zs S (E .entered) }
+    pub position-labelled : {zs : List ℕ} → SettledListed ys zs ls (i * P) P → PositionsDone card ranking word xs zs i
+    position-labelled {zs} F =
+        let S = F (H .ks) (H .listed) in
+        record { size = S .size ∙ E .size; done = position-settled (Q .setting) (H .ks) (H .holds) i (Q .within) ys zs S (E .entered) }
 
 module _ {card ranking word xs : List ℕ} {P : ℕ} (Q : LabelPre card ranking word xs P) where
   -- no node has a label

@@ -10,10 +10,12 @@ use Rattle.card.specs.Card.{cardRefusal, machinesOf}
 use Rattle.candidate.specs.Optimizing.{soundWord}
 use Rattle.paths.specs.Ranked.{rankedCosts}
 use Rattle.paths.specs.Graph.{Graph}
+use Rattle.labels.specs.Listing.{Listed}
 use Rattle.product.specs.Nodes.{product, stateCounts, positionAt}
 use Rattle.product.specs.ProductGraph.{pairs, cardGraph}
 use Rattle.tables.specs.Places.{sixPlaces}
 use Rattle.tables.specs.Tables.{HoldsRows}
+use Rattle.tables.specs.Insertions.{HoldsCheapest}
 
 -- the product of the card's machines over the word, whose costs are six counts in ranked order and the number of pairs
 abbrev pub engineGraph : (card ranking word : List ℕ) → Graph (rankedCosts 6) pairs
@@ -49,3 +51,9 @@ pub record InsertionsPre (card ranking cs ps ks : List ℕ) (P : ℕ) : Type 0 w
   pub counts : cs ≡ stateCounts (machinesOf card)
   pub places : ps ≡ sixPlaces ranking
   pub room : P * P ≤ length ks
+
+-- lists of the cheapest insertions from code to code: those of a table that has them
+pub record Insertions (card ranking ls : List ℕ) (P : ℕ) : Type 0 where
+  pub ks : List ℕ
+  pub holds : HoldsCheapest (symbolCount card) (machinesOf card) (sixPlaces ranking) ks
+  pub listed : Listed ks ls P

@@ -1,7 +1,6 @@
 -- Entering a position: every pair that leaves it is tried, from the first node of it on; at the last position every ending.
 use mathlib.Core.Path.{_≡_}
 use mathlib.Core.Logic.{_⊎_, _≢_}
-use mathlib.Core.Bool.{Bool, true}
 use mathlib.Core.Option.{none, some}
 use mathlib.Core.List.{List}
 use Prim.Native.Nat.{ℕ, suc, _+_, _*_, _^_, _<_, _≤_}
@@ -13,16 +12,11 @@ use Rattle.paths.specs.Ranked.{Ranked, add, rankedCosts}
 use Rattle.paths.specs.Positions.{Entering}
 use Rattle.labels.specs.Marks.{marksOf}
 use Rattle.labels.specs.LabelCost.{RoomFor}
-use Rattle.labels.specs.Work.{HasNode, stateOf, costAt, labelOf, AlikeAt}
+use Rattle.labels.specs.Work.{HasNode, stateOf, labelOf, AlikeAt}
 use Rattle.labels.specs.Lowering.{Lowered}
 use Rattle.tables.specs.Places.{sixPlaces}
 use Rattle.tables.specs.JointTable.{HoldsJoint}
 use Rattle.positions.specs.Engine.{engineGraph, placeOf, Setting, Looked}
-
--- u has a label whose highest count is below n
-pub record Ahead (xs : List ℕ) (u n : ℕ) (r : Bool) : Type 0 where
-  pub label : r ≡ true → labelOf xs u ≡ some (costAt xs u)
-  pub below : r ≡ true → costAt xs u .0 < n
 
 -- trying the node u by a pair with the marks m that leads to v
 pub record EdgePre (xs : List ℕ) (u v m : ℕ) : Type 0 where

@@ -3,43 +3,23 @@ ghost use mathlib.Core.Path.{_≡_};
 ghost use Prim.Native.Nat.{_+_, _*_, _<_, _≤_};
 ghost use lib.ListN.{length};
 ghost use Rattle.card.specs.Layout.{symbolCount};
-ghost use Rattle.card.specs.Card.{machinesOf};
-ghost use Rattle.labels.specs.Work.{HasNode};
-ghost use Rattle.tables.specs.Places.{sixPlaces};
-ghost use Rattle.tables.specs.Insertions.{HoldsCheapest};
 ghost use Rattle.tables.specs.FillingCheapest.{Blank};
-ghost use Rattle.positions.specs.Engine.{Looked, Lent, InsertionsPre};
-ghost use Rattle.positions.specs.Entering.{Ahead, EdgePre, EdgeTried, EnterPre, Tried, EndPre, EndsTried};
+ghost use Rattle.positions.specs.Engine.{Looked, Lent, InsertionsPre, Insertions};
+ghost use Rattle.positions.specs.Entering.{EdgePre, EdgeTried, EnterPre, Tried, EndPre, EndsTried};
 ghost use Rattle.positions.specs.Labelling.{TablesFit, PositionPre, PositionEntered, PositionsDone, LabelPre};
 use labels::NO_PAIR;
 use tables::Joint;
 use tables::JointEnding;
 
-// Whether the node has a label with a smaller highest count than that.
-fn is_ahead(work: &[u16], node: usize, first: u16) -> bool
-    requires { ⌜ HasNode (now work) node ⌝ }
-    ensures { λ r. ⌜ Ahead (now (work .entry)) node first r ⌝ }
-{
-    if !labels::reached(work, node) {
-        return false;
-    }
-    let label = labels::load(work, node);
-    label.first < first
-}
-
-// Tries a node by a pair with those marks that leads to the target. Most pairs are told to be worse by the highest count alone.
+// Tries a node by a pair with those marks that leads to the target.
 fn try_edge(work: &mut [u16], node: usize, target: usize, marks: u32)
     requires { ⌜ EdgePre (now work) node target marks ⌝ }
     ensures { λ _. ⌜ EdgeTried (now (work .entry)) (now (work .exit)) node target marks ⌝ }
 {
-    if !labels::reached(work, target) {
-        return;
+    if labels::reached(work, target) {
+        let label = labels::load(work, target);
+        labels::lower_by(work, node, marks, label);
     }
-    let label = labels::load(work, target);
-    if is_ahead(work, node, label.first + (marks / 1048576) as u16) {
-        return;
-    }
-    labels::lower(work, node, labels::plus(label, marks));
 }
 
 // Tries the node of a position and a code by the pair of the position's symbol and an output.
@@ -231,13 +211,13 @@ fn label_position(
     rows: &[u16],
     counts: &[u8],
     places: &[u8; 6],
-    cheapest: &[u32],
+    insertions: &[u32],
     steps: &mut [u16],
     joint: &mut [u32],
     size: usize,
     position: usize,
 )
-    requires { ⌜ PositionPre (now card) (now ranking) (now word) (now rows) (now counts) (now places) (now work) size position × Lent (now steps) (now joint) size × HoldsCheapest (symbolCount (now card)) (machinesOf (now card)) (sixPlaces (now ranking)) (now cheapest) ⌝ }
+    requires { ⌜ PositionPre (now card) (now ranking) (now word) (now rows) (now counts) (now places) (now work) size position × Lent (now steps) (now joint) size × Insertions (now card) (now ranking) (now insertions) size ⌝ }
     ensures { λ _. ⌜ PositionsDone (now (card .entry)) (now (ranking .entry)) (now (word .entry)) (now (work .entry)) (now (work .exit)) position ⌝ }
 {
     enter(
@@ -253,10 +233,10 @@ fn label_position(
         size,
         position,
     );
-    labels::settle(work, cheapest, position * size, size);
+    labels::settle(work, insertions, position * size, size);
 }
 
-// The cheapest insertions between the codes.
+// The cheapest insertions between the codes, as lists of pairs.
 fn fill_insertions(
     card: &[u8],
     ranking: &[u8],
@@ -268,12 +248,13 @@ fn fill_insertions(
     cheapest: &mut [u32],
 )
     requires { ⌜ InsertionsPre (now card) (now ranking) (now counts) (now places) (now cheapest) size × Lent (now steps) (now joint) size × Blank (now cheapest) ⌝ }
-    ensures { λ _. ⌜ HoldsCheapest (symbolCount (now (card .entry))) (machinesOf (now (card .entry))) (sixPlaces (now (ranking .entry))) (now (cheapest .exit)) ⌝ }
+    ensures { λ _. ⌜ Insertions (now (card .entry)) (now (ranking .entry)) (now (cheapest .exit)) size ⌝ }
 {
     steps::fill_steps(card, machine::Pair::EMPTY, steps);
     tables::joint_table::fill(steps, counts, places, joint);
     let symbols = card::symbol_count(card) as usize;
     tables::fill_cheapest(joint, size, symbols, cheapest);
+    labels::list_pairs(cheapest, size);
 }
 
 // Labels the nodes of all positions.
@@ -285,12 +266,12 @@ fn label_positions(
     rows: &[u16],
     counts: &[u8],
     places: &[u8; 6],
-    cheapest: &[u32],
+    insertions: &[u32],
     steps: &mut [u16],
     joint: &mut [u32],
     size: usize,
 )
-    requires { ⌜ LabelPre (now card) (now ranking) (now word) (now work) size × Looked (now card) (now ranking) (now rows) (now counts) (now places) × Lent (now steps) (now joint) size × HoldsCheapest (symbolCount (now card)) (machinesOf (now card)) (sixPlaces (now ranking)) (now cheapest) ⌝ }
+    requires { ⌜ LabelPre (now card) (now ranking) (now word) (now work) size × Looked (now card) (now ranking) (now rows) (now counts) (now places) × Lent (now steps) (now joint) size × Insertions (now card) (now ranking) (now insertions) size ⌝ }
     ensures { λ _. ⌜ PositionsDone (now (card .entry)) (now (ranking .entry)) (now (word .entry)) (now (work .entry)) (now (work .exit)) 0 ⌝ }
 {
     labels::clear(work, (word.len() + 1) * size);
@@ -305,7 +286,7 @@ fn label_positions(
             rows,
             counts,
             places,
-            cheapest,
+            insertions,
             steps,
             joint,
             size,

@@ -127,7 +127,7 @@ module _ {steps counts places xs : List ℕ} (pre : JointTablePre steps counts p
 
       -- its step, as the table of steps has it
       its-step : (s y : ℕ) → s < q → y < 64 → getD steps (stepPlace m s y) 0 ≡ stepCode (stepOf (machineAt ms m) s (record { input = x; output = y }))
-      its-step s y h k = T .holds-steps .step m s y its-machine (omega (arith, its-count, T .machines .states m)) k
+      its-step s y h k = T .holds-steps .step m s y its-machine (omega (arith, its-count)) k
 
       -- with its marks and its state the entry is one for the machines from m on
       entry-next : (s c y : ℕ) → s < q → c < rest → y < 64

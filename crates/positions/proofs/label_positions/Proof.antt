@@ -10,11 +10,11 @@ use Rattle.positions.proofs.label_positions.Statement.{statement}
 use Rattle.positions.proofs.label_positions.Tie as tie
 
 abbrev Inv-loop : tie.InvT-loop
-Inv-loop work₀ card ranking word rows counts places cheapest steps₀ joint₀ size left₀ work steps joint left =
+Inv-loop work₀ card ranking word rows counts places insertions steps₀ joint₀ size left₀ work steps joint left =
     (left ≤ length word + 1) × PositionsDone card ranking word work₀ work left × (length steps ≡ length steps₀) × (length joint ≡ length joint₀)
 
 abbrev μ-loop : tie.MeasureT-loop
-μ-loop work₀ card ranking word rows counts places cheapest steps₀ joint₀ size left₀ work steps joint left = left
+μ-loop work₀ card ranking word rows counts places insertions steps₀ joint₀ size left₀ work steps joint left = left
 
 add-clear : tie.Need-add-clear Inv-loop μ-loop
 add-clear c = omega (arith, word-sound (c .before .before .before .before .before .before .before .before .before .before .pre .0 .setting) .few)
