@@ -1,11 +1,11 @@
 -- Laws of the tests on costs.
 use mathlib.Core.Path.{_≡_, refl, sym, _∙_, ap}
-use mathlib.Core.Logic.{inl, inr}
+use mathlib.Core.Logic.{inl, inr, _≢_}
 use mathlib.Core.Bool.{Bool, true, false, _&&_, _||_, false≢true}
 use Prim.Native.Nat.{ℕ, zero, suc}
 use native.Mathlib.Omega.{arith}
 use lib.Dec.{ltb, eqb}
-use borrow.Author.Tests.{ltb-true, eqb-true, lt-ltb, le-ltb, eq-eqb}
+use borrow.Author.Tests.{ltb-true, eqb-true, lt-ltb, le-ltb, eq-eqb, ne-eqb}
 use Rattle.paths.specs.Total.{Upto, not-less-upto}
 use Rattle.paths.specs.Ranked.{Ranked, Less, less-total}
 use Rattle.labels.specs.LabelCost.{isLess, isSame}
@@ -44,3 +44,21 @@ same-is-true k a b e = rw e (self k b)
 
 pub same-false : (k : ℕ) (a b : Ranked k) → isSame k a b ≡ false → ¬ (a ≡ b)
 same-false k a b h e = false≢true (sym h ∙ same-is-true k a b e)
+
+-- ---- going from place to place: the first place where they differ decides
+
+pub less-here : {a b : ℕ} (x : Bool) → a ≢ b → ltb a b ≡ ltb a b || (eqb a b && x)
+less-here {a} {b} x n = rw (ne-eqb a b n) (sym (or-false (ltb a b)))
+  where
+    or-false : (t : Bool) → t || false ≡ t
+    or-false true = refl
+    or-false false = refl
+
+pub less-rest : {a b : ℕ} {r x : Bool} → a ≡ b → r ≡ x → r ≡ ltb a b || (eqb a b && x)
+less-rest {a} {b} e h = rw (le-ltb a b (omega arith), eq-eqb a b e) h
+
+pub same-here : {a b : ℕ} (x : Bool) → a ≢ b → false ≡ eqb a b && x
+same-here {a} {b} x n = rw (ne-eqb a b n) refl
+
+pub same-rest : {a b : ℕ} {r x : Bool} → a ≡ b → r ≡ x → r ≡ eqb a b && x
+same-rest {a} {b} e h = rw (eq-eqb a b e) h

@@ -4,6 +4,7 @@ pub mod Clearing
 pub mod Lowering
 pub mod Selecting
 pub mod PositionGraph
+pub mod Listing
 pub mod Spreading
 pub mod Settling
 pub mod PartLabels

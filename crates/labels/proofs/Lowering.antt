@@ -1,7 +1,7 @@
 -- Laws for improving the label of one node.
 use mathlib.Core.Path.{_≡_, refl, sym, _∙_, ap, subst}
 use mathlib.Core.Logic.{_⊎_, inl, inr, _≢_}
-use mathlib.Core.Bool.{Bool, true, not, false≢true}
+use mathlib.Core.Bool.{Bool, true, false, not, false≢true}
 use mathlib.Core.Option.{Option, none, some, Option·none-ne-some}
 use mathlib.Core.List.{List}
 use Prim.Native.Nat.{ℕ, _≤_}
@@ -16,7 +16,7 @@ use Rattle.paths.specs.Improvement.{Improves}
 use Rattle.labels.specs.Marks.{pairCost}
 use Rattle.labels.specs.LabelCost.{isLess}
 use Rattle.labels.specs.Work.{stateOf, costAt, labelOf, AlikeAt, Reached, Stored}
-use Rattle.labels.specs.Lowering.{Compared, Lowered, Visited, passed, barred, tried}
+use Rattle.labels.specs.Lowering.{Compared, Lowered, LoweredBy}
 use Rattle.labels.proofs.Comparing.{less-true, less-false}
 use Rattle.labels.proofs.Work.{labelled, unlabelled, label-alike}
 
@@ -45,6 +45,13 @@ module _ (xs : List ℕ) (u : ℕ) where
     label = record { here = lowered a (labelled ys u (omega (arith, s .state)) ∙ ap {B = Option (Ranked 6)} some (s .cost)); others = λ w k. label-alike (s .others w k) };
   }
 
+  -- the same, told by the answer
+  pub lowered-by-kept : (c : Ranked 6) → AtMost (Less 6) (labelOf xs u) c → LoweredBy xs xs u c false
+  lowered-by-kept c m = record { lowered = lowered-kept c m; kept = λ _. refl }
+
+  pub lowered-by-stored : (ys : List ℕ) (c : Ranked 6) → Above (Less 6) (labelOf xs u) c → Stored xs ys u c → LoweredBy xs ys u c true
+  lowered-by-stored ys c a s = record { lowered = lowered-stored ys c a s; kept = λ q. absurd (false≢true (sym q)) }
+
 -- whether a node has a label
 pub reached-test : (xs : List ℕ) (u : ℕ) → Reached xs u (not (eqb (stateOf xs u) 0))
 reached-test xs u = record {
@@ -61,31 +68,3 @@ lowered-fresh {xs} {ys} {u} W w h = go (ℕ-discrete w u) (W .state)
     go (no n) t = rw (W .others w n .state) h
     go (yes q) (inl t) = rw (q, t) (rw q at h)
     go (yes q) (inr t) = rw q (omega arith)
-
-module _ {xs ys : List ℕ} {u e : ℕ} {d : Ranked 6} where
-  pub visited-size : Visited xs ys u e d → length ys ≡ length xs
-  visited-size (passed s q) = ap length q
-  visited-size (barred n q) = ap length q
-  visited-size (tried c n s W) = W .size
-
-  pub visited-others : Visited xs ys u e d → (w : ℕ) → w ≢ u → AlikeAt xs ys w
-  visited-others (passed s q) w k = rw q (record { state = refl; cost = refl })
-  visited-others (barred n q) w k = rw q (record { state = refl; cost = refl })
-  visited-others (tried c n s W) w k = W .others w k
-
-  pub visited-fresh : Visited xs ys u e d → (w : ℕ) → stateOf xs w ≤ 1 → stateOf ys w ≤ 1
-  visited-fresh (passed s q) w h = rw q h
-  visited-fresh (barred n q) w h = rw q h
-  visited-fresh (tried c n s W) w h = lowered-fresh W w h
-
-  -- by a pair its label is improved
-  pub visited-improves : Visited xs ys u e d → stateOf xs u ≤ 1 → {c : Ranked 6} → pairCost e ≡ some c → Improves (Less 6) (labelOf xs) u (add 6 c d) (labelOf ys)
-  visited-improves (passed s q) h p = absurd (omega arith)
-  visited-improves (barred n q) h {c} p = absurd (Option·none-ne-some c (sym n ∙ p))
-  visited-improves (tried b n s W) h {c} p = let q : b ≡ c = cc (s, p) in subst (λ (y : Ranked 6). Improves (Less 6) (labelOf xs) u (add 6 y d) (labelOf ys)) q (W .label)
-
-  -- where there is none, nothing is done
-  pub visited-none : Visited xs ys u e d → pairCost e ≡ none → ys ≡ xs
-  visited-none (passed s q) p = q
-  visited-none (barred n q) p = q
-  visited-none (tried c n s W) p = absurd (Option·none-ne-some c (sym p ∙ s))

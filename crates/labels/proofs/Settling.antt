@@ -6,7 +6,7 @@ use mathlib.Core.Option.{Option, none, some}
 use mathlib.Core.List.{List, []}
 use Prim.Native.Nat.{ℕ, _+_, _*_, _-_, _≤_, _<_}
 use native.Mathlib.Omega.{arith}
-use native.Mathlib.Decide.{ℕ-discrete}
+use native.Mathlib.Decide.{ℕ-discrete, decLt}
 use lib.Dec.{eqb}
 use borrow.Author.Tests.{eq-eqb, ne-eqb, eqb-true}
 use lib.ListN.{length, getD, set, length-set}
@@ -20,11 +20,13 @@ use Rattle.paths.specs.Unsettled.{unsettled, unsettled-most, unsettled-stays, u
 use Rattle.paths.specs.Settling.{Settles, Settling, Chosen, AllSettled, settling-start, relaxing-start, settling-step, settling-alike, settling-end}
 use Rattle.labels.specs.MarksLaws.{room-less}
 use Rattle.labels.specs.LabelCost.{RoomFor}
-use Rattle.labels.specs.Work.{stateOf, costAt, labelOf, OpenAt, SettledAt, AlikeAt}
-use Rattle.labels.specs.Selecting.{Least, NoneOpen}
+use Rattle.labels.specs.Work.{HasNodes, stateOf, costAt, labelOf, OpenAt, SettledAt, AlikeAt}
+use Rattle.labels.specs.Selecting.{NoneOpen, FirstOpen, PastOpen, SelectPre, Least}
 use Rattle.labels.specs.PositionGraph.{InPosition, positionGraph}
-use Rattle.labels.specs.Spreading.{place, SpreadPre, Spread}
-use Rattle.labels.specs.Settling.{SettlePre, Settled}
+use Rattle.labels.specs.Listing.{Listed}
+use Rattle.labels.specs.Spreading.{place, Widened, SpreadPre, Spread, SpreadListed}
+use Rattle.labels.specs.Settling.{SettlePre, Settled, SettlePreListed, SettledListed}
+use Rattle.labels.specs.declared.Window.{Window}
 use Rattle.labels.proofs.Work.{labelled, holds, label-alike, alike-trans, alike-numbers}
 use Rattle.labels.proofs.PositionGraph.{here-place, place-here, at-node, IsEdge, is-edge}
 
@@ -68,7 +70,7 @@ open-at ys b P u w o = let q : b + (u - b) ≡ u = omega (arith, w .low) in ap (
 module _ {xs ys ks : List ℕ} {b P : ℕ} (I : SettleLoop xs ys ks b P) where
   -- ---- no node is open
 
-  pub settle-end : NoneOpen ys b P → Settled xs ys ks b P
+  pub settle-end : NoneOpen ys b 0 P → Settled xs ys ks b P
   settle-end Z = record {
     size = I .size;
     others = I .others;
@@ -81,14 +83,14 @@ module _ {xs ys ks : List ℕ} {b P : ℕ} (I : SettleLoop xs ys ks b P) where
         where
           go : (o : Option (Ranked 6)) → labelOf ys w ≡ o → o ≡ none
           go none l = refl
-          go (some c) l = let x = place-here b P w a in absurd (Z (w - b) (omega (arith, x)) (open-at ys b P w x (open-state ys w c (I .states w x) n l)))
+          go (some c) l = let x = place-here b P w a in absurd (Z (w - b) (omega arith) (omega (arith, x)) (open-at ys b P w x (open-state ys w c (I .states w x) n l)))
 
       edges : (u v : ℕ) (e : Edge (Ranked 6)) (d : Ranked 6) → positionGraph xs ks b P .edge u v ≡ some e → labelOf ys (e .target) ≡ some d → IsEdge ks b P u v e → AtMost (Less 6) (labelOf ys u) (add 6 (e .cost) d)
       edges u v e d h l x = settling-end (positionGraph xs ks b P) (place b P) 0 (λ w. ℕ-discrete (stateOf ys w) 2) (I .settles) all u v e d (here-place b P u (x .from)) (rw (x .target) (here-place b P v (x .to))) h l
 
   -- ---- the least open node b + z is settled
 
-  module _ (z : ℕ) (Y : Least ys b P z) where
+  module _ (z : ℕ) (Y : Least ys b 0 P z) where
     abbrev v : ℕ
     v = b + z
 
@@ -96,10 +98,10 @@ module _ {xs ys ks : List ℕ} {b P : ℕ} (I : SettleLoop xs ys ks b P) where
     marked = set ys ((b + z) * 8) 2
 
     here : InPosition b P (b + z)
-    here = at-node b P z (Y .low)
+    here = at-node b P z (Y .high)
 
     pub settle-room : (b + z) * 8 + 7 < length ys
-    settle-room = omega (arith, I .pre .room, I .size, Y .low)
+    settle-room = omega (arith, I .pre .room, I .size, Y .high)
 
     at-v : stateOf marked v ≡ 2
     at-v = getD-set-same ys (v * 8) 2 0 (omega (arith, settle-room))
@@ -146,14 +148,25 @@ module _ {xs ys ks : List ℕ} {b P : ℕ} (I : SettleLoop xs ys ks b P) where
     fits-v : RoomFor (unsettled (settledOf ys) b P) 6 (costAt marked v)
     fits-v = subst (λ (c : Ranked 6). RoomFor (unsettled (settledOf ys) b P) 6 c) (sym cost-v) (I .fits v (costAt ys v) here (labelled ys v (omega (arith, Y .state))))
 
-    pub settle-spread : SpreadPre (set ys ((b + z) * 8) 2) ks b P z
-    settle-spread = record {
-      table = I .pre .table;
+    pub settle-spread : {ls : List ℕ} {f l : ℕ} → Listed ks ls P → l ≤ P → SpreadPre (set ys ((b + z) * 8) 2) ls b P z f l
+    settle-spread L h = record {
+      table = omega (arith, I .pre .table, L .size);
+      ks = ks;
+      listed = L;
       room = rw length-set (omega (arith, I .pre .room, I .size));
-      below = Y .low;
+      below = Y .high;
       settled = at-v;
       fits = room-less 6 (costAt marked v) (omega (arith, fewer)) fits-v;
+      top = h;
     }
+
+    -- a node that is open now was open before
+    pub settle-open : (w : ℕ) → OpenAt (set ys ((b + z) * 8) 2) w → OpenAt ys w
+    settle-open w o = go (ℕ-discrete w v)
+      where
+        go : Dec (w ≡ v) → OpenAt ys w
+        go (yes q) = absurd (let e : stateOf marked v ≡ 1 = ap (stateOf marked) (sym q) ∙ o in omega (arith, at-v))
+        go (no n) = sym (alike w n .state) ∙ o
 
     module _ (zs : List ℕ) (S : Spread (set ys ((b + z) * 8) 2) zs ks b P z P) where
       pub settle-falls : unsettled (settledOf zs) b P < unsettled (settledOf ys) b P
@@ -194,6 +207,87 @@ module _ {xs ys ks : List ℕ} {b P : ℕ} (I : SettleLoop xs ys ks b P) where
                   let x = place-here b P w a in
                   let k = sym (mark-label w) ∙ l in
                   let q : b + (w - b) ≡ w = omega (arith, x .low) in
-                  let m = Y .least (w - b) (omega (arith, x)) (open-at ys b P w x (open-state ys w d (I .states w x) n k)) in
+                  let m = Y .least (w - b) (omega arith) (omega (arith, x)) (open-at ys b P w x (open-state ys w d (I .states w x) n k)) in
                   let e : costAt ys (b + (w - b)) ≡ d = ap (costAt ys) q ∙ holds ys w d k .cost in
                   subst (λ (y : Ranked 6). Upto (Less 6) y d) (sym cost-v) (subst (λ (y : Ranked 6). Upto (Less 6) (costAt ys v) y) e m)
+
+-- ---- with a table of lists, and a window that has all open nodes
+
+pub record OpenWithin (ys : List ℕ) (b P f l : ℕ) : Type 0 where
+  pub order : f ≤ l
+  pub top : l ≤ P
+  pub inside : (a : ℕ) → a < P → OpenAt ys (b + a) → (f ≤ a) × (a < l)
+
+pub record ListLoop (xs ys ls : List ℕ) (b P f l : ℕ) : Type 0 where
+  pub pre : SettlePreListed xs ls b P
+  pub window : OpenWithin ys b P f l
+  pub loop : (ks : List ℕ) → Listed ks ls P → SettleLoop xs ys ks b P
+
+pub loop-start : {xs ls : List ℕ} {b P : ℕ} → SettlePreListed xs ls b P → ListLoop xs xs ls b P 0 P
+loop-start {xs} {ls} {b} {P} R = record {
+  pre = R;
+  window = record { order = omega arith; top = omega arith; inside = λ a h o. (omega arith, h) };
+  loop = λ ks L. settle-start (record { table = omega (arith, R .pre .table, R .listed .size, L .size); room = R .pre .room; fresh = R .pre .fresh; fits = R .pre .fits });
+}
+
+module _ {xs ys ls : List ℕ} {b P f l : ℕ} (I : ListLoop xs ys ls b P f l) where
+  witness : SettleLoop xs ys (I .pre .ks) b P
+  witness = I .loop (I .pre .ks) (I .pre .listed)
+
+  pub loop-size : length ys ≡ length xs
+  loop-size = witness .size
+
+  pub loop-room : HasNodes ys (b + l)
+  loop-room = omega (arith, I .window .top, I .pre .pre .room, witness .size)
+
+  module _ {g : ℕ} (F : FirstOpen ys b f l g) where
+    pub loop-end : g ≡ l → SettledListed xs ys ls b P
+    loop-end e ks L = settle-end (I .loop ks L) (λ a _ h o. let w = I .window .inside a h o in F .shut a (w .0) (omega arith) o)
+
+    pub loop-some : g ≢ l → g < l
+    loop-some n = omega (arith, F .high)
+
+    module _ {m : ℕ} (n : g ≢ l) (Q : PastOpen ys b g l m) where
+      pub loop-select : SelectPre ys b g m
+      loop-select = record { room = omega (arith, loop-room, Q .high); some-node = Q .low; state = F .state (loop-some n) }
+
+      module _ {z : ℕ} (Y : Least ys b g m z) where
+        within : (a : ℕ) → a < P → OpenAt ys (b + a) → (g ≤ a) × (a < m)
+        within a h o = (go (decLt a g), here (decLt a m))
+          where
+            go : Dec (a < g) → g ≤ a
+            go (yes k) = absurd (F .shut a (I .window .inside a h o .0) k o)
+            go (no k) = omega arith
+
+            here : Dec (a < m) → a < m
+            here (yes k) = k
+            here (no k) = absurd (Q .shut a (omega arith) (I .window .inside a h o .1) o)
+
+        pub loop-least : Least ys b 0 P z
+        loop-least = record {
+          low = omega arith;
+          high = omega (arith, Y .high, Q .high, I .window .top);
+          state = Y .state;
+          least = λ a _ h o. let w = within a h o in Y .least a (w .0) (w .1) o;
+        }
+
+        pub loop-node : (b + z) * 8 + 7 < length ys
+        loop-node = settle-room witness z loop-least
+
+        pub loop-spread : SpreadPre (set ys ((b + z) * 8) 2) ls b P z g m
+        loop-spread = settle-spread witness z loop-least (I .pre .listed) (omega (arith, Q .high, I .window .top))
+
+        module _ {zs : List ℕ} {r : Window} (S : SpreadListed (set ys ((b + z) * 8) 2) zs ls b P z g m r) where
+          pub loop-falls : unsettled (settledOf zs) b P < unsettled (settledOf ys) b P
+          loop-falls = settle-falls witness z loop-least zs (S .spread (I .pre .ks) (I .pre .listed))
+
+          pub loop-next : ListLoop xs zs ls b P (r .first) (r .last)
+          loop-next = record {
+            pre = I .pre;
+            window = record { order = omega (arith, S .window, Q .low); top = S .window .top; inside = λ a h o. inside a h (S .window .opened a o) };
+            loop = λ ks L. settle-next (I .loop ks L) z loop-least zs (S .spread ks L);
+          }
+            where
+              inside : (a : ℕ) → a < P → OpenAt (set ys ((b + z) * 8) 2) (b + a) ⊎ ((r .first ≤ a) × (a < r .last)) → (r .first ≤ a) × (a < r .last)
+              inside a h (inl o) = let w = within a h (settle-open witness z loop-least (b + a) o) in (omega (arith, S .window .low), omega (arith, S .window .high))
+              inside a h (inr o) = o

@@ -1,25 +1,30 @@
--- The loop that tries every node of a position by its cheapest pair to a settled one.
+-- The loop that tries the nodes of a position by their cheapest pairs to a settled one.
 use mathlib.Core.Path.{_≡_, refl, sym, _∙_, ap, subst}
 use mathlib.Core.Logic.{_⊎_, inl, inr, _≢_}
-use mathlib.Core.Option.{some}
+use mathlib.Core.Bool.{Bool, false}
+use mathlib.Core.Option.{none, some}
 use mathlib.Core.List.{List}
-use Prim.Native.Nat.{ℕ, suc, _+_, _*_, _≤_, _<_}
+use Prim.Native.Nat.{ℕ, suc, _+_, _*_, _-_, _/_, _%_, _^_, _≤_, _<_}
 use native.Mathlib.Omega.{arith}
 use native.Mathlib.Decide.{ℕ-discrete, decLt}
 use lib.ListN.{length, getD}
 use Rattle.paths.specs.Costs.{Lowers, kept, lowered}
 use Rattle.paths.specs.Ranked.{Ranked, add, Less}
+use Rattle.paths.specs.Graph.{Edge}
 use Rattle.paths.specs.Improvement.{Improves}
-use Rattle.paths.specs.Settling.{Relaxing, relaxing-skip, relaxing-settled, relaxing-none, relaxing-cheapest}
-use Rattle.labels.specs.Marks.{marksOf}
-use Rattle.labels.specs.MarksLaws.{is-pair, room-plus}
+use Rattle.paths.specs.Cheapest.{cheapest-none}
+use Rattle.paths.specs.Settling.{Relaxing, relaxing-skip, relaxing-settled, relaxing-cheapest}
+use Rattle.labels.specs.Marks.{marksOf, pairCost, noPair, pairFrom, pairMarks}
+use Rattle.labels.specs.MarksLaws.{pair-some, room-plus}
 use Rattle.labels.specs.LabelCost.{RoomFor}
-use Rattle.labels.specs.Work.{stateOf, costAt, labelOf, SettledAt}
-use Rattle.labels.specs.Lowering.{Visited, passed, barred, tried}
-use Rattle.labels.specs.PositionGraph.{InPosition, positionGraph}
-use Rattle.labels.specs.Spreading.{place, SpreadPre, Spread}
+use Rattle.labels.specs.Work.{stateOf, costAt, labelOf, OpenAt, SettledAt}
+use Rattle.labels.specs.Listing.{NoPairs, Told, end, next, Listed}
+use Rattle.labels.specs.Lowering.{PairPre, Lowered, Visited, passed, tried}
+use Rattle.labels.specs.PositionGraph.{InPosition, cheapestOf, positionGraph}
+use Rattle.labels.specs.Spreading.{place, Widened, SpreadPre, Spread, SpreadListed}
 use Rattle.labels.proofs.Work.{alike-trans}
-use Rattle.labels.proofs.PositionGraph.{here-place, place-here, at-node, row-below, cheapest-at, cheapest-edge}
+use Rattle.labels.proofs.Listing.{row-room}
+use Rattle.labels.proofs.PositionGraph.{here-place, place-here, at-node, cheapest-at, cheapest-edge}
 
 below-next : (w b j : ℕ) → w < b + (j + 1) → (w < b + j) ⊎ (w ≡ b + j)
 below-next w b j h = go (decLt w (b + j))
@@ -28,15 +33,8 @@ below-next w b j h = go (decLt w (b + j))
     go (yes k) = inl k
     go (no k) = inr (omega arith)
 
--- the loop's invariant: d is the label of b + z
-pub record Spreading (xs ys ks : List ℕ) (b P z j : ℕ) (d : Ranked 6) : Type 0 where
-  pub pre : SpreadPre xs ks b P z
-  pub loaded : d ≡ costAt xs (b + z)
-  pub top : j ≤ P
-  pub spread : Spread xs ys ks b P z j
-
-module _ (xs ks : List ℕ) (b P z : ℕ) (R : SpreadPre xs ks b P z) where
-  pub spread-start : Spread xs xs ks b P z 0
+module _ (xs ks : List ℕ) (b P z : ℕ) (below : z < P) where
+  spread-start : Spread xs xs ks b P z 0
   spread-start = record {
     size = refl;
     others = λ w h. record { state = refl; cost = refl };
@@ -47,9 +45,6 @@ module _ (xs ks : List ℕ) (b P z : ℕ) (R : SpreadPre xs ks b P z) where
     relaxes = λ before X. relaxing-skip (positionGraph before ks b P) (place b P) 0 X (λ u _. u < b + 0) (λ u p e a n x h t. absurd (omega (arith, place-here b P u a .low)));
   }
 
-  pub spread-read : (j : ℕ) → j < P → z * P + j < length ks
-  spread-read j h = omega (arith, row-below P z j (R .below) h, R .table)
-
   module _ (ys : List ℕ) (j : ℕ) (h : j < P) (S : Spread xs ys ks b P z j) where
     -- the same slice, one node more passed
     same-next : ((before : List ℕ) → Relaxing (positionGraph before ks b P) (place b P) 0 (labelOf xs) (labelOf ys) (SettledAt xs) (b + z) (costAt xs (b + z)) (λ u _. u < b + j)
@@ -57,10 +52,9 @@ module _ (xs ks : List ℕ) (b P z : ℕ) (R : SpreadPre xs ks b P z) where
         → Spread xs ys ks b P z (j + 1)
     same-next f = record { size = S .size; others = S .others; states = S .states; stay = S .stay; only = S .only; fits = S .fits; relaxes = λ before X. f before (S .relaxes before X) }
 
-    pub spread-next : (zs : List ℕ) (d : Ranked 6) → d ≡ costAt xs (b + z) → Visited ys zs (b + j) (getD ks (z * P + j) 0) d → Spread xs zs ks b P z (j + 1)
-    spread-next zs d q (passed s o) = rw o (same-next (λ before X. relaxing-settled (positionGraph before ks b P) (place b P) 0 X (λ u _. u < b + (j + 1)) (b + j) (S .only (b + j) s) (λ w p f a m x k t. below-next w b j x)))
-    spread-next zs d q (barred n o) = rw o (same-next (λ before X. relaxing-none (positionGraph before ks b P) (place b P) 0 X (λ u _. u < b + (j + 1)) (b + j) (cheapest-edge ks b P before (b + j) (b + z)) (cheapest-at ks b P j z h (R .below) ∙ n) (λ w p f a m x k t. below-next w b j x)))
-    spread-next zs d q (tried c n s W) = record {
+    spread-next : (zs : List ℕ) (d : Ranked 6) {r : Bool} → d ≡ costAt xs (b + z) → getD ks (z * P + j) 0 < 16 ^ 6 → Visited ys zs (b + j) (add 6 (marksOf (getD ks (z * P + j) 0)) d) r → Spread xs zs ks b P z (j + 1)
+    spread-next zs d q low (passed s o) = rw o (same-next (λ before X. relaxing-settled (positionGraph before ks b P) (place b P) 0 X (λ u _. u < b + (j + 1)) (b + j) (S .only (b + j) s) (λ w p f a m x k t. below-next w b j x)))
+    spread-next zs d q low (tried n L) = record {
       size = W .size ∙ S .size;
       others = λ w o. alike-trans (S .others w o) (W .others w (away w o));
       states = λ w k. states w (S .states w k) (ℕ-discrete w (b + j)) (W .state);
@@ -68,9 +62,15 @@ module _ (xs ks : List ℕ) (b P z : ℕ) (R : SpreadPre xs ks b P z) where
       only = λ w x. only w x (ℕ-discrete w (b + j)) (W .state);
       fits = λ n r w e l. fits n r w e l (ℕ-discrete w (b + j)) (W .label .here);
       relaxes = λ before X. relaxing-cheapest (positionGraph before ks b P) (place b P) 0 (S .relaxes before X) (λ u _. u < b + (j + 1)) (b + j) c (here-place b P (b + j) (at-node b P j h)) (λ x. n (S .stay (b + j) x))
-          (cheapest-edge ks b P before (b + j) (b + z)) (cheapest-at ks b P j z h (R .below) ∙ s) improves (λ w p f a m x k t. below-next w b j x);
+          (cheapest-edge ks b P before (b + j) (b + z)) (cheapest-at ks b P j z h below ∙ pair-some (getD ks (z * P + j) 0) low) improves (λ w p f a m x k t. below-next w b j x);
     }
       where
+        c : Ranked 6
+        c = marksOf (getD ks (z * P + j) 0)
+
+        W : Lowered ys zs (b + j) (add 6 (marksOf (getD ks (z * P + j) 0)) d)
+        W = L .lowered
+
         sum : add 6 c d ≡ add 6 c (costAt xs (b + z))
         sum = ap (λ (y : Ranked 6). add 6 c y) q
 
@@ -94,27 +94,152 @@ module _ (xs ks : List ℕ) (b P z : ℕ) (R : SpreadPre xs ks b P z) where
         fits n r w e l (no k) t = S .fits n r w e (sym (W .label .others w k) ∙ l)
         fits n r w e l (yes k) (kept m t) = S .fits n r w e (ap (labelOf ys) k ∙ sym t ∙ ap (labelOf zs) (sym k) ∙ l)
         fits n r w e l (yes k) (lowered m t) =
-            let p = is-pair (getD ks (z * P + j) 0) c s in
             let y : labelOf zs (b + j) ≡ some e = ap (labelOf zs) (sym k) ∙ l in
             let o : add 6 c d ≡ e = cc (t, y) in
-            let o′ : add 6 (marksOf (getD ks (z * P + j) 0)) (costAt xs (b + z)) ≡ e = ap (λ (y : Ranked 6). add 6 y (costAt xs (b + z))) (p .is) ∙ sym sum ∙ o in
-            inr (subst (λ (y : Ranked 6). RoomFor n 6 y) o′ (room-plus n 6 (getD ks (z * P + j) 0) (costAt xs (b + z)) (p .below) r))
+            inr (subst (λ (y : Ranked 6). RoomFor n 6 y) (sym sum ∙ o) (room-plus n 6 (getD ks (z * P + j) 0) (costAt xs (b + z)) low r))
 
-  -- ---- the loop's turns
+  -- the nodes from j to before a have no pair
+  spread-to : (ys : List ℕ) (j a : ℕ) → a ≤ P → NoPairs ks (z * P) j a → Spread xs ys ks b P z j → Spread xs ys ks b P z a
+  spread-to ys j a k N S = record {
+    size = S .size;
+    others = S .others;
+    states = S .states;
+    stay = S .stay;
+    only = S .only;
+    fits = S .fits;
+    relaxes = λ before X. relaxing-skip (positionGraph before ks b P) (place b P) 0 (S .relaxes before X) (λ u _. u < b + a) (λ u p e _ _ x h t. done before u p e x h t (decLt u (b + j)));
+  }
+    where
+      no-pair : (u : ℕ) → b + j ≤ u → u < b + a → cheapestOf ks b P u (b + z) ≡ none
+      no-pair u l h =
+          let q : b + (u - b) ≡ u = omega arith in
+          ap (λ (w : ℕ). cheapestOf ks b P w (b + z)) (sym q) ∙ cheapest-at ks b P (u - b) z (omega arith) below ∙ N (u - b) (omega arith) (omega arith)
 
-  module _ (d : Ranked 6) (q : d ≡ costAt xs (b + z)) where
-    pub spreading-start : Spreading xs xs ks b P z 0 d
-    spreading-start = record { pre = R; loaded = q; top = omega arith; spread = spread-start }
+      done : (before : List ℕ) (u p : ℕ) (e : Edge (Ranked 6)) → u < b + a → positionGraph before ks b P .edge u p ≡ some e → e .target ≡ b + z → Dec (u < b + j) → u < b + j
+      done before u p e x h t (yes y) = y
+      done before u p e x h t (no y) = absurd (cheapest-none (positionGraph before ks b P) (cheapest-edge ks b P before u (b + z)) (no-pair u (omega arith) x) p e h t)
 
-module _ {xs ys ks : List ℕ} {b P z j : ℕ} {d : Ranked 6} (S : Spreading xs ys ks b P z j d) (h : j < P) where
-  pub spreading-read : z * P + j < length ks
-  spreading-read = spread-read xs ks b P z (S .pre) j h
+-- ---- going through the list
 
-  pub spreading-visit : ((b + j) * 8 + 7 < length ys) × RoomFor 1 6 d
-  spreading-visit = (omega (arith, S .pre .room, S .spread .size), subst (λ (y : Ranked 6). RoomFor 1 6 y) (sym (S .loaded)) (S .pre .fits))
+-- the next pair of the list, told by the number x
+record Next (ks ls : List ℕ) (r P j k x : ℕ) : Type 0 where
+  low : j ≤ pairFrom x
+  high : pairFrom x < P
+  skipped : NoPairs ks r j (pairFrom x)
+  marks : getD ks (r + pairFrom x) 0 ≡ pairMarks x
+  rest : Told ks ls r P (pairFrom x + 1) (k + 1)
 
-  pub spreading-next : (zs : List ℕ) → Visited ys zs (b + j) (getD ks (z * P + j) 0) d → Spreading xs zs ks b P z (j + 1) d
-  spreading-next zs x = record { pre = S .pre; loaded = S .loaded; top = omega arith; spread = spread-next xs ks b P z (S .pre) ys j h (S .spread) zs d (S .loaded) x }
+module _ {ks ls : List ℕ} {r P j k : ℕ} where
+  told-next : Told ks ls r P j k → k < P → getD ls (r + k) 0 ≢ noPair → Next ks ls r P j k (getD ls (r + k) 0)
+  told-next (end n e) h m = absurd (m (e h))
+  told-next (next x a y c d e n f t) h m = subst (λ (i : ℕ). Next ks ls r P j k i) (sym y) (record { low = d; high = e; skipped = n; marks = f; rest = t })
 
-pub spreading-end : {xs ys ks : List ℕ} {b P z j : ℕ} {d : Ranked 6} → Spreading xs ys ks b P z j d → P ≤ j → Spread xs ys ks b P z P
-spreading-end {P = P} {j = j} S h = let q : j ≡ P = omega (arith, S .top) in rw q at (S .spread)
+  told-end : Told ks ls r P j k → (k < P → getD ls (r + k) 0 ≡ noPair) → NoPairs ks r j P
+  told-end (end n e) h = n
+  told-end (next x a y c d e n f t) h = absurd (c (sym y ∙ h a))
+
+-- the nodes before `from` are passed, and the list from the place k on tells the others' pairs
+pub record SpreadLoop (xs ys ks ls : List ℕ) (b P z k : ℕ) : Type 0 where
+  pub from : ℕ
+  pub top : from ≤ P
+  pub told : Told ks ls (z * P) P from k
+  pub spread : Spread xs ys ks b P z from
+
+module _ {xs ys ks ls : List ℕ} {b P z k : ℕ} (below : z < P) (S : SpreadLoop xs ys ks ls b P z k) where
+  loop-end : (k < P → getD ls (z * P + k) 0 ≡ noPair) → Spread xs ys ks b P z P
+  loop-end h = spread-to xs ks b P z below ys (S .from) P (omega arith) (told-end (S .told) h) (S .spread)
+
+  module _ (h : k < P) (m : getD ls (z * P + k) 0 ≢ noPair) where
+    loop-from : pairFrom (getD ls (z * P + k) 0) < P
+    loop-from = told-next (S .told) h m .high
+
+    loop-next : (zs : List ℕ) (d : Ranked 6) {r : Bool} → d ≡ costAt xs (b + z) → Visited ys zs (b + pairFrom (getD ls (z * P + k) 0)) (add 6 (marksOf (pairMarks (getD ls (z * P + k) 0))) d) r → SpreadLoop xs zs ks ls b P z (k + 1)
+    loop-next zs d {r} q T = record {
+      from = a + 1;
+      top = omega (arith, loop-from);
+      told = N .rest;
+      spread = spread-next xs ks b P z below ys a loop-from (spread-to xs ks b P z below ys (S .from) a (omega (arith, loop-from)) (N .skipped) (S .spread)) zs d q (rw (N .marks) (omega arith))
+          (subst (λ (e : ℕ). Visited ys zs (b + a) (add 6 (marksOf e) d) r) (sym (N .marks)) T);
+    }
+      where
+        a : ℕ
+        a = pairFrom (getD ls (z * P + k) 0)
+
+        N : Next ks ls (z * P) P (S .from) k (getD ls (z * P + k) 0)
+        N = told-next (S .told) h m
+
+-- ---- the window
+
+visited-kept : {xs ys : List ℕ} {u : ℕ} {c : Ranked 6} → Visited xs ys u c false → ys ≡ xs
+visited-kept (passed s o) = o
+visited-kept (tried n L) = L .kept refl
+
+visited-state : {xs ys : List ℕ} {u : ℕ} {c : Ranked 6} {r : Bool} → Visited xs ys u c r → (w : ℕ) → w ≢ u → stateOf ys w ≡ stateOf xs w
+visited-state (passed s o) w n = ap (λ (l : List ℕ). stateOf l w) o
+visited-state (tried m L) w n = L .lowered .others w n .state
+
+visited-size : {xs ys : List ℕ} {u : ℕ} {c : Ranked 6} {r : Bool} → Visited xs ys u c r → length ys ≡ length xs
+visited-size (passed s o) = ap length o
+visited-size (tried m L) = L .lowered .size
+
+module _ {xs ys : List ℕ} {b P f l g m : ℕ} (W : Widened xs ys b P f l g m) where
+  widened-by : {zs : List ℕ} {c : Ranked 6} {r : Bool} (a i j : ℕ) → Visited ys zs (b + a) c r → i ≤ g → i ≤ a → m ≤ j → a + 1 ≤ j → j ≤ P → Widened xs zs b P f l i j
+  widened-by {zs} a i j T p q s t o = record { low = omega (arith, W .low); high = omega (arith, W .high); top = o; opened = λ w x. opened w x (ℕ-discrete w a) }
+    where
+      within : (w : ℕ) → OpenAt xs (b + w) ⊎ ((g ≤ w) × (w < m)) → OpenAt xs (b + w) ⊎ ((i ≤ w) × (w < j))
+      within w (inl x) = inl x
+      within w (inr x) = inr (omega arith, omega arith)
+
+      opened : (w : ℕ) → OpenAt zs (b + w) → Dec (w ≡ a) → OpenAt xs (b + w) ⊎ ((i ≤ w) × (w < j))
+      opened w x (yes e) = inr (omega arith, omega arith)
+      opened w x (no n) = within w (W .opened w (sym (visited-state T (b + w) (omega arith)) ∙ x))
+
+-- ---- the loop's turns
+
+-- the loop's invariant: d is the label of b + z, and the window is from g to before m
+pub record Spreading (xs ys ls : List ℕ) (b P z f l : ℕ) (d : Ranked 6) (g m k : ℕ) : Type 0 where
+  pub pre : SpreadPre xs ls b P z f l
+  pub loaded : d ≡ costAt xs (b + z)
+  pub size : length ys ≡ length xs
+  pub window : Widened xs ys b P f l g m
+  pub lists : (ks : List ℕ) → Listed ks ls P → SpreadLoop xs ys ks ls b P z k
+
+pub spreading-start : {xs ls : List ℕ} {b P z f l : ℕ} {d : Ranked 6} → SpreadPre xs ls b P z f l → d ≡ costAt xs (b + z) → Spreading xs xs ls b P z f l d f l 0
+spreading-start {xs} {ls} {b} {P} {z} R q = record {
+  pre = R;
+  loaded = q;
+  size = refl;
+  window = record { low = omega arith; high = omega arith; top = R .top; opened = λ a o. inl o };
+  lists = λ ks L. record { from = 0; top = omega arith; told = L .rows z (R .below); spread = spread-start xs ks b P z (R .below) };
+}
+
+pub spread-row : {xs ls : List ℕ} {b P z f l : ℕ} → SpreadPre xs ls b P z f l → z * P + P ≤ length ls
+spread-row R = row-room (R .table) (R .below)
+
+module _ {xs ys ls : List ℕ} {b P z f l : ℕ} {d : Ranked 6} {g m k : ℕ} (S : Spreading xs ys ls b P z f l d g m k) where
+  pub spreading-end : (k < P → getD ls (z * P + k) 0 ≡ noPair) → SpreadListed xs ys ls b P z f l (record { first = g; last = m })
+  spreading-end h = record { spread = λ ks L. loop-end (S .pre .below) (S .lists ks L) h; window = S .window }
+
+  module _ (h : k < P) (n : getD ls (z * P + k) 0 ≢ 4294967295) where
+    pub spreading-from : pairFrom (getD ls (z * P + k) 0) < P
+    spreading-from = loop-from (S .pre .below) (S .lists (S .pre .ks) (S .pre .listed)) h n
+
+    pub spreading-visit : PairPre ys (b + getD ls (z * P + k) 0 / 16777216) (getD ls (z * P + k) 0 % 16777216) d
+    spreading-visit = record {
+      node = omega (arith, S .pre .room, S .size, spreading-from);
+      marks = omega arith;
+      fits = subst (λ (y : Ranked 6). RoomFor 1 6 y) (sym (S .loaded)) (S .pre .fits);
+    }
+
+    module _ (zs : List ℕ) where
+      turn : {r : Bool} (i j : ℕ) → Widened xs zs b P f l i j → Visited ys zs (b + getD ls (z * P + k) 0 / 16777216) (add 6 (marksOf (getD ls (z * P + k) 0 % 16777216)) d) r → Spreading xs zs ls b P z f l d i j (k + 1)
+      turn i j W T = record { pre = S .pre; loaded = S .loaded; size = visited-size T ∙ S .size; window = W; lists = λ ks L. loop-next (S .pre .below) (S .lists ks L) h n zs d (S .loaded) T }
+
+      -- the window as it was
+      pub spreading-kept : Visited ys zs (b + getD ls (z * P + k) 0 / 16777216) (add 6 (marksOf (getD ls (z * P + k) 0 % 16777216)) d) false → Spreading xs zs ls b P z f l d g m (k + 1)
+      spreading-kept T = turn g m (rw (visited-kept T) (S .window)) T
+
+      -- with a node more
+      pub spreading-widened : {r : Bool} (i j : ℕ) → Visited ys zs (b + getD ls (z * P + k) 0 / 16777216) (add 6 (marksOf (getD ls (z * P + k) 0 % 16777216)) d) r
+          → i ≤ g → i ≤ getD ls (z * P + k) 0 / 16777216 → m ≤ j → getD ls (z * P + k) 0 / 16777216 + 1 ≤ j → ((t : ℕ) → m ≤ t → getD ls (z * P + k) 0 / 16777216 + 1 ≤ t → j ≤ t) → Spreading xs zs ls b P z f l d i j (k + 1)
+      spreading-widened i j T p q s t o = turn i j (widened-by (S .window) (getD ls (z * P + k) 0 / 16777216) i j T p q s t (o P (S .window .top) (omega (arith, spreading-from)))) T

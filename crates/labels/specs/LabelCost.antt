@@ -8,6 +8,10 @@ use Rattle.labels.specs.declared.Label.{Label}
 abbrev pub costOf : Label → Ranked 6
 costOf l = (l .first, (l .second, (l .third, (l .fourth, (l .fifth, (l .sixth, l .pairs))))))
 
+-- a cost from its fourth place on
+abbrev pub lastPlaces : Ranked 6 → Ranked 3
+lastPlaces c = c .1 .1 .1
+
 -- whether a is less than b, from the first place on
 abbrev pub isLess : (k : ℕ) → Ranked k → Ranked k → Bool
 isLess zero a b = ltb a b

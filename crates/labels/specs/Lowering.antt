@@ -2,15 +2,20 @@
 use mathlib.Core.Path.{_≡_}
 use mathlib.Core.Logic.{_⊎_, _≢_}
 use mathlib.Core.Bool.{Bool, true, false}
-use mathlib.Core.Option.{none, some}
 use mathlib.Core.List.{List}
-use Prim.Native.Nat.{ℕ}
+use Prim.Native.Nat.{ℕ, _^_, _<_}
 use lib.ListN.{length}
 use Rattle.paths.specs.Costs.{AtMost, Above}
-use Rattle.paths.specs.Ranked.{Ranked, add, Less}
+use Rattle.paths.specs.Ranked.{Ranked, Less}
 use Rattle.paths.specs.Improvement.{Improves}
-use Rattle.labels.specs.Marks.{pairCost}
-use Rattle.labels.specs.Work.{stateOf, labelOf, SettledAt, AlikeAt}
+use Rattle.labels.specs.LabelCost.{RoomFor}
+use Rattle.labels.specs.Work.{HasNode, stateOf, labelOf, SettledAt, AlikeAt}
+
+-- the node u, and a pair with the marks e to a node whose label is d
+pub record PairPre (xs : List ℕ) (u e : ℕ) (d : Ranked 6) : Type 0 where
+  pub node : HasNode xs u
+  pub marks : e < 16 ^ 6
+  pub fits : RoomFor 1 6 d
 
 -- whether the cost c is below the label of u, or u has none
 pub record Compared (xs : List ℕ) (u : ℕ) (c : Ranked 6) (r : Bool) : Type 0 where
@@ -24,8 +29,12 @@ pub record Lowered (xs ys : List ℕ) (u : ℕ) (c : Ranked 6) : Type 0 where
   pub others : (w : ℕ) → w ≢ u → AlikeAt xs ys w
   pub label : Improves (Less 6) (labelOf xs) u c (labelOf ys)
 
--- u is tried by a pair, told by the number e, to a node whose label is d: nothing is done where u is settled or there is no pair
-pub data Visited (xs ys : List ℕ) (u e : ℕ) (d : Ranked 6) : Type 0 where
-  passed : SettledAt xs u → ys ≡ xs → Visited xs ys u e d
-  barred : pairCost e ≡ none → ys ≡ xs → Visited xs ys u e d
-  tried : (c : Ranked 6) → ¬ (SettledAt xs u) → pairCost e ≡ some c → Lowered xs ys u (add 6 c d) → Visited xs ys u e d
+-- the same, and whether u's label is new
+pub record LoweredBy (xs ys : List ℕ) (u : ℕ) (c : Ranked 6) (r : Bool) : Type 0 where
+  pub lowered : Lowered xs ys u c
+  pub kept : r ≡ false → ys ≡ xs
+
+-- u is tried by a path that costs c, unless u is settled
+pub data Visited (xs ys : List ℕ) (u : ℕ) (c : Ranked 6) (r : Bool) : Type 0 where
+  passed : SettledAt xs u → ys ≡ xs → Visited xs ys u c r
+  tried : ¬ (SettledAt xs u) → LoweredBy xs ys u c r → Visited xs ys u c r

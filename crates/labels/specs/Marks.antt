@@ -21,3 +21,14 @@ marksOf e = nibbles 6 e
 -- what the pair costs; a number that is not of six marks stands for no pair
 unfoldable pub pairCost : ℕ → Option (Ranked 6)
 pairCost e = cond (ltb e (16 ^ 6)) (some (marksOf e)) none
+
+-- the number of no pair
+abbrev pub noPair : ℕ
+noPair = 4294967295
+
+-- a pair of a list as one number: the node that it leads from, and its marks
+abbrev pub pairFrom : ℕ → ℕ
+pairFrom x = x / 16777216
+
+abbrev pub pairMarks : ℕ → ℕ
+pairMarks x = x % 16777216

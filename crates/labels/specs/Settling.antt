@@ -9,6 +9,7 @@ use Rattle.paths.specs.Ranked.{Ranked}
 use Rattle.labels.specs.LabelCost.{RoomFor}
 use Rattle.labels.specs.Work.{HasNodes, stateOf, labelOf, AlikeAt}
 use Rattle.labels.specs.PositionGraph.{InPosition, positionGraph}
+use Rattle.labels.specs.Listing.{Listed}
 
 -- the table has P rows of P numbers, no node of the position is settled, and its labels leave room for P pairs more
 pub record SettlePre (xs ks : List ℕ) (b P : ℕ) : Type 0 where
@@ -24,3 +25,12 @@ pub record Settled (xs ys ks : List ℕ) (b P : ℕ) : Type 0 where
   pub others : (w : ℕ) → ¬ (InPosition b P w) → AlikeAt xs ys w
   pub attained : Attained (positionGraph xs ks b P) (labelOf ys)
   pub closed : Closed (positionGraph xs ks b P) (labelOf ys)
+
+-- with a table of lists: ks is the table that was listed
+pub record SettlePreListed (xs ls : List ℕ) (b P : ℕ) : Type 0 where
+  pub ks : List ℕ
+  pub pre : SettlePre xs ks b P
+  pub listed : Listed ks ls P
+
+abbrev pub SettledListed : (xs ys ls : List ℕ) (b P : ℕ) → Type 0
+SettledListed xs ys ls b P = (ks : List ℕ) → Listed ks ls P → Settled xs ys ks b P

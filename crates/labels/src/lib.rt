@@ -1,14 +1,16 @@
 // Labels of nodes in a lent slice, and the settling of one position by Dijkstra's method.
 ghost use mathlib.Core.Path.{_≡_};
-ghost use Prim.Native.Nat.{_+_, _^_, _<_};
+ghost use Prim.Native.Nat.{ℕ, _+_, _*_, _^_, _≤_, _<_};
+ghost use lib.ListN.{length};
 ghost use Rattle.paths.specs.Ranked.{add};
-ghost use Rattle.labels.specs.Marks.{marksOf};
-ghost use Rattle.labels.specs.LabelCost.{costOf, isLess, isSame, RoomFor};
+ghost use Rattle.labels.specs.Marks.{nibbles, marksOf};
+ghost use Rattle.labels.specs.LabelCost.{costOf, lastPlaces, isLess, isSame, RoomFor};
 ghost use Rattle.labels.specs.Work.{HasNode, HasNodes, costAt, Reached, Stored, Cleared};
-ghost use Rattle.labels.specs.Lowering.{Compared, Lowered, Visited};
-ghost use Rattle.labels.specs.Selecting.{Selected, ContestPre, Contest};
-ghost use Rattle.labels.specs.Spreading.{SpreadPre, Spread};
-ghost use Rattle.labels.specs.Settling.{SettlePre, Settled};
+ghost use Rattle.labels.specs.Listing.{Listed, RowListed};
+ghost use Rattle.labels.specs.Lowering.{PairPre, Compared, Lowered, LoweredBy, Visited};
+ghost use Rattle.labels.specs.Selecting.{FirstOpen, PastOpen, Beats, SelectPre, Least};
+ghost use Rattle.labels.specs.Spreading.{SpreadPre, SpreadListed};
+ghost use Rattle.labels.specs.Settling.{SettlePreListed, SettledListed};
 
 // The cost of a path: six counts in ranked order, the highest ranked first, and the number of pairs.
 pub struct Label {
@@ -31,30 +33,44 @@ pub const NO_PAIR: u32 = 4294967295;
 pub fn better(a: Label, b: Label) -> bool
     ensures { λ r. ⌜ r ≡ isLess 6 (costOf a) (costOf b) ⌝ }
 {
-    (a.first < b.first)
-        | ((a.first == b.first)
-            & ((a.second < b.second)
-                | ((a.second == b.second)
-                    & ((a.third < b.third)
-                        | ((a.third == b.third)
-                            & ((a.fourth < b.fourth)
-                                | ((a.fourth == b.fourth)
-                                    & ((a.fifth < b.fifth)
-                                        | ((a.fifth == b.fifth)
-                                            & ((a.sixth < b.sixth)
-                                                | ((a.sixth == b.sixth)
-                                                    & (a.pairs < b.pairs))))))))))))
+    if a.first != b.first {
+        return a.first < b.first;
+    }
+    if a.second != b.second {
+        return a.second < b.second;
+    }
+    if a.third != b.third {
+        return a.third < b.third;
+    }
+    if a.fourth != b.fourth {
+        return a.fourth < b.fourth;
+    }
+    if a.fifth != b.fifth {
+        return a.fifth < b.fifth;
+    }
+    if a.sixth != b.sixth {
+        return a.sixth < b.sixth;
+    }
+    a.pairs < b.pairs
 }
 
 // Whether a and b are the same.
 pub fn same(a: Label, b: Label) -> bool
     ensures { λ r. ⌜ r ≡ isSame 6 (costOf a) (costOf b) ⌝ }
 {
-    (a.first == b.first)
-        & ((a.second == b.second)
-            & ((a.third == b.third)
-                & ((a.fourth == b.fourth)
-                    & ((a.fifth == b.fifth) & ((a.sixth == b.sixth) & (a.pairs == b.pairs))))))
+    if a.first != b.first {
+        return false;
+    }
+    if a.second != b.second {
+        return false;
+    }
+    if a.third != b.third {
+        return false;
+    }
+    if a.fourth != b.fourth {
+        return false;
+    }
+    (a.fifth == b.fifth) & ((a.sixth == b.sixth) & (a.pairs == b.pairs))
 }
 
 // The label with one pair more in front of its path.
@@ -150,81 +166,296 @@ pub fn lower(work: &mut [u16], node: usize, label: Label)
     }
 }
 
-// Tries the node, unless it is settled, by a pair that leads to a node with that label.
-pub fn visit(work: &mut [u16], node: usize, marks: u32, label: Label)
-    requires { ⌜ HasNode (now work) node × RoomFor 1 6 (costOf label) ⌝ }
-    ensures { λ _. ⌜ Visited (now (work .entry)) (now (work .exit)) node marks (costOf label) ⌝ }
+// The last four places of `cheaper`: the marks are those of the last three machines.
+fn cheaper_last(work: &[u16], node: usize, marks: u32, label: Label) -> bool
+    requires { ⌜ PairPre (now work) node marks (costOf label) × (marks < 16 ^ 3) ⌝ }
+    ensures { λ r. ⌜ r ≡ isLess 3 (add 3 (nibbles 3 marks) (lastPlaces (costOf label))) (lastPlaces (costAt (now (work .entry)) node)) ⌝ }
 {
-    if work[node * 8] != 2 {
-        if marks < MARKS {
-            lower(work, node, plus(label, marks));
-        }
+    let at = node * 8;
+    let fourth = (marks / 256) as u16 + label.fourth;
+    let its_fourth = work[at + 4];
+    if fourth != its_fourth {
+        return fourth < its_fourth;
     }
+    let two = marks % 256;
+    let fifth = (two / 16) as u16 + label.fifth;
+    let its_fifth = work[at + 5];
+    if fifth != its_fifth {
+        return fifth < its_fifth;
+    }
+    let sixth = (two % 16) as u16 + label.sixth;
+    let its_sixth = work[at + 6];
+    if sixth != its_sixth {
+        return sixth < its_sixth;
+    }
+    1 + label.pairs < work[at + 7]
 }
 
-enum Found {
-    At(usize),
-    Nothing,
-}
-
-// Whether the position's node i is open, and better than its node best, which is size where there is none yet.
-fn beats(work: &[u16], base: usize, size: usize, best: usize, i: usize) -> bool
-    requires { ⌜ ContestPre (now work) base size best i ⌝ }
-    ensures { λ r. ⌜ Contest (now (work .entry)) base size best i r ⌝ }
+// Whether the node has no label, or a path by a pair with those marks to a node with the label given is better than its own: its numbers are
+// looked at one after the other, as far as they are the same.
+fn cheaper(work: &[u16], node: usize, marks: u32, label: Label) -> bool
+    requires { ⌜ PairPre (now work) node marks (costOf label) ⌝ }
+    ensures { λ r. ⌜ Compared (now (work .entry)) node (add 6 (marksOf marks) (costOf label)) r ⌝ }
 {
-    if work[(base + i) * 8] != 1 {
-        return false;
-    }
-    if best == size {
+    let at = node * 8;
+    if work[at] == 0 {
         return true;
     }
-    better(load(work, base + i), load(work, base + best))
+    let first = (marks / 1048576) as u16 + label.first;
+    let its_first = work[at + 1];
+    if first != its_first {
+        return first < its_first;
+    }
+    let five = marks % 1048576;
+    let second = (five / 65536) as u16 + label.second;
+    let its_second = work[at + 2];
+    if second != its_second {
+        return second < its_second;
+    }
+    let four = five % 65536;
+    let third = (four / 4096) as u16 + label.third;
+    let its_third = work[at + 3];
+    if third != its_third {
+        return third < its_third;
+    }
+    cheaper_last(work, node, four % 4096, label)
 }
 
-// An open node with a least label, among the size nodes from base on.
-fn select(work: &[u16], base: usize, size: usize) -> Found
-    requires { ⌜ HasNodes (now work) (base + size) ⌝ }
-    ensures { λ r. ⌜ Selected (now (work .entry)) base size r ⌝ }
+// Makes the node open, with the label of a path by a pair with those marks to a node with the label given, where that is better than the
+// node's or the node has none: whether it did.
+pub fn lower_by(work: &mut [u16], node: usize, marks: u32, label: Label) -> bool
+    requires { ⌜ PairPre (now work) node marks (costOf label) ⌝ }
+    ensures { λ r. ⌜ LoweredBy (now (work .entry)) (now (work .exit)) node (add 6 (marksOf marks) (costOf label)) r ⌝ }
 {
-    let mut best = size;
-    let mut i = 0;
-    while i < size {
-        if beats(work, base, size, best, i) {
-            best = i;
+    if cheaper(work, node, marks, label) {
+        store(work, node, plus(label, marks));
+        return true;
+    }
+    false
+}
+
+// Tries the node, unless it is settled, by a pair that leads to a node with that label: whether its label is new.
+fn visit(work: &mut [u16], node: usize, marks: u32, label: Label) -> bool
+    requires { ⌜ PairPre (now work) node marks (costOf label) ⌝ }
+    ensures { λ r. ⌜ Visited (now (work .entry)) (now (work .exit)) node (add 6 (marksOf marks) (costOf label)) r ⌝ }
+{
+    if work[node * 8] == 2 {
+        return false;
+    }
+    lower_by(work, node, marks, label)
+}
+
+// Whether the node's label is better than the one given: its numbers are looked at one after the other, as far as they are the same.
+fn below(work: &[u16], node: usize, label: Label) -> bool
+    requires { ⌜ HasNode (now work) node ⌝ }
+    ensures { λ r. ⌜ r ≡ isLess 6 (costAt (now (work .entry)) node) (costOf label) ⌝ }
+{
+    let at = node * 8;
+    let first = work[at + 1];
+    if first != label.first {
+        return first < label.first;
+    }
+    let second = work[at + 2];
+    if second != label.second {
+        return second < label.second;
+    }
+    let third = work[at + 3];
+    if third != label.third {
+        return third < label.third;
+    }
+    let fourth = work[at + 4];
+    if fourth != label.fourth {
+        return fourth < label.fourth;
+    }
+    let fifth = work[at + 5];
+    if fifth != label.fifth {
+        return fifth < label.fifth;
+    }
+    let sixth = work[at + 6];
+    if sixth != label.sixth {
+        return sixth < label.sixth;
+    }
+    work[at + 7] < label.pairs
+}
+
+// A node's number and a pair's marks as one number, the pair from that node.
+fn listed(from: usize, marks: u32) -> u32
+    requires { ⌜ (from < 128) × (marks < 16 ^ 6) ⌝ }
+    ensures { λ r. ⌜ r ≡ from * 16777216 + marks ⌝ }
+{
+    from as u32 * MARKS + marks
+}
+
+// Makes the row of the pairs to one node a list of them. The place that is written is never past the one that is read.
+fn list_row(table: &mut [u32], size: usize, to: usize)
+    requires { ⌜ (size * size ≤ length (now table)) × (size ≤ 128) × (to < size) ⌝ }
+    ensures { λ _. ⌜ RowListed (now (table .entry)) (now (table .exit)) size to ⌝ }
+{
+    let row = to * size;
+    let mut kept = 0;
+    let mut from = 0;
+    while from < size {
+        let marks = table[row + from];
+        if marks < MARKS {
+            table[row + kept] = listed(from, marks);
+            kept += 1;
+        }
+        from += 1;
+    }
+    if kept < size {
+        table[row + kept] = NO_PAIR;
+    }
+}
+
+// Makes each row of a table of size rows a list: in the place of a number for each node, the marks of the cheapest pair from it, a number for each
+// pair, the node's times 2^24 and its marks, and NO_PAIR after the last one.
+pub fn list_pairs(table: &mut [u32], size: usize)
+    requires { ⌜ (size * size ≤ length (now table)) × (size ≤ 128) ⌝ }
+    ensures { λ _. ⌜ Listed (now (table .entry)) (now (table .exit)) size ⌝ }
+{
+    let mut to = 0;
+    while to < size {
+        list_row(table, size, to);
+        to += 1;
+    }
+}
+
+// The first open node from the node first on, of those of the position before the node last; last where there is none.
+fn first_open(work: &[u16], base: usize, first: usize, last: usize) -> usize
+    requires { ⌜ HasNodes (now work) (base + last) × (first ≤ last) ⌝ }
+    ensures { λ r. ⌜ FirstOpen (now (work .entry)) base first last r ⌝ }
+{
+    let mut i = first;
+    while i < last {
+        if work[(base + i) * 8] == 1 {
+            return i;
         }
         i += 1;
     }
-    if best == size {
-        return Found::Nothing;
-    }
-    Found::At(best)
+    i
 }
 
-// Tries each node of the position by its cheapest pair to the position's node `to`, which is settled.
-fn spread(work: &mut [u16], cheapest: &[u32], base: usize, size: usize, to: usize)
-    requires { ⌜ SpreadPre (now work) (now cheapest) base size to ⌝ }
-    ensures { λ _. ⌜ Spread (now (work .entry)) (now (work .exit)) (now (cheapest .entry)) base size to size ⌝ }
+// Past the last open node before the node last, of those of the position after the node first.
+fn past_open(work: &[u16], base: usize, first: usize, last: usize) -> usize
+    requires { ⌜ HasNodes (now work) (base + last) × (first < last) ⌝ }
+    ensures { λ r. ⌜ PastOpen (now (work .entry)) base first last r ⌝ }
 {
-    let label = load(work, base + to);
-    let mut i = 0;
-    while i < size {
-        visit(work, base + i, cheapest[to * size + i], label);
+    let mut past = last;
+    while first + 1 < past {
+        let i = past - 1;
+        if work[(base + i) * 8] == 1 {
+            return past;
+        }
+        past = i;
+    }
+    past
+}
+
+// Whether the node is open and its label better than the one given.
+fn beats(work: &[u16], node: usize, label: Label) -> bool
+    requires { ⌜ HasNode (now work) node ⌝ }
+    ensures { λ r. ⌜ Beats (now (work .entry)) node (costOf label) r ⌝ }
+{
+    if work[node * 8] != 1 {
+        return false;
+    }
+    below(work, node, label)
+}
+
+// An open node with a least label, among those of the position from the node first, which is open, to before the node last.
+fn select(work: &[u16], base: usize, first: usize, last: usize) -> usize
+    requires { ⌜ SelectPre (now work) base first last ⌝ }
+    ensures { λ r. ⌜ Least (now (work .entry)) base first last r ⌝ }
+{
+    let mut best = first;
+    let mut label = load(work, base + first);
+    let mut i = first + 1;
+    while i < last {
+        if beats(work, base + i, label) {
+            best = i;
+            label = load(work, base + i);
+        }
         i += 1;
     }
+    best
 }
 
-// Settles the position of the size nodes from base on: a least open one, again and again. The table has a row of size numbers for each node
-// of the position: the marks of the cheapest pair to it from each node.
-pub fn settle(work: &mut [u16], cheapest: &[u32], base: usize, size: usize)
-    requires { ⌜ SettlePre (now work) (now cheapest) base size ⌝ }
-    ensures { λ _. ⌜ Settled (now (work .entry)) (now (work .exit)) (now (cheapest .entry)) base size ⌝ }
+// A part of a position: from the node first to before the node last.
+struct Window {
+    first: usize,
+    last: usize,
+}
+
+fn lesser(a: usize, b: usize) -> usize
+    ensures { λ r. ⌜ (r ≤ a) × (r ≤ b) ⌝ }
 {
+    if a < b { a } else { b }
+}
+
+fn greater(a: usize, b: usize) -> usize
+    ensures { λ r. ⌜ (a ≤ r) × (b ≤ r) × ((n : ℕ) → a ≤ n → b ≤ n → r ≤ n) ⌝ }
+{
+    if a < b { b } else { a }
+}
+
+// Tries each node of the position by its cheapest pair to the position's node `to`, which is settled: the window from first to last, widened by
+// the nodes that have a new label.
+fn spread(
+    work: &mut [u16],
+    listed: &[u32],
+    base: usize,
+    size: usize,
+    to: usize,
+    first: usize,
+    last: usize,
+) -> Window
+    requires { ⌜ SpreadPre (now work) (now listed) base size to first last ⌝ }
+    ensures { λ r. ⌜ SpreadListed (now (work .entry)) (now (work .exit)) (now (listed .entry)) base size to first last r ⌝ }
+{
+    let label = load(work, base + to);
+    let row = to * size;
+    let mut low = first;
+    let mut high = last;
+    let mut k = 0;
+    while k < size {
+        let pair = listed[row + k];
+        if pair == NO_PAIR {
+            return Window {
+                first: low,
+                last: high,
+            };
+        }
+        let from = (pair / MARKS) as usize;
+        if visit(work, base + from, pair % MARKS, label) {
+            low = lesser(low, from);
+            high = greater(high, from + 1);
+        }
+        k += 1;
+    }
+    Window {
+        first: low,
+        last: high,
+    }
+}
+
+// Settles the position of the size nodes from base on: a least open one, again and again. All open ones are in the window from first to last. The
+// table of lists has a row for each node of the position: the cheapest pairs to it from other nodes.
+pub fn settle(work: &mut [u16], listed: &[u32], base: usize, size: usize)
+    requires { ⌜ SettlePreListed (now work) (now listed) base size ⌝ }
+    ensures { λ _. ⌜ SettledListed (now (work .entry)) (now (work .exit)) (now (listed .entry)) base size ⌝ }
+{
+    let mut first = 0;
+    let mut last = size;
     loop {
-        let found = select(work, base, size);
-        let Found::At(least) = found else {
+        first = first_open(work, base, first, last);
+        if first == last {
             return;
-        };
+        }
+        last = past_open(work, base, first, last);
+        let least = select(work, base, first, last);
         work[(base + least) * 8] = 2;
-        spread(work, cheapest, base, size, least);
+        let window = spread(work, listed, base, size, least, first, last);
+        first = window.first;
+        last = window.last;
     }
 }

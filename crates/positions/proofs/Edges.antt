@@ -38,10 +38,7 @@ use Rattle.product.specs.Laws.Edges.{Advanced, stays, goes-on, advanced, Moved,
 use Rattle.labels.proofs.Room.{SmallMarks}
 use Rattle.tables.specs.Places.{sixPlaces, markNumber}
 use Rattle.tables.specs.JointNumbers.{numbered, jointFrom}
-use Rattle.steps.specs.StepTable.{HoldsSteps}
 use Rattle.tables.specs.Places.{SixPlaces}
-use Rattle.tables.specs.Tables.{Tables}
-use Rattle.tables.specs.Laws.Cards.{card-machines}
 use Rattle.tables.specs.Laws.Harmony.{six-places}
 use Rattle.tables.specs.Laws.Packing.{six-below}
 use Rattle.tables.specs.Laws.Edges.{edgeFrom, code-step-few, insertion-edge, symbol-edge}
@@ -102,10 +99,7 @@ module _ {card ranking word : List ℕ} {P : ℕ} (s : Setting card ranking word
   pub few-nodes : (length word + 1) * P ≤ 3200
   few-nodes = let n : length word + 1 ≤ 25 = omega (arith, word-sound .few) in mul-le-mul n few-codes
 
-  -- ---- the tables
-
-  pub tables-of : {rs cs ps ss : List ℕ} {x : ℕ} → Looked card ranking rs cs ps → HoldsSteps (machinesOf card) x ss → Tables (symbolCount card) (machinesOf card) x ss rs cs
-  tables-of L H = record { machines = card-machines card (s .accepted); holds-steps = H; holds-rows = L .rows; holds-counts = L .counts }
+  -- ---- the places
 
   pub places-six : {rs cs ps : List ℕ} → Looked card ranking rs cs ps → SixPlaces ps
   places-six L = rw (L .places) (six-places (machineCount card) ranking (accepted card (s .accepted) .head .counts .machines) (s .ranks))

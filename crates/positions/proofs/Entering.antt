@@ -21,11 +21,11 @@ use Rattle.tables.specs.declared.Joint.{Joint}
 use Rattle.tables.specs.declared.Joint.the-variants.{To, Nothing}
 use Rattle.tables.specs.Places.{sixPlaces}
 use Rattle.tables.specs.JointNumbers.{jointFrom, joined}
-use Rattle.tables.specs.Tables.{Tables, Joins}
+use Rattle.tables.specs.JointTable.{ReadAs}
 use Rattle.tables.specs.Laws.Edges.{edgeFrom}
 use Rattle.positions.specs.Engine.{engineGraph, placeOf, Setting}
 use Rattle.positions.specs.Entering.{EdgePre, EdgeTried, TriedBefore, EnterPre, Tried}
-use Rattle.positions.proofs.Edges.{tables-of, symbol-at, joint-bounds, node-below, node-place, place-low, place-high, positioned, LetterAt, inserts, reads, letter-at}
+use Rattle.positions.proofs.Edges.{symbols-few, few-codes, symbol-at, joint-bounds, node-below, node-place, place-low, place-high, positioned, LetterAt, inserts, reads, letter-at}
 
 pub tried-start : {card ranking word xs : List ℕ} {i u y : ℕ} → Tried card ranking word xs xs i u y u y
 tried-start = record { size = refl; others = λ w n. record { state = refl; cost = refl }; fresh = λ w h. h; enters = λ K S. S }
@@ -45,12 +45,11 @@ pub tried-whole : {card ranking word xs ys : List ℕ} {i u y k n : ℕ} → Tri
 tried-whole {k = k} {n = n} T a b = let q : n ≡ k = omega arith in rw q T
 
 -- what is needed is kept
-pub enter-next : {card ranking word rs cs ps ss xs ys : List ℕ} {P i u y u′ y′ : ℕ} → EnterPre card ranking word rs cs ps ss xs P i → Tried card ranking word xs ys i u y u′ y′ → EnterPre card ranking word rs cs ps ss ys P i
+pub enter-next : {card ranking word js xs ys : List ℕ} {P i u y u′ y′ : ℕ} → EnterPre card ranking word js xs P i → Tried card ranking word xs ys i u y u′ y′ → EnterPre card ranking word js ys P i
 enter-next E T = record {
   setting = E .setting;
   below = E .below;
-  looked = E .looked;
-  steps = E .steps;
+  joint = E .joint;
   room = T .size ∙ E .room;
   fits = λ u c a l. E .fits u c a (sym (label-alike (T .others u (omega arith))) ∙ l);
 }
@@ -147,13 +146,16 @@ module _ {card ranking word : List ℕ} {P : ℕ} (s : Setting card ranking word
 
 -- ---- what the joint step of a pair says
 
-module _ {card ranking word rs cs ps ss xs : List ℕ} {P i : ℕ} (E : EnterPre card ranking word rs cs ps ss xs P i) where
-  pub enter-tables : Tables (symbolCount card) (machinesOf card) (getD word i 0) ss rs cs
-  enter-tables = tables-of (E .setting) (E .looked) (E .steps)
+module _ {card ranking word js xs : List ℕ} {P i : ℕ} (E : EnterPre card ranking word js xs P i) (z y : ℕ) (k : z < P) where
+  pub entry-in : y ≤ symbolCount card → z * 64 + y < length js
+  entry-in h = omega (arith, E .setting .size, E .joint .room, symbols-few (E .setting))
 
-module _ {card ranking word rs cs ps ss xs : List ℕ} {P i : ℕ} (E : EnterPre card ranking word rs cs ps ss xs P i) (z y : ℕ) (k : z < P) (r : Joint) (J : Joins ss rs cs ps z y r) where
+  pub entry-few : y ≤ symbolCount card → z * 64 + y < 8256
+  entry-few h = omega (arith, few-codes (E .setting), symbols-few (E .setting))
+
+module _ {card ranking word js xs : List ℕ} {P i : ℕ} (E : EnterPre card ranking word js xs P i) (z y : ℕ) (k : z < P) (few : y ≤ symbolCount card) (r : Joint) (J : ReadAs (getD js (z * 64 + y) 0) r) where
   joint-is : joined r ≡ jointFrom (sixPlaces ranking) (machinesOf card) z (record { input = getD word i 0; output = y })
-  joint-is = rw (E .looked .places) at (J (symbolCount card) (machinesOf card) (getD word i 0) (enter-tables E))
+  joint-is = J _ (E .joint .entry z y (omega (arith, E .setting .size)) (omega (arith, symbols-few (E .setting))))
 
   edge-is : engineGraph card ranking word .edge (i * P + z) (record { input = getD word i 0; output = y }) ≡ edgeFrom ((i + 1) * P) (joined r)
   edge-is = symbol-at (E .setting) i z y (E .below) k ∙ ap (edgeFrom ((i + 1) * P)) (sym joint-is)

@@ -2,7 +2,7 @@
 use mathlib.Core.Path.{_≡_}
 use mathlib.Core.List.{List}
 use Prim.Native.Nat.{ℕ, suc, _+_, _*_, _<_, _≤_}
-use native.Mathlib.Nat.{mul-le-mul, mul-le-mul-right, suc-mul}
+use native.Mathlib.Nat.{mul-le-mul-right, suc-mul}
 use native.Mathlib.Omega.{arith}
 use lib.ListN.{length, getD}
 use Rattle.card.specs.Layout.{symbolCount}
@@ -15,13 +15,9 @@ use Rattle.labels.specs.Settling.{SettlePre, Settled}
 use Rattle.labels.proofs.PositionDone.{Tabled, settled-done}
 use Rattle.labels.proofs.Room.{settle-pre}
 use Rattle.tables.specs.Places.{sixPlaces}
-use Rattle.card.specs.Layout.{machineCount}
 use Rattle.card.specs.Accepted.{accepted}
-use Rattle.steps.specs.StepTable.{HoldsSteps}
-use Rattle.tables.specs.Tables.{Tables}
+use Rattle.tables.specs.JointTable.{HoldsJoint}
 use Rattle.tables.specs.FillingCheapest.{FillPre, FilledCheapest}
-use Rattle.tables.specs.Laws.Cards.{card-machines}
-use Rattle.tables.specs.Laws.Harmony.{six-places}
 use Rattle.tables.specs.Insertions.{HoldsCheapest}
 use Rattle.tables.specs.Laws.Cheapest.{insertions-cheapest}
 use Rattle.product.specs.Laws.JointStep.{AllSound}
@@ -54,24 +50,27 @@ module _ {card ranking word : List ℕ} {P : ℕ} (s : Setting card ranking word
 
 -- ---- filling the table
 
-module _ {card ranking rs cs ps ss : List ℕ} {P : ℕ} (I : InsertionsPre card ranking rs cs ps P) (H : HoldsSteps (machinesOf card) 0 ss) where
-  insertion-tables : Tables (symbolCount card) (machinesOf card) 0 ss rs cs
-  insertion-tables = record { machines = card-machines card (I .accepted); holds-steps = H; holds-rows = I .looked .rows; holds-counts = I .looked .counts }
+pub few-insertions : {card ranking cs ps ks : List ℕ} {P : ℕ} → InsertionsPre card ranking cs ps ks P → P ≤ 128
+few-insertions {card} I = let a = accepted-machines card (I .accepted) in omega (arith, I .size, a .states, a .few-states)
 
-  pub fill-ready : (ks : List ℕ) (k : ℕ) → k ≡ symbolCount card → length ks ≡ 16384 → FillPre ss rs cs ps ks P k
-  fill-ready ks k q r =
+module _ {card ranking cs ps ks : List ℕ} {P : ℕ} (I : InsertionsPre card ranking cs ps ks P) {js : List ℕ} (H : HoldsJoint (machinesOf card) 0 (sixPlaces ranking) js) where
+  pub fill-ready : (k : ℕ) → k ≡ symbolCount card → FillPre js ks P k
+  fill-ready k q =
       let a = accepted-machines card (I .accepted) in
-      let few : P ≤ 128 = omega (arith, I .size, a .states, a .few-states) in
-      let room : P * P ≤ 128 * 128 = mul-le-mul few few in
       record {
-        tables = record { symbols = symbolCount card; machines = machinesOf card; input = 0; tables = insertion-tables };
-        six = rw (I .looked .places) (six-places (machineCount card) ranking (accepted card (I .accepted) .head .counts .machines) (I .ranks));
-        states = rw (I .looked .counts) (I .size);
-        room = omega arith;
+        some-symbols = symbolCount card;
+        machines = machinesOf card;
+        input = 0;
+        places = sixPlaces ranking;
+        sound = a .sound;
+        holds = H;
+        states = I .size;
+        room = I .room;
+        few = few-insertions I;
         few-symbols = omega (arith, accepted card (I .accepted) .head .counts .symbols);
       }
 
-  pub insertions-filled : (ks : List ℕ) (k : ℕ) → k ≡ symbolCount card → FilledCheapest ss rs cs ps ks k → HoldsCheapest (symbolCount card) (machinesOf card) (sixPlaces ranking) ks
-  insertions-filled ks k q F =
-      let g : FilledCheapest ss rs cs (sixPlaces ranking) ks (symbolCount card) = rw (q, I .looked .places) at F in
-      g (machinesOf card) insertion-tables
+  pub insertions-filled : (zs : List ℕ) (k : ℕ) → k ≡ symbolCount card → FilledCheapest js zs P k → HoldsCheapest (symbolCount card) (machinesOf card) (sixPlaces ranking) zs
+  insertions-filled zs k q F =
+      let g : FilledCheapest js zs P (symbolCount card) = rw q at F in
+      g (machinesOf card) (sixPlaces ranking) (I .size) H

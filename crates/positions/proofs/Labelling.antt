@@ -2,34 +2,33 @@
 use mathlib.Core.Path.{_≡_, refl, _∙_}
 use mathlib.Core.List.{List}
 use Prim.Native.Nat.{ℕ, suc, _+_, _*_, _-_, _<_, _≤_}
+use native.Mathlib.Nat.{mul-le-mul}
 use native.Mathlib.Omega.{arith}
-use lib.ListN.{length, getD}
+use lib.ListN.{length, getD, replicate, length-replicate, getD-replicate}
 use Rattle.card.specs.Card.{machinesOf}
 use Rattle.paths.specs.Positions.{Done, done-start}
 use Rattle.labels.specs.Work.{stateOf, labelOf, Cleared}
-use Rattle.labels.specs.Settling.{SettlePre, Settled}
+use Rattle.labels.specs.Settling.{SettlePreListed, SettledListed}
 use Rattle.labels.proofs.Work.{blank-state}
 use Rattle.labels.proofs.Clearing.{cleared-blank}
 use Rattle.labels.proofs.Room.{attained-room}
-use Rattle.card.specs.Layout.{symbolCount}
-use Rattle.steps.specs.StepTable.{HoldsSteps}
 use Rattle.tables.specs.Places.{sixPlaces}
-use Rattle.tables.specs.Insertions.{HoldsCheapest}
-use Rattle.positions.specs.Engine.{engineGraph, placeOf, Looked}
+use Rattle.tables.specs.JointTable.{HoldsJoint}
+use Rattle.tables.specs.Insertions.{noPair}
+use Rattle.positions.specs.Engine.{engineGraph, placeOf, Looked, Insertions}
 use Rattle.positions.specs.Entering.{EnterPre, Tried, EndsTried}
-use Rattle.positions.specs.Labelling.{PositionPre, PositionEntered, PositionsDone, LabelPre}
+use Rattle.positions.specs.Labelling.{TablesFit, PositionPre, PositionEntered, PositionsDone, LabelPre}
 use Rattle.positions.proofs.Edges.{node-below, place-high, few-nodes, positioned, within, small-marks}
 use Rattle.positions.proofs.Entering.{tried-entered}
 use Rattle.positions.proofs.Ending.{ends-entered}
 use Rattle.positions.proofs.Insertions.{position-pre, position-settled}
 
 module _ {card ranking word rs cs ps xs : List ℕ} {P i : ℕ} (Q : PositionPre card ranking word rs cs ps xs P i) where
-  pub enter-pre : {ss : List ℕ} → i < length word → HoldsSteps (machinesOf card) (getD word i 0) ss → EnterPre card ranking word rs cs ps ss xs P i
+  pub enter-pre : {js : List ℕ} → i < length word → HoldsJoint (machinesOf card) (getD word i 0) (sixPlaces ranking) js → EnterPre card ranking word js xs P i
   enter-pre h H = record {
     setting = Q .setting;
     below = h;
-    looked = Q .looked;
-    steps = H;
+    joint = H;
     room = Q .room;
     fits = λ u c a l. attained-room (engineGraph card ranking word) (small-marks (Q .setting)) (within (Q .setting)) (Q .done .attained) 1 (omega (arith, few-nodes (Q .setting))) u c (node-below (length word) P (suc i) u h (place-high (Q .setting) u (suc i) a)) l;
   }
@@ -46,12 +45,14 @@ module _ {card ranking word rs cs ps xs : List ℕ} {P i : ℕ} (Q : PositionPre
       let d : Done (engineGraph card ranking word) (placeOf card) (labelOf xs) (suc (length word)) = rw q at (Q .done) in
       record { size = T .size; fresh = λ w a. T .fresh w (blank w a); entered = rw q (ends-entered (Q .setting) xs ys d T) }
 
-  module _ {ys ks : List ℕ} (H : HoldsCheapest (symbolCount card) (machinesOf card) (sixPlaces ranking) ks) (E : PositionEntered card ranking word xs ys i) where
-    pub settle-ready : SettlePre ys ks (i * P) P
-    settle-ready = position-pre (Q .setting) ks H i (Q .within) ys (E .size ∙ Q .room) (E .fresh) (E .entered)
+  module _ {ys ls : List ℕ} (H : Insertions card ranking ls P) (E : PositionEntered card ranking word xs ys i) where
+    pub settle-ready : SettlePreListed ys ls (i * P) P
+    settle-ready = record { ks = H .ks; pre = position-pre (Q .setting) (H .ks) (H .holds) i (Q .within) ys (E .size ∙ Q .room) (E .fresh) (E .entered); listed = H .listed }
 
-    pub position-labelled : {zs : List ℕ} → Settled ys zs ks (i * P) P → PositionsDone card ranking word xs zs i
-    position-labelled {zs} S = record { size = S .size ∙ E .size; done = position-settled (Q .setting) ks H i (Q .within) ys zs S (E .entered) }
+    pub position-labelled : {zs : List ℕ} → SettledListed ys zs ls (i * P) P → PositionsDone card ranking word xs zs i
+    position-labelled {zs} F =
+        let S = F (H .ks) (H .listed) in
+        record { size = S .size ∙ E .size; done = position-settled (Q .setting) (H .ks) (H .holds) i (Q .within) ys zs S (E .entered) }
 
 module _ {card ranking word xs : List ℕ} {P : ℕ} (Q : LabelPre card ranking word xs P) where
   -- no node has a label
@@ -77,3 +78,11 @@ position-passed A B = record { size = B .size ∙ A .size; done = B .done }
 
 pub positions-end : {card ranking word xs ys zs : List ℕ} {n left : ℕ} → Cleared xs ys n → PositionsDone card ranking word ys zs left → left ≤ 0 → PositionsDone card ranking word xs zs 0
 positions-end {left = left} C D h = let q : left ≡ 0 = omega arith in record { size = D .size ∙ C .size; done = rw q at (D .done) }
+
+-- tables for n codes are large enough for P
+pub tables-fit : (P n j k : ℕ) → P ≤ n → n * 64 ≤ j → n * n ≤ k → TablesFit (replicate {A = ℕ} j 0) (replicate k noPair) P
+tables-fit P n j k h a b = record {
+  joint = omega (arith, length-replicate {A = ℕ} j 0);
+  cheapest = let m : P * P ≤ n * n = mul-le-mul h h in omega (arith, length-replicate k noPair);
+  blank = λ i l. getD-replicate k i noPair 0 (omega (arith, length-replicate k noPair));
+}

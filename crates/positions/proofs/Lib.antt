@@ -1,4 +1,6 @@
 pub mod Edges
+pub mod JointSteps
+pub mod Trying
 pub mod Entering
 pub mod Ending
 pub mod Insertions

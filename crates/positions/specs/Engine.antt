@@ -2,17 +2,20 @@
 use mathlib.Core.Path.{_≡_}
 use mathlib.Core.Bool.{true}
 use mathlib.Core.List.{List}
-use Prim.Native.Nat.{ℕ}
+use Prim.Native.Nat.{ℕ, _*_, _≤_}
+use lib.ListN.{length}
 use Rattle.ranking.specs.Rankings.{isRanking}
 use Rattle.card.specs.Layout.{machineCount, symbolCount}
 use Rattle.card.specs.Card.{cardRefusal, machinesOf}
 use Rattle.candidate.specs.Optimizing.{soundWord}
 use Rattle.paths.specs.Ranked.{rankedCosts}
 use Rattle.paths.specs.Graph.{Graph}
+use Rattle.labels.specs.Listing.{Listed}
 use Rattle.product.specs.Nodes.{product, stateCounts, positionAt}
 use Rattle.product.specs.ProductGraph.{pairs, cardGraph}
 use Rattle.tables.specs.Places.{sixPlaces}
 use Rattle.tables.specs.Tables.{HoldsRows}
+use Rattle.tables.specs.Insertions.{HoldsCheapest}
 
 -- the product of the card's machines over the word, whose costs are six counts in ranked order and the number of pairs
 abbrev pub engineGraph : (card ranking word : List ℕ) → Graph (rankedCosts 6) pairs
@@ -35,9 +38,22 @@ pub record Looked (card ranking rs cs ps : List ℕ) : Type 0 where
   pub counts : cs ≡ stateCounts (machinesOf card)
   pub places : ps ≡ sixPlaces ranking
 
+-- room for a table of steps and for one of the joint steps of P codes
+pub record Lent (ss js : List ℕ) (P : ℕ) : Type 0 where
+  pub steps : length ss ≡ 12288
+  pub joint : P * 64 ≤ length js
+
 -- what filling the table of the cheapest insertions needs
-pub record InsertionsPre (card ranking rs cs ps : List ℕ) (P : ℕ) : Type 0 where
+pub record InsertionsPre (card ranking cs ps ks : List ℕ) (P : ℕ) : Type 0 where
   pub accepted : cardRefusal card ≡ 0
   pub ranks : isRanking (machineCount card) ranking ≡ true
   pub size : P ≡ product (stateCounts (machinesOf card))
-  pub looked : Looked card ranking rs cs ps
+  pub counts : cs ≡ stateCounts (machinesOf card)
+  pub places : ps ≡ sixPlaces ranking
+  pub room : P * P ≤ length ks
+
+-- lists of the cheapest insertions from code to code: those of a table that has them
+pub record Insertions (card ranking ls : List ℕ) (P : ℕ) : Type 0 where
+  pub ks : List ℕ
+  pub holds : HoldsCheapest (symbolCount card) (machinesOf card) (sixPlaces ranking) ks
+  pub listed : Listed ks ls P

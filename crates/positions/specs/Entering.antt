@@ -14,7 +14,8 @@ use Rattle.labels.specs.Marks.{marksOf}
 use Rattle.labels.specs.LabelCost.{RoomFor}
 use Rattle.labels.specs.Work.{HasNode, stateOf, labelOf, AlikeAt}
 use Rattle.labels.specs.Lowering.{Lowered}
-use Rattle.steps.specs.StepTable.{HoldsSteps}
+use Rattle.tables.specs.Places.{sixPlaces}
+use Rattle.tables.specs.JointTable.{HoldsJoint}
 use Rattle.positions.specs.Engine.{engineGraph, placeOf, Setting, Looked}
 
 -- trying the node u by a pair with the marks m that leads to v
@@ -32,12 +33,11 @@ pub record EdgeTried (xs ys : List ℕ) (u v m : ℕ) : Type 0 where
 abbrev pub TriedBefore : ℕ → ℕ → ℕ → Pair → Type 0
 TriedBefore u y w p = (w < u) ⊎ ((w ≡ u) × (p .output < y))
 
--- what trying the pairs of the nodes of the position i needs: the rows and the steps of its symbol, and room for a pair more
-pub record EnterPre (card ranking word rs cs ps ss xs : List ℕ) (P i : ℕ) : Type 0 where
+-- what trying the pairs of the nodes of the position i needs: the joint steps of its symbol, and room for a pair more
+pub record EnterPre (card ranking word js xs : List ℕ) (P i : ℕ) : Type 0 where
   pub setting : Setting card ranking word P
   pub below : i < length word
-  pub looked : Looked card ranking rs cs ps
-  pub steps : HoldsSteps (machinesOf card) (getD word i 0) ss
+  pub joint : HoldsJoint (machinesOf card) (getD word i 0) (sixPlaces ranking) js
   pub room : length xs ≡ (length word + 1) * P * 8
   pub fits : (u : ℕ) (c : Ranked 6) → placeOf card u ≡ suc i → labelOf xs u ≡ some c → RoomFor 1 6 c
 

@@ -5,6 +5,7 @@ use Prim.Native.Nat.{ℕ, suc, _+_, _*_, _≤_}
 use lib.ListN.{length}
 use Rattle.paths.specs.Positions.{Done, Entered}
 use Rattle.labels.specs.Work.{stateOf, labelOf}
+use Rattle.tables.specs.FillingCheapest.{Blank}
 use Rattle.positions.specs.Engine.{engineGraph, placeOf, Setting, Looked}
 
 -- before the position i: those past it are done
@@ -30,3 +31,9 @@ pub record PositionsDone (card ranking word xs ys : List ℕ) (i : ℕ) : Type 0
 pub record LabelPre (card ranking word xs : List ℕ) (P : ℕ) : Type 0 where
   pub setting : Setting card ranking word P
   pub room : length xs ≡ (length word + 1) * P * 8
+
+-- room for the joint steps of P codes, and for the cheapest insertions between them, where no pair stands everywhere
+pub record TablesFit (js ks : List ℕ) (P : ℕ) : Type 0 where
+  pub joint : P * 64 ≤ length js
+  pub cheapest : P * P ≤ length ks
+  pub blank : Blank ks

@@ -3,12 +3,11 @@ ghost use mathlib.Core.Path.{_≡_};
 ghost use Prim.Native.Nat.{_+_, _*_, _<_, _≤_};
 ghost use lib.ListN.{length};
 ghost use Rattle.card.specs.Layout.{symbolCount};
-ghost use Rattle.card.specs.Card.{machinesOf};
-ghost use Rattle.tables.specs.Places.{sixPlaces};
-ghost use Rattle.tables.specs.Insertions.{HoldsCheapest};
-ghost use Rattle.positions.specs.Engine.{Looked, InsertionsPre};
+ghost use Rattle.tables.specs.FillingCheapest.{Blank};
+ghost use Rattle.positions.specs.Engine.{Looked, Lent, InsertionsPre, Insertions};
 ghost use Rattle.positions.specs.Entering.{EdgePre, EdgeTried, EnterPre, Tried, EndPre, EndsTried};
-ghost use Rattle.positions.specs.Labelling.{PositionPre, PositionEntered, PositionsDone, LabelPre};
+ghost use Rattle.positions.specs.Labelling.{TablesFit, PositionPre, PositionEntered, PositionsDone, LabelPre};
+use labels::NO_PAIR;
 use tables::Joint;
 use tables::JointEnding;
 
@@ -19,7 +18,7 @@ fn try_edge(work: &mut [u16], node: usize, target: usize, marks: u32)
 {
     if labels::reached(work, target) {
         let label = labels::load(work, target);
-        labels::lower(work, node, labels::plus(label, marks));
+        labels::lower_by(work, node, marks, label);
     }
 }
 
@@ -29,19 +28,16 @@ fn try_pair(
     card: &[u8],
     ranking: &[u8],
     word: &[u8],
-    rows: &[u16],
-    counts: &[u8],
-    places: &[u8; 6],
-    steps: &[u16],
+    joint: &[u32],
     size: usize,
     position: usize,
     code: usize,
     output: usize,
 )
-    requires { ⌜ EnterPre (now card) (now ranking) (now word) (now rows) (now counts) (now places) (now steps) (now work) size position × (code < size) × (output ≤ symbolCount (now card)) ⌝ }
+    requires { ⌜ EnterPre (now card) (now ranking) (now word) (now joint) (now work) size position × (code < size) × (output ≤ symbolCount (now card)) ⌝ }
     ensures { λ _. ⌜ Tried (now (card .entry)) (now (ranking .entry)) (now (word .entry)) (now (work .entry)) (now (work .exit)) position (position * size + code) output (position * size + code) (output + 1) ⌝ }
 {
-    let found = tables::joint_step(steps, rows, counts, places, code, output);
+    let found = tables::joint_table::read(joint[code * 64 + output]);
     let Joint::To(to, marks) = found else {
         return;
     };
@@ -59,15 +55,12 @@ fn enter_node(
     card: &[u8],
     ranking: &[u8],
     word: &[u8],
-    rows: &[u16],
-    counts: &[u8],
-    places: &[u8; 6],
-    steps: &[u16],
+    joint: &[u32],
     size: usize,
     position: usize,
     code: usize,
 )
-    requires { ⌜ EnterPre (now card) (now ranking) (now word) (now rows) (now counts) (now places) (now steps) (now work) size position × (code < size) ⌝ }
+    requires { ⌜ EnterPre (now card) (now ranking) (now word) (now joint) (now work) size position × (code < size) ⌝ }
     ensures { λ _. ⌜ Tried (now (card .entry)) (now (ranking .entry)) (now (word .entry)) (now (work .entry)) (now (work .exit)) position (position * size + code) 0 (position * size + (code + 1)) 0 ⌝ }
 {
     let symbols = card::symbol_count(card) as usize;
@@ -78,10 +71,7 @@ fn enter_node(
             card,
             ranking,
             word,
-            rows,
-            counts,
-            places,
-            steps,
+            joint,
             size,
             position,
             code,
@@ -97,31 +87,16 @@ fn enter_nodes(
     card: &[u8],
     ranking: &[u8],
     word: &[u8],
-    rows: &[u16],
-    counts: &[u8],
-    places: &[u8; 6],
-    steps: &[u16],
+    joint: &[u32],
     size: usize,
     position: usize,
 )
-    requires { ⌜ EnterPre (now card) (now ranking) (now word) (now rows) (now counts) (now places) (now steps) (now work) size position ⌝ }
+    requires { ⌜ EnterPre (now card) (now ranking) (now word) (now joint) (now work) size position ⌝ }
     ensures { λ _. ⌜ Tried (now (card .entry)) (now (ranking .entry)) (now (word .entry)) (now (work .entry)) (now (work .exit)) position (position * size) 0 (position * size + size) 0 ⌝ }
 {
     let mut code = 0;
     while code < size {
-        enter_node(
-            work,
-            card,
-            ranking,
-            word,
-            rows,
-            counts,
-            places,
-            steps,
-            size,
-            position,
-            code,
-        );
+        enter_node(work, card, ranking, word, joint, size, position, code);
         code += 1;
     }
 }
@@ -135,26 +110,17 @@ fn enter_symbol(
     rows: &[u16],
     counts: &[u8],
     places: &[u8; 6],
+    steps: &mut [u16],
+    joint: &mut [u32],
     size: usize,
     position: usize,
 )
-    requires { ⌜ PositionPre (now card) (now ranking) (now word) (now rows) (now counts) (now places) (now work) size position × (position < length (now word)) ⌝ }
+    requires { ⌜ PositionPre (now card) (now ranking) (now word) (now rows) (now counts) (now places) (now work) size position × Lent (now steps) (now joint) size × (position < length (now word)) ⌝ }
     ensures { λ _. ⌜ PositionEntered (now (card .entry)) (now (ranking .entry)) (now (word .entry)) (now (work .entry)) (now (work .exit)) position ⌝ }
 {
-    let mut steps = [0u16; 12288];
-    steps::fill_steps(card, word[position], &mut steps);
-    enter_nodes(
-        work,
-        card,
-        ranking,
-        word,
-        rows,
-        counts,
-        places,
-        &steps,
-        size,
-        position,
-    );
+    steps::fill_steps(card, word[position], steps);
+    tables::joint_table::fill(steps, counts, places, joint);
+    enter_nodes(work, card, ranking, word, joint, size, position);
 }
 
 // Tries the node of the last position and a code by its ending.
@@ -209,10 +175,12 @@ fn enter(
     rows: &[u16],
     counts: &[u8],
     places: &[u8; 6],
+    steps: &mut [u16],
+    joint: &mut [u32],
     size: usize,
     position: usize,
 )
-    requires { ⌜ PositionPre (now card) (now ranking) (now word) (now rows) (now counts) (now places) (now work) size position ⌝ }
+    requires { ⌜ PositionPre (now card) (now ranking) (now word) (now rows) (now counts) (now places) (now work) size position × Lent (now steps) (now joint) size ⌝ }
     ensures { λ _. ⌜ PositionEntered (now (card .entry)) (now (ranking .entry)) (now (word .entry)) (now (work .entry)) (now (work .exit)) position ⌝ }
 {
     if position < word.len() {
@@ -224,6 +192,8 @@ fn enter(
             rows,
             counts,
             places,
+            steps,
+            joint,
             size,
             position,
         );
@@ -241,11 +211,13 @@ fn label_position(
     rows: &[u16],
     counts: &[u8],
     places: &[u8; 6],
-    cheapest: &[u32],
+    insertions: &[u32],
+    steps: &mut [u16],
+    joint: &mut [u32],
     size: usize,
     position: usize,
 )
-    requires { ⌜ PositionPre (now card) (now ranking) (now word) (now rows) (now counts) (now places) (now work) size position × HoldsCheapest (symbolCount (now card)) (machinesOf (now card)) (sixPlaces (now ranking)) (now cheapest) ⌝ }
+    requires { ⌜ PositionPre (now card) (now ranking) (now word) (now rows) (now counts) (now places) (now work) size position × Lent (now steps) (now joint) size × Insertions (now card) (now ranking) (now insertions) size ⌝ }
     ensures { λ _. ⌜ PositionsDone (now (card .entry)) (now (ranking .entry)) (now (word .entry)) (now (work .entry)) (now (work .exit)) position ⌝ }
 {
     enter(
@@ -256,29 +228,33 @@ fn label_position(
         rows,
         counts,
         places,
+        steps,
+        joint,
         size,
         position,
     );
-    labels::settle(work, cheapest, position * size, size);
+    labels::settle(work, insertions, position * size, size);
 }
 
-// The cheapest insertions between the codes.
+// The cheapest insertions between the codes, as lists of pairs.
 fn fill_insertions(
     card: &[u8],
     ranking: &[u8],
-    rows: &[u16],
     counts: &[u8],
     places: &[u8; 6],
+    steps: &mut [u16],
+    joint: &mut [u32],
     size: usize,
     cheapest: &mut [u32],
 )
-    requires { ⌜ InsertionsPre (now card) (now ranking) (now rows) (now counts) (now places) size × (length (now cheapest) ≡ 16384) ⌝ }
-    ensures { λ _. ⌜ HoldsCheapest (symbolCount (now (card .entry))) (machinesOf (now (card .entry))) (sixPlaces (now (ranking .entry))) (now (cheapest .exit)) ⌝ }
+    requires { ⌜ InsertionsPre (now card) (now ranking) (now counts) (now places) (now cheapest) size × Lent (now steps) (now joint) size × Blank (now cheapest) ⌝ }
+    ensures { λ _. ⌜ Insertions (now (card .entry)) (now (ranking .entry)) (now (cheapest .exit)) size ⌝ }
 {
-    let mut steps = [0u16; 12288];
-    steps::fill_steps(card, machine::Pair::EMPTY, &mut steps);
+    steps::fill_steps(card, machine::Pair::EMPTY, steps);
+    tables::joint_table::fill(steps, counts, places, joint);
     let symbols = card::symbol_count(card) as usize;
-    tables::fill_cheapest(&steps, rows, counts, places, size, symbols, cheapest);
+    tables::fill_cheapest(joint, size, symbols, cheapest);
+    labels::list_pairs(cheapest, size);
 }
 
 // Labels the nodes of all positions.
@@ -290,10 +266,12 @@ fn label_positions(
     rows: &[u16],
     counts: &[u8],
     places: &[u8; 6],
-    cheapest: &[u32],
+    insertions: &[u32],
+    steps: &mut [u16],
+    joint: &mut [u32],
     size: usize,
 )
-    requires { ⌜ LabelPre (now card) (now ranking) (now word) (now work) size × Looked (now card) (now ranking) (now rows) (now counts) (now places) × HoldsCheapest (symbolCount (now card)) (machinesOf (now card)) (sixPlaces (now ranking)) (now cheapest) ⌝ }
+    requires { ⌜ LabelPre (now card) (now ranking) (now word) (now work) size × Looked (now card) (now ranking) (now rows) (now counts) (now places) × Lent (now steps) (now joint) size × Insertions (now card) (now ranking) (now insertions) size ⌝ }
     ensures { λ _. ⌜ PositionsDone (now (card .entry)) (now (ranking .entry)) (now (word .entry)) (now (work .entry)) (now (work .exit)) 0 ⌝ }
 {
     labels::clear(work, (word.len() + 1) * size);
@@ -308,26 +286,45 @@ fn label_positions(
             rows,
             counts,
             places,
-            cheapest,
+            insertions,
+            steps,
+            joint,
             size,
             left,
         );
     }
 }
 
-// Labels all nodes: the label of a node is the cost of a best path from it.
-pub fn label(work: &mut [u16], card: &[u8], ranking: &[u8], word: &[u8], size: usize)
-    requires { ⌜ LabelPre (now card) (now ranking) (now word) (now work) size ⌝ }
+// Labels all nodes, with a table for the joint steps and one for the cheapest insertions.
+fn label_with(
+    work: &mut [u16],
+    card: &[u8],
+    ranking: &[u8],
+    word: &[u8],
+    size: usize,
+    joint: &mut [u32],
+    cheapest: &mut [u32],
+)
+    requires { ⌜ LabelPre (now card) (now ranking) (now word) (now work) size × TablesFit (now joint) (now cheapest) size ⌝ }
     ensures { λ _. ⌜ PositionsDone (now (card .entry)) (now (ranking .entry)) (now (word .entry)) (now (work .entry)) (now (work .exit)) 0 ⌝ }
 {
     let mut rows = [0u16; 1024];
-    let mut cheapest = [0u32; 16384];
+    let mut steps = [0u16; 12288];
     let all = tables::state_counts(card);
     let machines = card::machine_count(card);
     let counts = &all[..machines];
     let places = tables::six_places(ranking);
     tables::fill_rows(counts, size, &mut rows);
-    fill_insertions(card, ranking, &rows, counts, &places, size, &mut cheapest);
+    fill_insertions(
+        card,
+        ranking,
+        counts,
+        &places,
+        &mut steps,
+        joint,
+        size,
+        cheapest,
+    );
     label_positions(
         work,
         card,
@@ -336,7 +333,42 @@ pub fn label(work: &mut [u16], card: &[u8], ranking: &[u8], word: &[u8], size: u
         &rows,
         counts,
         &places,
-        &cheapest,
+        cheapest,
+        &mut steps,
+        joint,
         size,
     );
+}
+
+// Labels all nodes of a card with at most 32 joint states.
+fn label_small(work: &mut [u16], card: &[u8], ranking: &[u8], word: &[u8], size: usize)
+    requires { ⌜ LabelPre (now card) (now ranking) (now word) (now work) size × (size ≤ 32) ⌝ }
+    ensures { λ _. ⌜ PositionsDone (now (card .entry)) (now (ranking .entry)) (now (word .entry)) (now (work .entry)) (now (work .exit)) 0 ⌝ }
+{
+    let mut joint = [0u32; 2048];
+    let mut cheapest = [NO_PAIR; 1024];
+    label_with(work, card, ranking, word, size, &mut joint, &mut cheapest);
+}
+
+// Labels all nodes of any card.
+fn label_large(work: &mut [u16], card: &[u8], ranking: &[u8], word: &[u8], size: usize)
+    requires { ⌜ LabelPre (now card) (now ranking) (now word) (now work) size ⌝ }
+    ensures { λ _. ⌜ PositionsDone (now (card .entry)) (now (ranking .entry)) (now (word .entry)) (now (work .entry)) (now (work .exit)) 0 ⌝ }
+{
+    let mut joint = [0u32; 8192];
+    let mut cheapest = [NO_PAIR; 16384];
+    label_with(work, card, ranking, word, size, &mut joint, &mut cheapest);
+}
+
+// Labels all nodes: the label of a node is the cost of a best path from it. Few joint states take small tables, since a table has to be
+// written whole when it is made.
+pub fn label(work: &mut [u16], card: &[u8], ranking: &[u8], word: &[u8], size: usize)
+    requires { ⌜ LabelPre (now card) (now ranking) (now word) (now work) size ⌝ }
+    ensures { λ _. ⌜ PositionsDone (now (card .entry)) (now (ranking .entry)) (now (word .entry)) (now (work .entry)) (now (work .exit)) 0 ⌝ }
+{
+    if size <= 32 {
+        label_small(work, card, ranking, word, size);
+    } else {
+        label_large(work, card, ranking, word, size);
+    }
 }

@@ -9,7 +9,7 @@ use native.Mathlib.Nat.{suc-mul, mul-le-mul-right}
 use native.Mathlib.Decide.{decLt, ℕ-discrete}
 use native.Mathlib.Omega.{arith}
 use lib.Dec.{eqb, ltb}
-use lib.ListN.{length, getD, set, replicate, length-set, length-replicate, getD-replicate}
+use lib.ListN.{length, getD, set, length-set}
 use lib.Seq.{getD-set-same, getD-set-other}
 use borrow.Author.Tests.{eq-eqb, ne-eqb, lt-ltb, le-ltb}
 use Rattle.machine.specs.declared.Pair.{Pair}
@@ -19,12 +19,13 @@ use Rattle.paths.specs.Numbering.{position-is}
 use Rattle.product.specs.Nodes.{stateCounts, product}
 use Rattle.product.specs.ProductGraph.{Move}
 use Rattle.product.specs.Codes.{codeStep}
+use Rattle.product.specs.Laws.JointStep.{AllSound}
 use Rattle.product.specs.Laws.Codes.{code-step-below}
 use Rattle.tables.specs.declared.Joint.{Joint}
 use Rattle.tables.specs.JointNumbers.{numbered, jointFrom, joined}
-use Rattle.tables.specs.Tables.{Tables, JointPre, Joins}
+use Rattle.tables.specs.JointTable.{ReadAs, HoldsJoint}
 use Rattle.tables.specs.Insertions.{noPair, cheaper, cheapestInsertion, HoldsCheapest}
-use Rattle.tables.specs.FillingCheapest.{entryAt, NotePre, Noted, FillPre, FilledFrom, FilledCheapest}
+use Rattle.tables.specs.FillingCheapest.{entryAt, NotePre, Noted, Blank, FillPre, FilledFrom, FilledCheapest}
 
 -- ---- places in the table
 
@@ -73,19 +74,20 @@ module _ {xs : List ℕ} {P a : ℕ} {step : Joint} (pre : NotePre xs P a step) 
 -- ---- the outputs from a
 
 -- a joint step leads to one of the joint states
-joint-target : {S : ℕ} {ms : List Machine} {x : ℕ} {steps rows counts : List ℕ} → Tables S ms x steps rows counts → (places : List ℕ) (a : ℕ) (p : Pair) (r : ℕ × ℕ) → jointFrom places ms a p ≡ some r → r .0 < product counts
-joint-target {ms = ms} T places a p r h = rw (T .holds-counts) (go (codeStep ms a p) (code-step-below (T .machines .sound) a p) h)
+joint-target : {S : ℕ} {ms : List Machine} → AllSound S ms → (places : List ℕ) (a : ℕ) (p : Pair) (r : ℕ × ℕ) → jointFrom places ms a p ≡ some r → r .0 < product (stateCounts ms)
+joint-target {ms = ms} sound places a p r h = go (codeStep ms a p) (code-step-below sound a p) h
   where
     go : (o : Option Move) → ((m : Move) → o ≡ some m → m .target < product (stateCounts ms)) → numbered places o ≡ some r → r .0 < product (stateCounts ms)
     go none f q = absurd (Option·none-ne-some r q)
     go (some m) f q = let z : m .target ≡ r .0 = cc in rw (← z) (f m refl)
 
 -- the outputs below y are done
-pub record Filling (steps rows counts places xs ys : List ℕ) (P symbols a y : ℕ) : Type 0 where
+pub record Filling (joint xs ys : List ℕ) (P symbols a y : ℕ) : Type 0 where
   pub least : 1 ≤ y
   pub most : y ≤ symbols + 1
   pub size : length ys ≡ length xs
-  pub row : (S : ℕ) (ms : List Machine) → Tables S ms emptySymbol steps rows counts → (b : ℕ) → b < P → entryAt xs P a b ≡ noPair → entryAt ys P a b ≡ cheapestInsertion places ms a b (y - 1)
+  pub row : (ms : List Machine) (places : List ℕ) → P ≡ product (stateCounts ms) → HoldsJoint ms emptySymbol places joint
+      → (b : ℕ) → b < P → entryAt xs P a b ≡ noPair → entryAt ys P a b ≡ cheapestInsertion places ms a b (y - 1)
   pub others : (c b : ℕ) → c < P → b < P → c ≢ a → entryAt ys P c b ≡ entryAt xs P c b
 
 next-insertion : (places : List ℕ) (ms : List Machine) (a b y : ℕ) → 1 ≤ y
@@ -97,38 +99,46 @@ next-insertion places ms a b (suc n) h =
     let f : suc n - 1 ≡ n = omega arith in
     ap (cheapestInsertion places ms a b) e ∙ ap (λ (i : ℕ). cheaper b (cheapestInsertion places ms a b i) (jointFrom places ms a (record { input = emptySymbol; output = suc n }))) (sym f)
 
-module _ {steps rows counts places xs : List ℕ} {P symbols a : ℕ} (pre : FillPre steps rows counts places xs P symbols) (h : a < P) where
-  pub filling-start : Filling steps rows counts places xs xs P symbols a 1
+module _ {joint xs : List ℕ} {P symbols a : ℕ} (pre : FillPre joint xs P symbols) (h : a < P) where
+  pub filling-start : Filling joint xs xs P symbols a 1
   unfolding cheapestInsertion
-  filling-start = record { least = omega arith; most = omega arith; size = refl; row = λ S ms T b hb e. e; others = λ c b hc hb n. refl }
+  filling-start = record { least = omega arith; most = omega arith; size = refl; row = λ ms places s H b hb e. e; others = λ c b hc hb n. refl }
 
-  module _ {ys : List ℕ} {y : ℕ} (F : Filling steps rows counts places xs ys P symbols a y) where
-    pub joint-pre : y ≤ symbols → JointPre steps rows counts places a y
-    joint-pre k = record { tables = pre .tables; six = pre .six; state = rw (← (pre .states)) h; output = omega (arith, pre .few-symbols) }
+  -- the entry is in the table
+  pub entry-in : (y : ℕ) → y ≤ symbols → a * 64 + y < length joint
+  entry-in y k = omega (arith, pre .states, pre .holds .room, pre .few-symbols)
 
-    module _ {step : Joint} (J : Joins steps rows counts places a y step) where
+  pub entry-few : (y : ℕ) → y ≤ symbols → a * 64 + y < 8256
+  entry-few y k = omega (arith, pre .few, pre .few-symbols)
+
+  module _ {ys : List ℕ} {y : ℕ} (F : Filling joint xs ys P symbols a y) where
+    module _ (k : y ≤ symbols) (step : Joint) (R : ReadAs (getD joint (a * 64 + y) 0) step) where
+      -- what was read is the joint step of all machines that the table belongs to
+      step-is : (ms : List Machine) (x : ℕ) (places : List ℕ) → P ≡ product (stateCounts ms) → HoldsJoint ms x places joint → joined step ≡ jointFrom places ms a (record { input = x; output = y })
+      step-is ms x places s H = R _ (H .entry a y (omega arith) (omega (arith, pre .few-symbols)))
+
       pub note-pre : NotePre ys P a step
       note-pre = record {
         room = rw (F .size) (pre .room);
         from = h;
-        to = λ r e. let t = pre .tables .tables in rw (pre .states) (joint-target t places a _ r (sym (J _ _ _ t) ∙ e));
+        to = λ r e. rw (pre .states) (joint-target (pre .sound) (pre .places) a _ r (sym (step-is (pre .machines) (pre .input) (pre .places) (pre .states) (pre .holds)) ∙ e));
       }
 
-      pub filling-step : {zs : List ℕ} → y ≤ symbols → Noted ys zs P a step → Filling steps rows counts places xs zs P symbols a (y + 1)
-      filling-step k N = record {
+      pub filling-step : {zs : List ℕ} → Noted ys zs P a step → Filling joint xs zs P symbols a (y + 1)
+      filling-step N = record {
         least = omega arith;
         most = omega arith;
         size = N .size ∙ F .size;
-        row = λ S ms T b hb e.
+        row = λ ms places s H b hb e.
             N .row b hb
-            ∙ ap (λ (i : ℕ). cheaper b i (joined step)) (F .row S ms T b hb e)
-            ∙ ap (cheaper b (cheapestInsertion places ms a b (y - 1))) (J S ms emptySymbol T)
+            ∙ ap (λ (i : ℕ). cheaper b i (joined step)) (F .row ms places s H b hb e)
+            ∙ ap (cheaper b (cheapestInsertion places ms a b (y - 1))) (step-is ms emptySymbol places s H)
             ∙ sym (next-insertion places ms a b y (F .least));
         others = λ c b hc hb n. N .others c b hc hb n ∙ F .others c b hc hb n;
       }
 
-    pub filling-end : symbols < y → FilledFrom steps rows counts places xs ys P symbols a
-    filling-end k = record { size = F .size; row = λ S ms T b hb e. F .row S ms T b hb e ∙ ap (cheapestInsertion places ms a b) last; others = F .others }
+    pub filling-end : symbols < y → FilledFrom joint xs ys P symbols a
+    filling-end k = record { size = F .size; row = λ ms places s H b hb e. F .row ms places s H b hb e ∙ ap (cheapestInsertion places ms a b) last; others = F .others }
       where
         last : y - 1 ≡ symbols
         last = omega (arith, F .most)
@@ -136,39 +146,47 @@ module _ {steps rows counts places xs : List ℕ} {P symbols a : ℕ} (pre : Fil
 -- ---- all joint states
 
 -- those below a are done, the others not begun
-pub record Columns (steps rows counts places ys : List ℕ) (P symbols a : ℕ) : Type 0 where
+pub record Columns (joint ys : List ℕ) (P symbols a : ℕ) : Type 0 where
   pub within : a ≤ P
   pub room : P * P ≤ length ys
-  pub done : (c b : ℕ) → c < a → b < P → (S : ℕ) (ms : List Machine) → Tables S ms emptySymbol steps rows counts → entryAt ys P c b ≡ cheapestInsertion places ms c b symbols
+  pub done : (c b : ℕ) → c < a → b < P → (ms : List Machine) (places : List ℕ) → P ≡ product (stateCounts ms) → HoldsJoint ms emptySymbol places joint → entryAt ys P c b ≡ cheapestInsertion places ms c b symbols
   pub blank : (c b : ℕ) → a ≤ c → c < P → b < P → entryAt ys P c b ≡ noPair
 
-module _ {steps rows counts places xs : List ℕ} {P symbols : ℕ} (pre : FillPre steps rows counts places xs P symbols) where
-  pub columns-start : (ys : List ℕ) → ys ≡ replicate (length xs) noPair → Columns steps rows counts places ys P symbols 0
-  columns-start ys e = record {
+module _ {joint xs : List ℕ} {P symbols : ℕ} (pre : FillPre joint xs P symbols) where
+  pub columns-start : Blank xs → Columns joint xs P symbols 0
+  columns-start e = record {
     within = omega arith;
-    room = omega (arith, pre .room, ap length e, length-replicate (length xs) noPair);
+    room = pre .room;
     done = λ c b h. absurd (omega arith);
-    blank = λ c b h hc hb. ap (λ (l : List ℕ). entryAt l P c b) e ∙ getD-replicate (length xs) (b * P + c) noPair 0 (omega (arith, place-in P c b hc hb, pre .room));
+    blank = λ c b h hc hb. e (b * P + c) (omega (arith, place-in P c b hc hb, pre .room));
   }
 
-  module _ {ys : List ℕ} {a : ℕ} (C : Columns steps rows counts places ys P symbols a) where
-    pub fill-pre : FillPre steps rows counts places ys P symbols
-    fill-pre = record { tables = pre .tables; six = pre .six; states = pre .states; room = C .room; few-symbols = pre .few-symbols }
+  module _ {ys : List ℕ} {a : ℕ} (C : Columns joint ys P symbols a) where
+    pub fill-pre : FillPre joint ys P symbols
+    fill-pre = record {
+      some-symbols = pre .some-symbols;
+      machines = pre .machines;
+      input = pre .input;
+      places = pre .places;
+      sound = pre .sound;
+      holds = pre .holds;
+      states = pre .states;
+      room = C .room;
+      few = pre .few;
+      few-symbols = pre .few-symbols;
+    }
 
-    pub columns-step : {zs : List ℕ} → a < P → FilledFrom steps rows counts places ys zs P symbols a → Columns steps rows counts places zs P symbols (a + 1)
+    pub columns-step : {zs : List ℕ} → a < P → FilledFrom joint ys zs P symbols a → Columns joint zs P symbols (a + 1)
     columns-step {zs} h F = record {
       within = omega arith;
       room = omega (arith, C .room, F .size);
-      done = λ c b hc hb S ms T. done c b hc hb S ms T (ℕ-discrete c a);
+      done = λ c b hc hb ms places s H. done c b hc hb ms places s H (ℕ-discrete c a);
       blank = λ c b l hc hb. F .others c b hc hb (omega arith) ∙ C .blank c b (omega arith) hc hb;
     }
       where
-        done : (c b : ℕ) → c < a + 1 → b < P → (S : ℕ) (ms : List Machine) → Tables S ms emptySymbol steps rows counts → Dec (c ≡ a) → entryAt zs P c b ≡ cheapestInsertion places ms c b symbols
-        done c b hc hb S ms T (yes q) = rw q (F .row S ms T b hb (C .blank a b (omega arith) h hb))
-        done c b hc hb S ms T (no q) = F .others c b (omega arith) hb q ∙ C .done c b (omega arith) hb S ms T
+        done : (c b : ℕ) → c < a + 1 → b < P → (ms : List Machine) (places : List ℕ) → P ≡ product (stateCounts ms) → HoldsJoint ms emptySymbol places joint → Dec (c ≡ a) → entryAt zs P c b ≡ cheapestInsertion places ms c b symbols
+        done c b hc hb ms places s H (yes q) = rw q (F .row ms places s H b hb (C .blank a b (omega arith) h hb))
+        done c b hc hb ms places s H (no q) = F .others c b (omega arith) hb q ∙ C .done c b (omega arith) hb ms places s H
 
-    pub columns-end : P ≤ a → FilledCheapest steps rows counts places ys symbols
-    columns-end h ms T = record { size = rw (← same) (C .room); entry = λ c b hc hb. rw (← same) (C .done c b (omega (arith, same)) (omega (arith, same)) symbols ms T) }
-      where
-        same : P ≡ product (stateCounts ms)
-        same = pre .states ∙ ap product (T .holds-counts)
+    pub columns-end : P ≤ a → FilledCheapest joint ys P symbols
+    columns-end h ms places s H = record { size = rw (← s) (C .room); entry = λ c b hc hb. rw (← s) (C .done c b (omega arith) (omega arith) ms places s H) }

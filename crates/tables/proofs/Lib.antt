@@ -3,4 +3,7 @@ pub mod Counts
 pub mod Rows
 pub mod Joining
 pub mod Ending
+pub mod JointEntries
+pub mod JointRows
+pub mod JointFilling
 pub mod Cheapest

@@ -4,5 +4,7 @@ pub mod Tables
 pub mod Endings
 pub mod FillingRows
 pub mod Insertions
+pub mod JointTable
+pub mod FillingJoint
 pub mod FillingCheapest
 pub mod Laws

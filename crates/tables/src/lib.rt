@@ -1,7 +1,7 @@
 // Tables that the engine's inner loops look steps up in.
 ghost use mathlib.Core.Path.{_≡_};
 ghost use Prim.Native.Nat.{ℕ, _^_, _<_, _≤_};
-ghost use lib.ListN.{length, getD, take, replicate};
+ghost use lib.ListN.{getD, take};
 ghost use Rattle.card.specs.Layout.{machineCount};
 ghost use Rattle.card.specs.Card.{machinesOf, cardRefusal};
 ghost use Rattle.product.specs.Nodes.{stateCounts, product};
@@ -11,13 +11,13 @@ ghost use Rattle.tables.specs.JointNumbers.{ended, endingFrom};
 ghost use Rattle.tables.specs.Endings.{endingCost};
 ghost use Rattle.tables.specs.Tables.{CountsOfSome, HoldsRows, JointPre, Joins, EndingPre};
 ghost use Rattle.tables.specs.FillingRows.{RowsPre, RowFilled};
-ghost use Rattle.tables.specs.Insertions.{noPair};
-ghost use Rattle.tables.specs.FillingCheapest.{NotePre, Noted, FillPre, FilledFrom, FilledCheapest};
+ghost use Rattle.tables.specs.FillingCheapest.{NotePre, Noted, Blank, FillPre, FilledFrom, FilledCheapest};
 use labels::Label;
-use labels::NO_PAIR;
 use machine::Ending;
 use machine::Position;
 use steps::NO_STEP;
+
+pub mod joint_table; // joint_table.rt: the table of the joint steps
 
 // What taking a pair on all machines does: the code of the states led to with the marks as one number, or nothing takes it.
 pub enum Joint {
@@ -209,17 +209,6 @@ pub fn ending_label(marks: u32) -> Label
     label
 }
 
-// Writes no pair everywhere.
-fn clear(table: &mut [u32])
-    ensures { λ _. ⌜ now (table .exit) ≡ replicate (length (now (table .entry))) noPair ⌝ }
-{
-    let mut i = 0;
-    while i < table.len() {
-        table[i] = NO_PAIR;
-        i += 1;
-    }
-}
-
 // Keeps the number of a joint step from a joint state where it is the smallest so far.
 fn note(table: &mut [u32], size: usize, from: usize, step: Joint)
     requires { ⌜ NotePre (now table) size from step ⌝ }
@@ -235,44 +224,26 @@ fn note(table: &mut [u32], size: usize, from: usize, step: Joint)
 }
 
 // The cheapest insertions from one joint state.
-fn fill_from(
-    steps: &[u16],
-    rows: &[u16],
-    counts: &[u8],
-    places: &[u8; 6],
-    size: usize,
-    symbols: usize,
-    from: usize,
-    table: &mut [u32],
-)
-    requires { ⌜ FillPre (now steps) (now rows) (now counts) (now places) (now table) size symbols × (from < size) ⌝ }
-    ensures { λ _. ⌜ FilledFrom (now (steps .entry)) (now (rows .entry)) (now (counts .entry)) (now (places .entry)) (now (table .entry)) (now (table .exit)) size symbols from ⌝ }
+fn fill_from(joint: &[u32], size: usize, symbols: usize, from: usize, table: &mut [u32])
+    requires { ⌜ FillPre (now joint) (now table) size symbols × (from < size) ⌝ }
+    ensures { λ _. ⌜ FilledFrom (now (joint .entry)) (now (table .entry)) (now (table .exit)) size symbols from ⌝ }
 {
     let mut y = 1;
     while y <= symbols {
-        let step = joint_step(steps, rows, counts, places, from, y);
+        let step = joint_table::read(joint[from * 64 + y]);
         note(table, size, from, step);
         y += 1;
     }
 }
 
-// The cheapest insertions between all joint states, from the table of steps for the empty symbol.
-pub fn fill_cheapest(
-    steps: &[u16],
-    rows: &[u16],
-    counts: &[u8],
-    places: &[u8; 6],
-    size: usize,
-    symbols: usize,
-    table: &mut [u32],
-)
-    requires { ⌜ FillPre (now steps) (now rows) (now counts) (now places) (now table) size symbols ⌝ }
-    ensures { λ _. ⌜ FilledCheapest (now (steps .entry)) (now (rows .entry)) (now (counts .entry)) (now (places .entry)) (now (table .exit)) symbols ⌝ }
+// The cheapest insertions between all joint states, from the table of the joint steps for the empty symbol, where no pair stands everywhere.
+pub fn fill_cheapest(joint: &[u32], size: usize, symbols: usize, table: &mut [u32])
+    requires { ⌜ FillPre (now joint) (now table) size symbols × Blank (now table) ⌝ }
+    ensures { λ _. ⌜ FilledCheapest (now (joint .entry)) (now (table .exit)) size symbols ⌝ }
 {
-    clear(table);
     let mut from = 0;
     while from < size {
-        fill_from(steps, rows, counts, places, size, symbols, from, table);
+        fill_from(joint, size, symbols, from, table);
         from += 1;
     }
 }

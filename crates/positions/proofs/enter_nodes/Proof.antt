@@ -7,17 +7,17 @@ use Rattle.positions.proofs.enter_nodes.Statement.{statement}
 use Rattle.positions.proofs.enter_nodes.Tie as tie
 
 abbrev Inv-loop : tie.InvT-loop
-Inv-loop work₀ card ranking word rows counts places steps size position code₀ work code = (code ≤ size) × Tried card ranking word work₀ work position (position * size) 0 (position * size + code) 0
+Inv-loop work₀ card ranking word joint size position code₀ work code = (code ≤ size) × Tried card ranking word work₀ work position (position * size) 0 (position * size + code) 0
 
 abbrev μ-loop : tie.MeasureT-loop
-μ-loop work₀ card ranking word rows counts places steps size position code₀ work code = size - code
+μ-loop work₀ card ranking word joint size position code₀ work code = size - code
 
 loop-holds : tie.Need-loop-holds Inv-loop μ-loop
 loop-holds c = (omega arith, tried-first)
 
 enter-node-requires : tie.Need-enter-node-requires Inv-loop μ-loop
 enter-node-requires c κs =
-    let t = c .before .before .before .before .before .before .before .before .before .before in
+    let t = c .before .before .before .before .before .before .before .before in
     (enter-next (t .pre) (c .before .before .loop .inv .1), omega arith)
 
 add-code : tie.Need-add-code Inv-loop μ-loop

@@ -1,45 +1,50 @@
-use Rattle.positions.proofs.Insertions.{fill-ready, insertions-filled}
 use borrow.Author.Needs.{needs}
+use native.Mathlib.Omega.{arith}
+use Rattle.positions.proofs.JointSteps.{joint-ready, joint-filled}
+use Rattle.positions.proofs.Insertions.{fill-ready, few-insertions, insertions-filled}
 use Rattle.positions.proofs.fill_insertions.Statement.{statement}
 use Rattle.positions.proofs.fill_insertions.Tie as tie
 
-slice-aggregate-fill-steps : tie.Need-slice-aggregate-fill-steps
-slice-aggregate-fill-steps c = search needs
-
-fill-steps-requires : tie.Need-fill-steps-requires
-fill-steps-requires c κs = search needs
-
-symbol-count-requires : tie.Need-symbol-count-requires
-symbol-count-requires c κs = search needs
-
-cast-symbols : tie.Need-cast-symbols
-cast-symbols c = search needs
-
-slice-aggregate-fill-cheapest : tie.Need-slice-aggregate-fill-cheapest
-slice-aggregate-fill-cheapest c = search needs
+fill-requires : tie.Need-fill-requires
+fill-requires c κs =
+    let t = c .before .before .before .before .before .before .before .before .before .before .before .before in
+    let i = t .pre .0 in
+    joint-ready (t .args .card .now) (t .args .ranking .now) (i .accepted) (i .counts) (i .places) (c .before .before .before .before .fill-steps .ensures) _ _ (i .ranks) (i .size) (t .pre .1 .joint)
 
 fill-cheapest-requires : tie.Need-fill-cheapest-requires
 fill-cheapest-requires c κs =
-    let t = c .before .before .before .before .before .before .before .before .before .before .before in
-    fill-ready (t .pre .0) (c .before .before .before .before .fill-steps .ensures) _ (c .before .before .symbol-count .result) (c .before .before .symbol-count .ensures) (t .pre .1)
+    let t = c .before .before .before .before .before .before .before .before .before .before .before .before .before .before .before .before .before .before in
+    let i = t .pre .0 in
+    let k = c .before .before .symbol-count in
+    (fill-ready i (joint-filled (t .args .card .now) (t .args .ranking .now) (i .accepted) (i .counts) (i .places) (c .before .before .before .before .before .before .before .before .before .before .fill-steps .ensures) _ (c .before .before .before .before .before .fill .ensures)) (k .result) (k .ensures), t .pre .2)
 
-same-length : tie.Need-same-length
-same-length c = search needs
+list-pairs-requires : tie.Need-list-pairs-requires
+list-pairs-requires c κs =
+    let i = c .before .before .before .before .before .before .before .before .before .before .before .before .before .before .before .before .before .before .before .before .before .before .pre .0 in
+    (omega (arith, i .room, c .before .before .before .fill-cheapest .kept .1 .1 .1 .0), few-insertions i)
 
 returns : tie.Need-returns
 returns c =
-    let t = c .before .before .before .before .before .before .before .before .before .before .before .before .before .before in
-    insertions-filled (t .pre .0) (c .before .before .before .before .before .before .before .fill-steps .ensures) (c .before .before .fill-cheapest .last .1 .1 .1 .1 .1 .1 .0) (c .before .before .before .before .before .symbol-count .result) (c .before .before .before .before .before .symbol-count .ensures) (c .before .before .fill-cheapest .ensures)
+    let t = c .before .before .before .before .before .before .before .before .before .before .before .before .before .before .before .before .before .before .before .before .before .before .before .before .before in
+    let i = t .pre .0 in
+    let k = c .before .before .before .before .before .before .before .before .before .symbol-count in
+    record {
+      ks = c .before .before .before .before .before .before .fill-cheapest .last .1 .1 .1 .0;
+      holds = insertions-filled i (joint-filled (t .args .card .now) (t .args .ranking .now) (i .accepted) (i .counts) (i .places) (c .before .before .before .before .before .before .before .before .before .before .before .before .before .before .before .before .before .fill-steps .ensures) _ (c .before .before .before .before .before .before .before .before .before .before .before .before .fill .ensures)) _ (k .result) (k .ensures) (c .before .before .before .before .before .before .fill-cheapest .ensures);
+      listed = c .before .before .list-pairs .ensures;
+    }
 
 pub fill-insertions-spec : {M : Type 1} → statement M
 fill-insertions-spec =
     tie.close
     (tie.spec
-    slice-aggregate-fill-steps
-    fill-steps-requires
-    symbol-count-requires
-    cast-symbols
-    slice-aggregate-fill-cheapest
+    (λ c κs. search needs)
+    fill-requires
+    (λ c κs. search needs)
+    (λ c. search needs)
     fill-cheapest-requires
-    same-length
+    list-pairs-requires
+    (λ c. search needs)
+    (λ c. search needs)
+    (λ c. search needs)
     returns)
