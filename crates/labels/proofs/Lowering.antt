@@ -1,21 +1,18 @@
 -- Laws for improving the label of one node.
-use mathlib.Core.Path.{_≡_, refl, sym, _∙_, ap, subst}
+use mathlib.Core.Path.{_≡_, refl, sym, _∙_, ap}
 use mathlib.Core.Logic.{_⊎_, inl, inr, _≢_}
 use mathlib.Core.Bool.{Bool, true, false, not, false≢true}
-use mathlib.Core.Option.{Option, none, some, Option·none-ne-some}
+use mathlib.Core.Option.{Option, some}
 use mathlib.Core.List.{List}
 use Prim.Native.Nat.{ℕ, _≤_}
 use native.Mathlib.Omega.{arith}
 use native.Mathlib.Decide.{ℕ-discrete}
 use lib.Dec.{eqb}
-use lib.ListN.{length}
 use borrow.Author.Tests.{eqb-true, eqb-false, not-true, not-false}
 use Rattle.paths.specs.Costs.{AtMost, Above, kept, lowered, above-none, above-some}
-use Rattle.paths.specs.Ranked.{Ranked, add, Less}
-use Rattle.paths.specs.Improvement.{Improves}
-use Rattle.labels.specs.Marks.{pairCost}
+use Rattle.paths.specs.Ranked.{Ranked, Less}
 use Rattle.labels.specs.LabelCost.{isLess}
-use Rattle.labels.specs.Work.{stateOf, costAt, labelOf, AlikeAt, Reached, Stored}
+use Rattle.labels.specs.Work.{stateOf, costAt, labelOf, Reached, Stored}
 use Rattle.labels.specs.Lowering.{Compared, Lowered, LoweredBy}
 use Rattle.labels.proofs.Comparing.{less-true, less-false}
 use Rattle.labels.proofs.Work.{labelled, unlabelled, label-alike}

@@ -10,7 +10,7 @@ use Rattle.paths.specs.Total.{Upto, less-upto}
 use Rattle.paths.specs.Ranked.{Ranked, Less, less-total}
 use Rattle.labels.specs.LabelCost.{isLess}
 use Rattle.labels.specs.Work.{costAt, OpenAt}
-use Rattle.labels.specs.Selecting.{NoneOpen, FirstOpen, PastOpen, Beats, SelectPre, Least}
+use Rattle.labels.specs.Selecting.{NoneOpen, PastOpen, Beats, SelectPre, Least}
 use Rattle.labels.proofs.Comparing.{less-true, less-false}
 
 -- ---- the part's ends

@@ -24,7 +24,7 @@ use Rattle.labels.specs.Work.{HasNodes, stateOf, costAt, labelOf, OpenAt
 use Rattle.labels.specs.Selecting.{NoneOpen, FirstOpen, PastOpen, SelectPre, Least}
 use Rattle.labels.specs.PositionGraph.{InPosition, positionGraph}
 use Rattle.labels.specs.Listing.{Listed}
-use Rattle.labels.specs.Spreading.{place, Widened, SpreadPre, Spread, SpreadListed}
+use Rattle.labels.specs.Spreading.{place, SpreadPre, Spread, SpreadListed}
 use Rattle.labels.specs.Settling.{SettlePre, Settled, SettlePreListed, SettledListed}
 use Rattle.labels.specs.declared.Window.{Window}
 use Rattle.labels.proofs.Work.{labelled, holds, label-alike, alike-trans, alike-numbers}

@@ -14,7 +14,7 @@ use Rattle.paths.specs.Graph.{Edge}
 use Rattle.paths.specs.Improvement.{Improves}
 use Rattle.paths.specs.Cheapest.{cheapest-none}
 use Rattle.paths.specs.Settling.{Relaxing, relaxing-skip, relaxing-settled, relaxing-cheapest}
-use Rattle.labels.specs.Marks.{marksOf, pairCost, noPair, pairFrom, pairMarks}
+use Rattle.labels.specs.Marks.{marksOf, noPair, pairFrom, pairMarks}
 use Rattle.labels.specs.MarksLaws.{pair-some, room-plus}
 use Rattle.labels.specs.LabelCost.{RoomFor}
 use Rattle.labels.specs.Work.{stateOf, costAt, labelOf, OpenAt, SettledAt}

@@ -1,7 +1,6 @@
 -- `beats` meets its contract.
 use borrow.Author.Needs.{needs}
 use Rattle.labels.proofs.Selecting.{beats-shut, beats-open}
-use borrow.Author.Needs.{needs}
 use Rattle.labels.proofs.beats.Statement.{statement}
 use Rattle.labels.proofs.beats.Tie as tie
 

@@ -2,7 +2,6 @@
 use mathlib.Core.Path.{refl}
 use borrow.Author.Needs.{needs}
 use Rattle.labels.proofs.Comparing.{less-here, less-rest}
-use borrow.Author.Needs.{needs}
 use Rattle.labels.proofs.below.Statement.{statement}
 use Rattle.labels.proofs.below.Tie as tie
 

@@ -1,6 +1,5 @@
 -- `list_pairs` meets its contract. The loop's invariant is `Listing`, the measure the number of rows left.
 use Prim.Native.Nat.{_-_}
-use native.Mathlib.Omega.{arith}
 use borrow.Author.Needs.{needs}
 use Rattle.labels.proofs.Listing.{Listing, listing-start, listing-next, listing-end}
 use Rattle.labels.proofs.list_pairs.Statement.{statement}

@@ -2,7 +2,6 @@
 use Prim.Native.Nat.{_+_, _*_, _<_}
 use native.Mathlib.Omega.{arith}
 use lib.ListN.{length}
-use borrow.Author.Needs.{needs}
 use Rattle.paths.specs.Unsettled.{unsettled}
 use Rattle.labels.proofs.Settling.{settledOf, ListLoop, loop-start, loop-size, loop-room, loop-end, loop-some, loop-select, loop-node, loop-spread, loop-falls, loop-next}
 use Rattle.labels.proofs.settle.Statement.{statement}

@@ -2,7 +2,6 @@
 use mathlib.Core.Path.{refl}
 use borrow.Author.Needs.{needs}
 use Rattle.labels.specs.Lowering.{passed, tried}
-use borrow.Author.Needs.{needs}
 use Rattle.labels.proofs.visit.Statement.{statement}
 use Rattle.labels.proofs.visit.Tie as tie
 
