@@ -160,5 +160,5 @@ listing-next {xs} {ys} {zs} {P} {z} h L R = record {
         let m : suc w * P ≤ z * P = mul-le-mul-right P (omega arith) in
         told-alike (λ i l. R .others (w * P + i) (inl (omega (arith, suc-mul w P)))) (L .rows w (omega arith))
 
-pub listing-end : {xs ys : List ℕ} {P z : ℕ} → Listing xs ys P z → P ≤ z → Listed xs ys P
-listing-end L h = record { size = L .size; rows = λ w k. L .rows w (omega (arith, L .top)) }
+pub listing-end : {xs ys : List ℕ} {P z : ℕ} → Listing xs ys P z → P ≤ 128 → P ≤ z → Listed xs ys P
+listing-end L f h = record { few = f; size = L .size; rows = λ w k. L .rows w (omega (arith, L .top)) }

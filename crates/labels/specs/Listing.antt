@@ -19,6 +19,7 @@ pub data Told (ks ls : List ℕ) (r P : ℕ) : (j k : ℕ) → Type 0 where
 
 -- ls is the table ks of P rows of P numbers, each of them made a list
 pub record Listed (ks ls : List ℕ) (P : ℕ) : Type 0 where
+  pub few : P ≤ 128
   pub size : length ls ≡ length ks
   pub rows : (z : ℕ) → z < P → Told ks ls (z * P) P 0 0
 
