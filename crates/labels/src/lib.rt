@@ -7,7 +7,7 @@ ghost use Rattle.labels.specs.Marks.{nibbles, marksOf};
 ghost use Rattle.labels.specs.LabelCost.{costOf, lastPlaces, firstTwo, frontKey, AllShort, isLess, isSame, RoomFor};
 ghost use Rattle.labels.specs.Work.{HasNode, HasNodes, costAt, OpenAt, Reached, Stored, Cleared};
 ghost use Rattle.labels.specs.Keys.{KeyOf, BoundOf, Keyed};
-ghost use Rattle.labels.specs.Listing.{Listed, RowListed};
+ghost use Rattle.labels.specs.Listing.{PairCount, Listed, RowListed};
 ghost use Rattle.labels.specs.Lowering.{PairPre, VisitPre, Compared, Lowered, LoweredBy, Visited};
 ghost use Rattle.labels.specs.Selecting.{FirstOpen, PastOpen, BeatsPre, Beats, SelectPre, Least};
 ghost use Rattle.labels.specs.Spreading.{SpreadPre, SpreadListed};
@@ -287,7 +287,15 @@ fn listed(from: usize, marks: u32) -> u32
     from as u32 * MARKS + marks
 }
 
-// Makes the row of the pairs to one node a list of them. The place that is written is never past the one that is read.
+// How many pairs a number of the table tells: one or none.
+fn pair_count(marks: u32) -> usize
+    ensures { λ r. ⌜ PairCount marks r ⌝ }
+{
+    if marks < MARKS { 1 } else { 0 }
+}
+
+// Makes the row of the pairs to one node a list of them. The place that is written is never past the one that is read. It is written whether there
+// is a pair or not, and stays where there is: a branch here is guessed wrong too often.
 fn list_row(table: &mut [u32], size: usize, to: usize)
     requires { ⌜ (size * size ≤ length (now table)) × (size ≤ 128) × (to < size) ⌝ }
     ensures { λ _. ⌜ RowListed (now (table .entry)) (now (table .exit)) size to ⌝ }
@@ -297,10 +305,8 @@ fn list_row(table: &mut [u32], size: usize, to: usize)
     let mut from = 0;
     while from < size {
         let marks = table[row + from];
-        if marks < MARKS {
-            table[row + kept] = listed(from, marks);
-            kept += 1;
-        }
+        table[row + kept] = listed(from, marks % MARKS);
+        kept += pair_count(marks);
         from += 1;
     }
     if kept < size {
