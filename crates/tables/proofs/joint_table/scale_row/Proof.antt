@@ -1,33 +1,54 @@
 use borrow.Author.Needs.{needs}
-use mathlib.Core.Path.{_≡_, sym, _∙_}
+use mathlib.Core.Path.{_≡_, refl, sym, _∙_}
 use Prim.Native.Nat.{_+_, _-_}
 use native.Mathlib.Omega.{arith}
-use lib.ListN.{length, getD}
+use lib.ListN.{length, getD, length-set}
 use Rattle.tables.specs.FillingJoint.{scaledStep}
 use Rattle.tables.proofs.JointRows.{RowTo, row-start, row-next}
 use Rattle.tables.proofs.joint_table.scale_row.Statement.{statement}
 use Rattle.tables.proofs.joint_table.scale_row.Tie as tie
 
 abbrev Inv-loop : tie.InvT-loop
-Inv-loop steps from scale weight row₀ y₀ row y = RowTo (λ k. scaledStep scale weight (getD steps (from + k) 0)) row y
+Inv-loop steps from scale weight width row₀ y₀ row y = RowTo (λ k. scaledStep scale weight (getD steps (from + k) 0)) width row y × (length row ≡ length row₀)
 
 abbrev μ-loop : tie.MeasureT-loop
-μ-loop steps from scale weight row₀ y₀ row y = 64 - y
+μ-loop steps from scale weight width row₀ y₀ row y = width - y
 
 loop-holds : tie.Need-loop-holds Inv-loop μ-loop
-loop-holds c = row-start _ (c .before .before .pre .size)
+loop-holds c = let q = c .before .before .pre in (row-start _ _ (omega (arith, q .size, q .few)), refl)
+
+add-scaled : tie.Need-add-scaled Inv-loop μ-loop
+add-scaled c = search needs
+
+mul-scaled : tie.Need-mul-scaled Inv-loop μ-loop
+mul-scaled c = search needs
+
+shared-slice-read-scaled : tie.Need-shared-slice-read-scaled Inv-loop μ-loop
+shared-slice-read-scaled c = search needs
 
 scaled-requires : tie.Need-scaled-requires Inv-loop μ-loop
 scaled-requires c κs = c .before .before .before .before .before .pre .fits (c .before .before .loop .y) (c .before .loop-test .taken)
 
+mul-row : tie.Need-mul-row Inv-loop μ-loop
+mul-row c = search needs
+
+slice-write-row : tie.Need-slice-write-row Inv-loop μ-loop
+slice-write-row c = search needs
+
+add-y : tie.Need-add-y Inv-loop μ-loop
+add-y c = search needs
+
+loop-less : tie.Need-loop-less Inv-loop μ-loop
+loop-less c = search needs
+
 loop-again : tie.Need-loop-again Inv-loop μ-loop
-loop-again c = let k = c .before .before in row-next _ (k .before .loop .inv) (k .loop-test .taken) _ (c .scaled .ensures)
+loop-again c = let k = c .before .before in (row-next _ _ (k .before .loop .inv .0) (k .loop-test .taken) _ (c .scaled .ensures), simp length-set (k .before .loop .inv .1))
 
 same-length : tie.Need-same-length Inv-loop μ-loop
-same-length c = c .before .loop .inv .size ∙ sym (c .before .before .before .before .pre .size)
+same-length c = c .before .loop .inv .1
 
 returns : tie.Need-returns Inv-loop μ-loop
-returns c = let r = c .before .loop .inv in record { size = r .size; entry = λ y h. r .done y (omega (arith, c .loop-test .left)) }
+returns c = let r = c .before .loop .inv in record { size = r .1 ∙ c .before .before .before .before .pre .size; entry = λ y h. r .0 .done y (omega (arith, c .loop-test .left)) }
 
 pub scale-row-spec : {M : Type 1} → statement M
 scale-row-spec =
@@ -36,14 +57,14 @@ scale-row-spec =
     Inv-loop
     μ-loop
     loop-holds
-    (λ c. search needs)
-    (λ c. search needs)
-    (λ c. search needs)
+    add-scaled
+    mul-scaled
+    shared-slice-read-scaled
     scaled-requires
-    (λ c. search needs)
-    (λ c. search needs)
-    (λ c. search needs)
-    (λ c. search needs)
+    mul-row
+    slice-write-row
+    add-y
+    loop-less
     loop-again
     same-length
     returns)

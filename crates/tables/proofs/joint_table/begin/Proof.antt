@@ -1,0 +1,53 @@
+use borrow.Author.Needs.{needs}
+use mathlib.Core.Path.{_≡_, refl}
+use Prim.Native.Nat.{_-_}
+use native.Mathlib.Omega.{arith}
+use lib.ListN.{length, length-set}
+use Rattle.tables.proofs.JointRows.{RowTo, row-start, row-next}
+use Rattle.tables.proofs.joint_table.begin.Statement.{statement}
+use Rattle.tables.proofs.joint_table.begin.Tie as tie
+
+abbrev Inv-loop : tie.InvT-loop
+Inv-loop table₀ y₀ table y = RowTo (λ k. 0) 64 table y × (length table ≡ length table₀)
+
+abbrev μ-loop : tie.MeasureT-loop
+μ-loop table₀ y₀ table y = 64 - y
+
+loop-holds : tie.Need-loop-holds Inv-loop μ-loop
+loop-holds c = (row-start _ _ (c .pre), refl)
+
+mul-table : tie.Need-mul-table Inv-loop μ-loop
+mul-table c = search needs
+
+slice-write-table : tie.Need-slice-write-table Inv-loop μ-loop
+slice-write-table c = search needs
+
+add-y : tie.Need-add-y Inv-loop μ-loop
+add-y c = search needs
+
+loop-less : tie.Need-loop-less Inv-loop μ-loop
+loop-less c = search needs
+
+loop-again : tie.Need-loop-again Inv-loop μ-loop
+loop-again c = (row-next _ _ (c .before .loop .inv .0) (c .loop-test .taken) 0 refl, simp length-set (c .before .loop .inv .1))
+
+same-length : tie.Need-same-length Inv-loop μ-loop
+same-length c = c .before .loop .inv .1
+
+returns : tie.Need-returns Inv-loop μ-loop
+returns c = let r = c .before .loop .inv in record { size = r .1; zero-at = λ y h. r .0 .done y (omega (arith, c .loop-test .left)) }
+
+pub begin-spec : {M : Type 1} → statement M
+begin-spec =
+    tie.close
+    (tie.spec
+    Inv-loop
+    μ-loop
+    loop-holds
+    mul-table
+    slice-write-table
+    add-y
+    loop-less
+    loop-again
+    same-length
+    returns)
