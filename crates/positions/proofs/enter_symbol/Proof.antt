@@ -1,58 +1,42 @@
 use borrow.Author.Needs.{needs}
+use native.Mathlib.Omega.{arith}
+use Rattle.positions.proofs.Edges.{word-sound, symbols-few}
+use Rattle.positions.proofs.JointSteps.{joint-ready, joint-filled}
+use Rattle.positions.proofs.Labelling.{enter-pre, entered-symbol}
 use Rattle.positions.proofs.enter_symbol.Statement.{statement}
 use Rattle.positions.proofs.enter_symbol.Tie as tie
-use Rattle.positions.proofs.enter_symbol.Reads as reads
-use Rattle.positions.proofs.enter_symbol.Lts as lts
-use Rattle.card.proofs.symbol_count.Reads as symbol-count-reads
-use Rattle.positions.proofs.enter_nodes.Reads as enter-nodes-reads
-use Rattle.tables.proofs.joint_table.fill.Reads as fill-reads
 
--- src/lib.rt:121:19
-symbol-count-requires : tie.Need-symbol-count-requires
-symbol-count-requires c κs = search needs
-
--- src/lib.rt:121:19
-cast-symbols : tie.Need-cast-symbols
-cast-symbols c = search needs
-
--- src/lib.rt:124:9
-shared-slice-read-fill : tie.Need-shared-slice-read-fill
-shared-slice-read-fill c = search needs
-
--- src/lib.rt:122:5
 fill-requires : tie.Need-fill-requires
-fill-requires c κs = ?
+fill-requires c κs =
+    let t = c .before .before .before .before .before .before .before .before .before .before .before .before in
+    let q = t .pre .0 in
+    let s = q .setting in
+    joint-ready (t .args .card .now) (t .args .ranking .now) (s .accepted) (q .looked .counts) (q .looked .places) (s .ranks) (s .size)
+    (omega (arith, word-sound s .symbol (t .args .position) (t .pre .2), symbols-few s))
+    (c .before .before .before .symbol-count .ensures)
+    (record { stretch = t .pre .1 .stretch; joint = t .pre .1 .joint })
 
--- src/lib.rt:131:5
 enter-nodes-requires : tie.Need-enter-nodes-requires
-enter-nodes-requires c κs = ?
+enter-nodes-requires c κs =
+    let t = c .before .before .before .before .before .before .before .before .before .before .before .before .before .before .before .before .before .before .before in
+    let q = t .pre .0 in
+    enter-pre q (t .pre .2) (joint-filled (t .args .card .now) (t .args .ranking .now) (q .setting .accepted) (q .looked .counts) (q .looked .places) (c .before .before .before .before .before .before .before .before .before .before .symbol-count .ensures) (c .before .before .before .before .before .before .fill .ensures))
 
--- src/lib.rt:105:1
-same-length : tie.Need-same-length
-same-length c = search needs
-
--- src/lib.rt:105:1
-same-length-2 : tie.Need-same-length-2
-same-length-2 c = search needs
-
--- src/lib.rt:105:1
-same-length-3 : tie.Need-same-length-3
-same-length-3 c = search needs
-
--- src/lib.rt:105:1
 returns : tie.Need-returns
-returns c = ?
+returns c =
+    let t = c .before .before .before .before .before .before .before .before .before .before .before .before .before .before .before .before .before .before .before .before .before .before in
+    entered-symbol (t .pre .0) (t .pre .2) (c .before .before .enter-nodes .ensures)
 
 pub enter-symbol-spec : {M : Type 1} → statement M
 enter-symbol-spec =
     tie.close
     (tie.spec
-    symbol-count-requires
-    cast-symbols
-    shared-slice-read-fill
+    (λ c κs. search needs)
+    (λ c. search needs)
+    (λ c. search needs)
     fill-requires
     enter-nodes-requires
-    same-length
-    same-length-2
-    same-length-3
+    (λ c. search needs)
+    (λ c. search needs)
+    (λ c. search needs)
     returns)

@@ -1,59 +1,49 @@
 use borrow.Author.Needs.{needs}
+use native.Mathlib.Omega.{arith}
+use Rattle.positions.proofs.JointSteps.{joint-ready, joint-filled}
+use Rattle.positions.proofs.Insertions.{fill-ready, few-insertions, insertions-filled}
 use Rattle.positions.proofs.fill_insertions.Statement.{statement}
 use Rattle.positions.proofs.fill_insertions.Tie as tie
-use Rattle.positions.proofs.fill_insertions.Reads as reads
-use Rattle.positions.proofs.fill_insertions.Lts as lts
-use Rattle.card.proofs.symbol_count.Reads as symbol-count-reads
-use Rattle.labels.proofs.list_pairs.Reads as list-pairs-reads
-use Rattle.tables.proofs.fill_cheapest.Reads as fill-cheapest-reads
-use Rattle.tables.proofs.joint_table.fill.Reads as fill-reads
 
--- src/lib.rt:261:19
-symbol-count-requires : tie.Need-symbol-count-requires
-symbol-count-requires c κs = search needs
-
--- src/lib.rt:261:19
-cast-symbols : tie.Need-cast-symbols
-cast-symbols c = search needs
-
--- src/lib.rt:262:5
 fill-requires : tie.Need-fill-requires
-fill-requires c κs = ?
+fill-requires c κs =
+    let t = c .before .before .before .before .before .before .before .before .before in
+    let i = t .pre .0 in
+    joint-ready (t .args .card .now) (t .args .ranking .now) (i .accepted) (i .counts) (i .places) (i .ranks) (i .size) (omega arith) (c .before .before .symbol-count .ensures) (record { stretch = t .pre .1 .stretch; joint = t .pre .1 .joint })
 
--- src/lib.rt:271:5
 fill-cheapest-requires : tie.Need-fill-cheapest-requires
-fill-cheapest-requires c κs = ?
+fill-cheapest-requires c κs =
+    let t = c .before .before .before .before .before .before .before .before .before .before .before .before .before .before .before .before in
+    let i = t .pre .0 in
+    let k = c .before .before .before .before .before .before .before .before .before .symbol-count in
+    (fill-ready i (joint-filled (t .args .card .now) (t .args .ranking .now) (i .accepted) (i .counts) (i .places) (k .ensures) (c .before .before .before .before .before .before .fill .ensures)) (k .result) (k .ensures), t .pre .2)
 
--- src/lib.rt:272:5
 list-pairs-requires : tie.Need-list-pairs-requires
-list-pairs-requires c κs = ?
+list-pairs-requires c κs =
+    let i = c .before .before .before .before .before .before .before .before .before .before .before .before .before .before .before .before .before .before .before .before .pre .0 in
+    (omega (arith, i .room, c .before .before .before .fill-cheapest .kept .1 .1 .1 .0), few-insertions i)
 
--- src/lib.rt:248:1
-same-length : tie.Need-same-length
-same-length c = search needs
-
--- src/lib.rt:248:1
-same-length-2 : tie.Need-same-length-2
-same-length-2 c = search needs
-
--- src/lib.rt:248:1
-same-length-3 : tie.Need-same-length-3
-same-length-3 c = search needs
-
--- src/lib.rt:248:1
 returns : tie.Need-returns
-returns c = ?
+returns c =
+    let t = c .before .before .before .before .before .before .before .before .before .before .before .before .before .before .before .before .before .before .before .before .before .before .before in
+    let i = t .pre .0 in
+    let k = c .before .before .before .before .before .before .before .before .before .before .before .before .before .before .before .before .symbol-count in
+    record {
+      ks = c .before .before .before .before .before .before .fill-cheapest .last .1 .1 .1 .0;
+      holds = insertions-filled i (joint-filled (t .args .card .now) (t .args .ranking .now) (i .accepted) (i .counts) (i .places) (k .ensures) (c .before .before .before .before .before .before .before .before .before .before .before .before .before .fill .ensures)) _ (k .result) (k .ensures) (c .before .before .before .before .before .before .fill-cheapest .ensures);
+      listed = c .before .before .list-pairs .ensures;
+    }
 
 pub fill-insertions-spec : {M : Type 1} → statement M
 fill-insertions-spec =
     tie.close
     (tie.spec
-    symbol-count-requires
-    cast-symbols
+    (λ c κs. search needs)
+    (λ c. search needs)
     fill-requires
     fill-cheapest-requires
     list-pairs-requires
-    same-length
-    same-length-2
-    same-length-3
+    (λ c. search needs)
+    (λ c. search needs)
+    (λ c. search needs)
     returns)

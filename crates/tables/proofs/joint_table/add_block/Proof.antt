@@ -17,38 +17,8 @@ abbrev μ-loop : tie.MeasureT-loop
 loop-holds : tie.Need-loop-holds Inv-loop μ-loop
 loop-holds c = let q = c .before .before .before .pre in (row-start _ _ (omega (arith, q .size)), refl)
 
-add-join : tie.Need-add-join Inv-loop μ-loop
-add-join c = search needs
-
-mul-join : tie.Need-mul-join Inv-loop μ-loop
-mul-join c = search needs
-
-shared-slice-read-join : tie.Need-shared-slice-read-join Inv-loop μ-loop
-shared-slice-read-join c = search needs
-
-add-join-2 : tie.Need-add-join-2 Inv-loop μ-loop
-add-join-2 c = search needs
-
-mul-join-2 : tie.Need-mul-join-2 Inv-loop μ-loop
-mul-join-2 c = search needs
-
-shared-slice-read-join-2 : tie.Need-shared-slice-read-join-2 Inv-loop μ-loop
-shared-slice-read-join-2 c = search needs
-
 join-requires : tie.Need-join-requires Inv-loop μ-loop
 join-requires c κs = c .before .before .before .before .before .before .before .pre .fits (c .before .before .before .loop .i) (c .before .before .loop-test .taken)
-
-mul-row : tie.Need-mul-row Inv-loop μ-loop
-mul-row c = search needs
-
-slice-write-row : tie.Need-slice-write-row Inv-loop μ-loop
-slice-write-row c = search needs
-
-add-i : tie.Need-add-i Inv-loop μ-loop
-add-i c = search needs
-
-loop-less : tie.Need-loop-less Inv-loop μ-loop
-loop-less c = search needs
 
 loop-again : tie.Need-loop-again Inv-loop μ-loop
 loop-again c = let k = c .before .before .before in (row-next _ _ (k .before .loop .inv .0) (k .loop-test .taken) _ (c .join .ensures), simp length-set (k .before .loop .inv .1))
@@ -66,17 +36,17 @@ add-block-spec =
     Inv-loop
     μ-loop
     loop-holds
-    add-join
-    mul-join
-    shared-slice-read-join
-    add-join-2
-    mul-join-2
-    shared-slice-read-join-2
+    (λ c. search needs)
+    (λ c. search needs)
+    (λ c. search needs)
+    (λ c. search needs)
+    (λ c. search needs)
+    (λ c. search needs)
     join-requires
-    mul-row
-    slice-write-row
-    add-i
-    loop-less
+    (λ c. search needs)
+    (λ c. search needs)
+    (λ c. search needs)
+    (λ c. search needs)
     loop-again
     same-length
     returns)

@@ -22,23 +22,14 @@ mul-scale c = omega (arith, rest-few (c .before .before .pre))
 loop-holds : tie.Need-loop-holds Inv-loop μ-loop
 loop-holds c = (machine-start (c .before .before .pre), refl)
 
-sub-state : tie.Need-sub-state Inv-loop μ-loop
-sub-state c = search needs
-
 mul-scale-row : tie.Need-mul-scale-row Inv-loop μ-loop
 mul-scale-row c = let l = c .before in omega (arith, l .loop .inv .0 .within, l .before .before .before .pre .most)
 
 mul-scale-row-2 : tie.Need-mul-scale-row-2 Inv-loop μ-loop
 mul-scale-row-2 c = omega (arith, c .before .before .before .before .pre .width)
 
-slice-aggregate-scale-row : tie.Need-slice-aggregate-scale-row Inv-loop μ-loop
-slice-aggregate-scale-row c = search needs
-
 scale-row-requires : tie.Need-scale-row-requires Inv-loop μ-loop
 scale-row-requires c κs = let l = c .before .before in scale-pre (l .before .before .before .pre) (l .loop .state - 1) (omega (arith, l .loop .inv .0 .within)) (l .loop .inv .1)
-
-slice-aggregate-add-state : tie.Need-slice-aggregate-add-state Inv-loop μ-loop
-slice-aggregate-add-state c = search needs
 
 mul-add-state : tie.Need-mul-add-state Inv-loop μ-loop
 mul-add-state c = let l = c .before .before .before .before .before .before in omega (arith, state-last (l .before .before .before .pre) (l .loop .state - 1) (omega (arith, l .loop .inv .0 .within)), l .before .before .before .pre .few)
@@ -47,9 +38,6 @@ add-state-requires : tie.Need-add-state-requires Inv-loop μ-loop
 add-state-requires c κs =
     let l = c .before .before .before .before .before .before in
     machine-state-pre (l .before .before .before .pre) (l .loop .state - 1) (omega (arith, l .loop .inv .0 .within)) (l .loop .inv .0) (omega arith) (c .before .before .before .scale-row .ensures)
-
-loop-less : tie.Need-loop-less Inv-loop μ-loop
-loop-less c = search needs
 
 loop-again : tie.Need-loop-again Inv-loop μ-loop
 loop-again c =
@@ -72,15 +60,15 @@ add-machine-spec =
     cast-scale
     mul-scale
     loop-holds
-    sub-state
+    (λ c. search needs)
     mul-scale-row
     mul-scale-row-2
-    slice-aggregate-scale-row
+    (λ c. search needs)
     scale-row-requires
-    slice-aggregate-add-state
+    (λ c. search needs)
     mul-add-state
     add-state-requires
-    loop-less
+    (λ c. search needs)
     loop-again
     same-length
     returns)

@@ -22,23 +22,14 @@ mul-at c = omega (arith, block-in (c .before .before .before .before .pre) (c .b
 add-add-block : tie.Need-add-add-block Inv-loop μ-loop
 add-add-block c = let k = c .before in omega (arith, k .before .before .before .before .pre .place, block-in (k .before .before .before .before .pre) (k .before .loop .inv .0) (k .loop-test .taken))
 
-slice-aggregate-add-block : tie.Need-slice-aggregate-add-block Inv-loop μ-loop
-slice-aggregate-add-block c = search needs
-
 add-block-requires : tie.Need-add-block-requires Inv-loop μ-loop
 add-block-requires c κs = let k = c .before .before in block-pre (k .before .before .before .before .pre) (k .before .loop .inv .0) (k .loop-test .taken) (k .before .loop .inv .1)
 
 add-write-block : tie.Need-add-write-block Inv-loop μ-loop
 add-write-block c = let k = c .before .before .before .before .before in omega (arith, k .before .before .before .before .pre .place, block-in (k .before .before .before .before .pre) (k .before .loop .inv .0) (k .loop-test .taken))
 
-slice-aggregate-write-block : tie.Need-slice-aggregate-write-block Inv-loop μ-loop
-slice-aggregate-write-block c = search needs
-
 write-block-requires : tie.Need-write-block-requires Inv-loop μ-loop
 write-block-requires c κs = let k = c .before .before .before .before .before .before in (block-room (k .before .before .before .before .pre) (k .before .loop .inv .0) (k .loop-test .taken), c .before .before .before .add-block .ensures .size)
-
-add-block : tie.Need-add-block Inv-loop μ-loop
-add-block c = search needs
 
 loop-less : tie.Need-loop-less Inv-loop μ-loop
 loop-less c = omega arith
@@ -64,12 +55,12 @@ add-row-spec =
     loop-holds
     mul-at
     add-add-block
-    slice-aggregate-add-block
+    (λ c. search needs)
     add-block-requires
     add-write-block
-    slice-aggregate-write-block
+    (λ c. search needs)
     write-block-requires
-    add-block
+    (λ c. search needs)
     loop-less
     loop-again
     same-length

@@ -26,9 +26,6 @@ mul-add-row-2 c = let l = c .before .before in omega (arith, state-few (l .befor
 add-row-requires : tie.Need-add-row-requires Inv-loop μ-loop
 add-row-requires c κs = let l = c .before .before in state-row-pre (l .before .before .before .pre) (l .loop .inv) (c .before .loop-test .taken)
 
-add-code : tie.Need-add-code Inv-loop μ-loop
-add-code c = search needs
-
 loop-less : tie.Need-loop-less Inv-loop μ-loop
 loop-less c = omega arith
 
@@ -52,7 +49,7 @@ add-state-spec =
     add-add-row
     mul-add-row-2
     add-row-requires
-    add-code
+    (λ c. search needs)
     loop-less
     loop-again
     same-length

@@ -39,15 +39,6 @@ begin-requires c κs = one-row (c .before .before .before .before .before .befor
 loop-holds : tie.Need-loop-holds Inv-loop μ-loop
 loop-holds c = (refl, refl, filling-start (c .before .before .before .before .before .before .before .before .before .pre) _ (omega (arith, c .before .before .before .before .before .before .before .before .before .pre .outputs)) (c .before .before .begin .ensures))
 
-sub-m : tie.Need-sub-m Inv-loop μ-loop
-sub-m c = search needs
-
-shared-slice-read-index : tie.Need-shared-slice-read-index Inv-loop μ-loop
-shared-slice-read-index c = search needs
-
-index-requires : tie.Need-index-requires Inv-loop μ-loop
-index-requires c κs = search needs
-
 part-requires : tie.Need-part-requires Inv-loop μ-loop
 part-requires c κs = let l = c .before .before .before .before in (l .before .before .before .before .before .before .before .before .before .before .pre .accepted, machine-below (l .before .before .before .before .before .before .before .before .before .before .pre) (l .loop .inv .2) (l .loop .m - 1) (omega arith))
 
@@ -72,9 +63,6 @@ mul-rest : tie.Need-mul-rest Inv-loop μ-loop
 mul-rest c =
     let l = c .before .before .before .before .before .before .before .before .before .before .before .before .before .before in
     omega (arith, all-few (l .before .before .before .before .before .before .before .before .before .before .pre) (l .loop .inv .2) (l .loop .m - 1) (omega arith) _ (c .before .before .before .before .before .before .before .before .before .before .before .index .ensures .0), mul-comm (l .loop .rest) (c .before .before .before .before .before .before .before .before .before .before .before .index .result))
-
-loop-less : tie.Need-loop-less Inv-loop μ-loop
-loop-less c = search needs
 
 loop-again : tie.Need-loop-again Inv-loop μ-loop
 loop-again c =
@@ -105,15 +93,15 @@ fill-spec =
     add-blocks
     begin-requires
     loop-holds
-    sub-m
-    shared-slice-read-index
-    index-requires
+    (λ c. search needs)
+    (λ c. search needs)
+    (λ c κs. search needs)
     part-requires
     fill-machine-requires
     weight-requires
     add-machine-requires
     mul-rest
-    loop-less
+    (λ c. search needs)
     loop-again
     same-length
     same-length-2

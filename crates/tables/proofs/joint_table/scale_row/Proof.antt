@@ -17,29 +17,8 @@ abbrev μ-loop : tie.MeasureT-loop
 loop-holds : tie.Need-loop-holds Inv-loop μ-loop
 loop-holds c = let q = c .before .before .pre in (row-start _ _ (omega (arith, q .size, q .few)), refl)
 
-add-scaled : tie.Need-add-scaled Inv-loop μ-loop
-add-scaled c = search needs
-
-mul-scaled : tie.Need-mul-scaled Inv-loop μ-loop
-mul-scaled c = search needs
-
-shared-slice-read-scaled : tie.Need-shared-slice-read-scaled Inv-loop μ-loop
-shared-slice-read-scaled c = search needs
-
 scaled-requires : tie.Need-scaled-requires Inv-loop μ-loop
 scaled-requires c κs = c .before .before .before .before .before .pre .fits (c .before .before .loop .y) (c .before .loop-test .taken)
-
-mul-row : tie.Need-mul-row Inv-loop μ-loop
-mul-row c = search needs
-
-slice-write-row : tie.Need-slice-write-row Inv-loop μ-loop
-slice-write-row c = search needs
-
-add-y : tie.Need-add-y Inv-loop μ-loop
-add-y c = search needs
-
-loop-less : tie.Need-loop-less Inv-loop μ-loop
-loop-less c = search needs
 
 loop-again : tie.Need-loop-again Inv-loop μ-loop
 loop-again c = let k = c .before .before in (row-next _ _ (k .before .loop .inv .0) (k .loop-test .taken) _ (c .scaled .ensures), simp length-set (k .before .loop .inv .1))
@@ -57,14 +36,14 @@ scale-row-spec =
     Inv-loop
     μ-loop
     loop-holds
-    add-scaled
-    mul-scaled
-    shared-slice-read-scaled
+    (λ c. search needs)
+    (λ c. search needs)
+    (λ c. search needs)
     scaled-requires
-    mul-row
-    slice-write-row
-    add-y
-    loop-less
+    (λ c. search needs)
+    (λ c. search needs)
+    (λ c. search needs)
+    (λ c. search needs)
     loop-again
     same-length
     returns)
