@@ -1,5 +1,4 @@
 // The labels of all nodes, position by position, from the last to the first.
-ghost use mathlib.Core.Path.{_≡_};
 ghost use Prim.Native.Nat.{_+_, _*_, _<_, _≤_};
 ghost use lib.ListN.{length};
 ghost use Rattle.card.specs.Layout.{symbolCount};

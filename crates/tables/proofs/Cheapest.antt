@@ -1,12 +1,12 @@
 -- Filling the table of the cheapest insertions. Assumes nothing.
 use mathlib.Core.Path.{_≡_, refl, sym, _∙_, ap}
 use mathlib.Core.Logic.{_≢_}
-use mathlib.Core.Bool.{Bool, true, false, _&&_, cond}
+use mathlib.Core.Bool.{_&&_, cond}
 use mathlib.Core.List.{List}
 use mathlib.Core.Option.{Option, some, none, Option·none-ne-some}
 use Prim.Native.Nat.{ℕ, zero, suc, _+_, _-_, _*_, _/_, _<_, _≤_}
 use native.Mathlib.Nat.{suc-mul, mul-le-mul-right}
-use native.Mathlib.Decide.{decLt, ℕ-discrete}
+use native.Mathlib.Decide.{ℕ-discrete}
 use native.Mathlib.Omega.{arith}
 use lib.Dec.{eqb, ltb}
 use lib.ListN.{length, getD, set, length-set}
@@ -24,7 +24,7 @@ use Rattle.product.specs.Laws.Codes.{code-step-below}
 use Rattle.tables.specs.declared.Joint.{Joint}
 use Rattle.tables.specs.JointNumbers.{numbered, jointFrom, joined}
 use Rattle.tables.specs.JointTable.{ReadAs, HoldsJoint}
-use Rattle.tables.specs.Insertions.{noPair, cheaper, cheapestInsertion, HoldsCheapest}
+use Rattle.tables.specs.Insertions.{noPair, cheaper, cheapestInsertion}
 use Rattle.tables.specs.FillingCheapest.{entryAt, NotePre, Noted, Blank, FillPre, FilledFrom, FilledCheapest}
 
 -- ---- places in the table

@@ -1,10 +1,9 @@
 -- Filling the table of the joint steps, from the last machine to the first. Assumes nothing.
 use mathlib.Core.Path.{_≡_, refl, sym, _∙_, ap}
 use mathlib.Core.List.{List, [], _∷_, _++_}
-use mathlib.Core.Option.{Option, some, none}
+use mathlib.Core.Option.{Option, some}
 use Prim.Native.Nat.{ℕ, zero, suc, _+_, _*_, _/_, _%_, _^_, _<_, _≤_}
 use native.Mathlib.Nat.{mul-comm, mul-le-mul-right, mod-lt, div-lt-iff-lt-mul, div-add-mod', mul-add-mod-self-right, mod-eq-of-lt}
-use native.Mathlib.Numerals.{add-one}
 use native.Mathlib.Omega.{arith}
 use lib.ListN.{length, getD, drop, replicate, drop-of-length-le}
 use lib.Seq.{drop-cons}
@@ -23,7 +22,6 @@ use Rattle.steps.specs.StepTable.{stepCode, machineAt, HoldsMachine}
 use Rattle.steps.proofs.Machines.{machines-count}
 use Rattle.tables.specs.Places.{markNumber}
 use Rattle.tables.specs.JointNumbers.{numbered}
-use Rattle.tables.specs.Insertions.{noPair}
 use Rattle.tables.specs.Tables.{CardMachines}
 use Rattle.tables.specs.JointTable.{EntryOf, HoldsJoint, JointTablePre}
 use Rattle.tables.specs.FillingJoint.{weightOf, scaledStep, together, AddMachinePre, MachineAdded, RowBegun}

@@ -1,5 +1,5 @@
 -- Writing the rows of the table of the joint steps. Assumes nothing.
-use mathlib.Core.Path.{_≡_, refl, sym, _∙_, ap}
+use mathlib.Core.Path.{_≡_, refl, _∙_, ap}
 use mathlib.Core.Logic.{_⊎_, inl, inr}
 use mathlib.Core.List.{List}
 use Prim.Native.Nat.{ℕ, zero, suc, _+_, _-_, _*_, _^_, _<_, _≤_}
@@ -8,7 +8,6 @@ use native.Mathlib.Decide.{decLt, ℕ-discrete}
 use native.Mathlib.Omega.{arith}
 use lib.ListN.{length, getD, set, length-set}
 use lib.Seq.{getD-set-same, getD-set-other}
-use Rattle.tables.specs.Insertions.{noPair}
 use Rattle.tables.specs.FillingJoint.{scaledStep, together, ScalePre, Scaled, AddBlockPre, BlockAdded, BlockWritten, AddRowPre, RowAdded, AddStatePre, StateAdded, AddMachinePre, MachineAdded}
 
 -- ---- numbers into a row, one after the other

@@ -1,5 +1,5 @@
 use borrow.Author.Needs.{needs}
-use Prim.Native.Nat.{_+_, _-_, _*_}
+use Prim.Native.Nat.{_-_, _*_}
 use native.Mathlib.Omega.{arith}
 use Rattle.tables.proofs.JointRows.{StateTo, state-start, state-few, state-row-pre, state-next, state-end}
 use Rattle.tables.proofs.joint_table.add_state.Statement.{statement}

@@ -1,6 +1,5 @@
 use borrow.Author.Needs.{needs}
 use Prim.Native.Nat.{_-_}
-use native.Mathlib.Omega.{arith}
 use Rattle.tables.proofs.JointRows.{WrittenTo, written-start, written-next, written-end}
 use Rattle.tables.proofs.joint_table.write_block.Statement.{statement}
 use Rattle.tables.proofs.joint_table.write_block.Tie as tie
