@@ -1,6 +1,7 @@
 pub mod Comparing
 pub mod Work
 pub mod Clearing
+pub mod Keys
 pub mod Lowering
 pub mod Selecting
 pub mod PositionGraph

@@ -3,7 +3,7 @@ use mathlib.Core.Path.{_≡_, refl, sym, _∙_, ap, subst}
 use mathlib.Core.Logic.{_⊎_, inl, inr, _≢_}
 use mathlib.Core.Option.{none}
 use mathlib.Core.List.{List}
-use Prim.Native.Nat.{ℕ, suc, _+_, _*_, _/_, _%_, _≤_, _<_}
+use Prim.Native.Nat.{ℕ, suc, _+_, _*_, _%_, _≤_, _<_}
 use native.Mathlib.Nat.{mul-le-mul-right, suc-mul}
 use native.Mathlib.Omega.{arith}
 use native.Mathlib.Decide.{ℕ-discrete, decLt}
@@ -11,7 +11,7 @@ use lib.ListN.{length, getD, set, length-set}
 use lib.Seq.{getD-set-same, getD-set-other}
 use Rattle.labels.specs.Marks.{pairCost, noPair, pairFrom, pairMarks}
 use Rattle.labels.specs.MarksLaws.{pair-none}
-use Rattle.labels.specs.Listing.{NoPairs, Told, end, next, Listed, RowListed}
+use Rattle.labels.specs.Listing.{NoPairs, Told, end, next, PairCount, Listed, RowListed}
 
 -- a node without a pair more in front
 module _ (ks : List ℕ) (r j : ℕ) (h : pairCost (getD ks (r + j) 0) ≡ none) where
@@ -57,23 +57,23 @@ module _ (xs ys : List ℕ) (P z from kept : ℕ) (R : RowListing xs ys P z from
   row-read : getD ys (z * P + from) 0 ≡ getD xs (z * P + from) 0
   row-read = R .others (z * P + from) (inr (omega arith))
 
-  -- no pair
-  pub row-pass : from < P → 16777216 ≤ getD ys (z * P + from) 0 → RowListing xs ys P z (from + 1) kept
-  row-pass h n = record {
-    size = R .size;
-    room = R .room;
+  -- no pair: what is written is not kept
+  row-pass : (x : ℕ) → from < P → 16777216 ≤ getD ys (z * P + from) 0 → RowListing xs (set ys (z * P + kept) x) P z (from + 1) kept
+  row-pass x h n = record {
+    size = length-set ys (z * P + kept) x ∙ R .size;
+    room = rw length-set (R .room);
     behind = omega (arith, R .behind);
     top = omega arith;
-    others = λ i k. R .others i (near i k);
-    told = λ ls e t. R .told ls e (told-skip xs (z * P) from (pair-none (getD xs (z * P + from) 0) (omega (arith, row-read))) t);
+    others = others;
+    told = λ ls e t. R .told ls (λ k l. e k l ∙ getD-set-other ys (z * P + kept) (z * P + k) x 0 (omega arith)) (told-skip xs (z * P) from (pair-none (getD xs (z * P + from) 0) (omega (arith, row-read))) t);
   }
     where
-      near : (i : ℕ) → (i < z * P) ⊎ (z * P + (from + 1) ≤ i) → (i < z * P) ⊎ (z * P + from ≤ i)
-      near i (inl k) = inl k
-      near i (inr k) = inr (omega arith)
+      others : (i : ℕ) → (i < z * P) ⊎ (z * P + (from + 1) ≤ i) → getD (set ys (z * P + kept) x) i 0 ≡ getD xs i 0
+      others i (inl k) = getD-set-other ys (z * P + kept) i x 0 (omega arith) ∙ R .others i (inl k)
+      others i (inr k) = getD-set-other ys (z * P + kept) i x 0 (omega (arith, R .behind)) ∙ R .others i (inr (omega arith))
 
   -- a pair
-  pub row-take : from < P → P ≤ 128 → getD ys (z * P + from) 0 < 16777216 → RowListing xs (set ys (z * P + kept) (from * 16777216 + getD ys (z * P + from) 0)) P z (from + 1) (kept + 1)
+  row-take : from < P → P ≤ 128 → getD ys (z * P + from) 0 < 16777216 → RowListing xs (set ys (z * P + kept) (from * 16777216 + getD ys (z * P + from) 0)) P z (from + 1) (kept + 1)
   row-take h few n = record {
     size = length-set ys (z * P + kept) x ∙ R .size;
     room = rw length-set (R .room);
@@ -106,6 +106,17 @@ module _ (xs ys : List ℕ) (P z from kept : ℕ) (R : RowListing xs ys P z from
           (λ a l m. absurd (omega (arith, from-is)))
           (ap (λ (i : ℕ). getD xs (z * P + i) 0) from-is ∙ sym row-read ∙ sym marks-are)
           (subst (λ (i : ℕ). Told xs ls (z * P) P (i + 1) (kept + 1)) (sym from-is) t))
+
+  pub row-next : (r : ℕ) → from < P → P ≤ 128 → PairCount (getD ys (z * P + from) 0) r → RowListing xs (set ys (z * P + kept) (from * 16777216 + getD ys (z * P + from) 0 % 16777216)) P z (from + 1) (kept + r)
+  row-next r h few C = go (decLt (getD ys (z * P + from) 0) 16777216)
+    where
+      go : Dec (getD ys (z * P + from) 0 < 16777216) → RowListing xs (set ys (z * P + kept) (from * 16777216 + getD ys (z * P + from) 0 % 16777216)) P z (from + 1) (kept + r)
+      go (yes l) =
+          let q : getD ys (z * P + from) 0 % 16777216 ≡ getD ys (z * P + from) 0 = omega arith in
+          rw (C .one l, q) (row-take h few l)
+      go (no l) =
+          let q : kept + r ≡ kept = omega (arith, C .no-one (omega arith)) in
+          rw q (row-pass (from * 16777216 + getD ys (z * P + from) 0 % 16777216) h (omega arith))
 
   -- the list's end
   pub row-end : P ≤ from → kept < P → RowListed xs (set ys (z * P + kept) 4294967295) P z
@@ -160,5 +171,5 @@ listing-next {xs} {ys} {zs} {P} {z} h L R = record {
         let m : suc w * P ≤ z * P = mul-le-mul-right P (omega arith) in
         told-alike (λ i l. R .others (w * P + i) (inl (omega (arith, suc-mul w P)))) (L .rows w (omega arith))
 
-pub listing-end : {xs ys : List ℕ} {P z : ℕ} → Listing xs ys P z → P ≤ z → Listed xs ys P
-listing-end L h = record { size = L .size; rows = λ w k. L .rows w (omega (arith, L .top)) }
+pub listing-end : {xs ys : List ℕ} {P z : ℕ} → Listing xs ys P z → P ≤ 128 → P ≤ z → Listed xs ys P
+listing-end L f h = record { few = f; size = L .size; rows = λ w k. L .rows w (omega (arith, L .top)) }

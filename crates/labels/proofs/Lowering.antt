@@ -1,24 +1,23 @@
 -- Laws for improving the label of one node.
-use mathlib.Core.Path.{_≡_, refl, sym, _∙_, ap, subst}
+use mathlib.Core.Path.{_≡_, refl, sym, _∙_, ap}
 use mathlib.Core.Logic.{_⊎_, inl, inr, _≢_}
 use mathlib.Core.Bool.{Bool, true, false, not, false≢true}
-use mathlib.Core.Option.{Option, none, some, Option·none-ne-some}
+use mathlib.Core.Option.{Option, some}
 use mathlib.Core.List.{List}
-use Prim.Native.Nat.{ℕ, _≤_}
+use Prim.Native.Nat.{ℕ, _+_, _*_, _/_, _%_, _≤_, _<_}
 use native.Mathlib.Omega.{arith}
 use native.Mathlib.Decide.{ℕ-discrete}
 use lib.Dec.{eqb}
-use lib.ListN.{length}
 use borrow.Author.Tests.{eqb-true, eqb-false, not-true, not-false}
 use Rattle.paths.specs.Costs.{AtMost, Above, kept, lowered, above-none, above-some}
 use Rattle.paths.specs.Ranked.{Ranked, add, Less}
-use Rattle.paths.specs.Improvement.{Improves}
-use Rattle.labels.specs.Marks.{pairCost}
+use Rattle.labels.specs.Marks.{nibbles, marksOf}
 use Rattle.labels.specs.LabelCost.{isLess}
-use Rattle.labels.specs.Work.{stateOf, costAt, labelOf, AlikeAt, Reached, Stored}
-use Rattle.labels.specs.Lowering.{Compared, Lowered, LoweredBy}
+use Rattle.labels.specs.Work.{stateOf, costAt, labelOf, Reached, Stored}
+use Rattle.labels.specs.Lowering.{VisitPre, Compared, Lowered, LoweredBy, Visited, passed, tried}
 use Rattle.labels.proofs.Comparing.{less-true, less-false}
 use Rattle.labels.proofs.Work.{labelled, unlabelled, label-alike}
+use Rattle.labels.proofs.Keys.{two-less}
 
 module _ (xs : List ℕ) (u : ℕ) where
   pub compared-none : (c : Ranked 6) → stateOf xs u ≡ 0 → Compared xs u c true
@@ -51,6 +50,21 @@ module _ (xs : List ℕ) (u : ℕ) where
 
   pub lowered-by-stored : (ys : List ℕ) (c : Ranked 6) → Above (Less 6) (labelOf xs u) c → Stored xs ys u c → LoweredBy xs ys u c true
   lowered-by-stored ys c a s = record { lowered = lowered-stored ys c a s; kept = λ q. absurd (false≢true (sym q)) }
+
+-- more in the first two counts than u's bound: nothing is done
+pub visited-bound : {xs : List ℕ} {u k e n : ℕ} {d : Ranked 6} → VisitPre xs u k e d n → n + (e / 1048576 * 65536 + e % 1048576 / 65536) < 4294967296 → k < n + (e / 1048576 * 65536 + e % 1048576 / 65536) → Visited xs xs u (add 6 (marksOf e) d) false
+unfolding nibbles
+visited-bound {xs} {u} {k} {e} {n} {d} R fits h = go (ℕ-discrete (stateOf xs u) 2) (ℕ-discrete (stateOf xs u) 0)
+  where
+    go : Dec (stateOf xs u ≡ 2) → Dec (stateOf xs u ≡ 0) → Visited xs xs u (add 6 (marksOf e) d) false
+    go (yes s) t = passed s refl
+    go (no s) (yes t) = absurd (omega (arith, R .its s .unlabelled t))
+    go (no s) (no t) =
+        tried s (lowered-by-kept xs u (add 6 (marksOf e) d) (record {
+          val = costAt xs u;
+          is = labelled xs u t;
+          upto = inl (two-less (costAt xs u) (add 6 (marksOf e) d) (omega (arith, R .pair .marks, R .pair .fits .1 .0)) (omega (arith, R .its s .labelled t, R .own)));
+        }))
 
 -- whether a node has a label
 pub reached-test : (xs : List ℕ) (u : ℕ) → Reached xs u (not (eqb (stateOf xs u) 0))

@@ -5,13 +5,15 @@ use mathlib.Core.Bool.{Bool, true, false, false≢true}
 use mathlib.Core.List.{List}
 use Prim.Native.Nat.{ℕ, _+_, _-_, _≤_, _<_}
 use native.Mathlib.Omega.{arith}
+use lib.ListN.{getD}
 use native.Mathlib.Decide.{ℕ-discrete}
 use Rattle.paths.specs.Total.{Upto, less-upto}
 use Rattle.paths.specs.Ranked.{Ranked, Less, less-total}
-use Rattle.labels.specs.LabelCost.{isLess}
+use Rattle.labels.specs.LabelCost.{frontKey, AllShort, isLess}
 use Rattle.labels.specs.Work.{costAt, OpenAt}
-use Rattle.labels.specs.Selecting.{NoneOpen, FirstOpen, PastOpen, Beats, SelectPre, Least}
+use Rattle.labels.specs.Selecting.{NoneOpen, PastOpen, BeatsPre, Beats, SelectPre, Least}
 use Rattle.labels.proofs.Comparing.{less-true, less-false}
+use Rattle.labels.proofs.Keys.{key-less}
 
 -- ---- the part's ends
 
@@ -50,27 +52,47 @@ module _ (xs : List ℕ) (u : ℕ) (c : Ranked 6) where
   pub beats-shut : ¬ (OpenAt xs u) → Beats xs u c false
   beats-shut n = record { takes = λ e. absurd (false≢true e); better = λ e. absurd (false≢true e); upto = λ _ o. absurd (n o) }
 
-  pub beats-open : {r : Bool} → OpenAt xs u → r ≡ isLess 6 (costAt xs u) c → Beats xs u c r
-  beats-open o t = record { takes = λ _. o; better = λ q. less-true 6 (costAt xs u) c (sym t ∙ q); upto = λ q _. less-false 6 (costAt xs u) c (sym t ∙ q) }
+  pub beats-open : {d : Ranked 6} {r : Bool} → OpenAt xs u → d ≡ costAt xs u → r ≡ isLess 6 d c → Beats xs u c r
+  beats-open {d} {r} o e t = record { takes = λ _. o; better = λ q. less-true 6 (costAt xs u) c (sym test ∙ q); upto = λ q _. less-false 6 (costAt xs u) c (sym test ∙ q) }
+    where
+      test : r ≡ isLess 6 (costAt xs u) c
+      test = t ∙ ap (λ (y : Ranked 6). isLess 6 y c) e
 
--- the nodes from f to before i are passed; d is the label of the best one
-pub record Selecting (xs : List ℕ) (b f l i best : ℕ) (d : Ranked 6) : Type 0 where
+-- the key of c is smaller
+pub beats-key : (xs : List ℕ) (u i k : ℕ) (c : Ranked 6) → BeatsPre xs u i c k → k < i → Beats xs u c false
+beats-key xs u i k c R h = record {
+  takes = λ e. absurd (false≢true e);
+  better = λ e. absurd (false≢true e);
+  upto = λ _ o. inl (key-less c (costAt xs u) (R .short) (R .its o .short) (omega (arith, R .its o .upto, R .own)));
+}
+
+-- the nodes from f to before i are passed; d is the label of the best one, and k its key
+pub record Selecting (xs : List ℕ) (b f l i best : ℕ) (d : Ranked 6) (k : ℕ) : Type 0 where
   pub top : i ≤ l
+  pub own : k ≡ frontKey d
+  pub short : AllShort 6 d
   pub loaded : d ≡ costAt xs (b + best)
   pub least : Least xs b f i best
 
 module _ {xs : List ℕ} {b f l : ℕ} where
-  pub select-start : (d : Ranked 6) → SelectPre xs b f l → d ≡ costAt xs (b + f) → Selecting xs b f l (f + 1) f d
-  select-start d R e = record {
+  pub select-start : (d : Ranked 6) {keys : List ℕ} {k : ℕ} → SelectPre xs keys b f l → d ≡ costAt xs (b + f) → k ≡ frontKey d → AllShort 6 d → Selecting xs b f l (f + 1) f d k
+  select-start d R e q s = record {
     top = omega (arith, R .some-node);
+    own = q;
+    short = s;
     loaded = e;
     least = record { low = omega arith; high = omega arith; state = R .state; least = λ a h k o. let q : a ≡ f = omega arith in inr (ap (λ (i : ℕ). costAt xs (b + i)) (sym q)) };
   }
 
-  module _ {i best : ℕ} {c : Ranked 6} (S : Selecting xs b f l i best c) (h : i < l) where
-    pub select-take : (d : Ranked 6) → Beats xs (b + i) c true → d ≡ costAt xs (b + i) → Selecting xs b f l (i + 1) i d
-    select-take d B e = record {
+  pub select-beats : {keys : List ℕ} {i best : ℕ} {c : Ranked 6} {k : ℕ} → SelectPre xs keys b f l → Selecting xs b f l i best c k → i < l → BeatsPre xs (b + i) (getD keys i 0) c k
+  select-beats {i = i} R S h = record { node = omega (arith, R .room); its = R .keys-are i h; own = S .own; short = S .short }
+
+  module _ {i best : ℕ} {c : Ranked 6} {k : ℕ} (S : Selecting xs b f l i best c k) (h : i < l) where
+    pub select-take : (d : Ranked 6) {m : ℕ} → Beats xs (b + i) c true → d ≡ costAt xs (b + i) → m ≡ frontKey d → AllShort 6 d → Selecting xs b f l (i + 1) i d m
+    select-take d B e q s = record {
       top = omega arith;
+      own = q;
+      short = s;
       loaded = e;
       least = record { low = omega (arith, S .least); high = omega arith; state = B .takes refl; least = λ a k m o. least a k m o (ℕ-discrete a i) };
     }
@@ -82,9 +104,11 @@ module _ {xs : List ℕ} {b f l : ℕ} where
         least a k m o (yes q) = inr (ap (λ (j : ℕ). costAt xs (b + j)) (sym q))
         least a k m o (no q) = inl (less-upto (less-total 6) less (S .least .least a k (omega arith) o))
 
-    pub select-keep : Beats xs (b + i) c false → Selecting xs b f l (i + 1) best c
+    pub select-keep : Beats xs (b + i) c false → Selecting xs b f l (i + 1) best c k
     select-keep B = record {
       top = omega arith;
+      own = S .own;
+      short = S .short;
       loaded = S .loaded;
       least = record { low = S .least .low; high = omega (arith, S .least .high); state = S .least .state; least = λ a k m o. least a k m o (ℕ-discrete a i) };
     }
@@ -96,5 +120,5 @@ module _ {xs : List ℕ} {b f l : ℕ} where
             subst (λ (j : ℕ). Upto (Less 6) (costAt xs (b + best)) (costAt xs (b + j))) (sym q) t
         least a k m o (no q) = S .least .least a k (omega arith) o
 
-  pub select-end : {i best : ℕ} {c : Ranked 6} → Selecting xs b f l i best c → l ≤ i → Least xs b f l best
+  pub select-end : {i best : ℕ} {c : Ranked 6} {k : ℕ} → Selecting xs b f l i best c k → l ≤ i → Least xs b f l best
   select-end {i} S h = let q : i ≡ l = omega (arith, S .top) in rw q at (S .least)

@@ -23,11 +23,13 @@ use Rattle.labels.specs.LabelCost.{RoomFor}
 use Rattle.labels.specs.Work.{HasNodes, stateOf, costAt, labelOf, OpenAt, SettledAt, AlikeAt}
 use Rattle.labels.specs.Selecting.{NoneOpen, FirstOpen, PastOpen, SelectPre, Least}
 use Rattle.labels.specs.PositionGraph.{InPosition, positionGraph}
+use Rattle.labels.specs.Keys.{Keyed}
 use Rattle.labels.specs.Listing.{Listed}
-use Rattle.labels.specs.Spreading.{place, Widened, SpreadPre, Spread, SpreadListed}
+use Rattle.labels.specs.Spreading.{place, SpreadPre, Spread, SpreadListed}
 use Rattle.labels.specs.Settling.{SettlePre, Settled, SettlePreListed, SettledListed}
 use Rattle.labels.specs.declared.Window.{Window}
 use Rattle.labels.proofs.Work.{labelled, holds, label-alike, alike-trans, alike-numbers}
+use Rattle.labels.proofs.Keys.{keyed-settled}
 use Rattle.labels.proofs.PositionGraph.{here-place, place-here, at-node, IsEdge, is-edge}
 
 -- labels that are endings are attained
@@ -160,6 +162,9 @@ module _ {xs ys ks : List ℕ} {b P : ℕ} (I : SettleLoop xs ys ks b P) where
       top = h;
     }
 
+    pub settle-keyed : {keys bounds : List ℕ} (k : ℕ) → Keyed ys keys bounds b P → z < 128 → Keyed (set ys ((b + z) * 8) 2) (set keys z k) bounds b P
+    settle-keyed {keys} {bounds} k K h = keyed-settled ys marked keys bounds b P z K alike k h at-v
+
     -- a node that is open now was open before
     pub settle-open : (w : ℕ) → OpenAt (set ys ((b + z) * 8) 2) w → OpenAt ys w
     settle-open w o = go (ℕ-discrete w v)
@@ -218,19 +223,21 @@ pub record OpenWithin (ys : List ℕ) (b P f l : ℕ) : Type 0 where
   pub top : l ≤ P
   pub inside : (a : ℕ) → a < P → OpenAt ys (b + a) → (f ≤ a) × (a < l)
 
-pub record ListLoop (xs ys ls : List ℕ) (b P f l : ℕ) : Type 0 where
+pub record ListLoop (xs ys keys bounds ls : List ℕ) (b P f l : ℕ) : Type 0 where
   pub pre : SettlePreListed xs ls b P
+  pub keyed : Keyed ys keys bounds b P
   pub window : OpenWithin ys b P f l
   pub loop : (ks : List ℕ) → Listed ks ls P → SettleLoop xs ys ks b P
 
-pub loop-start : {xs ls : List ℕ} {b P : ℕ} → SettlePreListed xs ls b P → ListLoop xs xs ls b P 0 P
-loop-start {xs} {ls} {b} {P} R = record {
+pub loop-start : {xs keys bounds ls : List ℕ} {b P : ℕ} → SettlePreListed xs ls b P → Keyed xs keys bounds b P → ListLoop xs xs keys bounds ls b P 0 P
+loop-start R K = record {
   pre = R;
+  keyed = K;
   window = record { order = omega arith; top = omega arith; inside = λ a h o. (omega arith, h) };
   loop = λ ks L. settle-start (record { table = omega (arith, R .pre .table, R .listed .size, L .size); room = R .pre .room; fresh = R .pre .fresh; fits = R .pre .fits });
 }
 
-module _ {xs ys ls : List ℕ} {b P f l : ℕ} (I : ListLoop xs ys ls b P f l) where
+module _ {xs ys keys bounds ls : List ℕ} {b P f l : ℕ} (I : ListLoop xs ys keys bounds ls b P f l) where
   witness : SettleLoop xs ys (I .pre .ks) b P
   witness = I .loop (I .pre .ks) (I .pre .listed)
 
@@ -248,8 +255,8 @@ module _ {xs ys ls : List ℕ} {b P f l : ℕ} (I : ListLoop xs ys ls b P f l) w
     loop-some n = omega (arith, F .high)
 
     module _ {m : ℕ} (n : g ≢ l) (Q : PastOpen ys b g l m) where
-      pub loop-select : SelectPre ys b g m
-      loop-select = record { room = omega (arith, loop-room, Q .high); some-node = Q .low; state = F .state (loop-some n) }
+      pub loop-select : SelectPre ys keys b g m
+      loop-select = record { room = omega (arith, loop-room, Q .high); few = omega (arith, Q .high, I .window .top, I .pre .listed .few); keys-are = λ a h. I .keyed .key a (omega (arith, Q .high, I .window .top)); some-node = Q .low; state = F .state (loop-some n) }
 
       module _ {z : ℕ} (Y : Least ys b g m z) where
         within : (a : ℕ) → a < P → OpenAt ys (b + a) → (g ≤ a) × (a < m)
@@ -271,23 +278,29 @@ module _ {xs ys ls : List ℕ} {b P f l : ℕ} (I : ListLoop xs ys ls b P f l) w
           least = λ a _ h o. let w = within a h o in Y .least a (w .0) (w .1) o;
         }
 
-        pub loop-node : (b + z) * 8 + 7 < length ys
-        loop-node = settle-room witness z loop-least
+        -- the node that was chosen
+        pub record ChosenNode : Type 0 where
+          pub few : z < 128
+          pub room : (b + z) * 8 + 7 < length ys
 
-        pub loop-spread : SpreadPre (set ys ((b + z) * 8) 2) ls b P z g m
-        loop-spread = settle-spread witness z loop-least (I .pre .listed) (omega (arith, Q .high, I .window .top))
+        pub loop-node : ChosenNode
+        loop-node = record { few = omega (arith, loop-least .high, I .pre .listed .few); room = settle-room witness z loop-least }
 
-        module _ {zs : List ℕ} {r : Window} (S : SpreadListed (set ys ((b + z) * 8) 2) zs ls b P z g m r) where
+        pub loop-spread : SpreadPre (set ys ((b + z) * 8) 2) ls b P z g m × Keyed (set ys ((b + z) * 8) 2) (set keys z 18446744073709551615) bounds b P
+        loop-spread = (settle-spread witness z loop-least (I .pre .listed) (omega (arith, Q .high, I .window .top)), settle-keyed witness z loop-least 18446744073709551615 (I .keyed) (loop-node .few))
+
+        module _ {zs ks bs : List ℕ} {r : Window} (S : SpreadListed (set ys ((b + z) * 8) 2) zs ls b P z g m r × Keyed zs ks bs b P) where
           pub loop-falls : unsettled (settledOf zs) b P < unsettled (settledOf ys) b P
-          loop-falls = settle-falls witness z loop-least zs (S .spread (I .pre .ks) (I .pre .listed))
+          loop-falls = settle-falls witness z loop-least zs (S .0 .spread (I .pre .ks) (I .pre .listed))
 
-          pub loop-next : ListLoop xs zs ls b P (r .first) (r .last)
+          pub loop-next : ListLoop xs zs ks bs ls b P (r .first) (r .last)
           loop-next = record {
             pre = I .pre;
-            window = record { order = omega (arith, S .window, Q .low); top = S .window .top; inside = λ a h o. inside a h (S .window .opened a o) };
-            loop = λ ks L. settle-next (I .loop ks L) z loop-least zs (S .spread ks L);
+            keyed = S .1;
+            window = record { order = omega (arith, S .0 .window, Q .low); top = S .0 .window .top; inside = λ a h o. inside a h (S .0 .window .opened a o) };
+            loop = λ ks L. settle-next (I .loop ks L) z loop-least zs (S .0 .spread ks L);
           }
             where
               inside : (a : ℕ) → a < P → OpenAt (set ys ((b + z) * 8) 2) (b + a) ⊎ ((r .first ≤ a) × (a < r .last)) → (r .first ≤ a) × (a < r .last)
-              inside a h (inl o) = let w = within a h (settle-open witness z loop-least (b + a) o) in (omega (arith, S .window .low), omega (arith, S .window .high))
+              inside a h (inl o) = let w = within a h (settle-open witness z loop-least (b + a) o) in (omega (arith, S .0 .window .low), omega (arith, S .0 .window .high))
               inside a h (inr o) = o

@@ -7,22 +7,24 @@ use mathlib.Core.List.{List}
 use Prim.Native.Nat.{ℕ, suc, _+_, _*_, _-_, _/_, _%_, _^_, _≤_, _<_}
 use native.Mathlib.Omega.{arith}
 use native.Mathlib.Decide.{ℕ-discrete, decLt}
-use lib.ListN.{length, getD}
+use lib.ListN.{length, getD, set}
 use Rattle.paths.specs.Costs.{Lowers, kept, lowered}
 use Rattle.paths.specs.Ranked.{Ranked, add, Less}
 use Rattle.paths.specs.Graph.{Edge}
 use Rattle.paths.specs.Improvement.{Improves}
 use Rattle.paths.specs.Cheapest.{cheapest-none}
 use Rattle.paths.specs.Settling.{Relaxing, relaxing-skip, relaxing-settled, relaxing-cheapest}
-use Rattle.labels.specs.Marks.{marksOf, pairCost, noPair, pairFrom, pairMarks}
+use Rattle.labels.specs.Marks.{marksOf, noPair, pairFrom, pairMarks}
 use Rattle.labels.specs.MarksLaws.{pair-some, room-plus}
-use Rattle.labels.specs.LabelCost.{RoomFor}
-use Rattle.labels.specs.Work.{stateOf, costAt, labelOf, OpenAt, SettledAt}
+use Rattle.labels.specs.LabelCost.{firstTwo, RoomFor}
+use Rattle.labels.specs.Work.{stateOf, costAt, labelOf, OpenAt, SettledAt, AlikeAt}
+use Rattle.labels.specs.Keys.{KeyOf, BoundOf, Keyed}
 use Rattle.labels.specs.Listing.{NoPairs, Told, end, next, Listed}
-use Rattle.labels.specs.Lowering.{PairPre, Lowered, Visited, passed, tried}
+use Rattle.labels.specs.Lowering.{VisitPre, Lowered, Visited, passed, tried}
 use Rattle.labels.specs.PositionGraph.{InPosition, cheapestOf, positionGraph}
 use Rattle.labels.specs.Spreading.{place, Widened, SpreadPre, Spread, SpreadListed}
 use Rattle.labels.proofs.Work.{alike-trans}
+use Rattle.labels.proofs.Keys.{keyed-change}
 use Rattle.labels.proofs.Listing.{row-room}
 use Rattle.labels.proofs.PositionGraph.{here-place, place-here, at-node, cheapest-at, cheapest-edge}
 
@@ -174,9 +176,9 @@ visited-kept : {xs ys : List ℕ} {u : ℕ} {c : Ranked 6} → Visited xs ys u c
 visited-kept (passed s o) = o
 visited-kept (tried n L) = L .kept refl
 
-visited-state : {xs ys : List ℕ} {u : ℕ} {c : Ranked 6} {r : Bool} → Visited xs ys u c r → (w : ℕ) → w ≢ u → stateOf ys w ≡ stateOf xs w
-visited-state (passed s o) w n = ap (λ (l : List ℕ). stateOf l w) o
-visited-state (tried m L) w n = L .lowered .others w n .state
+visited-others : {xs ys : List ℕ} {u : ℕ} {c : Ranked 6} {r : Bool} → Visited xs ys u c r → (w : ℕ) → w ≢ u → AlikeAt xs ys w
+visited-others (passed s o) w n = rw o (record { state = refl; cost = refl })
+visited-others (tried m L) w n = L .lowered .others w n
 
 visited-size : {xs ys : List ℕ} {u : ℕ} {c : Ranked 6} {r : Bool} → Visited xs ys u c r → length ys ≡ length xs
 visited-size (passed s o) = ap length o
@@ -192,54 +194,79 @@ module _ {xs ys : List ℕ} {b P f l g m : ℕ} (W : Widened xs ys b P f l g m) 
 
       opened : (w : ℕ) → OpenAt zs (b + w) → Dec (w ≡ a) → OpenAt xs (b + w) ⊎ ((i ≤ w) × (w < j))
       opened w x (yes e) = inr (omega arith, omega arith)
-      opened w x (no n) = within w (W .opened w (sym (visited-state T (b + w) (omega arith)) ∙ x))
+      opened w x (no n) = within w (W .opened w (sym (visited-others T (b + w) (omega arith) .state) ∙ x))
 
 -- ---- the loop's turns
 
--- the loop's invariant: d is the label of b + z, and the window is from g to before m
-pub record Spreading (xs ys ls : List ℕ) (b P z f l : ℕ) (d : Ranked 6) (g m k : ℕ) : Type 0 where
+-- the loop's invariant: d is the label of b + z, and n its first two counts; the window is from g to before m
+pub record Spreading (xs ys keys bounds ls : List ℕ) (b P z f l : ℕ) (d : Ranked 6) (n g m k : ℕ) : Type 0 where
   pub pre : SpreadPre xs ls b P z f l
   pub loaded : d ≡ costAt xs (b + z)
+  pub own : n ≡ firstTwo d
   pub size : length ys ≡ length xs
   pub window : Widened xs ys b P f l g m
+  pub keyed : Keyed ys keys bounds b P
   pub lists : (ks : List ℕ) → Listed ks ls P → SpreadLoop xs ys ks ls b P z k
 
-pub spreading-start : {xs ls : List ℕ} {b P z f l : ℕ} {d : Ranked 6} → SpreadPre xs ls b P z f l → d ≡ costAt xs (b + z) → Spreading xs xs ls b P z f l d f l 0
-spreading-start {xs} {ls} {b} {P} {z} R q = record {
+pub spreading-start : {xs keys bounds ls : List ℕ} {b P z f l n : ℕ} {d : Ranked 6} → SpreadPre xs ls b P z f l → Keyed xs keys bounds b P → d ≡ costAt xs (b + z) → n ≡ firstTwo d → Spreading xs xs keys bounds ls b P z f l d n f l 0
+spreading-start {xs} {ls = ls} {b = b} {P = P} {z = z} R K q e = record {
   pre = R;
   loaded = q;
+  own = e;
   size = refl;
   window = record { low = omega arith; high = omega arith; top = R .top; opened = λ a o. inl o };
+  keyed = K;
   lists = λ ks L. record { from = 0; top = omega arith; told = L .rows z (R .below); spread = spread-start xs ks b P z (R .below) };
 }
 
 pub spread-row : {xs ls : List ℕ} {b P z f l : ℕ} → SpreadPre xs ls b P z f l → z * P + P ≤ length ls
 spread-row R = row-room (R .table) (R .below)
 
-module _ {xs ys ls : List ℕ} {b P z f l : ℕ} {d : Ranked 6} {g m k : ℕ} (S : Spreading xs ys ls b P z f l d g m k) where
-  pub spreading-end : (k < P → getD ls (z * P + k) 0 ≡ noPair) → SpreadListed xs ys ls b P z f l (record { first = g; last = m })
-  spreading-end h = record { spread = λ ks L. loop-end (S .pre .below) (S .lists ks L) h; window = S .window }
+module _ {xs ys keys bounds ls : List ℕ} {b P z f l : ℕ} {d : Ranked 6} {n g m k : ℕ} (S : Spreading xs ys keys bounds ls b P z f l d n g m k) where
+  pub spreading-end : (k < P → getD ls (z * P + k) 0 ≡ noPair) → SpreadListed xs ys ls b P z f l (record { first = g; last = m }) × Keyed ys keys bounds b P
+  spreading-end h = (record { spread = λ ks L. loop-end (S .pre .below) (S .lists ks L) h; window = S .window }, S .keyed)
 
-  module _ (h : k < P) (n : getD ls (z * P + k) 0 ≢ 4294967295) where
-    pub spreading-from : pairFrom (getD ls (z * P + k) 0) < P
-    spreading-from = loop-from (S .pre .below) (S .lists (S .pre .ks) (S .pre .listed)) h n
+  -- the pair of the place k
+  abbrev from : ℕ
+  from = getD ls (z * P + k) 0 / 16777216
 
-    pub spreading-visit : PairPre ys (b + getD ls (z * P + k) 0 / 16777216) (getD ls (z * P + k) 0 % 16777216) d
+  abbrev marks : ℕ
+  marks = getD ls (z * P + k) 0 % 16777216
+
+  module _ (h : k < P) (o : getD ls (z * P + k) 0 ≢ 4294967295) where
+    -- where it leads from
+    pub record FromNode : Type 0 where
+      pub below : from < P
+      pub few : from < 128
+      pub room : (b + from) * 8 + 7 < length ys
+
+    pub spreading-from : FromNode
+    spreading-from = let q = loop-from (S .pre .below) (S .lists (S .pre .ks) (S .pre .listed)) h o in record { below = q; few = omega (arith, S .pre .listed .few); room = omega (arith, S .pre .room, S .size) }
+
+    pub spreading-visit : VisitPre ys (b + getD ls (z * P + k) 0 / 16777216) (getD bounds (getD ls (z * P + k) 0 / 16777216) 0) (getD ls (z * P + k) 0 % 16777216) d n
     spreading-visit = record {
-      node = omega (arith, S .pre .room, S .size, spreading-from);
-      marks = omega arith;
-      fits = subst (λ (y : Ranked 6). RoomFor 1 6 y) (sym (S .loaded)) (S .pre .fits);
+      pair = record { node = spreading-from .room; marks = omega arith; fits = subst (λ (y : Ranked 6). RoomFor 1 6 y) (sym (S .loaded)) (S .pre .fits) };
+      its = λ s. S .keyed .bound from (spreading-from .below) s;
+      own = S .own;
     }
 
-    module _ (zs : List ℕ) where
-      turn : {r : Bool} (i j : ℕ) → Widened xs zs b P f l i j → Visited ys zs (b + getD ls (z * P + k) 0 / 16777216) (add 6 (marksOf (getD ls (z * P + k) 0 % 16777216)) d) r → Spreading xs zs ls b P z f l d i j (k + 1)
-      turn i j W T = record { pre = S .pre; loaded = S .loaded; size = visited-size T ∙ S .size; window = W; lists = λ ks L. loop-next (S .pre .below) (S .lists ks L) h n zs d (S .loaded) T }
+    module _ (zs : List ℕ) {r : Bool} (T : Visited ys zs (b + getD ls (z * P + k) 0 / 16777216) (add 6 (marksOf (getD ls (z * P + k) 0 % 16777216)) d) r) where
+      turn : (ks bs : List ℕ) (i j : ℕ) → Widened xs zs b P f l i j → Keyed zs ks bs b P → Spreading xs zs ks bs ls b P z f l d n i j (k + 1)
+      turn ks bs i j W K = record { pre = S .pre; loaded = S .loaded; own = S .own; size = visited-size T ∙ S .size; window = W; keyed = K; lists = λ ks L. loop-next (S .pre .below) (S .lists ks L) h o zs d (S .loaded) T }
 
-      -- the window as it was
-      pub spreading-kept : Visited ys zs (b + getD ls (z * P + k) 0 / 16777216) (add 6 (marksOf (getD ls (z * P + k) 0 % 16777216)) d) false → Spreading xs zs ls b P z f l d g m (k + 1)
-      spreading-kept T = turn g m (rw (visited-kept T) (S .window)) T
+      pub spreading-room : (b + getD ls (z * P + k) 0 / 16777216) * 8 + 7 < length zs
+      spreading-room = omega (arith, visited-size T, spreading-from .room)
 
-      -- with a node more
-      pub spreading-widened : {r : Bool} (i j : ℕ) → Visited ys zs (b + getD ls (z * P + k) 0 / 16777216) (add 6 (marksOf (getD ls (z * P + k) 0 % 16777216)) d) r
-          → i ≤ g → i ≤ getD ls (z * P + k) 0 / 16777216 → m ≤ j → getD ls (z * P + k) 0 / 16777216 + 1 ≤ j → ((t : ℕ) → m ≤ t → getD ls (z * P + k) 0 / 16777216 + 1 ≤ t → j ≤ t) → Spreading xs zs ls b P z f l d i j (k + 1)
-      spreading-widened i j T p q s t o = turn i j (widened-by (S .window) (getD ls (z * P + k) 0 / 16777216) i j T p q s t (o P (S .window .top) (omega (arith, spreading-from)))) T
+      -- nothing was done
+      pub spreading-kept : r ≡ false → Spreading xs zs keys bounds ls b P z f l d n g m (k + 1)
+      spreading-kept e =
+          let q : zs ≡ ys = visited-kept (subst (λ (t : Bool). Visited ys zs (b + from) (add 6 (marksOf marks) d) t) e T) in
+          turn keys bounds g m (rw q (S .window)) (rw q (S .keyed))
+
+      -- the node has a new label
+      pub spreading-widened : (i j x y : ℕ) → i ≤ g → i ≤ getD ls (z * P + k) 0 / 16777216 → m ≤ j → getD ls (z * P + k) 0 / 16777216 + 1 ≤ j → ((t : ℕ) → m ≤ t → getD ls (z * P + k) 0 / 16777216 + 1 ≤ t → j ≤ t)
+          → (OpenAt zs (b + getD ls (z * P + k) 0 / 16777216) → KeyOf x (costAt zs (b + getD ls (z * P + k) 0 / 16777216))) → BoundOf zs (b + getD ls (z * P + k) 0 / 16777216) y
+          → Spreading xs zs (set keys (getD ls (z * P + k) 0 / 16777216) x) (set bounds (getD ls (z * P + k) 0 / 16777216) y) ls b P z f l d n i j (k + 1)
+      spreading-widened i j x y p q s t u e c =
+          turn (set keys from x) (set bounds from y) i j (widened-by (S .window) from i j T p q s t (u P (S .window .top) (omega (arith, spreading-from .below))))
+          (keyed-change ys zs keys bounds b P from (S .keyed) (visited-others T) x y (spreading-from .few) e c)

@@ -12,6 +12,19 @@ costOf l = (l .first, (l .second, (l .third, (l .fourth, (l .fifth, (l .sixth, l
 abbrev pub lastPlaces : Ranked 6 → Ranked 3
 lastPlaces c = c .1 .1 .1
 
+-- its first two counts as one number
+abbrev pub firstTwo : Ranked 6 → ℕ
+firstTwo c = c .0 * 65536 + c .1 .0
+
+-- its first four
+abbrev pub frontKey : Ranked 6 → ℕ
+frontKey c = ((c .0 * 65536 + c .1 .0) * 65536 + c .1 .1 .0) * 65536 + c .1 .1 .1 .0
+
+-- each count fits into 16 bits
+abbrev pub AllShort : (k : ℕ) → Ranked k → Type 0
+AllShort zero c = c < 65536
+AllShort (suc k) c = (c .0 < 65536) × AllShort k (c .1)
+
 -- whether a is less than b, from the first place on
 abbrev pub isLess : (k : ℕ) → Ranked k → Ranked k → Bool
 isLess zero a b = ltb a b

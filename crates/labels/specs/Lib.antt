@@ -2,6 +2,7 @@ pub mod Marks
 pub mod MarksLaws
 pub mod LabelCost
 pub mod Work
+pub mod Keys
 pub mod Listing
 pub mod Lowering
 pub mod Selecting

@@ -17,8 +17,15 @@ pub data Told (ks ls : List ℕ) (r P : ℕ) : (j k : ℕ) → Type 0 where
   end : {j k : ℕ} → NoPairs ks r j P → (k < P → getD ls (r + k) 0 ≡ noPair) → Told ks ls r P j k
   next : {j k : ℕ} (x : ℕ) → k < P → getD ls (r + k) 0 ≡ x → x ≢ noPair → j ≤ pairFrom x → pairFrom x < P → NoPairs ks r j (pairFrom x) → getD ks (r + pairFrom x) 0 ≡ pairMarks x → Told ks ls r P (pairFrom x + 1) (k + 1) → Told ks ls r P j k
 
+-- r is 1 where the number e stands for a pair's marks, else 0
+pub record PairCount (e r : ℕ) : Type 0 where
+  pub most : r ≤ 1
+  pub one : e < 16777216 → r ≡ 1
+  pub no-one : 16777216 ≤ e → r ≡ 0
+
 -- ls is the table ks of P rows of P numbers, each of them made a list
 pub record Listed (ks ls : List ℕ) (P : ℕ) : Type 0 where
+  pub few : P ≤ 128
   pub size : length ls ≡ length ks
   pub rows : (z : ℕ) → z < P → Told ks ls (z * P) P 0 0
 

@@ -8,7 +8,8 @@ use lib.ListN.{length}
 use Rattle.paths.specs.Costs.{AtMost, Above}
 use Rattle.paths.specs.Ranked.{Ranked, Less}
 use Rattle.paths.specs.Improvement.{Improves}
-use Rattle.labels.specs.LabelCost.{RoomFor}
+use Rattle.labels.specs.LabelCost.{firstTwo, RoomFor}
+use Rattle.labels.specs.Keys.{BoundOf}
 use Rattle.labels.specs.Work.{HasNode, stateOf, labelOf, SettledAt, AlikeAt}
 
 -- the node u, and a pair with the marks e to a node whose label is d
@@ -16,6 +17,12 @@ pub record PairPre (xs : List ℕ) (u e : ℕ) (d : Ranked 6) : Type 0 where
   pub node : HasNode xs u
   pub marks : e < 16 ^ 6
   pub fits : RoomFor 1 6 d
+
+-- k is the bound of u, if u is not settled, and n the first two counts of d
+pub record VisitPre (xs : List ℕ) (u k e : ℕ) (d : Ranked 6) (n : ℕ) : Type 0 where
+  pub pair : PairPre xs u e d
+  pub its : ¬ (SettledAt xs u) → BoundOf xs u k
+  pub own : n ≡ firstTwo d
 
 -- whether the cost c is below the label of u, or u has none
 pub record Compared (xs : List ℕ) (u : ℕ) (c : Ranked 6) (r : Bool) : Type 0 where

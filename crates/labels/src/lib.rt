@@ -4,11 +4,12 @@ ghost use Prim.Native.Nat.{ℕ, _+_, _*_, _^_, _≤_, _<_};
 ghost use lib.ListN.{length};
 ghost use Rattle.paths.specs.Ranked.{add};
 ghost use Rattle.labels.specs.Marks.{nibbles, marksOf};
-ghost use Rattle.labels.specs.LabelCost.{costOf, lastPlaces, isLess, isSame, RoomFor};
-ghost use Rattle.labels.specs.Work.{HasNode, HasNodes, costAt, Reached, Stored, Cleared};
-ghost use Rattle.labels.specs.Listing.{Listed, RowListed};
-ghost use Rattle.labels.specs.Lowering.{PairPre, Compared, Lowered, LoweredBy, Visited};
-ghost use Rattle.labels.specs.Selecting.{FirstOpen, PastOpen, Beats, SelectPre, Least};
+ghost use Rattle.labels.specs.LabelCost.{costOf, lastPlaces, firstTwo, frontKey, AllShort, isLess, isSame, RoomFor};
+ghost use Rattle.labels.specs.Work.{HasNode, HasNodes, costAt, OpenAt, Reached, Stored, Cleared};
+ghost use Rattle.labels.specs.Keys.{KeyOf, BoundOf, Keyed};
+ghost use Rattle.labels.specs.Listing.{PairCount, Listed, RowListed};
+ghost use Rattle.labels.specs.Lowering.{PairPre, VisitPre, Compared, Lowered, LoweredBy, Visited};
+ghost use Rattle.labels.specs.Selecting.{FirstOpen, PastOpen, BeatsPre, Beats, SelectPre, Least};
 ghost use Rattle.labels.specs.Spreading.{SpreadPre, SpreadListed};
 ghost use Rattle.labels.specs.Settling.{SettlePreListed, SettledListed};
 
@@ -234,48 +235,48 @@ pub fn lower_by(work: &mut [u16], node: usize, marks: u32, label: Label) -> bool
     false
 }
 
-// Tries the node, unless it is settled, by a pair that leads to a node with that label: whether its label is new.
-fn visit(work: &mut [u16], node: usize, marks: u32, label: Label) -> bool
-    requires { ⌜ PairPre (now work) node marks (costOf label) ⌝ }
+// The first two counts of a label as one number.
+fn two_counts(label: Label) -> u32
+    ensures { λ r. ⌜ r ≡ firstTwo (costOf label) ⌝ }
+{
+    label.first as u32 * 65536 + label.second as u32
+}
+
+// In the place of a node's bound: the node has no label.
+const NO_BOUND: u32 = 4294967295;
+
+// The first two counts of the node's label, if it has one, as one number: a path with more cannot be better.
+fn node_bound(work: &[u16], node: usize) -> u32
+    requires { ⌜ HasNode (now work) node ⌝ }
+    ensures { λ r. ⌜ BoundOf (now (work .entry)) node r ⌝ }
+{
+    if work[node * 8] == 0 {
+        return NO_BOUND;
+    }
+    two_counts(load(work, node))
+}
+
+// Tries the node, unless it is settled, by a pair that leads to a node with that label: whether its label is new. The node's bound is looked at
+// first: most often it tells that the pair is of no use.
+fn visit(work: &mut [u16], node: usize, bound: u32, marks: u32, label: Label, own: u32) -> bool
+    requires { ⌜ VisitPre (now work) node bound marks (costOf label) own ⌝ }
     ensures { λ r. ⌜ Visited (now (work .entry)) (now (work .exit)) node (add 6 (marksOf marks) (costOf label)) r ⌝ }
 {
+    if bound < own + (marks / 1048576 * 65536 + marks % 1048576 / 65536) {
+        return false;
+    }
     if work[node * 8] == 2 {
         return false;
     }
     lower_by(work, node, marks, label)
 }
 
-// Whether the node's label is better than the one given: its numbers are looked at one after the other, as far as they are the same.
-fn below(work: &[u16], node: usize, label: Label) -> bool
-    requires { ⌜ HasNode (now work) node ⌝ }
-    ensures { λ r. ⌜ r ≡ isLess 6 (costAt (now (work .entry)) node) (costOf label) ⌝ }
+// The first four counts of a label as one number: of two labels with different ones the better has the smaller one.
+fn key(label: Label) -> u64
+    ensures { λ r. ⌜ (r ≡ frontKey (costOf label)) × AllShort 6 (costOf label) ⌝ }
 {
-    let at = node * 8;
-    let first = work[at + 1];
-    if first != label.first {
-        return first < label.first;
-    }
-    let second = work[at + 2];
-    if second != label.second {
-        return second < label.second;
-    }
-    let third = work[at + 3];
-    if third != label.third {
-        return third < label.third;
-    }
-    let fourth = work[at + 4];
-    if fourth != label.fourth {
-        return fourth < label.fourth;
-    }
-    let fifth = work[at + 5];
-    if fifth != label.fifth {
-        return fifth < label.fifth;
-    }
-    let sixth = work[at + 6];
-    if sixth != label.sixth {
-        return sixth < label.sixth;
-    }
-    work[at + 7] < label.pairs
+    ((label.first as u64 * 65536 + label.second as u64) * 65536 + label.third as u64) * 65536
+        + label.fourth as u64
 }
 
 // A node's number and a pair's marks as one number, the pair from that node.
@@ -286,7 +287,15 @@ fn listed(from: usize, marks: u32) -> u32
     from as u32 * MARKS + marks
 }
 
-// Makes the row of the pairs to one node a list of them. The place that is written is never past the one that is read.
+// How many pairs a number of the table tells: one or none.
+fn pair_count(marks: u32) -> usize
+    ensures { λ r. ⌜ PairCount marks r ⌝ }
+{
+    if marks < MARKS { 1 } else { 0 }
+}
+
+// Makes the row of the pairs to one node a list of them. The place that is written is never past the one that is read. It is written whether there
+// is a pair or not, and stays where there is: a branch here is guessed wrong too often.
 fn list_row(table: &mut [u32], size: usize, to: usize)
     requires { ⌜ (size * size ≤ length (now table)) × (size ≤ 128) × (to < size) ⌝ }
     ensures { λ _. ⌜ RowListed (now (table .entry)) (now (table .exit)) size to ⌝ }
@@ -296,10 +305,8 @@ fn list_row(table: &mut [u32], size: usize, to: usize)
     let mut from = 0;
     while from < size {
         let marks = table[row + from];
-        if marks < MARKS {
-            table[row + kept] = listed(from, marks);
-            kept += 1;
-        }
+        table[row + kept] = listed(from, marks % MARKS);
+        kept += pair_count(marks);
         from += 1;
     }
     if kept < size {
@@ -351,29 +358,61 @@ fn past_open(work: &[u16], base: usize, first: usize, last: usize) -> usize
     past
 }
 
-// Whether the node is open and its label better than the one given.
-fn beats(work: &[u16], node: usize, label: Label) -> bool
+// In the place of a node's key: the node is not open.
+const NO_KEY: u64 = 18446744073709551615;
+
+// The key of the node's label, if it is open.
+fn node_key(work: &[u16], node: usize) -> u64
     requires { ⌜ HasNode (now work) node ⌝ }
+    ensures { λ r. ⌜ (OpenAt (now (work .entry)) node → KeyOf r (costAt (now (work .entry)) node)) ⌝ }
+{
+    if work[node * 8] != 1 {
+        return NO_KEY;
+    }
+    key(load(work, node))
+}
+
+// The keys of the position's open nodes, and the bounds of those that are not settled.
+fn fill_keys(work: &[u16], base: usize, size: usize, keys: &mut [u64; 128], bounds: &mut [u32; 128])
+    requires { ⌜ HasNodes (now work) (base + size) × (size ≤ 128) × (length (now keys) ≡ 128) × (length (now bounds) ≡ 128) ⌝ }
+    ensures { λ _. ⌜ Keyed (now (work .entry)) (now (keys .exit)) (now (bounds .exit)) base size ⌝ }
+{
+    let mut i = 0;
+    while i < size {
+        keys[i] = node_key(work, base + i);
+        bounds[i] = node_bound(work, base + i);
+        i += 1;
+    }
+}
+
+// Whether the node is open and its label better than the one given. The keys of both are looked at first: most often they tell.
+fn beats(work: &[u16], node: usize, its: u64, label: Label, own: u64) -> bool
+    requires { ⌜ BeatsPre (now work) node its (costOf label) own ⌝ }
     ensures { λ r. ⌜ Beats (now (work .entry)) node (costOf label) r ⌝ }
 {
+    if own < its {
+        return false;
+    }
     if work[node * 8] != 1 {
         return false;
     }
-    below(work, node, label)
+    better(load(work, node), label)
 }
 
 // An open node with a least label, among those of the position from the node first, which is open, to before the node last.
-fn select(work: &[u16], base: usize, first: usize, last: usize) -> usize
-    requires { ⌜ SelectPre (now work) base first last ⌝ }
+fn select(work: &[u16], keys: &[u64; 128], base: usize, first: usize, last: usize) -> usize
+    requires { ⌜ SelectPre (now work) (now keys) base first last ⌝ }
     ensures { λ r. ⌜ Least (now (work .entry)) base first last r ⌝ }
 {
     let mut best = first;
     let mut label = load(work, base + first);
+    let mut own = key(label);
     let mut i = first + 1;
     while i < last {
-        if beats(work, base + i, label) {
+        if beats(work, base + i, keys[i], label, own) {
             best = i;
             label = load(work, base + i);
+            own = key(label);
         }
         i += 1;
     }
@@ -402,6 +441,8 @@ fn greater(a: usize, b: usize) -> usize
 // the nodes that have a new label.
 fn spread(
     work: &mut [u16],
+    keys: &mut [u64; 128],
+    bounds: &mut [u32; 128],
     listed: &[u32],
     base: usize,
     size: usize,
@@ -409,10 +450,11 @@ fn spread(
     first: usize,
     last: usize,
 ) -> Window
-    requires { ⌜ SpreadPre (now work) (now listed) base size to first last ⌝ }
-    ensures { λ r. ⌜ SpreadListed (now (work .entry)) (now (work .exit)) (now (listed .entry)) base size to first last r ⌝ }
+    requires { ⌜ SpreadPre (now work) (now listed) base size to first last × Keyed (now work) (now keys) (now bounds) base size ⌝ }
+    ensures { λ r. ⌜ SpreadListed (now (work .entry)) (now (work .exit)) (now (listed .entry)) base size to first last r × Keyed (now (work .exit)) (now (keys .exit)) (now (bounds .exit)) base size ⌝ }
 {
     let label = load(work, base + to);
+    let own = two_counts(label);
     let row = to * size;
     let mut low = first;
     let mut high = last;
@@ -426,9 +468,11 @@ fn spread(
             };
         }
         let from = (pair / MARKS) as usize;
-        if visit(work, base + from, pair % MARKS, label) {
+        if visit(work, base + from, bounds[from], pair % MARKS, label, own) {
             low = lesser(low, from);
             high = greater(high, from + 1);
+            keys[from] = node_key(work, base + from);
+            bounds[from] = node_bound(work, base + from);
         }
         k += 1;
     }
@@ -444,6 +488,9 @@ pub fn settle(work: &mut [u16], listed: &[u32], base: usize, size: usize)
     requires { ⌜ SettlePreListed (now work) (now listed) base size ⌝ }
     ensures { λ _. ⌜ SettledListed (now (work .entry)) (now (work .exit)) (now (listed .entry)) base size ⌝ }
 {
+    let mut keys = [0u64; 128];
+    let mut bounds = [0u32; 128];
+    fill_keys(work, base, size, &mut keys, &mut bounds);
     let mut first = 0;
     let mut last = size;
     loop {
@@ -452,9 +499,20 @@ pub fn settle(work: &mut [u16], listed: &[u32], base: usize, size: usize)
             return;
         }
         last = past_open(work, base, first, last);
-        let least = select(work, base, first, last);
+        let least = select(work, &keys, base, first, last);
         work[(base + least) * 8] = 2;
-        let window = spread(work, listed, base, size, least, first, last);
+        keys[least] = NO_KEY;
+        let window = spread(
+            work,
+            &mut keys,
+            &mut bounds,
+            listed,
+            base,
+            size,
+            least,
+            first,
+            last,
+        );
         first = window.first;
         last = window.last;
     }

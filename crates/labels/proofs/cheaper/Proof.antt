@@ -4,7 +4,6 @@ use borrow.Author.Needs.{needs}
 use Rattle.labels.specs.Marks.{nibbles}
 use Rattle.labels.proofs.Comparing.{less-here, less-rest}
 use Rattle.labels.proofs.Lowering.{compared-none, compared-some}
-use borrow.Author.Needs.{needs}
 use Rattle.labels.proofs.cheaper.Statement.{statement}
 use Rattle.labels.proofs.cheaper.Tie as tie
 

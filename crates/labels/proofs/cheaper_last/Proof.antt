@@ -4,7 +4,6 @@ use native.Mathlib.Nat.{div-one}
 use borrow.Author.Needs.{needs}
 use Rattle.labels.specs.Marks.{nibbles}
 use Rattle.labels.proofs.Comparing.{less-here, less-rest}
-use borrow.Author.Needs.{needs}
 use Rattle.labels.proofs.cheaper_last.Statement.{statement}
 use Rattle.labels.proofs.cheaper_last.Tie as tie
 

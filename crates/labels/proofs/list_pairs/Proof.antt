@@ -1,6 +1,5 @@
 -- `list_pairs` meets its contract. The loop's invariant is `Listing`, the measure the number of rows left.
 use Prim.Native.Nat.{_-_}
-use native.Mathlib.Omega.{arith}
 use borrow.Author.Needs.{needs}
 use Rattle.labels.proofs.Listing.{Listing, listing-start, listing-next, listing-end}
 use Rattle.labels.proofs.list_pairs.Statement.{statement}
@@ -19,7 +18,7 @@ loop-again : tie.Need-loop-again Inv-loop μ-loop
 loop-again c = listing-next (search needs) (c .before .before .before .before .before .loop .inv) (c .before .before .list-row .ensures)
 
 returns : tie.Need-returns Inv-loop μ-loop
-returns c = listing-end (c .before .loop .inv) (search needs)
+returns c = listing-end (c .before .loop .inv) (search needs) (search needs)
 
 pub list-pairs-spec : {M : Type 1} → statement M
 list-pairs-spec =

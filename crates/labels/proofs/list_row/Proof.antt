@@ -1,8 +1,8 @@
-use mathlib.Core.Logic.{⊎-elim}
+-- `list_row` meets its contract. The loop's invariant is `RowListing`, the measure the number of nodes left.
 use Prim.Native.Nat.{_-_}
-use borrow.Author.Needs.{needs}
 use native.Mathlib.Omega.{arith}
-use Rattle.labels.proofs.Listing.{RowListing, row-room, row-start, row-pass, row-take, row-end, row-full}
+use borrow.Author.Needs.{needs}
+use Rattle.labels.proofs.Listing.{RowListing, row-room, row-start, row-next, row-end, row-full}
 use Rattle.labels.proofs.list_row.Statement.{statement}
 use Rattle.labels.proofs.list_row.Tie as tie
 
@@ -13,15 +13,13 @@ abbrev μ-loop : tie.MeasureT-loop
 μ-loop table₀ size to row kept₀ from₀ table kept from = size - from
 
 mul-row : tie.Need-mul-row Inv-loop μ-loop
-mul-row c = let r = row-room {n = _} {P = c .before .args .size} {z = c .before .args .to} (c .before .pre .0) (search needs) in omega arith
+mul-row c = omega (arith, row-room {P = c .before .args .size} {z = c .before .args .to} (c .before .pre .0) (search needs))
 
 loop-holds : tie.Need-loop-holds Inv-loop μ-loop
 loop-holds c = row-start _ _ _ (row-room (search needs) (search needs))
 
 loop-again : tie.Need-loop-again Inv-loop μ-loop
-loop-again c =
-    ⊎-elim (λ w. rw (w .2, w .3, w .1 .ensures) (row-take _ _ _ _ _ _ (c .before .before .before .loop .inv) (search needs) (search needs) (w .0 .taken)))
-    (λ w. rw (w .1, w .2) (row-pass _ _ _ _ _ _ (c .before .before .before .loop .inv) (search needs) (w .0 .left))) (c .if1 .came)
+loop-again c = rw (c .before .listed .ensures) (row-next _ _ _ _ _ _ (c .before .before .before .before .loop .inv) _ (search needs) (search needs) (c .pair-count .ensures))
 
 returns : tie.Need-returns Inv-loop μ-loop
 returns c = row-end _ _ _ _ _ _ (c .before .before .loop .inv) (search needs) (search needs)
@@ -44,6 +42,7 @@ list-row-spec =
     (λ c. search needs)
     (λ c. search needs)
     (λ c. search needs)
+    (λ c κs. search needs)
     (λ c. search needs)
     (λ c. search needs)
     (λ c. search needs)

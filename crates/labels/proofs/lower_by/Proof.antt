@@ -1,7 +1,6 @@
 -- `lower_by` meets its contract.
 use borrow.Author.Needs.{needs}
 use Rattle.labels.proofs.Lowering.{lowered-by-kept, lowered-by-stored}
-use borrow.Author.Needs.{needs}
 use Rattle.labels.proofs.lower_by.Statement.{statement}
 use Rattle.labels.proofs.lower_by.Tie as tie
 

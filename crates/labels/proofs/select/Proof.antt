@@ -1,25 +1,28 @@
 -- `select` meets its contract. The loop's invariant is `Selecting`, the measure the number of nodes left.
 use mathlib.Core.Logic.{⊎-elim}
 use Prim.Native.Nat.{_-_}
-use Rattle.labels.specs.LabelCost.{costOf}
 use borrow.Author.Needs.{needs}
-use Rattle.labels.proofs.Selecting.{Selecting, select-start, select-take, select-keep, select-end}
+use Rattle.labels.specs.LabelCost.{costOf}
+use Rattle.labels.proofs.Selecting.{Selecting, select-start, select-beats, select-take, select-keep, select-end}
 use Rattle.labels.proofs.select.Statement.{statement}
 use Rattle.labels.proofs.select.Tie as tie
 
 abbrev Inv-loop : tie.InvT-loop
-Inv-loop work base first last best₀ label₀ i₀ best label i = Selecting work base first last i best (costOf label)
+Inv-loop work keys base first last best₀ label₀ own₀ i₀ best label own i = Selecting work base first last i best (costOf label) own
 
 abbrev μ-loop : tie.MeasureT-loop
-μ-loop work base first last best₀ label₀ i₀ best label i = last - i
+μ-loop work keys base first last best₀ label₀ own₀ i₀ best label own i = last - i
 
 loop-holds : tie.Need-loop-holds Inv-loop μ-loop
-loop-holds c = select-start _ (c .before .before .pre) (c .load .ensures)
+loop-holds c = select-start _ (c .before .before .before .pre) (c .before .load .ensures) (c .key .ensures .0) (c .key .ensures .1)
+
+beats-requires : tie.Need-beats-requires Inv-loop μ-loop
+beats-requires c κs = select-beats (c .before .before .before .before .before .before .pre) (c .before .before .loop .inv) (search needs)
 
 loop-again : tie.Need-loop-again Inv-loop μ-loop
 loop-again c =
-    ⊎-elim (λ w. rw (w .2, w .3) (select-take (c .before .before .before .loop .inv) (search needs) _ (rw (w .0 .taken) at (c .before .beats .ensures)) (w .1 .ensures)))
-    (λ w. rw (w .1, w .2) (select-keep (c .before .before .before .loop .inv) (search needs) (rw (w .0 .left) at (c .before .beats .ensures)))) (c .if1 .came)
+    ⊎-elim (λ w. rw (w .3, w .4, w .5) (select-take (c .before .before .before .before .loop .inv) (search needs) _ (rw (w .0 .taken) at (c .before .beats .ensures)) (w .1 .ensures) (w .2 .ensures .0) (w .2 .ensures .1)))
+    (λ w. rw (w .1, w .2, w .3) (select-keep (c .before .before .before .before .loop .inv) (search needs) (rw (w .0 .left) at (c .before .beats .ensures)))) (c .if1 .came)
 
 returns : tie.Need-returns Inv-loop μ-loop
 returns c = select-end (c .before .loop .inv) (search needs)
@@ -32,11 +35,15 @@ select-spec =
     μ-loop
     (λ c. search needs)
     (λ c κs. search needs)
+    (λ c κs. search needs)
     (λ c. search needs)
     loop-holds
     (λ c. search needs)
-    (λ c κs. search needs)
     (λ c. search needs)
+    (λ c. search needs)
+    beats-requires
+    (λ c. search needs)
+    (λ c κs. search needs)
     (λ c κs. search needs)
     (λ c. search needs)
     (λ c. search needs)
