@@ -155,7 +155,7 @@ module _ {card ranking word js xs : List ℕ} {P i : ℕ} (E : EnterPre card ran
 
 module _ {card ranking word js xs : List ℕ} {P i : ℕ} (E : EnterPre card ranking word js xs P i) (z y : ℕ) (k : z < P) (few : y ≤ symbolCount card) (r : Joint) (J : ReadAs (getD js (z * 64 + y) 0) r) where
   joint-is : joined r ≡ jointFrom (sixPlaces ranking) (machinesOf card) z (record { input = getD word i 0; output = y })
-  joint-is = J _ (E .joint .entry z y (omega (arith, E .setting .size)) (omega (arith, symbols-few (E .setting))))
+  joint-is = J _ (E .joint .entry z y (omega (arith, E .setting .size)) few)
 
   edge-is : engineGraph card ranking word .edge (i * P + z) (record { input = getD word i 0; output = y }) ≡ edgeFrom ((i + 1) * P) (joined r)
   edge-is = symbol-at (E .setting) i z y (E .below) k ∙ ap (edgeFrom ((i + 1) * P)) (sym joint-is)

@@ -53,7 +53,7 @@ module _ {card ranking word : List ℕ} {P : ℕ} (s : Setting card ranking word
 pub few-insertions : {card ranking cs ps ks : List ℕ} {P : ℕ} → InsertionsPre card ranking cs ps ks P → P ≤ 128
 few-insertions {card} I = let a = accepted-machines card (I .accepted) in omega (arith, I .size, a .states, a .few-states)
 
-module _ {card ranking cs ps ks : List ℕ} {P : ℕ} (I : InsertionsPre card ranking cs ps ks P) {js : List ℕ} (H : HoldsJoint (machinesOf card) 0 (sixPlaces ranking) js) where
+module _ {card ranking cs ps ks : List ℕ} {P : ℕ} (I : InsertionsPre card ranking cs ps ks P) {js : List ℕ} (H : HoldsJoint (symbolCount card) (machinesOf card) 0 (sixPlaces ranking) js) where
   pub fill-ready : (k : ℕ) → k ≡ symbolCount card → FillPre js ks P k
   fill-ready k q =
       let a = accepted-machines card (I .accepted) in
@@ -63,7 +63,7 @@ module _ {card ranking cs ps ks : List ℕ} {P : ℕ} (I : InsertionsPre card ra
         input = 0;
         places = sixPlaces ranking;
         sound = a .sound;
-        holds = H;
+        holds = rw q H;
         states = I .size;
         room = I .room;
         few = few-insertions I;

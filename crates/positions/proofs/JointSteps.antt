@@ -1,34 +1,30 @@
--- The table of the joint steps of a card's machines, from their table of steps.
+-- What the table of the joint steps of a card's machines needs.
 use mathlib.Core.Path.{_≡_}
 use mathlib.Core.Bool.{true}
 use mathlib.Core.List.{List}
-use Prim.Native.Nat.{ℕ, _*_, _≤_}
+use Prim.Native.Nat.{ℕ, _<_}
 use native.Mathlib.Omega.{arith}
-use lib.ListN.{length}
 use Rattle.ranking.specs.Rankings.{isRanking}
 use Rattle.card.specs.Layout.{machineCount, symbolCount}
 use Rattle.card.specs.Card.{cardRefusal, machinesOf}
 use Rattle.card.specs.Accepted.{accepted}
 use Rattle.product.specs.Nodes.{product, stateCounts}
-use Rattle.steps.specs.StepTable.{HoldsSteps}
 use Rattle.tables.specs.Places.{sixPlaces}
-use Rattle.tables.specs.JointTable.{HoldsJoint, StepsOf, JointTablePre, FilledJoint}
-use Rattle.tables.specs.Laws.Cards.{card-machines}
+use Rattle.tables.specs.JointTable.{HoldsJoint, JointTablePre}
 use Rattle.tables.specs.Laws.Harmony.{six-places}
+use Rattle.positions.specs.Engine.{Lent}
 
-module _ (card ranking : List ℕ) {cs ps ss : List ℕ} {x : ℕ} (ok : cardRefusal card ≡ 0) (c : cs ≡ stateCounts (machinesOf card)) (p : ps ≡ sixPlaces ranking) (H : HoldsSteps (machinesOf card) x ss) where
-  card-steps : StepsOf (symbolCount card) (machinesOf card) x ss cs
-  card-steps = record { machines = card-machines card ok; holds-steps = H; holds-counts = c }
-
-  pub joint-ready : (js : List ℕ) (P : ℕ) → isRanking (machineCount card) ranking ≡ true → P ≡ product (stateCounts (machinesOf card)) → P * 64 ≤ length js → JointTablePre ss cs ps js
-  joint-ready js P ranks e r = record {
-    symbols = symbolCount card;
-    machines = machinesOf card;
-    input = x;
-    steps-of = card-steps;
+module _ (card ranking : List ℕ) {cs ps : List ℕ} (ok : cardRefusal card ≡ 0) (c : cs ≡ stateCounts (machinesOf card)) (p : ps ≡ sixPlaces ranking) where
+  pub joint-ready : {ss js : List ℕ} {x P S : ℕ} → isRanking (machineCount card) ranking ≡ true → P ≡ product (stateCounts (machinesOf card)) → x < 64 → S ≡ symbolCount card → Lent ss js P → JointTablePre card cs ps ss js x S
+  joint-ready ranks e h k L = record {
+    accepted = ok;
+    counts-are = c;
     six = rw p (six-places (machineCount card) ranking (accepted card ok .head .counts .machines) ranks);
-    room = rw (c, ← e) r;
+    input = h;
+    outputs = omega (arith, accepted card ok .head .counts .symbols);
+    stretch-room = L .stretch;
+    room = rw (c, ← e) (L .joint);
   }
 
-  pub joint-filled : (js : List ℕ) → FilledJoint ss cs ps js → HoldsJoint (machinesOf card) x (sixPlaces ranking) js
-  joint-filled js F = rw p at (F (symbolCount card) (machinesOf card) x card-steps)
+  pub joint-filled : {js : List ℕ} {x S : ℕ} → S ≡ symbolCount card → HoldsJoint S (machinesOf card) x ps js → HoldsJoint (symbolCount card) (machinesOf card) x (sixPlaces ranking) js
+  joint-filled k H = rw (k, p) at H

@@ -5,6 +5,7 @@ use Prim.Native.Nat.{ℕ, suc, _+_, _*_, _-_, _<_, _≤_}
 use native.Mathlib.Nat.{mul-le-mul}
 use native.Mathlib.Omega.{arith}
 use lib.ListN.{length, getD, replicate, length-replicate, getD-replicate}
+use Rattle.card.specs.Layout.{symbolCount}
 use Rattle.card.specs.Card.{machinesOf}
 use Rattle.paths.specs.Positions.{Done, done-start}
 use Rattle.labels.specs.Work.{stateOf, labelOf, Cleared}
@@ -24,7 +25,7 @@ use Rattle.positions.proofs.Ending.{ends-entered}
 use Rattle.positions.proofs.Insertions.{position-pre, position-settled}
 
 module _ {card ranking word rs cs ps xs : List ℕ} {P i : ℕ} (Q : PositionPre card ranking word rs cs ps xs P i) where
-  pub enter-pre : {js : List ℕ} → i < length word → HoldsJoint (machinesOf card) (getD word i 0) (sixPlaces ranking) js → EnterPre card ranking word js xs P i
+  pub enter-pre : {js : List ℕ} → i < length word → HoldsJoint (symbolCount card) (machinesOf card) (getD word i 0) (sixPlaces ranking) js → EnterPre card ranking word js xs P i
   enter-pre h H = record {
     setting = Q .setting;
     below = h;

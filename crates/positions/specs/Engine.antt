@@ -38,9 +38,9 @@ pub record Looked (card ranking rs cs ps : List ℕ) : Type 0 where
   pub counts : cs ≡ stateCounts (machinesOf card)
   pub places : ps ≡ sixPlaces ranking
 
--- room for a table of steps and for one of the joint steps of P codes
+-- room for the steps of one machine, and for a table of the joint steps of P codes
 pub record Lent (ss js : List ℕ) (P : ℕ) : Type 0 where
-  pub steps : length ss ≡ 12288
+  pub stretch : length ss ≡ 2048
   pub joint : P * 64 ≤ length js
 
 -- what filling the table of the cheapest insertions needs

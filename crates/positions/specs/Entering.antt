@@ -6,6 +6,7 @@ use mathlib.Core.List.{List}
 use Prim.Native.Nat.{ℕ, suc, _+_, _*_, _^_, _<_, _≤_}
 use lib.ListN.{length, getD}
 use Rattle.machine.specs.declared.Pair.{Pair}
+use Rattle.card.specs.Layout.{symbolCount}
 use Rattle.card.specs.Card.{machinesOf}
 use Rattle.paths.specs.Costs.{Labels}
 use Rattle.paths.specs.Ranked.{Ranked, add, rankedCosts}
@@ -37,7 +38,7 @@ TriedBefore u y w p = (w < u) ⊎ ((w ≡ u) × (p .output < y))
 pub record EnterPre (card ranking word js xs : List ℕ) (P i : ℕ) : Type 0 where
   pub setting : Setting card ranking word P
   pub below : i < length word
-  pub joint : HoldsJoint (machinesOf card) (getD word i 0) (sixPlaces ranking) js
+  pub joint : HoldsJoint (symbolCount card) (machinesOf card) (getD word i 0) (sixPlaces ranking) js
   pub room : length xs ≡ (length word + 1) * P * 8
   pub fits : (u : ℕ) (c : Ranked 6) → placeOf card u ≡ suc i → labelOf xs u ≡ some c → RoomFor 1 6 c
 

@@ -1,5 +1,4 @@
 // The labels of all nodes, position by position, from the last to the first.
-ghost use mathlib.Core.Path.{_≡_};
 ghost use Prim.Native.Nat.{_+_, _*_, _<_, _≤_};
 ghost use lib.ListN.{length};
 ghost use Rattle.card.specs.Layout.{symbolCount};
@@ -110,16 +109,24 @@ fn enter_symbol(
     rows: &[u16],
     counts: &[u8],
     places: &[u8; 6],
-    steps: &mut [u16],
+    stretch: &mut [u16],
     joint: &mut [u32],
     size: usize,
     position: usize,
 )
-    requires { ⌜ PositionPre (now card) (now ranking) (now word) (now rows) (now counts) (now places) (now work) size position × Lent (now steps) (now joint) size × (position < length (now word)) ⌝ }
+    requires { ⌜ PositionPre (now card) (now ranking) (now word) (now rows) (now counts) (now places) (now work) size position × Lent (now stretch) (now joint) size × (position < length (now word)) ⌝ }
     ensures { λ _. ⌜ PositionEntered (now (card .entry)) (now (ranking .entry)) (now (word .entry)) (now (work .entry)) (now (work .exit)) position ⌝ }
 {
-    steps::fill_steps(card, word[position], steps);
-    tables::joint_table::fill(steps, counts, places, joint);
+    let symbols = card::symbol_count(card) as usize;
+    tables::joint_table::fill(
+        card,
+        word[position],
+        counts,
+        places,
+        symbols,
+        stretch,
+        joint,
+    );
     enter_nodes(work, card, ranking, word, joint, size, position);
 }
 
@@ -175,12 +182,12 @@ fn enter(
     rows: &[u16],
     counts: &[u8],
     places: &[u8; 6],
-    steps: &mut [u16],
+    stretch: &mut [u16],
     joint: &mut [u32],
     size: usize,
     position: usize,
 )
-    requires { ⌜ PositionPre (now card) (now ranking) (now word) (now rows) (now counts) (now places) (now work) size position × Lent (now steps) (now joint) size ⌝ }
+    requires { ⌜ PositionPre (now card) (now ranking) (now word) (now rows) (now counts) (now places) (now work) size position × Lent (now stretch) (now joint) size ⌝ }
     ensures { λ _. ⌜ PositionEntered (now (card .entry)) (now (ranking .entry)) (now (word .entry)) (now (work .entry)) (now (work .exit)) position ⌝ }
 {
     if position < word.len() {
@@ -192,7 +199,7 @@ fn enter(
             rows,
             counts,
             places,
-            steps,
+            stretch,
             joint,
             size,
             position,
@@ -212,12 +219,12 @@ fn label_position(
     counts: &[u8],
     places: &[u8; 6],
     insertions: &[u32],
-    steps: &mut [u16],
+    stretch: &mut [u16],
     joint: &mut [u32],
     size: usize,
     position: usize,
 )
-    requires { ⌜ PositionPre (now card) (now ranking) (now word) (now rows) (now counts) (now places) (now work) size position × Lent (now steps) (now joint) size × Insertions (now card) (now ranking) (now insertions) size ⌝ }
+    requires { ⌜ PositionPre (now card) (now ranking) (now word) (now rows) (now counts) (now places) (now work) size position × Lent (now stretch) (now joint) size × Insertions (now card) (now ranking) (now insertions) size ⌝ }
     ensures { λ _. ⌜ PositionsDone (now (card .entry)) (now (ranking .entry)) (now (word .entry)) (now (work .entry)) (now (work .exit)) position ⌝ }
 {
     enter(
@@ -228,7 +235,7 @@ fn label_position(
         rows,
         counts,
         places,
-        steps,
+        stretch,
         joint,
         size,
         position,
@@ -242,17 +249,24 @@ fn fill_insertions(
     ranking: &[u8],
     counts: &[u8],
     places: &[u8; 6],
-    steps: &mut [u16],
+    stretch: &mut [u16],
     joint: &mut [u32],
     size: usize,
     cheapest: &mut [u32],
 )
-    requires { ⌜ InsertionsPre (now card) (now ranking) (now counts) (now places) (now cheapest) size × Lent (now steps) (now joint) size × Blank (now cheapest) ⌝ }
+    requires { ⌜ InsertionsPre (now card) (now ranking) (now counts) (now places) (now cheapest) size × Lent (now stretch) (now joint) size × Blank (now cheapest) ⌝ }
     ensures { λ _. ⌜ Insertions (now (card .entry)) (now (ranking .entry)) (now (cheapest .exit)) size ⌝ }
 {
-    steps::fill_steps(card, machine::Pair::EMPTY, steps);
-    tables::joint_table::fill(steps, counts, places, joint);
     let symbols = card::symbol_count(card) as usize;
+    tables::joint_table::fill(
+        card,
+        machine::Pair::EMPTY,
+        counts,
+        places,
+        symbols,
+        stretch,
+        joint,
+    );
     tables::fill_cheapest(joint, size, symbols, cheapest);
     labels::list_pairs(cheapest, size);
 }
@@ -267,11 +281,11 @@ fn label_positions(
     counts: &[u8],
     places: &[u8; 6],
     insertions: &[u32],
-    steps: &mut [u16],
+    stretch: &mut [u16],
     joint: &mut [u32],
     size: usize,
 )
-    requires { ⌜ LabelPre (now card) (now ranking) (now word) (now work) size × Looked (now card) (now ranking) (now rows) (now counts) (now places) × Lent (now steps) (now joint) size × Insertions (now card) (now ranking) (now insertions) size ⌝ }
+    requires { ⌜ LabelPre (now card) (now ranking) (now word) (now work) size × Looked (now card) (now ranking) (now rows) (now counts) (now places) × Lent (now stretch) (now joint) size × Insertions (now card) (now ranking) (now insertions) size ⌝ }
     ensures { λ _. ⌜ PositionsDone (now (card .entry)) (now (ranking .entry)) (now (word .entry)) (now (work .entry)) (now (work .exit)) 0 ⌝ }
 {
     labels::clear(work, (word.len() + 1) * size);
@@ -287,7 +301,7 @@ fn label_positions(
             counts,
             places,
             insertions,
-            steps,
+            stretch,
             joint,
             size,
             left,
@@ -309,7 +323,7 @@ fn label_with(
     ensures { λ _. ⌜ PositionsDone (now (card .entry)) (now (ranking .entry)) (now (word .entry)) (now (work .entry)) (now (work .exit)) 0 ⌝ }
 {
     let mut rows = [0u16; 1024];
-    let mut steps = [0u16; 12288];
+    let mut stretch = [0u16; 2048];
     let all = tables::state_counts(card);
     let machines = card::machine_count(card);
     let counts = &all[..machines];
@@ -320,7 +334,7 @@ fn label_with(
         ranking,
         counts,
         &places,
-        &mut steps,
+        &mut stretch,
         joint,
         size,
         cheapest,
@@ -334,7 +348,7 @@ fn label_with(
         counts,
         &places,
         cheapest,
-        &mut steps,
+        &mut stretch,
         joint,
         size,
     );

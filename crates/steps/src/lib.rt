@@ -67,7 +67,7 @@ fn enter_arc(stretch: &mut [u16], arc: Arc, input: u64)
 
 // Fills the rows of a machine's states in its stretch of the table, by the set of the input: the arcs from the last to the first, since
 // the first that takes a pair is the step. The rows past its states are left as they are.
-fn fill_machine(stretch: &mut [u16], part: &[u8], input: u64)
+pub fn fill_machine(stretch: &mut [u16], part: &[u8], input: u64)
     requires { ⌜ (length (now stretch) ≡ 2048) × AcceptedPart (now part) ⌝ }
     ensures { λ _. ⌜ ((x : ℕ) → input ≡ 2 ^ x → HoldsMachine (machineOf (now (part .entry))) x (now (stretch .exit))) ⌝ }
 {

@@ -1,12 +1,12 @@
 -- Filling the table of the cheapest insertions. Assumes nothing.
 use mathlib.Core.Path.{_≡_, refl, sym, _∙_, ap}
 use mathlib.Core.Logic.{_≢_}
-use mathlib.Core.Bool.{Bool, true, false, _&&_, cond}
+use mathlib.Core.Bool.{_&&_, cond}
 use mathlib.Core.List.{List}
 use mathlib.Core.Option.{Option, some, none, Option·none-ne-some}
 use Prim.Native.Nat.{ℕ, zero, suc, _+_, _-_, _*_, _/_, _<_, _≤_}
 use native.Mathlib.Nat.{suc-mul, mul-le-mul-right}
-use native.Mathlib.Decide.{decLt, ℕ-discrete}
+use native.Mathlib.Decide.{ℕ-discrete}
 use native.Mathlib.Omega.{arith}
 use lib.Dec.{eqb, ltb}
 use lib.ListN.{length, getD, set, length-set}
@@ -24,7 +24,7 @@ use Rattle.product.specs.Laws.Codes.{code-step-below}
 use Rattle.tables.specs.declared.Joint.{Joint}
 use Rattle.tables.specs.JointNumbers.{numbered, jointFrom, joined}
 use Rattle.tables.specs.JointTable.{ReadAs, HoldsJoint}
-use Rattle.tables.specs.Insertions.{noPair, cheaper, cheapestInsertion, HoldsCheapest}
+use Rattle.tables.specs.Insertions.{noPair, cheaper, cheapestInsertion}
 use Rattle.tables.specs.FillingCheapest.{entryAt, NotePre, Noted, Blank, FillPre, FilledFrom, FilledCheapest}
 
 -- ---- places in the table
@@ -86,7 +86,7 @@ pub record Filling (joint xs ys : List ℕ) (P symbols a y : ℕ) : Type 0 where
   pub least : 1 ≤ y
   pub most : y ≤ symbols + 1
   pub size : length ys ≡ length xs
-  pub row : (ms : List Machine) (places : List ℕ) → P ≡ product (stateCounts ms) → HoldsJoint ms emptySymbol places joint
+  pub row : (ms : List Machine) (places : List ℕ) → P ≡ product (stateCounts ms) → HoldsJoint symbols ms emptySymbol places joint
       → (b : ℕ) → b < P → entryAt xs P a b ≡ noPair → entryAt ys P a b ≡ cheapestInsertion places ms a b (y - 1)
   pub others : (c b : ℕ) → c < P → b < P → c ≢ a → entryAt ys P c b ≡ entryAt xs P c b
 
@@ -114,8 +114,8 @@ module _ {joint xs : List ℕ} {P symbols a : ℕ} (pre : FillPre joint xs P sym
   module _ {ys : List ℕ} {y : ℕ} (F : Filling joint xs ys P symbols a y) where
     module _ (k : y ≤ symbols) (step : Joint) (R : ReadAs (getD joint (a * 64 + y) 0) step) where
       -- what was read is the joint step of all machines that the table belongs to
-      step-is : (ms : List Machine) (x : ℕ) (places : List ℕ) → P ≡ product (stateCounts ms) → HoldsJoint ms x places joint → joined step ≡ jointFrom places ms a (record { input = x; output = y })
-      step-is ms x places s H = R _ (H .entry a y (omega arith) (omega (arith, pre .few-symbols)))
+      step-is : (ms : List Machine) (x : ℕ) (places : List ℕ) → P ≡ product (stateCounts ms) → HoldsJoint symbols ms x places joint → joined step ≡ jointFrom places ms a (record { input = x; output = y })
+      step-is ms x places s H = R _ (H .entry a y (omega arith) k)
 
       pub note-pre : NotePre ys P a step
       note-pre = record {
@@ -149,7 +149,7 @@ module _ {joint xs : List ℕ} {P symbols a : ℕ} (pre : FillPre joint xs P sym
 pub record Columns (joint ys : List ℕ) (P symbols a : ℕ) : Type 0 where
   pub within : a ≤ P
   pub room : P * P ≤ length ys
-  pub done : (c b : ℕ) → c < a → b < P → (ms : List Machine) (places : List ℕ) → P ≡ product (stateCounts ms) → HoldsJoint ms emptySymbol places joint → entryAt ys P c b ≡ cheapestInsertion places ms c b symbols
+  pub done : (c b : ℕ) → c < a → b < P → (ms : List Machine) (places : List ℕ) → P ≡ product (stateCounts ms) → HoldsJoint symbols ms emptySymbol places joint → entryAt ys P c b ≡ cheapestInsertion places ms c b symbols
   pub blank : (c b : ℕ) → a ≤ c → c < P → b < P → entryAt ys P c b ≡ noPair
 
 module _ {joint xs : List ℕ} {P symbols : ℕ} (pre : FillPre joint xs P symbols) where
@@ -184,7 +184,7 @@ module _ {joint xs : List ℕ} {P symbols : ℕ} (pre : FillPre joint xs P symbo
       blank = λ c b l hc hb. F .others c b hc hb (omega arith) ∙ C .blank c b (omega arith) hc hb;
     }
       where
-        done : (c b : ℕ) → c < a + 1 → b < P → (ms : List Machine) (places : List ℕ) → P ≡ product (stateCounts ms) → HoldsJoint ms emptySymbol places joint → Dec (c ≡ a) → entryAt zs P c b ≡ cheapestInsertion places ms c b symbols
+        done : (c b : ℕ) → c < a + 1 → b < P → (ms : List Machine) (places : List ℕ) → P ≡ product (stateCounts ms) → HoldsJoint symbols ms emptySymbol places joint → Dec (c ≡ a) → entryAt zs P c b ≡ cheapestInsertion places ms c b symbols
         done c b hc hb ms places s H (yes q) = rw q (F .row ms places s H b hb (C .blank a b (omega arith) h hb))
         done c b hc hb ms places s H (no q) = F .others c b (omega arith) hb q ∙ C .done c b (omega arith) hb ms places s H
 

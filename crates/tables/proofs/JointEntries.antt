@@ -1,17 +1,16 @@
 -- Entries of the table of the joint steps, from the parts of the machines. Assumes nothing.
-use mathlib.Core.Path.{_≡_, refl, sym, _∙_, ap}
+use mathlib.Core.Path.{_≡_, refl, _∙_, ap}
 use mathlib.Core.Bool.{Bool, true, false, _||_, cond}
-use mathlib.Core.List.{List, [], _∷_, _++_, map}
+use mathlib.Core.List.{List, [], _∷_, _++_}
 use mathlib.Core.Option.{Option, some, none, Option·none-ne-some}
 use Prim.Native.Nat.{ℕ, zero, suc, _+_, _*_, _/_, _%_, _^_, _<_, _≤_}
-use native.Mathlib.Nat.{add-mul, mul-assoc, mul-comm, mul-add, mul-le-mul-right, mul-zero}
+use native.Mathlib.Nat.{add-mul, mul-assoc, mul-add, mul-le-mul-right, mul-zero}
 use native.Mathlib.Omega.{arith}
 use lib.Dec.{eqb}
 use lib.ListN.{length, getD, set, replicate}
-use borrow.Author.Tests.{eq-eqb, ne-eqb}
+use borrow.Author.Tests.{ne-eqb}
 use Rattle.machine.specs.declared.Pair.{Pair}
 use Rattle.machine.specs.Machine.{Machine}
-use Rattle.paths.specs.ByRanking.{ranked}
 use Rattle.labels.specs.Marks.{packed}
 use Rattle.product.specs.Nodes.{stateCounts, product}
 use Rattle.product.specs.ProductGraph.{Move}
@@ -23,9 +22,9 @@ use Rattle.steps.proofs.Codes.{SmallStep}
 use Rattle.tables.specs.Places.{markNumber}
 use Rattle.tables.specs.JointNumbers.{numbered}
 use Rattle.tables.specs.Insertions.{noPair}
-use Rattle.tables.specs.JointTable.{jointEntry, EntryOf}
+use Rattle.tables.specs.JointTable.{EntryOf}
 use Rattle.tables.specs.FillingJoint.{weightOf, scaledStep, together}
-use Rattle.tables.specs.Laws.Packing.{number-below, number-same}
+use Rattle.tables.specs.Laws.Packing.{number-below}
 use Rattle.tables.specs.Laws.Edges.{code-step-few}
 use Rattle.tables.proofs.Joining.{zeros}
 

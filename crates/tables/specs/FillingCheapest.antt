@@ -41,7 +41,7 @@ pub record FillPre (joint table : List ℕ) (P symbols : ℕ) : Type 0 where
   pub input : ℕ
   pub places : List ℕ
   pub sound : AllSound some-symbols machines
-  pub holds : HoldsJoint machines input places joint
+  pub holds : HoldsJoint symbols machines input places joint
   pub states : P ≡ product (stateCounts machines)
   pub room : P * P ≤ length table
   pub few : P ≤ 128
@@ -50,11 +50,11 @@ pub record FillPre (joint table : List ℕ) (P symbols : ℕ) : Type 0 where
 -- ys is xs with the smallest numbers of the insertions from a, if there were none from a in xs
 pub record FilledFrom (joint xs ys : List ℕ) (P symbols a : ℕ) : Type 0 where
   pub size : length ys ≡ length xs
-  pub row : (ms : List Machine) (places : List ℕ) → P ≡ product (stateCounts ms) → HoldsJoint ms emptySymbol places joint
+  pub row : (ms : List Machine) (places : List ℕ) → P ≡ product (stateCounts ms) → HoldsJoint symbols ms emptySymbol places joint
       → (b : ℕ) → b < P → entryAt xs P a b ≡ noPair → entryAt ys P a b ≡ cheapestInsertion places ms a b symbols
   pub others : (c b : ℕ) → c < P → b < P → c ≢ a → entryAt ys P c b ≡ entryAt xs P c b
 
 -- the table has the cheapest insertions of every list of machines that the joint steps belong to
 abbrev pub FilledCheapest : (joint table : List ℕ) (P symbols : ℕ) → Type 0
 FilledCheapest joint table P symbols =
-    (ms : List Machine) (places : List ℕ) → P ≡ product (stateCounts ms) → HoldsJoint ms emptySymbol places joint → HoldsCheapest symbols ms places table
+    (ms : List Machine) (places : List ℕ) → P ≡ product (stateCounts ms) → HoldsJoint symbols ms emptySymbol places joint → HoldsCheapest symbols ms places table

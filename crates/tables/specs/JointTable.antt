@@ -5,12 +5,11 @@ use mathlib.Core.Option.{Option, some, none}
 use Prim.Native.Nat.{ℕ, _+_, _*_, _^_, _<_, _≤_}
 use lib.ListN.{length, getD}
 use Rattle.machine.specs.Machine.{Machine}
+use Rattle.card.specs.Card.{machinesOf, cardRefusal}
 use Rattle.product.specs.Nodes.{stateCounts, product}
-use Rattle.steps.specs.StepTable.{HoldsSteps}
 use Rattle.tables.specs.declared.Joint.{Joint}
 use Rattle.tables.specs.Places.{SixPlaces}
 use Rattle.tables.specs.JointNumbers.{jointFrom, joined}
-use Rattle.tables.specs.Tables.{CardMachines}
 use Rattle.tables.specs.Insertions.{noPair}
 
 -- a joint step as one number: the code led to in front of the six marks; all ones where nothing takes the pair
@@ -27,25 +26,18 @@ pub record EntryOf (e : ℕ) (o : Option (ℕ × ℕ)) : Type 0 where
 abbrev pub ReadAs : ℕ → Joint → Type 0
 ReadAs e r = (o : Option (ℕ × ℕ)) → EntryOf e o → joined r ≡ o
 
-pub record HoldsJoint (ms : List Machine) (x : ℕ) (places table : List ℕ) : Type 0 where
+-- a table of the joint steps of machines on the input x, with the outputs up to S
+pub record HoldsJoint (S : ℕ) (ms : List Machine) (x : ℕ) (places table : List ℕ) : Type 0 where
   pub room : product (stateCounts ms) * 64 ≤ length table
-  pub entry : (code y : ℕ) → code < product (stateCounts ms) → y < 64 → EntryOf (getD table (code * 64 + y) 0) (jointFrom places ms code (record { input = x; output = y }))
+  pub entry : (code y : ℕ) → code < product (stateCounts ms) → y ≤ S → EntryOf (getD table (code * 64 + y) 0) (jointFrom places ms code (record { input = x; output = y }))
 
--- the steps of machines on the input x, and their state counts
-pub record StepsOf (S : ℕ) (ms : List Machine) (x : ℕ) (steps counts : List ℕ) : Type 0 where
-  pub machines : CardMachines S ms
-  pub holds-steps : HoldsSteps ms x steps
-  pub holds-counts : counts ≡ stateCounts ms
-
--- these are the steps of some machines, and there is room for a row for each code of their states
-pub record JointTablePre (steps counts places table : List ℕ) : Type 0 where
-  pub symbols : ℕ
-  pub machines : List Machine
-  pub input : ℕ
-  pub steps-of : StepsOf symbols machines input steps counts
+-- an accepted card, the state counts of its machines, six places; an input, and outputs up to S; room for the steps of one machine, and
+-- for a row for each code of states
+pub record JointTablePre (card counts places stretch table : List ℕ) (x S : ℕ) : Type 0 where
+  pub accepted : cardRefusal card ≡ 0
+  pub counts-are : counts ≡ stateCounts (machinesOf card)
   pub six : SixPlaces places
+  pub input : x < 64
+  pub outputs : S < 64
+  pub stretch-room : length stretch ≡ 2048
   pub room : product counts * 64 ≤ length table
-
--- the table has the joint steps of every list of machines that the steps belong to
-abbrev pub FilledJoint : (steps counts places table : List ℕ) → Type 0
-FilledJoint steps counts places table = (S : ℕ) (ms : List Machine) (x : ℕ) → StepsOf S ms x steps counts → HoldsJoint ms x places table

@@ -1,15 +1,17 @@
 // The table of the joint steps for one input.
 ghost use mathlib.Core.Path.{_≡_};
-ghost use Prim.Native.Nat.{_+_, _≤_, _<_};
+ghost use Prim.Native.Nat.{_+_, _*_, _≤_, _<_};
 ghost use lib.ListN.{length};
+ghost use Rattle.card.specs.Card.{machinesOf};
 ghost use Rattle.tables.specs.Places.{SixPlaces};
 ghost use Rattle.tables.specs.Insertions.{noPair};
-ghost use Rattle.tables.specs.FillingJoint.{weightOf, scaledStep, together, ScalePre, Scaled, AddRowPre, RowAdded, RowWritten, AddStatePre, StateAdded, AddMachinePre, MachineAdded};
-ghost use Rattle.tables.specs.JointTable.{ReadAs, JointTablePre, FilledJoint};
+ghost use Rattle.tables.specs.FillingJoint.{weightOf, scaledStep, together, ScalePre, Scaled, AddBlockPre, BlockAdded, BlockWritten, AddRowPre, RowAdded, AddStatePre, StateAdded, AddMachinePre, MachineAdded, RowBegun};
+ghost use Rattle.tables.specs.JointTable.{ReadAs, HoldsJoint, JointTablePre};
 use crate::Joint;
 use crate::index;
 use crate::number;
 use labels::NO_PAIR;
+use machine::sets;
 use steps::NO_STEP;
 
 // What an entry of the table says.
@@ -56,52 +58,65 @@ fn join(a: u32, b: u32) -> u32
     }
 }
 
-// The steps of one state of a machine as parts of joint steps.
-fn scale_row(steps: &[u16], from: usize, scale: u32, weight: u32, row: &mut [u32])
-    requires { ⌜ ScalePre (now steps) (now row) from scale weight ⌝ }
-    ensures { λ _. ⌜ Scaled (now (steps .entry)) (now (row .exit)) from scale weight ⌝ }
+// The first `width` steps of one state of a machine as parts of joint steps.
+fn scale_row(steps: &[u16], from: usize, scale: u32, weight: u32, width: usize, row: &mut [u32])
+    requires { ⌜ ScalePre (now steps) (now row) from scale weight width ⌝ }
+    ensures { λ _. ⌜ Scaled (now (steps .entry)) (now (row .exit)) from scale weight width ⌝ }
 {
     let mut y = 0;
-    while y < 64 {
+    while y < width {
         row[y] = scaled(steps[from + y], scale, weight);
         y += 1;
     }
 }
 
-// A row of the table with the steps of a state.
-fn add_row(table: &[u32], from: usize, step: &[u32], row: &mut [u32])
-    requires { ⌜ AddRowPre (now table) (now step) (now row) from ⌝ }
-    ensures { λ _. ⌜ RowAdded (now (table .entry)) (now (step .entry)) (now (row .exit)) from ⌝ }
+// Eight entries with eight steps of a state. A block of eight is what a loop is made for without a rest.
+fn add_block(table: &[u32], from: usize, step: &[u32], at: usize, row: &mut [u32])
+    requires { ⌜ AddBlockPre (now table) (now step) (now row) from at ⌝ }
+    ensures { λ _. ⌜ BlockAdded (now (table .entry)) (now (step .entry)) (now (row .exit)) from at ⌝ }
 {
-    let mut y = 0;
-    while y < 64 {
-        row[y] = join(table[from + y], step[y]);
-        y += 1;
+    let mut i = 0;
+    while i < 8 {
+        row[i] = join(table[from + i], step[at + i]);
+        i += 1;
     }
 }
 
-// Writes a row.
-fn write_row(table: &mut [u32], at: usize, row: &[u32])
-    requires { ⌜ (at + 64 ≤ length (now table)) × (length (now row) ≡ 64) ⌝ }
-    ensures { λ _. ⌜ RowWritten (now (table .entry)) (now (table .exit)) (now (row .entry)) at ⌝ }
+// Writes eight entries.
+fn write_block(table: &mut [u32], at: usize, row: &[u32])
+    requires { ⌜ (at + 8 ≤ length (now table)) × (length (now row) ≡ 8) ⌝ }
+    ensures { λ _. ⌜ BlockWritten (now (table .entry)) (now (table .exit)) (now (row .entry)) at ⌝ }
 {
-    let mut y = 0;
-    while y < 64 {
-        table[at + y] = row[y];
-        y += 1;
+    let mut i = 0;
+    while i < 8 {
+        table[at + i] = row[i];
+        i += 1;
+    }
+}
+
+// Writes a row: the one from `from` on with the steps of a state.
+fn add_row(table: &mut [u32], from: usize, to: usize, step: &[u32], blocks: usize)
+    requires { ⌜ AddRowPre (now table) (now step) from to (blocks * 8) ⌝ }
+    ensures { λ _. ⌜ RowAdded (now (table .entry)) (now (table .exit)) (now (step .entry)) from to (blocks * 8) ⌝ }
+{
+    let mut row = [0u32; 8];
+    let mut block = 0;
+    while block < blocks {
+        let at = block * 8;
+        add_block(table, from + at, step, at, &mut row);
+        write_block(table, to + at, &row);
+        block += 1;
     }
 }
 
 // Writes the rows of a state from `first` on: the first `rest` rows with its steps.
-fn add_state(table: &mut [u32], step: &[u32], rest: usize, first: usize)
-    requires { ⌜ AddStatePre (now table) (now step) rest first ⌝ }
-    ensures { λ _. ⌜ StateAdded (now (table .entry)) (now (table .exit)) (now (step .entry)) rest first ⌝ }
+fn add_state(table: &mut [u32], step: &[u32], rest: usize, first: usize, blocks: usize)
+    requires { ⌜ AddStatePre (now table) (now step) rest first (blocks * 8) ⌝ }
+    ensures { λ _. ⌜ StateAdded (now (table .entry)) (now (table .exit)) (now (step .entry)) rest first (blocks * 8) ⌝ }
 {
-    let mut row = [0u32; 64];
     let mut code = 0;
     while code < rest {
-        add_row(table, code * 64, step, &mut row);
-        write_row(table, (first + code) * 64, &row);
+        add_row(table, code * 64, (first + code) * 64, step, blocks);
         code += 1;
     }
 }
@@ -110,37 +125,60 @@ fn add_state(table: &mut [u32], step: &[u32], rest: usize, first: usize)
 fn add_machine(
     table: &mut [u32],
     steps: &[u16],
-    machine: usize,
     states: usize,
     rest: usize,
     weight: u32,
+    blocks: usize,
 )
-    requires { ⌜ AddMachinePre (now steps) (now table) machine states rest weight ⌝ }
-    ensures { λ _. ⌜ MachineAdded (now (steps .entry)) (now (table .entry)) (now (table .exit)) machine states rest weight ⌝ }
+    requires { ⌜ AddMachinePre (now steps) (now table) states rest weight (blocks * 8) ⌝ }
+    ensures { λ _. ⌜ MachineAdded (now (steps .entry)) (now (table .entry)) (now (table .exit)) states rest weight (blocks * 8) ⌝ }
 {
     let scale = rest as u32 * 16777216;
     let mut step = [0u32; 64];
     let mut state = states;
     while state > 0 {
         state -= 1;
-        scale_row(steps, (machine * 32 + state) * 64, scale, weight, &mut step);
-        add_state(table, &step, rest, state * rest);
+        scale_row(steps, state * 64, scale, weight, blocks * 8, &mut step);
+        add_state(table, &step, rest, state * rest, blocks);
     }
 }
 
-// The table of the joint steps from a table of steps.
-pub fn fill(steps: &[u16], counts: &[u8], places: &[u8; 6], table: &mut [u32])
-    requires { ⌜ JointTablePre (now steps) (now counts) (now places) (now table) ⌝ }
-    ensures { λ _. ⌜ FilledJoint (now (steps .entry)) (now (counts .entry)) (now (places .entry)) (now (table .exit)) ⌝ }
+// Writes the row of no machine.
+fn begin(table: &mut [u32])
+    requires { ⌜ 64 ≤ length (now table) ⌝ }
+    ensures { λ _. ⌜ RowBegun (now (table .entry)) (now (table .exit)) ⌝ }
 {
-    let none = [0u32; 64];
-    write_row(table, 0, &none);
+    let mut y = 0;
+    while y < 64 {
+        table[y] = 0;
+        y += 1;
+    }
+}
+
+// The table of the joint steps of an accepted card's machines for one input, with the outputs up to `symbols`; `stretch` is for the steps
+// of one machine at a time.
+pub fn fill(
+    card: &[u8],
+    input: u8,
+    counts: &[u8],
+    places: &[u8; 6],
+    symbols: usize,
+    stretch: &mut [u16],
+    table: &mut [u32],
+)
+    requires { ⌜ JointTablePre (now card) (now counts) (now places) (now stretch) (now table) input symbols ⌝ }
+    ensures { λ _. ⌜ HoldsJoint symbols (machinesOf (now (card .entry))) input (now (places .entry)) (now (table .exit)) ⌝ }
+{
+    let set = sets::set_of(input);
+    let blocks = symbols / 8 + 1;
+    begin(table);
     let mut rest = 1;
     let mut m = counts.len();
     while m > 0 {
         m -= 1;
         let states = index(counts[m]);
-        add_machine(table, steps, m, states, rest, weight(places, m));
+        steps::fill_machine(stretch, card::part(card, m), set);
+        add_machine(table, stretch, states, rest, weight(places, m), blocks);
         rest *= states;
     }
 }

@@ -1,4 +1,3 @@
-use borrow.Author.Needs.{needs}
 use mathlib.Core.Path.{_≡_, refl, _∙_}
 use Prim.Native.Nat.{_+_, _-_, _≤_}
 use native.Mathlib.Omega.{arith}
@@ -10,11 +9,11 @@ use Rattle.positions.proofs.label_positions.Statement.{statement}
 use Rattle.positions.proofs.label_positions.Tie as tie
 
 abbrev Inv-loop : tie.InvT-loop
-Inv-loop work₀ card ranking word rows counts places insertions steps₀ joint₀ size left₀ work steps joint left =
-    (left ≤ length word + 1) × PositionsDone card ranking word work₀ work left × (length steps ≡ length steps₀) × (length joint ≡ length joint₀)
+Inv-loop work₀ card ranking word rows counts places insertions stretch₀ joint₀ size left₀ work stretch joint left =
+    (left ≤ length word + 1) × PositionsDone card ranking word work₀ work left × (length stretch ≡ length stretch₀) × (length joint ≡ length joint₀)
 
 abbrev μ-loop : tie.MeasureT-loop
-μ-loop work₀ card ranking word rows counts places insertions steps₀ joint₀ size left₀ work steps joint left = left
+μ-loop work₀ card ranking word rows counts places insertions stretch₀ joint₀ size left₀ work stretch joint left = left
 
 add-clear : tie.Need-add-clear Inv-loop μ-loop
 add-clear c = omega (arith, word-sound (c .before .before .before .before .before .before .before .before .before .before .pre .0 .setting) .few)
@@ -39,7 +38,7 @@ label-position-requires c κs =
     let t = c .before .before .before .before .before .before .before .before .before .before .before .before .before .before .before .before .before .before in
     let l = c .before .before .before .before .loop in (
       position-ready (cleared-pre (t .pre .0) (c .before .before .before .before .before .before .before .clear .ensures)) (l .left) (omega arith) (l .inv .0) (t .pre .1) (l .inv .1),
-      record { steps = l .inv .2 ∙ t .pre .2 .steps; joint = omega (arith, l .inv .3, t .pre .2 .joint) },
+      record { stretch = l .inv .2 ∙ t .pre .2 .stretch; joint = omega (arith, l .inv .3, t .pre .2 .joint) },
       t .pre .3,
     )
 

@@ -19,7 +19,7 @@ fill-insertions-requires c κs =
     let t = c .before .before .before .before .before .before .before .before .before .before .before .before .before .before .before .before .before in
     let s = t .pre .0 .setting in (
       record { accepted = s .accepted; ranks = s .ranks; size = s .size; counts = front-is (c .before .before .before .before .before .before .before .before .before .before .before .before .before .before .before .before .before .args .card .now) (c .before .before .before .before .before .before .before .before .before .before .before .before .before .before .before .before .before .pre .0 .setting .accepted) (c .before .before .before .before .before .before .before .before .before .before .state-counts .result) (c .before .before .before .before .before .before .before .before .before .machine-count .result) (c .before .before .before .before .before .before .before .before .before .machine-count .ensures) (c .before .before .before .before .before .before .before .before .before .before .state-counts .ensures); places = c .before .before .before .before .before .before .before .six-places .ensures; room = t .pre .1 .cheapest },
-      record { steps = refl; joint = t .pre .1 .joint },
+      record { stretch = refl; joint = t .pre .1 .joint },
       t .pre .1 .blank,
     )
 
@@ -28,7 +28,7 @@ label-positions-requires c κs =
     let t = c .before .before .before .before .before .before .before .before .before .before .before .before .before .before .before .before .before .before .before .before .before .before .before .before .before .before .before .before .before in (
       record { setting = t .pre .0 .setting; room = t .pre .0 .room },
       front-looked (c .before .before .before .before .before .before .before .before .before .before .before .before .before .before .before .before .before .before .before .before .before .before .before .before .before .before .before .before .before .args .card .now) (c .before .before .before .before .before .before .before .before .before .before .before .before .before .before .before .before .before .before .before .before .before .before .before .before .before .before .before .before .before .pre .0 .setting .accepted) (c .before .before .before .before .before .before .before .before .before .before .before .before .before .before .before .before .before .before .before .before .before .before .state-counts .result) (c .before .before .before .before .before .before .before .before .before .before .before .before .before .before .before .before .before .before .before .before .before .machine-count .result) (c .before .before .before .before .before .before .before .before .before .before .before .before .before .before .before .before .before .before .before .before .before .machine-count .ensures) (c .before .before .before .before .before .before .before .before .before .before .before .before .before .before .before .before .before .before .before .before .before .before .state-counts .ensures) (c .before .before .before .before .before .before .before .before .before .before .before .before .before .before .before .before .before .fill-rows .ensures) (c .before .before .before .before .before .before .before .before .before .before .before .before .before .before .before .before .before .before .before .six-places .ensures),
-      record { steps = c .before .before .before .before .before .before .before .before .before .before .before .fill-insertions .kept .1 .1 .1 .1 .0; joint = omega (arith, c .before .before .before .before .before .before .before .before .before .before .before .fill-insertions .kept .1 .1 .1 .1 .1 .0, t .pre .1 .joint) },
+      record { stretch = c .before .before .before .before .before .before .before .before .before .before .before .fill-insertions .kept .1 .1 .1 .1 .0; joint = omega (arith, c .before .before .before .before .before .before .before .before .before .before .before .fill-insertions .kept .1 .1 .1 .1 .1 .0, t .pre .1 .joint) },
       c .before .before .before .before .before .before .before .before .before .before .before .fill-insertions .ensures,
     )
 

@@ -1,5 +1,5 @@
 use borrow.Author.Needs.{needs}
-use Prim.Native.Nat.{ℕ, _+_, _-_}
+use Prim.Native.Nat.{_+_, _-_}
 use native.Mathlib.Omega.{arith}
 use Rattle.tables.proofs.Cheapest.{Filling, filling-start, entry-in, entry-few, note-pre, filling-step, filling-end}
 use Rattle.tables.proofs.fill_from.Statement.{statement}

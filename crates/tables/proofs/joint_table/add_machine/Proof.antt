@@ -1,6 +1,6 @@
 use borrow.Author.Needs.{needs}
-use mathlib.Core.Path.{_≡_, refl, sym, _∙_}
-use Prim.Native.Nat.{suc, _+_, _-_, _*_}
+use mathlib.Core.Path.{_≡_, refl}
+use Prim.Native.Nat.{_-_, _*_}
 use native.Mathlib.Omega.{arith}
 use lib.ListN.{length}
 use Rattle.tables.proofs.JointRows.{MachineTo, machine-start, rest-few, state-last, scale-pre, machine-state-pre, machine-next, machine-end}
@@ -8,10 +8,10 @@ use Rattle.tables.proofs.joint_table.add_machine.Statement.{statement}
 use Rattle.tables.proofs.joint_table.add_machine.Tie as tie
 
 abbrev Inv-loop : tie.InvT-loop
-Inv-loop table₀ steps machine states rest weight scale step₀ state₀ table step state = MachineTo steps table₀ table machine states rest weight state × (length step ≡ 64)
+Inv-loop table₀ steps states rest weight blocks scale step₀ state₀ table step state = MachineTo steps table₀ table states rest weight (blocks * 8) state × (length step ≡ 64)
 
 abbrev μ-loop : tie.MeasureT-loop
-μ-loop table₀ steps machine states rest weight scale step₀ state₀ table step state = state
+μ-loop table₀ steps states rest weight blocks scale step₀ state₀ table step state = state
 
 cast-scale : tie.Need-cast-scale Inv-loop μ-loop
 cast-scale c = omega (arith, rest-few (c .before .before .pre))
@@ -21,6 +21,12 @@ mul-scale c = omega (arith, rest-few (c .before .before .pre))
 
 loop-holds : tie.Need-loop-holds Inv-loop μ-loop
 loop-holds c = (machine-start (c .before .before .pre), refl)
+
+mul-scale-row : tie.Need-mul-scale-row Inv-loop μ-loop
+mul-scale-row c = let l = c .before in omega (arith, l .loop .inv .0 .within, l .before .before .before .pre .most)
+
+mul-scale-row-2 : tie.Need-mul-scale-row-2 Inv-loop μ-loop
+mul-scale-row-2 c = omega (arith, c .before .before .before .before .pre .width)
 
 scale-row-requires : tie.Need-scale-row-requires Inv-loop μ-loop
 scale-row-requires c κs = let l = c .before .before in scale-pre (l .before .before .before .pre) (l .loop .state - 1) (omega (arith, l .loop .inv .0 .within)) (l .loop .inv .1)
@@ -55,9 +61,8 @@ add-machine-spec =
     mul-scale
     loop-holds
     (λ c. search needs)
-    (λ c. search needs)
-    (λ c. search needs)
-    (λ c. search needs)
+    mul-scale-row
+    mul-scale-row-2
     (λ c. search needs)
     scale-row-requires
     (λ c. search needs)

@@ -1,7 +1,6 @@
 use borrow.Author.Needs.{needs}
 use mathlib.Core.Path.{_∙_}
 use native.Mathlib.Omega.{arith}
-use lib.ListN.{set, replicate}
 use Rattle.tables.specs.Laws.Packing.{number-same}
 use Rattle.tables.proofs.JointEntries.{unit-same, unit-few}
 use Rattle.tables.proofs.joint_table.weight.Statement.{statement}

@@ -1,15 +1,14 @@
 use borrow.Author.Needs.{needs}
 use Prim.Native.Nat.{_-_}
-use native.Mathlib.Omega.{arith}
 use Rattle.tables.proofs.JointRows.{WrittenTo, written-start, written-next, written-end}
-use Rattle.tables.proofs.joint_table.write_row.Statement.{statement}
-use Rattle.tables.proofs.joint_table.write_row.Tie as tie
+use Rattle.tables.proofs.joint_table.write_block.Statement.{statement}
+use Rattle.tables.proofs.joint_table.write_block.Tie as tie
 
 abbrev Inv-loop : tie.InvT-loop
-Inv-loop table₀ at row y₀ table y = WrittenTo table₀ table row at y
+Inv-loop table₀ at row i₀ table i = WrittenTo table₀ table row at i
 
 abbrev μ-loop : tie.MeasureT-loop
-μ-loop table₀ at row y₀ table y = 64 - y
+μ-loop table₀ at row i₀ table i = 8 - i
 
 loop-holds : tie.Need-loop-holds Inv-loop μ-loop
 loop-holds c = written-start
@@ -23,8 +22,8 @@ same-length c = c .before .loop .inv .size
 returns : tie.Need-returns Inv-loop μ-loop
 returns c = written-end (c .before .loop .inv) (c .loop-test .left)
 
-pub write-row-spec : {M : Type 1} → statement M
-write-row-spec =
+pub write-block-spec : {M : Type 1} → statement M
+write-block-spec =
     tie.close
     (tie.spec
     Inv-loop
