@@ -354,6 +354,16 @@ fn label_with(
     );
 }
 
+// Labels all nodes of a card with at most 8 joint states.
+fn label_tiny(work: &mut [u16], card: &[u8], ranking: &[u8], word: &[u8], size: usize)
+    requires { ⌜ LabelPre (now card) (now ranking) (now word) (now work) size × (size ≤ 8) ⌝ }
+    ensures { λ _. ⌜ PositionsDone (now (card .entry)) (now (ranking .entry)) (now (word .entry)) (now (work .entry)) (now (work .exit)) 0 ⌝ }
+{
+    let mut joint = [0u32; 512];
+    let mut cheapest = [NO_PAIR; 64];
+    label_with(work, card, ranking, word, size, &mut joint, &mut cheapest);
+}
+
 // Labels all nodes of a card with at most 32 joint states.
 fn label_small(work: &mut [u16], card: &[u8], ranking: &[u8], word: &[u8], size: usize)
     requires { ⌜ LabelPre (now card) (now ranking) (now word) (now work) size × (size ≤ 32) ⌝ }
@@ -380,7 +390,9 @@ pub fn label(work: &mut [u16], card: &[u8], ranking: &[u8], word: &[u8], size: u
     requires { ⌜ LabelPre (now card) (now ranking) (now word) (now work) size ⌝ }
     ensures { λ _. ⌜ PositionsDone (now (card .entry)) (now (ranking .entry)) (now (word .entry)) (now (work .entry)) (now (work .exit)) 0 ⌝ }
 {
-    if size <= 32 {
+    if size <= 8 {
+        label_tiny(work, card, ranking, word, size);
+    } else if size <= 32 {
         label_small(work, card, ranking, word, size);
     } else {
         label_large(work, card, ranking, word, size);
