@@ -12,37 +12,28 @@ use Rattle.machine.specs.Accepted.{shape-facts, finals-count, accepted as part-
 use Rattle.card.specs.Layout.{machineCount, symbolCount, partOf, partsOf}
 use Rattle.card.specs.Card.{machinesOf, cardRefusal}
 use Rattle.card.specs.Accepted.{accepted}
-use Rattle.card.specs.Laws.Search.{map-at}
-use Rattle.card.specs.Laws.Layout.{length-parts, part-at}
-use Rattle.steps.specs.StepTable.{stepCode, stepPlace, machineAt, HoldsMachine, HoldsSteps}
+use Rattle.card.specs.Laws.Machines.{machine-at}
+use Rattle.steps.specs.StepTable.{stepCode, stepPlace, noMachine, machineAt, HoldsMachine, HoldsSteps}
 use Rattle.steps.proofs.Stretches.{put-inside, put-before, put-size}
-
-pub machines-count : (card : List ℕ) → length (machinesOf card) ≡ machineCount card
-unfolding machinesOf
-machines-count card = length-map (partsOf card) machineOf ∙ length-parts card
-
-pub machine-at : (card : List ℕ) (m : ℕ) → m < machineCount card → machineAt (machinesOf card) m ≡ machineOf (partOf card m)
-unfolding machinesOf
-machine-at card m h = map-at machineOf (partsOf card) m (rw length-parts h) (record { finals = []; arcs = [] }) [] ∙ ap machineOf (part-at card m h [])
 
 -- each machine of an accepted card has at most 32 states
 pub few-states : (card : List ℕ) → cardRefusal card ≡ 0 → (m : ℕ) → m < machineCount card → length (machineAt (machinesOf card) m .finals) ≤ 32
 few-states card ok m h =
     let t = part-accepted (symbolCount card) (partOf card m) (accepted card ok .part m h) .shape in
-    omega (arith, ap (λ (n : Machine). length (n .finals)) (machine-at card m h), finals-count (partOf card m) t, shape-facts (partOf card m) t .states)
+    omega (arith, ap (λ (n : Machine). length (n .finals)) (machine-at card m h noMachine), finals-count (partOf card m) t, shape-facts (partOf card m) t .states)
 
 -- the steps of the first m machines are in the table
 pub record MachinesFilled (ms : List Machine) (x : ℕ) (table : List ℕ) (m : ℕ) : Type 0 where
-  pub size : length table ≡ 12288
+  pub size : length ms * 2048 ≤ length table
   pub step : (j s y : ℕ) → j < m → s < length (machineAt ms j .finals) → y < 64 → getD table (stepPlace j s y) 0 ≡ stepCode (stepOf (machineAt ms j) s (record { input = x; output = y }))
 
 module _ (ms : List Machine) (x : ℕ) where
-  pub machines-start : (table : List ℕ) → length table ≡ 12288 → MachinesFilled ms x table 0
+  pub machines-start : (table : List ℕ) → length ms * 2048 ≤ length table → MachinesFilled ms x table 0
   machines-start table e = record { size = e; step = λ j s y h. absurd (omega arith) }
 
   -- one machine more, in its stretch
-  pub machines-next : {table stretch : List ℕ} {m : ℕ} (a k : ℕ) → m < 6 → ((j : ℕ) → j < m + 1 → length (machineAt ms j .finals) ≤ 32) → a ≡ m * 2048 → k ≡ 2048 → MachinesFilled ms x table m → HoldsMachine (machineAt ms m) x stretch → MachinesFilled ms x (putMid a k table stretch) (m + 1)
-  machines-next {table} {stretch} {m} a k l few p q F H = record { size = put-size a k table stretch room size ∙ F .size; step = λ j s y h hs hy. at j s y h hs hy (ℕ-discrete j m) }
+  pub machines-next : {table stretch : List ℕ} {m : ℕ} (a k : ℕ) → m < length ms → ((j : ℕ) → j < m + 1 → length (machineAt ms j .finals) ≤ 32) → a ≡ m * 2048 → k ≡ 2048 → MachinesFilled ms x table m → HoldsMachine (machineAt ms m) x stretch → MachinesFilled ms x (putMid a k table stretch) (m + 1)
+  machines-next {table} {stretch} {m} a k l few p q F H = record { size = omega (arith, put-size a k table stretch room size, F .size); step = λ j s y h hs hy. at j s y h hs hy (ℕ-discrete j m) }
     where
       room : a + k ≤ length table
       room = omega (arith, F .size)

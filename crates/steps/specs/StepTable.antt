@@ -2,7 +2,7 @@
 use mathlib.Core.Path.{_≡_}
 use mathlib.Core.List.{List, []}
 use mathlib.Core.Option.{Option, some, none}
-use Prim.Native.Nat.{ℕ, _+_, _*_, _<_}
+use Prim.Native.Nat.{ℕ, _+_, _*_, _<_, _≤_}
 use lib.ListN.{length, getD}
 use Rattle.machine.specs.Machine.{Machine, stepOf}
 
@@ -18,9 +18,13 @@ rowPlace m s = (m * 32 + s) * 64
 abbrev pub stepPlace : ℕ → ℕ → ℕ → ℕ
 stepPlace m s y = rowPlace m s + y
 
--- the machine of a number; one with no state where there is none
+-- a machine with no state
+abbrev pub noMachine : Machine
+noMachine = record { finals = []; arcs = [] }
+
+-- the machine of a number, where there is one
 abbrev pub machineAt : List Machine → ℕ → Machine
-machineAt ms m = getD ms m (record { finals = []; arcs = [] })
+machineAt ms m = getD ms m noMachine
 
 -- the steps of one machine from its states, on the input x
 pub record HoldsMachine (machine : Machine) (x : ℕ) (stretch : List ℕ) : Type 0 where
@@ -29,6 +33,6 @@ pub record HoldsMachine (machine : Machine) (x : ℕ) (stretch : List ℕ) : Typ
 
 -- the steps of all machines from their states, on the input x
 pub record HoldsSteps (machines : List Machine) (x : ℕ) (table : List ℕ) : Type 0 where
-  pub size : length table ≡ 12288
+  pub size : length machines * 2048 ≤ length table
   pub step : (m s y : ℕ) → m < length machines → s < length (machineAt machines m .finals) → y < 64
       → getD table (stepPlace m s y) 0 ≡ stepCode (stepOf (machineAt machines m) s (record { input = x; output = y }))

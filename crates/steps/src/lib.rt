@@ -3,6 +3,7 @@ ghost use mathlib.Core.Path.{_≡_};
 ghost use Prim.Native.Nat.{ℕ, _+_, _*_, _^_, _<_, _≤_};
 ghost use lib.ListN.{length, replicate};
 ghost use Rattle.machine.specs.Part.{machineOf};
+ghost use Rattle.card.specs.Layout.{machineCount};
 ghost use Rattle.card.specs.Card.{machinesOf, cardRefusal};
 ghost use Rattle.steps.specs.StepTable.{HoldsMachine, HoldsSteps};
 ghost use Rattle.steps.specs.Filling.{AcceptedPart, RowWritten, ArcEntered};
@@ -81,9 +82,9 @@ pub fn fill_machine(stretch: &mut [u16], part: &[u8], input: u64)
     }
 }
 
-// Fills the table of steps of an accepted card's machines for one input.
+// Fills the table of steps of an accepted card's machines for one input: a stretch of 2,048 numbers for each machine.
 pub fn fill_steps(card: &[u8], input: u8, table: &mut [u16])
-    requires { ⌜ (cardRefusal (now card) ≡ 0) × (input < 64) × (length (now table) ≡ 12288) ⌝ }
+    requires { ⌜ (cardRefusal (now card) ≡ 0) × (input < 64) × (machineCount (now card) * 2048 ≤ length (now table)) ⌝ }
     ensures { λ _. ⌜ HoldsSteps (machinesOf (now (card .entry))) input (now (table .exit)) ⌝ }
 {
     let machines = card::machine_count(card);

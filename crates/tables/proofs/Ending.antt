@@ -14,8 +14,8 @@ use Rattle.card.specs.Layout.{machineCount, symbolCount, partOf}
 use Rattle.card.specs.Card.{machinesOf}
 use Rattle.product.specs.Nodes.{stateCounts, product, statesOf}
 use Rattle.product.specs.JointStep.{andThose, ofEach, jointEnding}
-use Rattle.steps.specs.StepTable.{machineAt}
-use Rattle.steps.proofs.Machines.{machines-count, machine-at}
+use Rattle.steps.specs.StepTable.{noMachine, machineAt}
+use Rattle.card.specs.Laws.Machines.{length-machines, machine-at}
 use Rattle.tables.specs.Places.{markNumber}
 use Rattle.tables.specs.JointNumbers.{endingNumber, endingFrom}
 use Rattle.tables.specs.Tables.{CardMachines, EndingPre}
@@ -67,7 +67,7 @@ module _ {card rows places : List ℕ} {code : ℕ} (pre : EndingPre card rows p
 
   module _ (m : ℕ) (h : m < machineCount card) where
     its-machine : m < length (machinesOf card)
-    its-machine = omega (arith, machines-count card)
+    its-machine = omega (arith, length-machines card)
 
     pub machine-few : m < 6
     machine-few = omega (arith, its-machine, M .machines)
@@ -87,7 +87,7 @@ module _ {card rows places : List ℕ} {code : ℕ} (pre : EndingPre card rows p
       next =
           of-each-next endingOf (machinesOf card) (statesOf (stateCounts (machinesOf card)) code) m its-machine
           (omega (arith, its-machine, counts-length (machinesOf card), below-length (stateCounts (machinesOf card)) (statesOf (stateCounts (machinesOf card)) code) (code-states M code (pre .state))))
-          ∙ (rw (machine-at card m h, e))
+          ∙ (rw (machine-at card m h noMachine, e))
 
       with-first : {o : Option ℕ} → endingOf (machineOf (partOf card m)) s ≡ o
           → andThose (endingOf (machineOf (partOf card m)) s) (jointEnding (drop (suc m) (machinesOf card)) (drop (suc m) (statesOf (stateCounts (machinesOf card)) code)))
@@ -98,7 +98,7 @@ module _ {card rows places : List ℕ} {code : ℕ} (pre : EndingPre card rows p
       ending-stuck z = sym (E .rest ∙ ap (resume places m marks) (next ∙ with-first z))
 
       pub ending-few : (k : ℕ) → endingOf (machineOf (partOf card m)) s ≡ some k → k ≤ 15
-      ending-few k z = sound-at (M .sound) m its-machine .ends s k (ap (λ (n : Machine). endingOf n s) (machine-at card m h) ∙ z)
+      ending-few k z = sound-at (M .sound) m its-machine .ends s k (ap (λ (n : Machine). endingOf n s) (machine-at card m h noMachine) ∙ z)
 
       pub ending-step : (k : ℕ) → endingOf (machineOf (partOf card m)) s ≡ some k → EndingOf card places code (set marks m k) (m + 1)
       ending-step k z = record {
@@ -117,5 +117,5 @@ module _ {card rows places : List ℕ} {code : ℕ} (pre : EndingPre card rows p
   ending-end {marks} {m} h E n k =
       sym
       (E .rest
-      ∙ ap (resume places m marks) (of-each-end endingOf (machinesOf card) (drop m (statesOf (stateCounts (machinesOf card)) code)) m (omega (arith, machines-count card)))
+      ∙ ap (resume places m marks) (of-each-end endingOf (machinesOf card) (drop m (statesOf (stateCounts (machinesOf card)) code)) m (omega (arith, length-machines card)))
       ∙ ap some (marks-taken places m marks (E .unset) ∙ sym k))

@@ -138,14 +138,11 @@ module _ {steps rows counts places : List ℕ} {code y : ℕ} (pre : JointPre st
   pub rows-size : length rows ≡ 1024
   rows-size = pre .tables .tables .holds-rows .size
 
-  pub steps-size : length steps ≡ 12288
-  steps-size = pre .tables .tables .holds-steps .size
-
   pub row-there : (m : ℕ) → m < length counts → code * 8 + m < 1024
   row-there m h = omega (arith, rows-size, in-rows (pre .tables .tables) code y m (pre .state) (pre .output) h)
 
-  pub step-there : (m : ℕ) → m < length counts → getD rows (code * 8 + m) 0 + y < 12288
-  step-there m h = omega (arith, steps-size, in-steps (pre .tables .tables) code y m (pre .state) (pre .output) h)
+  pub step-there : (m : ℕ) → m < length counts → getD rows (code * 8 + m) 0 + y < length steps
+  step-there m h = omega (arith, in-steps (pre .tables .tables) code y m (pre .state) (pre .output) h)
 
   pub joining-start : Joining steps rows counts places code y 0 (replicate 8 0) 0
   joining-start = record {

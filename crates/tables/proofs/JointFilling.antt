@@ -19,7 +19,7 @@ use Rattle.product.specs.Laws.Nodes.{Positive, product-positive}
 use Rattle.product.specs.Laws.JointStep.{AllSound, all-none, all-next, counts-positive}
 use Rattle.product.specs.Laws.Codes.{withFirst, step-no-machine, step-next-machine}
 use Rattle.steps.specs.StepTable.{stepCode, machineAt, HoldsMachine}
-use Rattle.steps.proofs.Machines.{machines-count}
+use Rattle.card.specs.Laws.Machines.{length-machines}
 use Rattle.tables.specs.Places.{markNumber}
 use Rattle.tables.specs.JointNumbers.{numbered}
 use Rattle.tables.specs.Tables.{CardMachines}
@@ -65,7 +65,7 @@ module _ {card counts places stretch xs : List ℕ} {x S : ℕ} (pre : JointTabl
   counts-few = omega (arith, M .machines, ap length (pre .counts-are), counts-length (machinesOf card))
 
   pub counts-machines : length counts ≡ machineCount card
-  counts-machines = ap length (pre .counts-are) ∙ counts-length (machinesOf card) ∙ machines-count card
+  counts-machines = ap length (pre .counts-are) ∙ counts-length (machinesOf card) ∙ length-machines card
 
   positive : Positive counts
   positive = rw (pre .counts-are) (counts-positive (M .sound))
@@ -108,7 +108,7 @@ module _ {card counts places stretch xs : List ℕ} {x S : ℕ} (pre : JointTabl
     machine-below = omega (arith, below, counts-machines)
 
     its-machine : m < length (machinesOf card)
-    its-machine = omega (arith, machine-below, machines-count card)
+    its-machine = omega (arith, machine-below, length-machines card)
 
     module _ (q : ℕ) (is : q ≡ getD counts m 0) where
       all-states : product (drop m counts) ≡ q * rest

@@ -47,13 +47,13 @@ symbol-below card word ok t j h =
 
 module _ {card word before : List ℕ} {i : ℕ} (pre : PassPre card word before i) (p : Pair) where
   pub passed-stays : eqb (p .input) emptySymbol ≡ true → Passed card word before before i p i
-  passed-stays t = record { position = sym (ap (λ (b : Bool). cond b i (i + 1)) t); size = pre .size; steps = λ f. f }
+  passed-stays t = record { position = sym (ap (λ (b : Bool). cond b i (i + 1)) t); size = refl; steps = λ f. f }
 
-  pub passed-filled : eqb (p .input) emptySymbol ≡ false → (after : List ℕ) → HoldsSteps (machinesOf card) (getD word (i + 1) emptySymbol) after → Passed card word before after i p (i + 1)
-  passed-filled t after H = record { position = sym (ap (λ (b : Bool). cond b i (i + 1)) t); size = H .size; steps = λ f h. H }
+  pub passed-filled : eqb (p .input) emptySymbol ≡ false → (after : List ℕ) → length after ≡ length before → HoldsSteps (machinesOf card) (getD word (i + 1) emptySymbol) after → Passed card word before after i p (i + 1)
+  passed-filled t after e H = record { position = sym (ap (λ (b : Bool). cond b i (i + 1)) t); size = e; steps = λ f h. H }
 
   pub passed-end : eqb (p .input) emptySymbol ≡ false → length word ≤ i + 1 → Passed card word before before i p (i + 1)
-  passed-end t k = record { position = sym (ap (λ (b : Bool). cond b i (i + 1)) t); size = pre .size; steps = λ f h. absurd (omega arith) }
+  passed-end t k = record { position = sym (ap (λ (b : Bool). cond b i (i + 1)) t); size = refl; steps = λ f h. absurd (omega arith) }
 
 -- ---- the loop
 
@@ -153,7 +153,7 @@ module _ {places card word xs insertions rows counts before : List ℕ} {size : 
         pub following-next : (answer′ : List ℕ) → answer′ ≡ set (set answer (2 * n) (q .input)) (2 * n + 1) (q .output) → Following places card word xs insertions rows counts before size after answer′ r c (n + 1)
         following-next answer′ w = record {
           labels = F .labels;
-          tables = record { six = F .tables .six; for-insertions = F .tables .for-insertions; for-symbol = P .steps (F .tables .for-symbol); steps-size = P .size };
+          tables = record { six = F .tables .six; for-insertions = F .tables .for-insertions; for-symbol = P .steps (F .tables .for-symbol); steps-size = P .size ∙ F .tables .steps-size };
           position = rw reached (t .position);
           state = t .state;
           cost = F .cost;

@@ -2,10 +2,10 @@
 use mathlib.Core.Path.{_≡_, refl, sym, _∙_, ap, subst}
 use mathlib.Core.Bool.{true, _&&_}
 use mathlib.Core.List.{List, [], _∷_, map}
-use Prim.Native.Nat.{ℕ, zero, suc, _≤_, _<_}
+use Prim.Native.Nat.{ℕ, zero, suc, _*_, _≤_, _<_}
 use native.Mathlib.Omega.{arith}
 use lib.Dec.{leb}
-use lib.ListN.{length, getD, take, length-map}
+use lib.ListN.{length, getD, take, replicate, length-map, length-replicate}
 use borrow.Author.Tests.{leb-true}
 use Rattle.basics.specs.Search.{allOf}
 use Rattle.basics.proofs.Bools.{left}
@@ -18,14 +18,14 @@ use Rattle.candidate.specs.Optimizing.{soundWord}
 use Rattle.product.specs.Nodes.{stateCountOf, stateCounts, product, codeOf}
 use Rattle.product.specs.ProductGraph.{startNode}
 use Rattle.steps.specs.StepTable.{HoldsSteps}
-use Rattle.steps.proofs.Machines.{machines-count}
+use Rattle.card.specs.Laws.Machines.{length-machines}
 use Rattle.tables.specs.Places.{sixPlaces, SixPlaces}
 use Rattle.tables.specs.Tables.{HoldsRows}
 use Rattle.tables.specs.FillingRows.{RowsPre}
 use Rattle.tables.specs.Laws.Harmony.{six-places}
 use Rattle.tables.specs.Laws.Cards.{card-counts, card-tables}
 use Rattle.walk.specs.Setting.{Labelled}
-use Rattle.walk.specs.Walked.{WalkPre, FollowPre, Walked}
+use Rattle.walk.specs.Walked.{WalkPre, TablesLent, FollowPre, Walked}
 
 -- the start is the node 0: the position is 0, and each machine's start state is 0
 start-code : (ms : List Machine) → codeOf (stateCounts ms) (map (λ m. startState) ms) ≡ 0
@@ -55,7 +55,7 @@ module _ (card : List ℕ) (m : ℕ) (counts : List ℕ) (e : m ≡ machineCount
   counts-are = ap (λ (n : ℕ). take n counts) e ∙ t
 
   pub counts-length : m ≡ length (take m counts)
-  counts-length = e ∙ sym (ap length counts-are ∙ length-map (machinesOf card) stateCountOf ∙ machines-count card)
+  counts-length = e ∙ sym (ap length counts-are ∙ length-map (machinesOf card) stateCountOf ∙ length-machines card)
 
   pub counts-within : m ≤ length counts
   counts-within = take-short m counts (sym counts-length)
@@ -68,18 +68,22 @@ module _ {ranking card word work : List ℕ} {size room : ℕ} (pre : WalkPre ra
   by-places : Labelled (sixPlaces ranking) card word work size
   by-places = let L = pre .labels in record { accepted = L .accepted; sound-word = L .sound-word; states = L .states; room = L .room; closed = L .closed; attained = L .attained }
 
-  pub follow-pre : (places insertions steps rows counts : List ℕ) → places ≡ sixPlaces ranking → HoldsSteps (machinesOf card) emptySymbol insertions → HoldsSteps (machinesOf card) (getD word 0 emptySymbol) steps → HoldsRows counts rows
+  pub follow-pre : (places insertions steps rows counts : List ℕ) → places ≡ sixPlaces ranking → HoldsSteps (machinesOf card) emptySymbol insertions → HoldsSteps (machinesOf card) (getD word 0 emptySymbol) steps → length steps ≡ length insertions → HoldsRows counts rows
       → counts ≡ stateCounts (machinesOf card) → FollowPre places card word work insertions steps rows counts size room
-  follow-pre places insertions steps rows counts p i s r e = record {
+  follow-pre places insertions steps rows counts p i s z r e = record {
     labels = subst (λ (l : List ℕ). Labelled l card word work size) (sym p) by-places;
     tables = record {
       six = subst SixPlaces (sym p) (six-places (machineCount card) ranking (omega (arith, accepted card (pre .labels .accepted) .head .counts)) (pre .is-ranking));
       for-insertions = card-tables card (pre .labels .accepted) i r e;
       for-symbol = λ h. s;
-      steps-size = s .size;
+      steps-size = z;
     };
     start = pre .start;
   }
+
+-- two new tables, with room for a stretch for each machine
+pub tables-lent : (card : List ℕ) (n : ℕ) → machineCount card * 2048 ≤ n → TablesLent card (replicate n 0) (replicate n 0)
+tables-lent card n h = record { room = rw (length-replicate {A = ℕ} n 0) h; alike = refl }
 
 -- and so is the best path
 pub walked-by-ranking : {ranking card word work before after : List ℕ} {r : ℕ} (places : List ℕ) → places ≡ sixPlaces ranking → Walked places card word work before after r → Walked ranking card word work before after r

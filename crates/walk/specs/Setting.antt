@@ -41,4 +41,4 @@ pub record TablesAt (places card word insertions steps rows counts : List ℕ) (
   pub six : SixPlaces places
   pub for-insertions : Tables (symbolCount card) (machinesOf card) emptySymbol insertions rows counts
   pub for-symbol : StepsAt card word i steps
-  pub steps-size : length steps ≡ 12288
+  pub steps-size : length steps ≡ length insertions

@@ -38,6 +38,11 @@ pub record Walked (ranking card word work before after : List ℕ) (r : ℕ) : T
   pub is-best : IsBest (graphOf ranking card word) 0 best
   pub costs : pathCost (graphOf ranking card word) 0 best ≡ some (costAt work 0)
 
+-- two tables of steps to fill, of the same length, with a stretch for each machine
+pub record TablesLent (card insertions steps : List ℕ) : Type 0 where
+  pub room : machineCount card * 2048 ≤ length insertions
+  pub alike : length steps ≡ length insertions
+
 -- with the tables filled, for the first symbol
 pub record FollowPre (places card word work insertions steps rows counts : List ℕ) (size room : ℕ) : Type 0 where
   pub labels : Labelled places card word work size
@@ -48,10 +53,10 @@ pub record FollowPre (places card word work insertions steps rows counts : List 
 pub record PassPre (card word steps : List ℕ) (i : ℕ) : Type 0 where
   pub accepted : cardRefusal card ≡ 0
   pub sound-word : soundWord (symbolCount card) word ≡ true
-  pub size : length steps ≡ 12288
+  pub size : machineCount card * 2048 ≤ length steps
   pub position : i ≤ length word
 
 pub record Passed (card word before after : List ℕ) (i : ℕ) (p : Pair) (r : ℕ) : Type 0 where
   pub position : r ≡ positionAfter i p
-  pub size : length after ≡ 12288
+  pub size : length after ≡ length before
   pub steps : StepsAt card word i before → StepsAt card word r after

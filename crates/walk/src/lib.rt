@@ -1,12 +1,12 @@
 // The walk from the start along the labels, which writes the pairs of the best candidate.
 ghost use mathlib.Core.Path.{_≡_};
-ghost use Prim.Native.Nat.{_+_, _*_, _<_};
+ghost use Prim.Native.Nat.{_+_, _*_, _<_, _≤_};
 ghost use lib.ListN.{length, set};
-ghost use Rattle.card.specs.Layout.{symbolCount};
+ghost use Rattle.card.specs.Layout.{machineCount, symbolCount};
 ghost use Rattle.card.specs.Card.{cardRefusal};
 ghost use Rattle.walk.specs.Pairs.{nthPair, IsNumber};
 ghost use Rattle.walk.specs.Keeping.{KeepsPre, Keeps, StepPre, StepKeeps, TryPre, Tries};
-ghost use Rattle.walk.specs.Walked.{PassPre, Passed, FollowPre, WalkPre, Walked};
+ghost use Rattle.walk.specs.Walked.{PassPre, Passed, FollowPre, TablesLent, WalkPre, Walked};
 use machine::Pair;
 use tables::Joint;
 
@@ -201,8 +201,95 @@ fn follow(
     }
 }
 
+// Walks with two tables of steps that are lent, for the insertions and for the symbol at hand.
+fn walk_by(
+    work: &[u16],
+    card: &[u8],
+    ranking: &[u8],
+    word: &[u8],
+    size: usize,
+    insertions: &mut [u16],
+    steps: &mut [u16],
+    answer: &mut [u8],
+) -> usize
+    requires { ⌜ WalkPre (now ranking) (now card) (now word) (now work) size (length (now answer)) × TablesLent (now card) (now insertions) (now steps) ⌝ }
+    ensures { λ r. ⌜ Walked (now (ranking .entry)) (now (card .entry)) (now (word .entry)) (now (work .entry)) (now (answer .entry)) (now (answer .exit)) r ⌝ }
+{
+    let places = tables::six_places(ranking);
+    let counts = tables::state_counts(card);
+    let machines = card::machine_count(card);
+    let mut rows = [0u16; 1024];
+    tables::fill_rows(&counts[..machines], size, &mut rows);
+    steps::fill_steps(card, Pair::EMPTY, insertions);
+    steps::fill_steps(card, word[0], steps);
+    follow(
+        work,
+        card,
+        word,
+        insertions,
+        &rows,
+        &counts[..machines],
+        &places,
+        size,
+        steps,
+        answer,
+    )
+}
+
+// Walks on a card with at most three machines.
+fn walk_few(
+    work: &[u16],
+    card: &[u8],
+    ranking: &[u8],
+    word: &[u8],
+    size: usize,
+    answer: &mut [u8],
+) -> usize
+    requires { ⌜ WalkPre (now ranking) (now card) (now word) (now work) size (length (now answer)) × (machineCount (now card) ≤ 3) ⌝ }
+    ensures { λ r. ⌜ Walked (now (ranking .entry)) (now (card .entry)) (now (word .entry)) (now (work .entry)) (now (answer .entry)) (now (answer .exit)) r ⌝ }
+{
+    let mut insertions = [0u16; 6144];
+    let mut steps = [0u16; 6144];
+    walk_by(
+        work,
+        card,
+        ranking,
+        word,
+        size,
+        &mut insertions,
+        &mut steps,
+        answer,
+    )
+}
+
+// Walks on any card.
+fn walk_many(
+    work: &[u16],
+    card: &[u8],
+    ranking: &[u8],
+    word: &[u8],
+    size: usize,
+    answer: &mut [u8],
+) -> usize
+    requires { ⌜ WalkPre (now ranking) (now card) (now word) (now work) size (length (now answer)) ⌝ }
+    ensures { λ r. ⌜ Walked (now (ranking .entry)) (now (card .entry)) (now (word .entry)) (now (work .entry)) (now (answer .entry)) (now (answer .exit)) r ⌝ }
+{
+    let mut insertions = [0u16; 12288];
+    let mut steps = [0u16; 12288];
+    walk_by(
+        work,
+        card,
+        ranking,
+        word,
+        size,
+        &mut insertions,
+        &mut steps,
+        answer,
+    )
+}
+
 // Writes the pairs of the best candidate into the front of the answer: their number. The labels of all nodes, of which there are size to a
-// position, are in the work slice.
+// position, are in the work slice. Clearing tables is most of a short walk's time, so few machines get smaller ones.
 pub fn walk(
     work: &[u16],
     card: &[u8],
@@ -214,25 +301,9 @@ pub fn walk(
     requires { ⌜ WalkPre (now ranking) (now card) (now word) (now work) size (length (now answer)) ⌝ }
     ensures { λ r. ⌜ Walked (now (ranking .entry)) (now (card .entry)) (now (word .entry)) (now (work .entry)) (now (answer .entry)) (now (answer .exit)) r ⌝ }
 {
-    let places = tables::six_places(ranking);
-    let counts = tables::state_counts(card);
-    let machines = card::machine_count(card);
-    let mut rows = [0u16; 1024];
-    tables::fill_rows(&counts[..machines], size, &mut rows);
-    let mut insertions = [0u16; 12288];
-    steps::fill_steps(card, Pair::EMPTY, &mut insertions);
-    let mut steps = [0u16; 12288];
-    steps::fill_steps(card, word[0], &mut steps);
-    follow(
-        work,
-        card,
-        word,
-        &insertions,
-        &rows,
-        &counts[..machines],
-        &places,
-        size,
-        &mut steps,
-        answer,
-    )
+    if card::machine_count(card) <= 3 {
+        walk_few(work, card, ranking, word, size, answer)
+    } else {
+        walk_many(work, card, ranking, word, size, answer)
+    }
 }

@@ -4,7 +4,7 @@ use native.Mathlib.Nat.{mul-le-mul}
 use native.Mathlib.Omega.{arith}
 use borrow.Author.Needs.{needs}
 use lib.ListN.{length, getD}
-use Rattle.tables.proofs.Joining.{Joining, counts-few, rows-size, steps-size, row-there, step-there, joining-start, joining-room, joining-stuck, joining-step, joining-end}
+use Rattle.tables.proofs.Joining.{Joining, counts-few, rows-size, row-there, step-there, joining-start, joining-room, joining-stuck, joining-step, joining-end}
 use Rattle.tables.proofs.joint_step.Statement.{statement}
 use Rattle.tables.proofs.joint_step.Tie as tie
 
@@ -18,7 +18,7 @@ abbrev μ-loop : tie.MeasureT-loop
 row : (c : tie.In-loop Inv-loop μ-loop) → c .before .before .before .before .before .args .code * 8 + c .before .loop .m < 1024
 row c = row-there (c .before .before .before .before .before .pre) (c .before .loop .m) (c .loop-test .taken)
 
-step : (c : tie.After-wide Inv-loop μ-loop) → c .wide .result + c .before .before .before .before .before .before .before .args .output < 12288
+step : (c : tie.After-wide Inv-loop μ-loop) → c .wide .result + c .before .before .before .before .before .before .before .args .output < length (c .before .before .before .before .before .before .before .args .steps .now)
 step c =
     let k = c .before .before in
     omega (arith, c .wide .ensures .0, step-there (k .before .before .before .before .before .pre) (k .before .loop .m) (k .loop-test .taken))
@@ -59,7 +59,7 @@ mul-step : tie.Need-mul-step Inv-loop μ-loop
 mul-step c = omega (arith, step c)
 
 shared-slice-read-step : tie.Need-shared-slice-read-step Inv-loop μ-loop
-shared-slice-read-step c = omega (arith, step (c .before), steps-size (c .before .before .before .before .before .before .before .before .pre))
+shared-slice-read-step c = omega (arith, step (c .before))
 
 returns : tie.Need-returns Inv-loop μ-loop
 returns c =

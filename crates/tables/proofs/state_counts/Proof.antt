@@ -10,7 +10,7 @@ use Rattle.card.specs.Layout.{machineCount, symbolCount, partOf}
 use Rattle.card.specs.Card.{machinesOf}
 use Rattle.card.specs.Accepted.{accepted}
 use Rattle.product.specs.Nodes.{stateCounts}
-use Rattle.steps.proofs.Machines.{machines-count}
+use Rattle.card.specs.Laws.Machines.{length-machines}
 use Rattle.tables.specs.Laws.Cards.{machine-states, card-machines}
 use Rattle.tables.proofs.Machines.{count-at, counts-length}
 use Rattle.tables.proofs.Counts.{take-next}
@@ -45,7 +45,7 @@ few c =
     let s = k .before .before .before .before in
     let card = s .args .card .now in
     let M = card-machines card (s .pre) in
-    (omega (arith, count c, count-at (machinesOf card) (k .before .loop .m), M .states (k .before .loop .m)), omega (arith, in-card k, machines-count card, M .machines))
+    (omega (arith, count c, count-at (machinesOf card) (k .before .loop .m), M .states (k .before .loop .m)), omega (arith, in-card k, length-machines card, M .machines))
 
 machine-count-requires : tie.Need-machine-count-requires Inv-loop μ-loop
 machine-count-requires c κs = c .before .pre
@@ -83,7 +83,7 @@ loop-again c =
     let ys = stateCounts (machinesOf card) in (
       omega arith,
       simp length-set (l .loop .inv .1),
-      take-next (l .loop .counts) ys (l .loop .m) (c .state-count .result) (omega (arith, few c)) (omega (arith, in-card k, counts-length (machinesOf card), machines-count card)) (count c) (l .loop .inv .2),
+      take-next (l .loop .counts) ys (l .loop .m) (c .state-count .result) (omega (arith, few c)) (omega (arith, in-card k, counts-length (machinesOf card), length-machines card)) (count c) (l .loop .inv .2),
     )
 
 returns : tie.Need-returns Inv-loop μ-loop
@@ -92,7 +92,7 @@ returns c =
     let card = l .before .before .before .args .card .now in
     let ys = stateCounts (machinesOf card) in
     let e : machineCount card ≡ l .loop .m = omega (arith, l .before .machine-count .ensures) in
-    ap (λ n. take n (l .loop .counts)) e ∙ l .loop .inv .2 ∙ take-all (l .loop .m) ys (omega (arith, counts-length (machinesOf card), machines-count card))
+    ap (λ n. take n (l .loop .counts)) e ∙ l .loop .inv .2 ∙ take-all (l .loop .m) ys (omega (arith, counts-length (machinesOf card), length-machines card))
 
 pub state-counts-spec : {M : Type 1} → statement M
 state-counts-spec =

@@ -13,21 +13,21 @@ use Rattle.card.specs.Card.{machinesOf, cardRefusal}
 use Rattle.card.specs.Accepted.{accepted}
 use Rattle.product.specs.Nodes.{stateCountOf, stateCounts}
 use Rattle.product.specs.Laws.Accepted.{part-states, accepted-machines}
-use Rattle.steps.specs.StepTable.{machineAt, HoldsSteps}
-use Rattle.steps.proofs.Machines.{machines-count, machine-at}
+use Rattle.steps.specs.StepTable.{noMachine, machineAt, HoldsSteps}
+use Rattle.card.specs.Laws.Machines.{length-machines, machine-at}
 use Rattle.tables.specs.Tables.{CardMachines, CountsOfSome, HoldsRows, Tables, TablesOfSome}
 
 module _ (card : List ℕ) (ok : cardRefusal card ≡ 0) where
   -- a machine has as many states as its part says, 1 to 32
   pub machine-states : (m : ℕ) → m < machineCount card → stateCountOf (machineAt (machinesOf card) m) ≡ stateCount (partOf card m)
-  machine-states m h = ap stateCountOf (machine-at card m h) ∙ part-states (symbolCount card) (partOf card m) (accepted card ok .part m h)
+  machine-states m h = ap stateCountOf (machine-at card m h noMachine) ∙ part-states (symbolCount card) (partOf card m) (accepted card ok .part m h)
 
   few-states : (m : ℕ) → Dec (m < machineCount card) → stateCountOf (machineAt (machinesOf card) m) ≤ 32
   few-states m (yes h) =
       omega (arith, machine-states m h, shape-facts (partOf card m) (part-accepted (symbolCount card) (partOf card m) (accepted card ok .part m h) .shape) .states)
   few-states m (no h) =
       let none : Machine = record { finals = []; arcs = [] } in
-      omega (arith, ap stateCountOf (List·getD-eq-default (machinesOf card) none {n = m} (omega (arith, machines-count card))))
+      omega (arith, ap stateCountOf (List·getD-eq-default (machinesOf card) none {n = m} (omega (arith, length-machines card))))
 
   pub card-machines : CardMachines (symbolCount card) (machinesOf card)
   card-machines =

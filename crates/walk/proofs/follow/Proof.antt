@@ -2,6 +2,7 @@
 use mathlib.Core.Path.{sym, _∙_, ap}
 use Prim.Native.Nat.{_+_, _*_, _-_, _<_}
 use native.Mathlib.Omega.{arith}
+use Rattle.card.specs.Laws.Machines.{length-machines}
 use borrow.Author.Needs.{needs}
 use Rattle.card.specs.Layout.{symbolCount}
 use Rattle.paths.specs.Ranked.{letterCount}
@@ -77,7 +78,7 @@ write-pair-requires : tie.Need-write-pair-requires Inv-least μ-least Inv-loop �
 write-pair-requires c κs = let k = c .before .before in following-room (k .before .before .before .before .before .before .before .before .before .loop .inv) (k .before .before .before .before .before .least .inv) _ (c .before .nth-pair .ensures) _ (tight k)
 
 pass-requires : tie.Need-pass-requires Inv-least μ-least Inv-loop μ-loop
-pass-requires c κs = let F = c .before .before .before .before .before .before .before .before .before .before .before .before .before .before .before .loop .inv in record { accepted = F .labels .accepted; sound-word = F .labels .sound-word; size = F .tables .steps-size; position = F .position }
+pass-requires c κs = let F = c .before .before .before .before .before .before .before .before .before .before .before .before .before .before .before .loop .inv in record { accepted = F .labels .accepted; sound-word = F .labels .sound-word; size = omega (arith, F .tables .steps-size, F .tables .for-insertions .holds-steps .size, length-machines (c .before .before .before .before .before .before .before .before .before .before .before .before .before .before .before .before .before .before .before .before .before .before .before .before .args .card .now)); position = F .position }
 
 add-pairs : tie.Need-add-pairs Inv-least μ-least Inv-loop μ-loop
 add-pairs c = omega (arith, following-few (c .before .before .before .before .before .before .before .before .before .before .before .before .before .before .before .before .before .before .loop .inv))

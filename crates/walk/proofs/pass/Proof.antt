@@ -12,7 +12,7 @@ fill-steps-requires : tie.Need-fill-steps-requires
 fill-steps-requires c κs = (c .before .before .before .before .before .before .before .before .pre .accepted, symbol-below _ _ (c .before .before .before .before .before .before .before .before .pre .accepted) (c .before .before .before .before .before .before .before .before .pre .sound-word) _ (c .before .before .if2 .taken), c .before .before .before .before .before .before .before .before .pre .size)
 
 returns-2 : tie.Need-returns-2
-returns-2 c = passed-filled (c .before .before .before .before .before .before .before .before .before .before .before .pre) _ (sym (c .before .before .before .before .before .before .before .inserts .ensures) ∙ c .before .before .before .before .before .before .if1 .left) _ (c .before .before .fill-steps .ensures)
+returns-2 c = passed-filled (c .before .before .before .before .before .before .before .before .before .before .before .pre) _ (sym (c .before .before .before .before .before .before .before .inserts .ensures) ∙ c .before .before .before .before .before .before .if1 .left) _ (c .before .before .fill-steps .kept .1 .1 .0) (c .before .before .fill-steps .ensures)
 
 returns-3 : tie.Need-returns-3
 returns-3 c = passed-end (c .before .before .before .before .before .before .pre) _ (sym (c .before .before .inserts .ensures) ∙ c .before .if1 .left) (c .if2 .left)

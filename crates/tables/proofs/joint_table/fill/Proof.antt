@@ -7,8 +7,8 @@ use lib.ListN.{length}
 use Rattle.card.specs.Layout.{symbolCount}
 use Rattle.card.specs.Card.{machinesOf}
 use Rattle.card.specs.Accepted.{accepted}
-use Rattle.steps.specs.StepTable.{machineAt, HoldsMachine}
-use Rattle.steps.proofs.Machines.{machine-at}
+use Rattle.steps.specs.StepTable.{noMachine, machineAt, HoldsMachine}
+use Rattle.card.specs.Laws.Machines.{machine-at}
 use Rattle.tables.proofs.JointFilling.{FillingTo, counts-few, one-row, filling-start, machine-below, all-few, machine-pre, filling-next, filling-end}
 use Rattle.tables.proofs.joint_table.fill.Statement.{statement}
 use Rattle.tables.proofs.joint_table.fill.Tie as tie
@@ -25,7 +25,7 @@ held c =
     let l = c .before .before .before .before .before .before in
     let s = l .before .before .before .before .before .before .before .before .before .before in
     let m = l .loop .m - 1 in
-    rw (machine-at (s .args .card .now) m (machine-below (s .pre) (l .loop .inv .2) m (omega arith)), ← (c .before .part .ensures)) (c .fill-machine .ensures (s .args .input) (c .before .before .before .before .before .before .before .before .before .before .before .set-of .ensures))
+    rw (machine-at (s .args .card .now) m (machine-below (s .pre) (l .loop .inv .2) m (omega arith)) noMachine, ← (c .before .part .ensures)) (c .fill-machine .ensures (s .args .input) (c .before .before .before .before .before .before .before .before .before .before .before .set-of .ensures))
 
 set-of-requires : tie.Need-set-of-requires Inv-loop μ-loop
 set-of-requires c κs = c .before .before .before .before .pre .input
