@@ -4,7 +4,7 @@ use Prim.Native.Nat.{_+_, _*_, _-_, _≤_}
 use native.Mathlib.Omega.{arith}
 use Rattle.card.specs.Layout.{symbolCount}
 use Rattle.positions.specs.Entering.{FrontOf, Tried}
-use Rattle.positions.proofs.Edges.{few-nodes, node-below, symbols-few}
+use Rattle.positions.proofs.Edges.{few-nodes, symbols-few}
 use Rattle.positions.proofs.Entering.{tried-start, tried-trans, tried-node, node-next, code-there}
 use Rattle.positions.proofs.enter_node.Statement.{statement}
 use Rattle.positions.proofs.enter_node.Tie as tie

@@ -1,7 +1,6 @@
 -- `front` meets its contract.
 use borrow.Author.Needs.{needs}
 use mathlib.Core.Path.{refl}
-use native.Mathlib.Omega.{arith}
 use Rattle.labels.specs.LabelCost.{costOf}
 use Rattle.positions.proofs.Trying.{front-some, front-none}
 use Rattle.positions.proofs.front.Statement.{statement}
