@@ -4,6 +4,7 @@ use mathlib.Core.Logic.{_⊎_, inl, inr}
 use mathlib.Core.List.{List}
 use mathlib.Core.Option.{Option, some, none}
 use Prim.Native.Nat.{ℕ, suc, _+_, _*_, _^_, _<_, _≤_}
+use native.Mathlib.Nat.{suc-mul, mul-le-mul-right}
 use native.Mathlib.Omega.{arith}
 use native.Mathlib.Decide.{decLt}
 use lib.ListN.{length, getD}
@@ -24,7 +25,8 @@ use Rattle.tables.specs.JointNumbers.{jointFrom, joined}
 use Rattle.tables.specs.JointTable.{ReadAs}
 use Rattle.tables.specs.Laws.Edges.{edgeFrom}
 use Rattle.positions.specs.Engine.{engineGraph, placeOf, Setting}
-use Rattle.positions.specs.Entering.{EdgePre, EdgeTried, TriedBefore, EnterPre, Tried}
+use Rattle.positions.specs.Entering.{EdgePre, EdgeTried, TriedBefore, EnterPre, NodePre, Tried}
+use Rattle.positions.proofs.Trying.{front-kept}
 use Rattle.positions.proofs.Edges.{symbols-few, few-codes, symbol-at, joint-bounds, node-below, node-place, place-low, place-high, positioned, LetterAt, inserts, reads, letter-at}
 
 pub tried-start : {card ranking word xs : List ℕ} {i u y : ℕ} → Tried card ranking word xs xs i u y u y
@@ -52,6 +54,13 @@ enter-next E T = record {
   joint = E .joint;
   room = T .size ∙ E .room;
   fits = λ u c a l. E .fits u c a (sym (label-alike (T .others u (omega arith))) ∙ l);
+}
+
+-- and the fronts of the next position
+pub node-next : {card ranking word js fs xs ys : List ℕ} {P i u y u′ y′ : ℕ} → NodePre card ranking word js fs xs P i → Tried card ranking word xs ys i u y u′ y′ → NodePre card ranking word js fs ys P i
+node-next {card} {P = P} {i = i} N T = record {
+  enter = enter-next (N .enter) T;
+  fronts = record { room = N .fronts .room; front = λ a h. front-kept (label-alike (T .others ((i + 1) * P + a) (omega (arith, node-place (N .enter .setting) (i + 1) a h)))) (N .fronts .front a h) };
 }
 
 module _ {card ranking word : List ℕ} {P : ℕ} (s : Setting card ranking word P) where
@@ -146,6 +155,14 @@ module _ {card ranking word : List ℕ} {P : ℕ} (s : Setting card ranking word
 
 -- ---- what the joint step of a pair says
 
+-- the nodes of the position and of the next one are there
+module _ {card ranking word js xs : List ℕ} {P i : ℕ} (E : EnterPre card ranking word js xs P i) where
+  pub code-there : (z : ℕ) → z < P → i * P + z < (length word + 1) * P
+  code-there z k = node-below (length word) P i (i * P + z) (omega (arith, E .below)) (omega arith)
+
+  pub next-there : (i + 1) * P + P ≤ (length word + 1) * P
+  next-there = let m : (i + 1) * P + P ≤ (length word + 1) * P = rw (← (suc-mul (i + 1) P)) (mul-le-mul-right P (omega (arith, E .below))) in m
+
 module _ {card ranking word js xs : List ℕ} {P i : ℕ} (E : EnterPre card ranking word js xs P i) (z y : ℕ) (k : z < P) where
   pub entry-in : y ≤ symbolCount card → z * 64 + y < length js
   entry-in h = omega (arith, E .setting .size, E .joint .room, symbols-few (E .setting))
@@ -166,6 +183,12 @@ module _ {card ranking word js xs : List ℕ} {P i : ℕ} (E : EnterPre card ran
   module _ (to m : ℕ) (q : r ≡ To to m) where
     bounds : (to < P) × (m < 16 ^ 6)
     bounds = joint-bounds (E .setting) z to m (record { input = getD word i 0; output = y }) (sym joint-is ∙ ap joined q)
+
+    pub code-led-to : to < P
+    code-led-to = bounds .0
+
+    pub marks-few : m < 16 ^ 6
+    marks-few = bounds .1
 
     pub node-is-there : i * P + z < (length word + 1) * P
     node-is-there = node-below (length word) P i (i * P + z) (omega (arith, E .below)) (omega arith)

@@ -1,10 +1,13 @@
 // The labels of all nodes, position by position, from the last to the first.
-ghost use Prim.Native.Nat.{_+_, _*_, _<_, _≤_};
-ghost use lib.ListN.{length};
+ghost use Prim.Native.Nat.{_+_, _*_, _^_, _<_, _≤_};
+ghost use mathlib.Core.Path.{_≡_};
+ghost use lib.Dec.{ltb};
+ghost use lib.ListN.{length, getD};
 ghost use Rattle.card.specs.Layout.{symbolCount};
+ghost use Rattle.labels.specs.Work.{HasNode, HasNodes};
 ghost use Rattle.tables.specs.FillingCheapest.{Blank};
 ghost use Rattle.positions.specs.Engine.{Looked, Lent, InsertionsPre, Insertions};
-ghost use Rattle.positions.specs.Entering.{EdgePre, EdgeTried, EnterPre, Tried, EndPre, EndsTried};
+ghost use Rattle.positions.specs.Entering.{FrontOf, frontMarks, Fronts, EdgePre, EdgeTried, EnterPre, NodePre, Tried, EndPre, EndsTried};
 ghost use Rattle.positions.specs.Labelling.{TablesFit, PositionPre, PositionEntered, PositionsDone, LabelPre};
 use labels::NO_PAIR;
 use tables::Joint;
@@ -21,31 +24,83 @@ fn try_edge(work: &mut [u16], node: usize, target: usize, marks: u32)
     }
 }
 
-// Tries the node of a position and a code by the pair of the position's symbol and an output.
+// In the place of a node's front: the node has no label.
+const NO_FRONT: u64 = 281474976710655;
+
+// The first three counts of the node's label as one number.
+fn front(work: &[u16], node: usize) -> u64
+    requires { ⌜ HasNode (now work) node ⌝ }
+    ensures { λ r. ⌜ FrontOf (now (work .entry)) node r ⌝ }
+{
+    if labels::reached(work, node) {
+        let label = labels::load(work, node);
+        return (label.first as u64 * 65536 + label.second as u64) * 65536 + label.third as u64;
+    }
+    NO_FRONT
+}
+
+// What marks add to such a number.
+fn front_marks(marks: u32) -> u64
+    requires { ⌜ marks < 16 ^ 6 ⌝ }
+    ensures { λ r. ⌜ (r ≡ frontMarks marks) × (r < 2 ^ 36) ⌝ }
+{
+    let five = marks % 1048576;
+    let four = five % 65536;
+    ((marks / 1048576) as u64 * 65536 + (five / 65536) as u64) * 65536 + (four / 4096) as u64
+}
+
+// The fronts of the size nodes from base on.
+fn fill_fronts(work: &[u16], base: usize, size: usize, fronts: &mut [u64])
+    requires { ⌜ HasNodes (now work) (base + size) × (size ≤ length (now fronts)) ⌝ }
+    ensures { λ _. ⌜ Fronts (now (work .entry)) (now (fronts .exit)) base size ⌝ }
+{
+    let mut i = 0;
+    while i < size {
+        fronts[i] = front(work, base + i);
+        i += 1;
+    }
+}
+
+// Whether a pair with those marks to the node `to` would have more in the front than `own`.
+fn exceeds(fronts: &[u64], to: usize, marks: u32, own: u64) -> bool
+    requires { ⌜ (to < length (now fronts)) × (getD (now fronts) to 0 ≤ 281474976710655) × (marks < 16 ^ 6) ⌝ }
+    ensures { λ r. ⌜ r ≡ ltb own (getD (now (fronts .entry)) to 0 + frontMarks marks) ⌝ }
+{
+    own < fronts[to] + front_marks(marks)
+}
+
+// Tries the node of a position and a code, which has the front `own`, by the pair of the position's symbol and an output: the node's front
+// after that. Most pairs are told to be of no use by the fronts alone.
 fn try_pair(
     work: &mut [u16],
     card: &[u8],
     ranking: &[u8],
     word: &[u8],
     joint: &[u32],
+    fronts: &[u64],
     size: usize,
     position: usize,
     code: usize,
     output: usize,
-)
-    requires { ⌜ EnterPre (now card) (now ranking) (now word) (now joint) (now work) size position × (code < size) × (output ≤ symbolCount (now card)) ⌝ }
-    ensures { λ _. ⌜ Tried (now (card .entry)) (now (ranking .entry)) (now (word .entry)) (now (work .entry)) (now (work .exit)) position (position * size + code) output (position * size + code) (output + 1) ⌝ }
+    own: u64,
+) -> u64
+    requires { ⌜ NodePre (now card) (now ranking) (now word) (now joint) (now fronts) (now work) size position × (code < size) × (output ≤ symbolCount (now card)) × FrontOf (now work) (position * size + code) own ⌝ }
+    ensures { λ r. ⌜ Tried (now (card .entry)) (now (ranking .entry)) (now (word .entry)) (now (work .entry)) (now (work .exit)) position (position * size + code) output (position * size + code) (output + 1) × FrontOf (now (work .exit)) (position * size + code) r ⌝ }
 {
     let found = tables::joint_table::read(joint[code * 64 + output]);
     let Joint::To(to, marks) = found else {
-        return;
+        return own;
     };
+    if exceeds(fronts, to, marks, own) {
+        return own;
+    }
     try_edge(
         work,
         position * size + code,
         (position + 1) * size + to,
         marks,
     );
+    front(work, position * size + code)
 }
 
 // Tries a node by every pair of the position's symbol.
@@ -55,26 +110,30 @@ fn enter_node(
     ranking: &[u8],
     word: &[u8],
     joint: &[u32],
+    fronts: &[u64],
     size: usize,
     position: usize,
     code: usize,
 )
-    requires { ⌜ EnterPre (now card) (now ranking) (now word) (now joint) (now work) size position × (code < size) ⌝ }
+    requires { ⌜ NodePre (now card) (now ranking) (now word) (now joint) (now fronts) (now work) size position × (code < size) ⌝ }
     ensures { λ _. ⌜ Tried (now (card .entry)) (now (ranking .entry)) (now (word .entry)) (now (work .entry)) (now (work .exit)) position (position * size + code) 0 (position * size + (code + 1)) 0 ⌝ }
 {
     let symbols = card::symbol_count(card) as usize;
+    let mut own = front(work, position * size + code);
     let mut output = 0;
     while output <= symbols {
-        try_pair(
+        own = try_pair(
             work,
             card,
             ranking,
             word,
             joint,
+            fronts,
             size,
             position,
             code,
             output,
+            own,
         );
         output += 1;
     }
@@ -93,9 +152,21 @@ fn enter_nodes(
     requires { ⌜ EnterPre (now card) (now ranking) (now word) (now joint) (now work) size position ⌝ }
     ensures { λ _. ⌜ Tried (now (card .entry)) (now (ranking .entry)) (now (word .entry)) (now (work .entry)) (now (work .exit)) position (position * size) 0 (position * size + size) 0 ⌝ }
 {
+    let mut fronts = [0u64; 128];
+    fill_fronts(work, (position + 1) * size, size, &mut fronts);
     let mut code = 0;
     while code < size {
-        enter_node(work, card, ranking, word, joint, size, position, code);
+        enter_node(
+            work,
+            card,
+            ranking,
+            word,
+            joint,
+            &fronts,
+            size,
+            position,
+            code,
+        );
         code += 1;
     }
 }
