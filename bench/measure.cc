@@ -26,8 +26,8 @@ struct Engine {
 // The verified engine comes first: the others are compared with it.
 const Engine kEngines[] = {
     {"verified", pastaspur_optimize},
-    {"OpenFst", openfst_optimize},
     {"OpenFst, built whole", openfst_whole},
+    {"OpenFst, delayed", openfst_optimize},
     {"reference", reference_optimize},
     {"OpenFst, composed", openfst_composed},
 };
