@@ -1,7 +1,6 @@
 -- Symbols and pairs.
 use mathlib.Core.Bool.{Bool, _&&_, not}
 use Prim.Native.Nat.{ℕ}
-use lib.Count.{trailingZeros}
 use lib.Dec.{eqb, leb}
 use Rattle.machine.specs.declared.Pair.{Pair}
 
@@ -16,7 +15,3 @@ isPair p = not (eqb (p .input) emptySymbol && eqb (p .output) emptySymbol)
 -- in and out are the empty symbol or one of the S symbols
 abbrev pub withinSymbols : ℕ → Pair → Bool
 withinSymbols S p = leb (p .input) S && leb (p .output) S
-
--- the least symbol of a set of symbols, 64 where it is empty
-abbrev pub leastOf : ℕ → ℕ
-leastOf set = trailingZeros 64 set

@@ -4,7 +4,7 @@ ghost use mathlib.Core.Bool.{true, not, _&&_};
 ghost use Prim.Native.Nat.{ℕ, _<_, _^_};
 ghost use lib.Dec.{eqb};
 ghost use Rattle.basics.specs.Sets.{member};
-ghost use Rattle.machine.specs.Symbols.{leastOf};
+ghost use Rattle.machine.specs.SymbolSets.{leastSymbol};
 ghost use Rattle.machine.specs.Part.{soundSet};
 
 const POWERS: [u64; 64] = [
@@ -99,7 +99,7 @@ pub fn is_sound(set: u64, last: u64) -> bool
 // The least symbol of a set that is not empty.
 pub fn least(set: u64) -> usize
     requires { ⌜ 0 < set ⌝ }
-    ensures { λ r. ⌜ (r ≡ leastOf set) × (r < 64) × (member set r ≡ true) ⌝ }
+    ensures { λ r. ⌜ (r ≡ leastSymbol set) × (r < 64) × (member set r ≡ true) ⌝ }
 {
     u64::trailing_zeros(set) as usize
 }
@@ -107,7 +107,7 @@ pub fn least(set: u64) -> usize
 // A set that is not empty without its least symbol.
 pub fn without_least(set: u64) -> u64
     requires { ⌜ 0 < set ⌝ }
-    ensures { λ r. ⌜ (r < set) × ((n : ℕ) → member r n ≡ (member set n && not (eqb n (leastOf set)))) ⌝ }
+    ensures { λ r. ⌜ (r < set) × ((n : ℕ) → member r n ≡ (member set n && not (eqb n (leastSymbol set)))) ⌝ }
 {
     set & (set - 1)
 }

@@ -15,7 +15,7 @@ use Rattle.labels.proofs.Clearing.{cleared-blank}
 use Rattle.labels.proofs.Room.{attained-room}
 use Rattle.tables.specs.Places.{sixPlaces}
 use Rattle.tables.specs.JointTable.{HoldsJoint}
-use Rattle.tables.specs.Insertions.{noPair}
+use Rattle.labels.specs.Marks.{noPair}
 use Rattle.positions.specs.Engine.{engineGraph, placeOf, Looked, Insertions}
 use Rattle.positions.specs.Entering.{EnterPre, Tried, EndsTried}
 use Rattle.positions.specs.Labelling.{TablesFit, PositionPre, PositionEntered, PositionsDone, LabelPre}

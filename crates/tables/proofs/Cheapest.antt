@@ -24,7 +24,8 @@ use Rattle.product.specs.Laws.Codes.{code-step-below}
 use Rattle.tables.specs.declared.Joint.{Joint}
 use Rattle.tables.specs.JointNumbers.{numbered, jointFrom, joined}
 use Rattle.tables.specs.JointTable.{ReadAs, HoldsJoint}
-use Rattle.tables.specs.Insertions.{noPair, cheaper, cheapestInsertion}
+use Rattle.labels.specs.Marks.{noPair}
+use Rattle.tables.specs.Insertions.{cheaper, cheapestInsertion}
 use Rattle.tables.specs.FillingCheapest.{entryAt, NotePre, Noted, Blank, FillPre, FilledFrom, FilledCheapest}
 
 -- ---- places in the table

@@ -11,7 +11,7 @@ use lib.ListN.{length, getD, set, replicate}
 use borrow.Author.Tests.{ne-eqb}
 use Rattle.machine.specs.declared.Pair.{Pair}
 use Rattle.machine.specs.Machine.{Machine}
-use Rattle.labels.specs.Marks.{packed}
+use Rattle.labels.specs.Marks.{packed, noPair}
 use Rattle.product.specs.Nodes.{stateCounts, product}
 use Rattle.product.specs.ProductGraph.{Move}
 use Rattle.product.specs.Codes.{codeStep}
@@ -21,7 +21,6 @@ use Rattle.steps.specs.StepTable.{stepCode}
 use Rattle.steps.proofs.Codes.{SmallStep}
 use Rattle.tables.specs.Places.{markNumber}
 use Rattle.tables.specs.JointNumbers.{numbered}
-use Rattle.tables.specs.Insertions.{noPair}
 use Rattle.tables.specs.JointTable.{EntryOf}
 use Rattle.tables.specs.FillingJoint.{weightOf, scaledStep, together}
 use Rattle.tables.specs.Laws.Packing.{number-below}

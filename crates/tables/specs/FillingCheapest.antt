@@ -12,7 +12,8 @@ use Rattle.product.specs.Laws.JointStep.{AllSound}
 use Rattle.tables.specs.declared.Joint.{Joint}
 use Rattle.tables.specs.JointNumbers.{joined}
 use Rattle.tables.specs.JointTable.{HoldsJoint}
-use Rattle.tables.specs.Insertions.{noPair, cheaper, cheapestInsertion, HoldsCheapest}
+use Rattle.labels.specs.Marks.{noPair}
+use Rattle.tables.specs.Insertions.{cheaper, cheapestInsertion, HoldsCheapest}
 
 -- the number for the pairs from a to b, in a table of rows of P numbers, a row for each b
 abbrev pub entryAt : List ℕ → ℕ → ℕ → ℕ → ℕ

@@ -8,7 +8,7 @@ use Prim.Native.Nat.{ℕ, _+_, _*_, _/_, _%_, _^_, _<_, _≤_}
 use lib.Dec.{eqb}
 use lib.ListN.{length, getD, replicate}
 use Rattle.tables.specs.Places.{markNumber}
-use Rattle.tables.specs.Insertions.{noPair}
+use Rattle.labels.specs.Marks.{noPair}
 
 -- the weight of a machine's marks: the number of one mark of it alone
 abbrev pub weightOf : List ℕ → ℕ → ℕ

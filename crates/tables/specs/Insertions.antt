@@ -9,11 +9,8 @@ use lib.ListN.{length, getD}
 use Rattle.machine.specs.Symbols.{emptySymbol}
 use Rattle.machine.specs.Machine.{Machine}
 use Rattle.product.specs.Nodes.{stateCounts, product}
+use Rattle.labels.specs.Marks.{noPair}
 use Rattle.tables.specs.JointNumbers.{jointFrom}
-
--- the number of no pair
-abbrev pub noPair : ℕ
-noPair = 4294967295
 
 -- the smaller of a number and that of a step which leads to b
 abbrev pub cheaper : ℕ → ℕ → Option (ℕ × ℕ) → ℕ

@@ -10,7 +10,7 @@ use Rattle.product.specs.Nodes.{stateCounts, product}
 use Rattle.tables.specs.declared.Joint.{Joint}
 use Rattle.tables.specs.Places.{SixPlaces}
 use Rattle.tables.specs.JointNumbers.{jointFrom, joined}
-use Rattle.tables.specs.Insertions.{noPair}
+use Rattle.labels.specs.Marks.{noPair}
 
 -- a joint step as one number: the code led to in front of the six marks; all ones where nothing takes the pair
 abbrev pub jointEntry : Option (ℕ × ℕ) → ℕ

@@ -4,7 +4,7 @@ ghost use Prim.Native.Nat.{_+_, _*_, _≤_, _<_};
 ghost use lib.ListN.{length};
 ghost use Rattle.card.specs.Card.{machinesOf};
 ghost use Rattle.tables.specs.Places.{SixPlaces};
-ghost use Rattle.tables.specs.Insertions.{noPair};
+ghost use Rattle.labels.specs.Marks.{noPair};
 ghost use Rattle.tables.specs.FillingJoint.{weightOf, scaledStep, together, ScalePre, Scaled, AddBlockPre, BlockAdded, BlockWritten, AddRowPre, RowAdded, AddStatePre, StateAdded, AddMachinePre, MachineAdded, RowBegun};
 ghost use Rattle.tables.specs.JointTable.{ReadAs, HoldsJoint, JointTablePre};
 use crate::Joint;

@@ -18,7 +18,7 @@ use Rattle.paths.specs.Costs.{Lowers}
 use Rattle.paths.specs.Ranked.{Ranked, Less}
 use Rattle.paths.specs.Graph.{Edge, Graph}
 use Rattle.paths.specs.Cheapest.{CheapestAmong, Cheapest, cheapest-start, cheapest-skip, cheapest-step, cheapest-end}
-use Rattle.labels.specs.Marks.{marksOf, pairCost}
+use Rattle.labels.specs.Marks.{marksOf, pairCost, noPair}
 use Rattle.labels.specs.MarksLaws.{pair-none, pair-taken, pair-left}
 use Rattle.product.specs.Nodes.{stateCounts, product, positionAt}
 use Rattle.product.specs.Prices.{byRanking}
@@ -29,7 +29,7 @@ use Rattle.product.specs.Laws.JointStep.{AllSound}
 use Rattle.product.specs.Laws.Edges.{moved, edge-of, symbol-moves-on, move-symbols}
 use Rattle.tables.specs.Places.{sixPlaces, markNumber}
 use Rattle.tables.specs.JointNumbers.{numbered, jointFrom}
-use Rattle.tables.specs.Insertions.{noPair, cheaper, cheapestInsertion, HoldsCheapest}
+use Rattle.tables.specs.Insertions.{cheaper, cheapestInsertion, HoldsCheapest}
 use Rattle.tables.specs.Laws.Packing.{six-below}
 use Rattle.tables.specs.Laws.Edges.{edgeFrom, code-step-few, sixGraph, nodeAt, insertion-edge}
 

@@ -19,7 +19,7 @@ use Rattle.paths.specs.Ranked.{Ranked, Less, rankedCosts}
 use Rattle.paths.specs.ByRanking.{ranked}
 use Rattle.paths.specs.Graph.{Edge, Graph}
 use Rattle.paths.specs.Cheapest.{CheapestAmong, Cheapest, cheapest-start, cheapest-skip, cheapest-step, cheapest-end}
-use Rattle.labels.specs.Marks.{marksOf, pairCost}
+use Rattle.labels.specs.Marks.{marksOf, pairCost, noPair}
 use Rattle.labels.specs.MarksLaws.{pair-none, pair-taken, pair-left}
 use Rattle.product.specs.Nodes.{stateCounts, product, statesOf}
 use Rattle.product.specs.JointStep.{jointStep}
@@ -31,7 +31,7 @@ use Rattle.product.specs.Laws.Edges.{step-marks-bound}
 use Rattle.product.specs.Laws.Codes.{insertion-move, symbol-move, code-step-below}
 use Rattle.tables.specs.Places.{sixPlaces, markNumber}
 use Rattle.tables.specs.JointNumbers.{numbered, jointFrom}
-use Rattle.tables.specs.Insertions.{noPair, cheaper, cheapestInsertion}
+use Rattle.tables.specs.Insertions.{cheaper, cheapestInsertion}
 use Rattle.tables.specs.Laws.Packing.{six-cost, six-below}
 
 -- a step by numbers as an edge to the nodes from a number on

@@ -2,7 +2,7 @@ use mathlib.Core.Path.{_≡_, sym, ap}
 use mathlib.Core.Bool.{Bool, cond}
 use Prim.Native.Nat.{_+_}
 use native.Mathlib.Omega.{arith}
-use Rattle.tables.specs.Insertions.{noPair}
+use Rattle.labels.specs.Marks.{noPair}
 use Rattle.tables.specs.FillingJoint.{together}
 use Rattle.tables.proofs.joint_table.join.Statement.{statement}
 use Rattle.tables.proofs.joint_table.join.Tie as tie
