@@ -2,5 +2,3 @@ pub mod Refusals
 pub mod Candidates
 pub mod Evaluating
 pub mod Scoring
-pub mod Best
-pub mod Optimizing

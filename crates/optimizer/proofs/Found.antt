@@ -15,7 +15,7 @@ use Rattle.card.specs.Layout.{machineCount}
 use Rattle.card.specs.Card.{machinesOf, cardRefusal}
 use Rattle.card.specs.Accepted.{accepted}
 use Rattle.candidate.specs.Candidates.{profileOf, IsCandidate}
-use Rattle.candidate.specs.Best.{Form, best}
+use Rattle.product.specs.Best.{Contender, best}
 use Rattle.paths.specs.Costs.{Labels, atmost-some}
 use Rattle.paths.specs.Total.{asym, upto-not-less, less-not-same}
 use Rattle.paths.specs.Ranked.{Ranked, Less, less-total, rankedCosts}
@@ -46,7 +46,7 @@ start-is-zero ms = omega (arith, start-code ms)
 
 -- the best candidate, and the cost x of its path
 pub record FoundAt (card ranking word : List ℕ) (x : Ranked 6) : Type 0 where
-  pub form : Form
+  pub form : Contender
   pub is : best card ranking word ≡ some form
   pub profile : form .profile ≡ profileOf (machinesOf card) (form .candidate)
   pub cost : x ≡ ranked (sixPlaces ranking) (form .profile) (length (form .candidate))
@@ -102,7 +102,7 @@ module _ (card ranking word : List ℕ) (ok : cardRefusal card ≡ 0) (ranks : i
         d-cost : pathCost (sixGraph ranking word (machinesOf card)) 0 d ≡ some x
         d-cost = run→cost (sixGraph ranking word (machinesOf card)) (held→run (sixGraph ranking word (machinesOf card)) (attained 0 x l .held))
 
-        go : (o : Option Form) → best card ranking word ≡ o → FoundAt card ranking word x
+        go : (o : Option Contender) → best card ranking word ≡ o → FoundAt card ranking word x
         go none e = absurd (all .none-exactly .0 e d (is-candidate d x d-cost))
         go (some b) e = record { form = b; is = e; profile = all .its-profile b e; cost = same (less-total 6 .compare x (a .cost)) ∙ a-cost; path = a }
           where

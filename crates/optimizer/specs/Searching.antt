@@ -14,8 +14,8 @@ use Rattle.card.specs.Card.{cardRefusal, machinesOf}
 use Rattle.candidate.specs.declared.Evaluation.{Evaluation}
 use Rattle.candidate.specs.Candidates.{isSome}
 use Rattle.candidate.specs.Evaluating.{profileWith, refused}
-use Rattle.candidate.specs.Best.{Form, best}
-use Rattle.candidate.specs.Optimizing.{soundWord, countsFit, answerFits, evaluationOf, filled}
+use Rattle.product.specs.Best.{Contender, best}
+use Rattle.product.specs.Optimizing.{soundWord, countsFit, answerFits, evaluationOf, filled}
 use Rattle.paths.specs.Ranked.{Ranked}
 use Rattle.paths.specs.ByRanking.{ranked}
 use Rattle.labels.specs.declared.Label.{Label}
@@ -23,7 +23,7 @@ use Rattle.product.specs.Nodes.{product, stateCounts}
 use Rattle.tables.specs.Places.{sixPlaces}
 
 -- the checks 10 to 12
-abbrev pub searchRefusal : Option Form → ℕ → ℕ
+abbrev pub searchRefusal : Option Contender → ℕ → ℕ
 searchRefusal b room = firstOf (refuse 10 (isSome b) ∷ refuse 11 (countsFit b) ∷ refuse 12 (answerFits b room) ∷ [])
 
 -- accepted input; size is the product of the state counts, and the work slice has just the room for the nodes

@@ -19,7 +19,7 @@ use Rattle.machine.specs.Machine.{Machine}
 use Rattle.card.specs.Layout.{machineCount, symbolCount}
 use Rattle.card.specs.Card.{machinesOf}
 use Rattle.card.specs.Accepted.{accepted}
-use Rattle.candidate.specs.Optimizing.{soundWord}
+use Rattle.product.specs.Optimizing.{soundWord}
 use Rattle.paths.specs.Ranked.{Ranked, letterCount, countAt}
 use Rattle.paths.specs.ByRanking.{ranked, ranked-letters}
 use Rattle.paths.specs.Graph.{Edge, Within}
@@ -34,7 +34,7 @@ use Rattle.product.specs.Codes.{codeStep}
 use Rattle.product.specs.Laws.JointStep.{AllSound, all-none, all-next, step-of-each, no-states-left}
 use Rattle.product.specs.Laws.Accepted.{accepted-machines}
 use Rattle.product.specs.Laws.Codes.{code-step-below}
-use Rattle.product.specs.Laws.Edges.{Advanced, stays, goes-on, advanced, Moved, moved, EdgeOf, edge-of, ending-of, ended, move-position, product-within, product-positioned, product-sized, step-marks-bound, ending-marks-bound}
+use Rattle.product.specs.Laws.Edges.{Advanced, stays, goes-on, advanced, Moved, moved, EdgeOf, edge-of, ending-of, word-ended, move-position, product-within, product-positioned, product-sized, step-marks-bound, ending-marks-bound}
 use Rattle.labels.proofs.Room.{SmallMarks}
 use Rattle.tables.specs.Places.{sixPlaces, markNumber}
 use Rattle.tables.specs.JointNumbers.{numbered, jointFrom}
@@ -91,10 +91,10 @@ module _ {card ranking word : List ℕ} {P : ℕ} (s : Setting card ranking word
   symbols-few = accepted card (s .accepted) .head .counts .symbols
 
   pub some-code : 0 < P
-  some-code = omega (arith, s .size, accepted-machines card (s .accepted) .states, accepted card (s .accepted) .some-state)
+  some-code = omega (arith, s .size, accepted-machines card (s .accepted) .some-state)
 
   pub few-codes : P ≤ 128
-  few-codes = omega (arith, s .size, accepted-machines card (s .accepted) .states, accepted-machines card (s .accepted) .few-states)
+  few-codes = omega (arith, s .size, accepted-machines card (s .accepted) .few-states)
 
   pub few-nodes : (length word + 1) * P ≤ 3200
   few-nodes = let n : length word + 1 ≤ 25 = omega (arith, word-sound .few) in mul-le-mul n few-codes
@@ -146,7 +146,7 @@ module _ {card ranking word : List ℕ} {P : ℕ} (s : Setting card ranking word
       end-mark : (u : ℕ) (c : Ranked 6) → engineGraph card ranking word .ending u ≡ some c → (i : ℕ) → countAt 6 i c ≤ 15
       end-mark u c h i =
           let k = ending-of (byRanking (sixPlaces ranking)) word (machinesOf card) u c h in
-          let l = ended word (machinesOf card) u (k .marks) (k .is) in
+          let l = word-ended word (machinesOf card) u (k .marks) (k .is) in
           rw (k .cost-is) (ranked-upto (sixPlaces ranking) (k .marks) 0 15 (ending-marks-bound machines-sound (statesAt (stateCounts (machinesOf card)) u) (k .marks) (l .ends)) i)
 
   -- ---- a joint step as an edge

@@ -17,7 +17,7 @@ use Rattle.card.specs.Layout.{symbolCount}
 use Rattle.card.specs.Card.{machinesOf, cardRefusal}
 use Rattle.card.specs.Accepted.{accepted}
 use Rattle.candidate.specs.Candidates.{bytesOf}
-use Rattle.candidate.specs.Optimizing.{soundWord}
+use Rattle.product.specs.Optimizing.{soundWord}
 use Rattle.paths.specs.Ranked.{Ranked, letterCount}
 use Rattle.paths.specs.Bounds.{Sized}
 use Rattle.paths.specs.Walk.{Walk, Walking, walking-start, walking-next, walking-end, walk-best, walk-cost, tight-size}

@@ -14,7 +14,7 @@ use Rattle.machine.specs.Machine.{Machine, startState}
 use Rattle.card.specs.Layout.{machineCount}
 use Rattle.card.specs.Card.{machinesOf}
 use Rattle.card.specs.Accepted.{accepted}
-use Rattle.candidate.specs.Optimizing.{soundWord}
+use Rattle.product.specs.Optimizing.{soundWord}
 use Rattle.product.specs.Nodes.{stateCountOf, stateCounts, product, codeOf}
 use Rattle.product.specs.ProductGraph.{startNode}
 use Rattle.steps.specs.StepTable.{HoldsSteps}
