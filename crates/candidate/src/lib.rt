@@ -73,10 +73,7 @@ fn pair_at(candidate: &[u8], at: usize) -> Pair
     requires { ⌜ at + 2 ≤ length (now candidate) ⌝ }
     ensures { λ r. ⌜ r ≡ pairAt (now (candidate .entry)) at ⌝ }
 {
-    Pair {
-        input: candidate[at],
-        output: candidate[at + 1],
-    }
+    Pair::new(candidate[at], candidate[at + 1])
 }
 
 // Takes a candidate's pairs in turn on one machine, and ends.

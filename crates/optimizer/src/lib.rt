@@ -8,6 +8,7 @@ ghost use Rattle.labels.specs.LabelCost.{costOf};
 ghost use Rattle.optimizer.specs.Refusals.{numberOf, stageNumber};
 ghost use Rattle.optimizer.specs.Optimizes.{Optimizes};
 ghost use Rattle.optimizer.specs.Searching.{SearchPre, Searched, labelFits, RankingOfSome, CardOrder};
+use basics::index;
 use candidate::Evaluation;
 use candidate::refused;
 use labels::Label;
@@ -65,13 +66,6 @@ impl Stage {
             Stage::Refused(refusal) => refusal.number(),
         }
     }
-}
-
-// A byte as a number to index with.
-fn index(x: u8) -> usize
-    ensures { λ r. ⌜ (r ≡ x) × (r < 256) ⌝ }
-{
-    x as usize
 }
 
 // Counts in ranked order as a profile, which is in card order.

@@ -12,6 +12,7 @@ ghost use Rattle.tables.specs.Endings.{endingCost};
 ghost use Rattle.tables.specs.Tables.{CountsOfSome, HoldsRows, JointPre, Joins, EndingPre};
 ghost use Rattle.tables.specs.FillingRows.{RowsPre, RowFilled};
 ghost use Rattle.tables.specs.FillingCheapest.{NotePre, Noted, Blank, FillPre, FilledFrom, FilledCheapest};
+use basics::index;
 use labels::Label;
 use machine::Ending;
 use machine::Position;
@@ -29,13 +30,6 @@ pub enum Joint {
 pub enum JointEnding {
     Marks(u32),
     NotFinal,
-}
-
-// A byte as a number to index with.
-fn index(x: u8) -> usize
-    ensures { λ r. ⌜ (r ≡ x) × (r < 256) ⌝ }
-{
-    x as usize
 }
 
 // A 16-bit number as a number to index with.
