@@ -25,7 +25,7 @@ use Rattle.paths.specs.Labels.{Closed, Attained}
 use Rattle.labels.specs.declared.Label.{Label}
 use Rattle.labels.specs.LabelCost.{costOf}
 use Rattle.labels.specs.Work.{HasNode, labelOf, costAt}
-use Rattle.product.specs.BestTheorem.{counts-always-fit}
+use Rattle.product.specs.BestTheorem.{best-is-small, counts-always-fit}
 use Rattle.product.specs.Laws.Accepted.{accepted-machines}
 use Rattle.product.specs.Laws.BestCandidate.{profile-length}
 use Rattle.tables.specs.Places.{sixPlaces}
@@ -117,10 +117,21 @@ module _ {card ranking word work : List ℕ} {size : ℕ} (pre : SearchPre card 
         start = record { cost = costAt after 0; label-is = l; fits = let q : label .pairs ≡ letterCount 6 (costAt after 0) = ap (letterCount 6) at in omega arith };
       }
 
+      -- the walk's pairs are the best candidate's
+      walked-best : {answer answerAfter : List ℕ} {n : ℕ} (w : Walked ranking card word after answer answerAfter n) → w .best ≡ the-best .form .candidate
+      walked-best w = path-found card ranking word (pre .accepted) (pre .ranks) the-best (w .best) (w .is-best)
+
+      walked-pairs : {answer answerAfter : List ℕ} {n : ℕ} → Walked ranking card word after answer answerAfter n → n ≡ length (the-best .form .candidate)
+      walked-pairs w = w .count ∙ ap length (walked-best w)
+
+      -- which are few
+      pub walked-few : {answer answerAfter : List ℕ} {n : ℕ} → Walked ranking card word after answer answerAfter n → n ≤ 3199
+      walked-few w = omega (arith, walked-pairs w, best-is-small card ranking word (pre .accepted) (short-word (symbolCount card) word (pre .sound)) (the-best .form) (the-best .is) .pairs)
+
       -- the best
       pub best-answered : {answer answerAfter : List ℕ} {n : ℕ} (profile : Profile) → (length answer / 2 < label .pairs → ⊥) → CardOrder ranking (costOf label) profile → Walked ranking card word after answer answerAfter n
-          → Searched card ranking word work after answer answerAfter (record { number = 0; profile = profile; pairs = label .pairs; «word_length» = length word })
-      best-answered {answer = answer} {answerAfter = answerAfter} profile h order w = record {
+          → Searched card ranking word work after answer answerAfter (record { number = 0; profile = profile; pairs = n; «word_length» = length word })
+      best-answered {answer = answer} {answerAfter = answerAfter} {n = n} profile h order w = record {
         result = evaluated ∙ best-fits (best card ranking word) (length answer) (evaluationOf (best card ranking word) word) refused (the-best .form) (the-best .is) fitting k;
         answer-slice = written ∙ best-fits (best card ranking word) (length answer) (filled (best card ranking word) answer) (λ n. answer) (the-best .form) (the-best .is) fitting k;
         work-length = done .size;
@@ -134,14 +145,13 @@ module _ {card ranking word work : List ℕ} {size : ℕ} (pre : SearchPre card 
               ap length (the-best .profile) ∙ profile-length (machinesOf card) (the-best .form .candidate) ∙ accepted-machines card (pre .accepted) .count
               ∙ sym (ranking-facts (machineCount card) ranking (pre .ranks) .places)
 
-          evaluated : _≡_ {A = Evaluation} (record { number = 0; profile = profile; pairs = label .pairs; «word_length» = length word }) (evaluationOf (best card ranking word) word)
+          evaluated : _≡_ {A = Evaluation} (record { number = 0; profile = profile; pairs = n; «word_length» = length word }) (evaluationOf (best card ranking word) word)
           evaluated =
               let p = order (the-best .form .profile) (length (the-best .form .candidate)) lengths cost in
-              let q : _≡_ {A = Evaluation} (record { number = 0; profile = profile; pairs = label .pairs; «word_length» = length word }) (evaluationOf (some (the-best .form)) word)
-              = λ i. record { number = 0; profile = p i; pairs = its-pairs i; «word_length» = length word } in
+              let m = walked-pairs w in
+              let q : _≡_ {A = Evaluation} (record { number = 0; profile = profile; pairs = n; «word_length» = length word }) (evaluationOf (some (the-best .form)) word)
+              = λ i. record { number = 0; profile = p i; pairs = m i; «word_length» = length word } in
               q ∙ ap (λ o. evaluationOf o word) (sym (the-best .is))
 
           written : answerAfter ≡ filled (best card ranking word) answer
-          written =
-              let c = path-found card ranking word (pre .accepted) (pre .ranks) the-best (w .best) (w .is-best) in
-              w .written ∙ ap (λ (d : List Pair). bytesOf d ++ drop (2 * length d) answer) c ∙ ap (λ o. filled o answer) (sym (the-best .is))
+          written = w .written ∙ ap (λ (d : List Pair). bytesOf d ++ drop (2 * length d) answer) (walked-best w) ∙ ap (λ o. filled o answer) (sym (the-best .is))

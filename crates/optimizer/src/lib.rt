@@ -141,11 +141,11 @@ fn search(
         return refused(Refusal::Answer.number());
     }
     let profile = profile_of(label, ranking);
-    walk::walk(work, card, ranking, word, size, answer);
+    let pairs = walk::walk(work, card, ranking, word, size, answer);
     Evaluation {
         number: 0,
         profile,
-        pairs: label.pairs,
+        pairs: pairs as u16,
         word_length: word.len() as u16,
     }
 }

@@ -8,7 +8,7 @@ use lib.ListN.{length}
 use Rattle.card.specs.Layout.{symbolCount}
 use Rattle.candidate.specs.Evaluating.{refused}
 use Rattle.optimizer.specs.AcceptedInput.{short-word}
-use Rattle.optimizer.proofs.Stages.{start-there, some-ranking, none-answered, not-large, room-answered, walk-pre, best-answered}
+use Rattle.optimizer.proofs.Stages.{start-there, some-ranking, none-answered, not-large, room-answered, walk-pre, walked-few, best-answered}
 use Rattle.optimizer.proofs.search.Statement.{statement}
 use Rattle.optimizer.proofs.search.Tie as tie
 
@@ -58,8 +58,18 @@ walk-requires c κs =
     let s = k .before .before .before .before .before .before .before in
     walk-pre (s .pre) (k .label .ensures) (l .load .result) (r .reached .ensures .label (not-false (r .reached .result) (l .before .before .if1 .left))) (l .load .ensures) (length (s .args .answer .now)) (λ h. (omega arith))
 
-cast-t31 : tie.Need-cast-t31
-cast-t31 c =
+cast-t32 : tie.Need-cast-t32
+cast-t32 c =
+    let w = c .before .before in
+    let p = w .before .before .before in
+    let l = p .before .before .before .before .before in
+    let r = l .before .before .before in
+    let k = r .before .before .before .before in
+    let s = k .before .before .before .before .before .before .before in
+    omega (arith, walked-few (s .pre) (k .label .ensures) (l .load .result) (r .reached .ensures .label (not-false (r .reached .result) (l .before .before .if1 .left))) (l .load .ensures) (w .walk .ensures))
+
+cast-t33 : tie.Need-cast-t33
+cast-t33 c =
     let s = c .before .before .before .before .before .before .before .before .before .before .before .before .before .before .before .before .before .before .before .before .before .before .before .before in
     omega (arith, short-word (symbolCount (s .args .card .now)) (s .args .word .now) (s .pre .sound))
 
@@ -96,7 +106,8 @@ search-spec =
     returns-3
     profile-of-requires
     walk-requires
-    cast-t31
+    cast-t32
+    cast-t33
     (λ c. search needs)
     (λ c. search needs)
     returns-4)
