@@ -1,16 +1,16 @@
 -- Demand 3, of what the optimizer's call answers: for every card, ranking, word and work slice that the checks 1 to 9 accept, and every answer slice.
 use mathlib.Core.Path.{_≡_, refl, sym, _∙_, ap, subst₂}
-use mathlib.Core.Logic.{_↔_, _≢_}
+use mathlib.Core.Logic.{_⊎_, inl, inr, _↔_, _≢_}
 use mathlib.Core.Bool.{true, false}
 use mathlib.Core.List.{List, _++_}
 use mathlib.Core.Option.{Option, some, none}
 use Prim.Native.Nat.{ℕ, _*_, _<_, _≤_}
-use lib.Dec.{leb}
-use Rattle.basics.specs.Search.{allOf}
 use native.Mathlib.Decide.{decLt}
 use native.Mathlib.Omega.{arith}
+use lib.Dec.{leb}
 use lib.ListN.{length, drop}
 use borrow.Author.Tests.{le-leb, lt-leb}
+use Rattle.basics.specs.Search.{allOf}
 use Rattle.basics.proofs.Bools.{clash}
 use Rattle.machine.specs.declared.Pair.{Pair}
 use Rattle.card.specs.Layout.{symbolCount}
@@ -35,6 +35,8 @@ pub record AnswersBest (card ranking word answer after : List ℕ) (r : Evaluati
   pub word-length : r .«word_length» ≡ length word
 
 pub record Demand3 (card ranking word answer after : List ℕ) (r : Evaluation) : Type 0 where
+  -- the number is 0, 10, 11 or 12
+  pub numbers : (r .number ≡ 0) ⊎ ((r .number ≡ 10) ⊎ ((r .number ≡ 11) ⊎ (r .number ≡ 12)))
   -- none exactly when no list of pairs, however long, is a candidate for the word
   pub none-exactly : (r .number ≡ 10) ↔ ((c : List Pair) → ¬ (IsCandidate (machinesOf card) word c))
   -- otherwise there is a best one
@@ -102,6 +104,7 @@ module _ (card ranking word answer : List ℕ) (room : ℕ) (ok : inputRefusal c
     where
       go : Outcome card ranking word answer room → Demand3 card ranking word answer (optimizedAnswer card ranking word room answer) (optimized card ranking word room (length answer))
       go (nothing e n u) = record {
+        numbers = inr (inl n);
         none-exactly = (λ _. all .none-exactly .0 e, λ _. n);
         otherwise-best = λ c h. absurd (all .none-exactly .0 e c h);
         counts-exactly = (λ h. absurd (omega arith), λ t. absurd (clash (best-fits (t .0) (t .1)) (t .2)));
@@ -112,6 +115,7 @@ module _ (card ranking word answer : List ℕ) (room : ℕ) (ok : inputRefusal c
         untouched = λ _. u;
       }
       go (no-room b e l n u) = record {
+        numbers = inr (inr (inr n));
         none-exactly = (λ h. absurd (omega arith), λ f. absurd (some-candidate b e f));
         otherwise-best = λ _ _. (b .candidate, all .is-best b e);
         counts-exactly = (λ h. absurd (omega arith), λ t. absurd (clash (best-fits (t .0) (t .1)) (t .2)));
@@ -124,6 +128,7 @@ module _ (card ranking word answer : List ℕ) (room : ℕ) (ok : inputRefusal c
       go (found b e l q u) =
           let n : optimized card ranking word room (length answer) .number ≡ 0 = ap (λ (v : Evaluation). v .number) q in
           record {
+            numbers = inl n;
             none-exactly = (λ h. absurd (omega arith), λ f. absurd (some-candidate b e f));
             otherwise-best = λ _ _. (b .candidate, all .is-best b e);
             counts-exactly = (λ h. absurd (omega arith), λ t. absurd (clash (best-fits (t .0) (t .1)) (t .2)));
