@@ -2,7 +2,7 @@
 use mathlib.Core.Path.{_≡_}
 use mathlib.Core.Bool.{Bool, true, _&&_}
 use mathlib.Core.List.{List, [], _∷_}
-use mathlib.Core.Option.{Option}
+use mathlib.Core.Option.{Option, some, none}
 use Prim.Native.Nat.{ℕ, _+_, _*_, _≤_}
 use lib.Dec.{leb}
 use lib.ListN.{length}
@@ -16,9 +16,8 @@ use Rattle.candidate.specs.Candidates.{isSome}
 use Rattle.candidate.specs.Evaluating.{profileWith, refused}
 use Rattle.product.specs.Best.{Contender, best}
 use Rattle.product.specs.Optimizing.{soundWord, countsFit, answerFits, evaluationOf, filled}
-use Rattle.paths.specs.Ranked.{Ranked}
+use Rattle.paths.specs.Ranked.{Ranked, letterCount}
 use Rattle.paths.specs.ByRanking.{ranked}
-use Rattle.labels.specs.declared.Label.{Label}
 use Rattle.product.specs.Nodes.{product, stateCounts}
 use Rattle.tables.specs.Places.{sixPlaces}
 
@@ -40,9 +39,14 @@ pub record Searched (card ranking word work workAfter answer answerAfter : List 
   pub answer-slice : answerAfter ≡ unlessRefused (searchRefusal (best card ranking word) (length answer)) (filled (best card ranking word) answer) (λ n. answer)
   pub work-length : length workAfter ≡ length work
 
--- no count of a label is over 60,000
-abbrev pub labelFits : Label → Bool
-labelFits l = leb (l .first) 60000 && (leb (l .second) 60000 && (leb (l .third) 60000 && (leb (l .fourth) 60000 && (leb (l .fifth) 60000 && leb (l .sixth) 60000))))
+-- no count of a cost is over 60,000
+abbrev pub costFits : Ranked 6 → Bool
+costFits c = leb (c .0) 60000 && (leb (c .1 .0) 60000 && (leb (c .1 .1 .0) 60000 && (leb (c .1 .1 .1 .0) 60000 && (leb (c .1 .1 .1 .1 .0) 60000 && leb (c .1 .1 .1 .1 .1 .0) 60000))))
+
+-- the checks 10 to 12 by the label of the start, which is what the best candidate costs
+abbrev pub labelRefusal : Option (Ranked 6) → ℕ → ℕ
+labelRefusal none room = 10
+labelRefusal (some c) room = firstOf (refuse 11 (costFits c) ∷ refuse 12 (leb (2 * letterCount 6 c) room) ∷ [])
 
 -- a ranking of at most six machines
 pub record RankingOfSome (ranking : List ℕ) : Type 0 where

@@ -9,7 +9,7 @@ use native.Mathlib.Nat.{mul-le-mul, mul-le-mul-right, suc-mul}
 use native.Mathlib.Omega.{arith}
 use lib.ListN.{length, getD}
 use lib.Dec.{leb}
-use borrow.Author.Tests.{leb-true, ne-eqb}
+use borrow.Author.Tests.{leb-true}
 use Rattle.basics.specs.Search.{allOf}
 use Rattle.basics.proofs.Bools.{left, right, clash}
 use Rattle.basics.proofs.Search.{all-at}
@@ -41,7 +41,7 @@ use Rattle.tables.specs.JointNumbers.{numbered, jointFrom}
 use Rattle.tables.specs.Places.{SixPlaces}
 use Rattle.tables.specs.Laws.Harmony.{six-places}
 use Rattle.tables.specs.Laws.Packing.{six-below}
-use Rattle.tables.specs.Laws.Edges.{edgeFrom, code-step-few, insertion-edge, symbol-edge}
+use Rattle.tables.specs.Laws.Edges.{edgeFrom, code-step-few, symbol-edge}
 use Rattle.positions.specs.Engine.{engineGraph, placeOf, Setting, Looked}
 
 -- a pair that is taken on one machine at least is over the card's symbols
@@ -150,10 +150,6 @@ module _ {card ranking word : List ℕ} {P : ℕ} (s : Setting card ranking word
           rw (k .cost-is) (ranked-upto (sixPlaces ranking) (k .marks) 0 15 (ending-marks-bound machines-sound (statesAt (stateCounts (machinesOf card)) u) (k .marks) (l .ends)) i)
 
   -- ---- a joint step as an edge
-
-  pub insertion-at : (i z y : ℕ) → i ≤ length word → z < P → 0 < y
-      → engineGraph card ranking word .edge (i * P + z) (record { input = 0; output = y }) ≡ edgeFrom (i * P) (jointFrom (sixPlaces ranking) (machinesOf card) z (record { input = 0; output = y }))
-  insertion-at i z y h k n = rw (s .size) (insertion-edge ranking word machines-sound i z (omega (arith, s .size)) (record { input = 0; output = y }) h (rw (ne-eqb y 0 (omega arith))) refl)
 
   pub symbol-at : (i z y : ℕ) → i < length word → z < P
       → engineGraph card ranking word .edge (i * P + z) (record { input = getD word i 0; output = y }) ≡ edgeFrom ((i + 1) * P) (jointFrom (sixPlaces ranking) (machinesOf card) z (record { input = getD word i 0; output = y }))
