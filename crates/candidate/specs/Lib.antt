@@ -1,5 +1,6 @@
 pub mod Refusals
 pub mod Candidates
+pub mod ProfileMerge
 pub mod Evaluating
 pub mod Scoring
 pub mod Best
