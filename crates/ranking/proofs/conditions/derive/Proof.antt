@@ -1,5 +1,6 @@
 use mathlib.Core.Path.{_≡_, refl, sym, _∙_}
 use Prim.Native.Nat.{_≤_}
+use native.Mathlib.Omega.{arith}
 use borrow.Author.Needs.{needs}
 use lib.Dec.{lit<}
 use Rattle.basics.specs.Refusals.{refuse}
@@ -18,10 +19,10 @@ few c =
     machine-count K (was-true stageNumber (c .enum-told .given .1) 1 (isMachineCount K) (lit< tt) (c .before .before .check-machine-count .ensures) refl) .most
 
 fewer-in-requires : tie.Need-fewer-in-requires
-fewer-in-requires c κs = few c
+fewer-in-requires c κs = omega (arith, few c)
 
 fewer-in-requires-2 : tie.Need-fewer-in-requires-2
-fewer-in-requires-2 c κs = few (c .before)
+fewer-in-requires-2 c κs = omega (arith, few (c .before))
 
 returns : tie.Need-returns
 returns c =
