@@ -1,15 +1,15 @@
 -- What the call answers, by the checks that the input passes and by the best candidate. Assumes nothing.
-use mathlib.Core.Path.{_≡_, refl, sym, _∙_, ap}
-use mathlib.Core.Bool.{Bool, true}
+use mathlib.Core.Path.{_≡_, refl, _∙_, ap}
+use mathlib.Core.Bool.{true}
 use mathlib.Core.List.{List, [], _∷_, _++_}
-use mathlib.Core.Option.{Option, some, none}
+use mathlib.Core.Option.{some}
 use Prim.Native.Nat.{ℕ, zero, suc, _+_, _*_, _<_, _≤_}
 use native.Mathlib.Nat.{mul-le-mul}
 use native.Mathlib.Decide.{decLt}
 use native.Mathlib.Omega.{arith}
 use lib.ListN.{length, getD, take, drop, length-append, length-drop, List·getD-eq-default}
 use lib.Dec.{leb}
-use borrow.Author.Tests.{le-leb, lt-leb}
+use borrow.Author.Tests.{le-leb}
 use Rattle.basics.specs.Search.{allOf}
 use Rattle.basics.specs.Refusals.{unlessRefused}
 use Rattle.basics.proofs.Bools.{both}
@@ -21,8 +21,6 @@ use Rattle.product.specs.Best.{Contender, best}
 use Rattle.product.specs.Optimizing.{soundWord, inputRefusal, countsFit, optimizerRefusal, evaluationOf, filled, optimized, optimizedAnswer}
 use Rattle.paths.specs.Ranked.{Ranked, countAt}
 use Rattle.paths.specs.ByRanking.{ranked}
-use Rattle.labels.specs.declared.Label.{Label}
-use Rattle.labels.specs.LabelCost.{costOf}
 use Rattle.product.specs.Nodes.{product, stateCounts, nodeCount}
 use Rattle.product.specs.Laws.Accepted.{accepted-machines}
 use Rattle.tables.specs.Places.{sixPlaces}

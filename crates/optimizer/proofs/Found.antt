@@ -1,14 +1,13 @@
 -- What a label of the start says of the best candidate. Assumes nothing.
-use mathlib.Core.Path.{_≡_, refl, sym, _∙_, ap, subst}
+use mathlib.Core.Path.{_≡_, refl, sym, _∙_, ap}
 use mathlib.Core.Logic.{_⊎_, inl, inr, _≢_}
 use mathlib.Core.Bool.{true}
-use mathlib.Core.List.{List, [], _∷_, map}
+use mathlib.Core.List.{List}
 use mathlib.Core.Option.{Option, some, none, Option·none-ne-some}
 use Prim.Native.Nat.{ℕ, _≤_}
 use native.Mathlib.Omega.{arith}
 use lib.ListN.{length}
 use Rattle.machine.specs.declared.Pair.{Pair}
-use Rattle.machine.specs.Machine.{Machine, startState}
 use Rattle.ranking.specs.Rankings.{isRanking}
 use Rattle.ranking.specs.Lemmas.Rankings.{ranking-facts}
 use Rattle.card.specs.Layout.{machineCount}
@@ -23,7 +22,6 @@ use Rattle.paths.specs.ByRanking.{ranked}
 use Rattle.paths.specs.Graph.{pathCost, run→cost}
 use Rattle.paths.specs.Labels.{Closed, Attained, lower-bound, unlabelled-none, held→run}
 use Rattle.paths.specs.Best.{IsBest, before-total, best-unique}
-use Rattle.product.specs.Nodes.{stateCounts, codeOf}
 use Rattle.product.specs.Prices.{byRanking}
 use Rattle.product.specs.ProductGraph.{pairs, cardStart}
 use Rattle.product.specs.BestCandidate.{Beats, better-profile, fewer-pairs, smaller-bytes, IsBestCandidate}

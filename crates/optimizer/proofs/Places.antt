@@ -9,7 +9,7 @@ use lib.Seq.{ext-getD, getD-append-add, getD-set-same, getD-set-other}
 use Rattle.ranking.specs.Profiles.{zeroProfile}
 use Rattle.ranking.specs.Lemmas.Rankings.{Ranking, ranking-facts, place-of, place-unique}
 use Rattle.paths.specs.Ranked.{countAt}
-use Rattle.paths.specs.ByRanking.{ranked, ranked-count}
+use Rattle.paths.specs.ByRanking.{ranked-count}
 use Rattle.labels.specs.declared.Label.{Label}
 use Rattle.labels.specs.LabelCost.{costOf}
 use Rattle.tables.specs.Places.{sixPlaces}
