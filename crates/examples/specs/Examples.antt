@@ -6,7 +6,8 @@ use Rattle.basics.specs.Search.{allOf, pairwise, those, firstThat, joined, ever
 use Rattle.basics.specs.Sets.{setOf}
 use Rattle.machine.specs.Machine.{takes, stepAmong, endingOf, takeOnePair, clash}
 use Rattle.machine.specs.Part.{arcAt, arcsAt, machineOf, soundArc, shaped, partRefusal}
-use Rattle.card.specs.Layout.{counted, dueOffset, laidOut, partsOf}
+use Rattle.layout.specs.Layout.{dueOffset, laidOut, partsIn}
+use Rattle.card.specs.Layout.{counted, partsOf}
 use Rattle.card.specs.Card.{cardRefusal, partsRefusal, stateProduct, machinesOf}
 use Rattle.ranking.specs.declared.Condition.{Condition}
 use Rattle.ranking.specs.declared.Finding.{Finding}
@@ -54,7 +55,7 @@ pub record TenExamples : Type 0 where
   pub ten : finding 3 (4 ∷ 1 ∷ []) ≡ record { number = 0; ranking = 1 ∷ 2 ∷ 0 ∷ 0 ∷ 0 ∷ 0 ∷ [] }
 
 pub the-ten-examples : TenExamples
-unfolding allOf pairwise those firstThat joined everyBelow someBelow numbersBelow occurrences setOf takes stepAmong endingOf takeOnePair clash arcAt arcsAt machineOf soundArc shaped partRefusal counted dueOffset laidOut partsOf cardRefusal partsRefusal stateProduct machinesOf isRanking arrangements harmony highest fits conditionsOf apart soundCondition soundList smallest finding pairsOf bytesOf spelled marksFrom isComplete profileOf soundCandidate evaluating smaller shorter preferred sameWord pairsOver listsBelow formsAmong leastOf bestBelow best soundWord inputRefusal optimizerRefusal optimized optimizedAnswer
+unfolding allOf pairwise those firstThat joined everyBelow someBelow numbersBelow occurrences setOf takes stepAmong endingOf takeOnePair clash arcAt arcsAt machineOf soundArc shaped partRefusal dueOffset laidOut partsIn counted partsOf cardRefusal partsRefusal stateProduct machinesOf isRanking arrangements harmony highest fits conditionsOf apart soundCondition soundList smallest finding pairsOf bytesOf spelled marksFrom isComplete profileOf soundCandidate evaluating smaller shorter preferred sameWord pairsOver listsBelow formsAmong leastOf bestBelow best soundWord inputRefusal optimizerRefusal optimized optimizedAnswer
 the-ten-examples = record {
   one = (refl, refl);
   two = (refl, refl);

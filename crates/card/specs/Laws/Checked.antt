@@ -8,7 +8,7 @@ use lib.ListN.{length, getD, take, drop, length-drop}
 use lib.Seq.{length-take-le}
 use Rattle.machine.specs.Part.{partRefusal}
 use Rattle.machine.specs.Accepted.{Shaped, shape-facts, accepted}
-use Rattle.card.specs.Layout.{Bytes}
+use Rattle.layout.specs.Layout.{Bytes}
 use Rattle.card.specs.Card.{stateProduct, partsRefusal}
 use Rattle.card.specs.Packing.{total, split}
 use Rattle.card.specs.Laws.Search.{first-passed, rest-passed}
