@@ -3,8 +3,8 @@ use native.Mathlib.Omega.{arith}
 use lib.ListN.{length}
 use borrow.Author.Tests.{lt-leb, le-leb}
 use Rattle.card.specs.Layout.{counted}
-use Rattle.card.proofs.layout.check_head.Statement.{statement}
-use Rattle.card.proofs.layout.check_head.Tie as tie
+use Rattle.card.proofs.head.check_head.Statement.{statement}
+use Rattle.card.proofs.head.check_head.Tie as tie
 
 returns : tie.Need-returns
 unfolding counted

@@ -3,10 +3,10 @@ use native.Mathlib.Omega.{arith}
 use mathlib.Core.Path.{_≡_}
 use Prim.Native.Nat.{ℕ, _-_, _<_, _≤_}
 use lib.ListN.{length, getD, length-set}
-use Rattle.card.proofs.LayoutSteps.{stored}
-use Rattle.card.specs.Layout.{lengthOf}
-use Rattle.card.proofs.layout.read_lengths.Statement.{statement}
-use Rattle.card.proofs.layout.read_lengths.Tie as tie
+use Rattle.card.proofs.Lengths.{stored}
+use Rattle.layout.specs.Layout.{lengthOf}
+use Rattle.card.proofs.head.read_lengths.Statement.{statement}
+use Rattle.card.proofs.head.read_lengths.Tie as tie
 
 abbrev Inv-loop : tie.InvT-loop
 Inv-loop card lengths₀ machines i₀ lengths i =
@@ -22,7 +22,7 @@ loop-again c =
     let i = k .loop .i in (
       simp length-set (omega arith),
       omega arith,
-      λ j h. stored l i _ (lengthOf (k .before .before .before .before .args .card .now)) (omega arith) (k .loop .inv .2) (c .short .ensures .0) j (omega arith),
+      λ j h. stored l i _ (lengthOf (k .before .before .before .before .args .card .now)) (omega arith) (k .loop .inv .2) (c .part-length .ensures .0) j (omega arith),
     )
 
 returns : tie.Need-returns Inv-loop μ-loop
@@ -36,8 +36,6 @@ read-lengths-spec =
     μ-loop
     (λ c. search needs)
     (λ c κs. search needs)
-    (λ c. search needs)
-    (λ c. search needs)
     (λ c. search needs)
     (λ c κs. search needs)
     (λ c. search needs)

@@ -1,22 +1,15 @@
-// The layout of a card: K, S and the places of the parts.
+// The front of a card: K, S and the lengths of the parts.
 ghost use mathlib.Core.Path.{_≡_};
 ghost use mathlib.Core.Bool.{true};
 ghost use Prim.Native.Nat.{ℕ, _+_, _*_, _<_, _≤_};
 ghost use lib.ListN.{length, getD};
 ghost use Rattle.basics.specs.Refusals.{refuse};
 ghost use Rattle.card.specs.Refusals.{numberOf, stageNumber};
-ghost use Rattle.card.specs.Layout.{machineCount, shortAt, lengthOf, soundCounts, counted, laidOut};
+ghost use Rattle.layout.specs.Layout.{lengthOf, laidOut};
+ghost use Rattle.card.specs.Layout.{machineCount, soundCounts, counted};
 use crate::Refusal;
 use crate::Stage;
 use basics::index;
-
-// The number of two bytes from a place, little-endian.
-pub fn short(card: &[u8], at: usize) -> usize
-    requires { ⌜ at + 2 ≤ length (now card) ⌝ }
-    ensures { λ r. ⌜ (r ≡ shortAt (now (card .entry)) at) × (r < 65536) ⌝ }
-{
-    index(card[at]) + 256 * index(card[at + 1])
-}
 
 // The answer of a stage that is one test.
 pub fn tested(ok: bool, refusal: Refusal) -> Stage
@@ -49,23 +42,12 @@ pub fn check_head(card: &[u8]) -> Stage
     check_counts(index(card[0]), card[1])
 }
 
-// Refusal 2: each part starts where the one before it ends, and the last ends at the card's end.
+// Refusal 2: the parts follow one another to the card's end.
 pub fn check_layout(card: &[u8]) -> Stage
     requires { ⌜ counted (now card) ≡ true ⌝ }
-    ensures { λ r. ⌜ stageNumber r ≡ refuse 2 (laidOut (now (card .entry))) ⌝ }
+    ensures { λ r. ⌜ stageNumber r ≡ refuse 2 (laidOut (machineCount (now (card .entry))) (now (card .entry))) ⌝ }
 {
-    let machines = index(card[0]);
-    let mut due = 2 + 4 * machines;
-    if card.len() < due {
-        return Stage::Refused(Refusal::Layout);
-    }
-    for i in 0..machines {
-        if short(card, 2 + 4 * i) != due {
-            return Stage::Refused(Refusal::Layout);
-        }
-        due += short(card, 4 + 4 * i);
-    }
-    tested(due == card.len(), Refusal::Layout)
+    tested(layout::is_laid_out(card, card[0]), Refusal::Layout)
 }
 
 // The lengths of a card's parts; places from K on are 0.
@@ -76,7 +58,7 @@ pub fn read_lengths(card: &[u8]) -> [u16; 6]
     let mut lengths = [0u16; 6];
     let machines = index(card[0]);
     for i in 0..machines {
-        lengths[i] = short(card, 4 + 4 * i) as u16;
+        lengths[i] = layout::part_length(card, i) as u16;
     }
     lengths
 }
