@@ -37,9 +37,10 @@ use Rattle.tables.specs.Laws.Edges.{sixGraph}
 use Rattle.positions.specs.Labelling.{PositionsDone}
 use Rattle.walk.specs.Walked.{StartsAt, WalkPre, Walked}
 use Rattle.optimizer.specs.Searching.{searchRefusal, labelRefusal, SearchPre, Searched, RankingOfSome, CardOrder}
-use Rattle.optimizer.specs.AcceptedInput.{short-word}
+use Rattle.input.specs.AcceptedInput.{short-word}
+use Rattle.input.proofs.Nodes.{node-room}
 use Rattle.optimizer.proofs.Found.{FoundAt, not-found, found, path-found}
-use Rattle.optimizer.proofs.Answers.{cost-fits, node-room}
+use Rattle.optimizer.proofs.Answers.{cost-fits}
 use Rattle.optimizer.proofs.Labels.{starts-at}
 
 module _ {card ranking word work : List ℕ} {size : ℕ} (pre : SearchPre card ranking word work size) where

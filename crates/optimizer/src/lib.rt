@@ -2,8 +2,7 @@
 ghost use mathlib.Core.Path.{_≡_};
 ghost use Prim.Native.Nat.{_+_, _*_, _<_};
 ghost use lib.ListN.{length};
-ghost use Rattle.card.specs.Card.{cardRefusal, machinesOf};
-ghost use Rattle.product.specs.Nodes.{product, stateCounts};
+ghost use Rattle.card.specs.Card.{cardRefusal};
 ghost use Rattle.product.specs.ProductGraph.{cardStart};
 ghost use Rattle.labels.specs.LabelCost.{costOf};
 ghost use Rattle.optimizer.specs.Refusals.{numberOf, stageNumber};
@@ -15,15 +14,10 @@ use candidate::refused;
 use labels::Label;
 use ranking::Profile;
 
-mod checks; // checks.rt: the checks
+mod checks; // checks.rt: the checks of the best candidate
 
-// Why the call is refused.
+// Why the call is refused after the search; the input has its own refusals.
 pub enum Refusal {
-    Card(card::Refusal),
-    Ranking(ranking::Refusal),
-    Word(product::Refusal),
-    // The work slice is too short.
-    Work,
     // No candidate is complete.
     NoCandidate,
     // The best profile has a count over 60,000.
@@ -38,12 +32,6 @@ impl Refusal {
         ensures { λ r. ⌜ r ≡ numberOf self ⌝ }
     {
         match self {
-            Refusal::Card(refusal) => refusal.number(),
-            Refusal::Ranking(refusal) => refusal.number(),
-            Refusal::Word(refusal) => match refusal {
-                product::Refusal::Word => 8,
-            },
-            Refusal::Work => 9,
             Refusal::NoCandidate => 10,
             Refusal::Counts => 11,
             Refusal::Answer => 12,
@@ -90,16 +78,6 @@ fn profile_of(label: Label, ranking: &[u8]) -> Profile
         place += 1;
     }
     Profile { counts }
-}
-
-// P, the product of the state counts of an accepted card's machines.
-fn joint_states(card: &[u8]) -> usize
-    requires { ⌜ cardRefusal (now card) ≡ 0 ⌝ }
-    ensures { λ r. ⌜ r ≡ product (stateCounts (machinesOf (now (card .entry)))) ⌝ }
-{
-    let counts = tables::state_counts(card);
-    let machines = card::machine_count(card);
-    tables::joint_states(&counts[..machines])
 }
 
 // The start node: the first position, every machine of an accepted card in its start state.
@@ -152,11 +130,11 @@ pub fn optimize(
 ) -> Evaluation
     ensures { λ r. ⌜ Optimizes (now (card .entry)) (now (ranking .entry)) (now (word .entry)) (now (work .entry)) (now (work .exit)) (now (answer .entry)) (now (answer .exit)) r ⌝ }
 {
-    let checked = checks::check_input(card, ranking, word, work.len());
-    let Stage::Passed = checked else {
+    let checked = input::check_input(card, ranking, word, work.len());
+    let input::Stage::Passed = checked else {
         return refused(checked.number());
     };
-    let size = joint_states(card);
+    let size = input::joint_states(card);
     let nodes = (word.len() + 1) * size;
     search(card, ranking, word, size, &mut work[..nodes * 8], answer)
 }

@@ -3,7 +3,7 @@ use native.Mathlib.Omega.{arith}
 use borrow.Author.Needs.{needs}
 use lib.ListN.{length}
 use Rattle.card.specs.Layout.{symbolCount}
-use Rattle.optimizer.specs.AcceptedInput.{short-word}
+use Rattle.input.specs.AcceptedInput.{short-word}
 use Rattle.optimizer.specs.Refusals.{stageNumber}
 use Rattle.optimizer.proofs.Refusals.{number-positive}
 use Rattle.optimizer.proofs.Labels.{above-zero}

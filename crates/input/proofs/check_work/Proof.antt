@@ -5,11 +5,11 @@ use lib.ListN.{length}
 use Rattle.basics.proofs.Refusals.{passes-with, refuses-with}
 use Rattle.card.specs.Card.{machinesOf}
 use Rattle.product.specs.Nodes.{nodeCount}
-use Rattle.optimizer.proofs.Answers.{node-room, nodes-few}
+use Rattle.input.proofs.Nodes.{node-room, nodes-few}
 use borrow.Author.Tests.{le-leb, lt-leb}
 use borrow.Author.Needs.{needs}
-use Rattle.optimizer.proofs.checks.check_work.Statement.{statement}
-use Rattle.optimizer.proofs.checks.check_work.Tie as tie
+use Rattle.input.proofs.check_work.Statement.{statement}
+use Rattle.input.proofs.check_work.Tie as tie
 
 few : (c : tie.After-joint-states) → (length (c .before .before .before .args .word .now) + 1) * c .joint-states .result ≤ 3200
 few c =

@@ -6,8 +6,8 @@ use Rattle.ranking.specs.Rankings.{isRanking}
 use Rattle.card.specs.Layout.{machineCount}
 use Rattle.card.specs.Accepted.{accepted}
 use borrow.Author.Needs.{needs}
-use Rattle.optimizer.proofs.checks.check_ranking.Statement.{statement}
-use Rattle.optimizer.proofs.checks.check_ranking.Tie as tie
+use Rattle.input.proofs.check_ranking.Statement.{statement}
+use Rattle.input.proofs.check_ranking.Tie as tie
 
 cast-machines : tie.Need-cast-machines
 cast-machines c = omega (arith, accepted (c .before .before .before .args .card .now) (c .before .before .before .pre) .head, c .machine-count .ensures)

@@ -11,11 +11,11 @@ use Rattle.card.specs.Layout.{machineCount, symbolCount}
 use Rattle.card.specs.Card.{cardRefusal, machinesOf}
 use Rattle.product.specs.Nodes.{nodeCount}
 use Rattle.product.specs.Optimizing.{soundWord, inputRefusal}
-use Rattle.optimizer.specs.Refusals.{stageNumber}
-use Rattle.optimizer.proofs.Refusals.{number-positive}
+use Rattle.input.specs.Refusals.{stageNumber}
+use Rattle.input.proofs.Refusals.{number-positive}
 use borrow.Author.Needs.{needs}
-use Rattle.optimizer.proofs.checks.check_input.Statement.{statement}
-use Rattle.optimizer.proofs.checks.check_input.Tie as tie
+use Rattle.input.proofs.check_input.Statement.{statement}
+use Rattle.input.proofs.check_input.Tie as tie
 
 -- what each stage that passed says
 card-passed : (c : tie.After-enum-told) → cardRefusal (c .before .before .before .before .before .before .args .card .now) ≡ 0

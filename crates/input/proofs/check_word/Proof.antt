@@ -4,8 +4,8 @@ use Rattle.card.specs.Layout.{symbolCount}
 use Rattle.product.specs.Optimizing.{soundWord}
 use Rattle.product.specs.Refusals.{stageNumber}
 use borrow.Author.Needs.{needs}
-use Rattle.optimizer.proofs.checks.check_word.Statement.{statement}
-use Rattle.optimizer.proofs.checks.check_word.Tie as tie
+use Rattle.input.proofs.check_word.Statement.{statement}
+use Rattle.input.proofs.check_word.Tie as tie
 
 -- the symbols are the card's
 of-card : (c : tie.After-check-word) → refuse 8 (soundWord (c .before .symbol-count .result) (c .before .before .before .before .args .word .now)) ≡ refuse 8 (soundWord (symbolCount (c .before .before .before .before .args .card .now)) (c .before .before .before .before .args .word .now))

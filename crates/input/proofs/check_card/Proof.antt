@@ -1,8 +1,8 @@
 use mathlib.Core.Path.{sym, ap, _∙_}
 use Rattle.card.specs.Refusals.{stageNumber}
 use borrow.Author.Needs.{needs}
-use Rattle.optimizer.proofs.checks.check_card.Statement.{statement}
-use Rattle.optimizer.proofs.checks.check_card.Tie as tie
+use Rattle.input.proofs.check_card.Statement.{statement}
+use Rattle.input.proofs.check_card.Tie as tie
 
 returns : tie.Need-returns
 returns c = sym (ap stageNumber (c .enum-told .given .1)) ∙ c .before .before .check .ensures

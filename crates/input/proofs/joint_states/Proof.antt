@@ -2,8 +2,8 @@ use mathlib.Core.Path.{_∙_, ap}
 use borrow.Author.Needs.{needs}
 use Rattle.product.specs.Nodes.{product}
 use Rattle.positions.proofs.Prefix.{front-is, front-length, front-fits, front-counts}
-use Rattle.optimizer.proofs.joint_states.Statement.{statement}
-use Rattle.optimizer.proofs.joint_states.Tie as tie
+use Rattle.input.proofs.joint_states.Statement.{statement}
+use Rattle.input.proofs.joint_states.Tie as tie
 
 array-share-prefix-counts : tie.Need-array-share-prefix-counts
 array-share-prefix-counts c =
