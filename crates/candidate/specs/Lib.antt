@@ -3,4 +3,5 @@ pub mod Candidates
 pub mod Evaluating
 pub mod Scoring
 pub mod Best
+pub mod Sets
 pub mod Optimizing

@@ -3,3 +3,4 @@ pub mod Places
 pub mod Found
 pub mod Answers
 pub mod Stages
+pub mod Words

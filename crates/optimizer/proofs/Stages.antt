@@ -11,13 +11,13 @@ use Rattle.basics.proofs.Bools.{clash}
 use Rattle.machine.specs.declared.Pair.{Pair}
 use Rattle.ranking.specs.declared.Profile.{Profile}
 use Rattle.ranking.specs.Lemmas.Rankings.{ranking-facts}
-use Rattle.card.specs.Layout.{machineCount, symbolCount}
+use Rattle.card.specs.Layout.{machineCount}
 use Rattle.card.specs.Card.{machinesOf}
 use Rattle.card.specs.Accepted.{accepted}
 use Rattle.candidate.specs.declared.Evaluation.{Evaluation}
 use Rattle.candidate.specs.Candidates.{bytesOf}
 use Rattle.candidate.specs.Evaluating.{refused}
-use Rattle.candidate.specs.Best.{best}
+use Rattle.candidate.specs.Sets.{bestOfSets}
 use Rattle.candidate.specs.Optimizing.{countsFit, evaluationOf, filled}
 use Rattle.paths.specs.Ranked.{letterCount}
 use Rattle.paths.specs.ByRanking.{ranked, ranked-letters}
@@ -25,21 +25,20 @@ use Rattle.paths.specs.Labels.{Closed, Attained}
 use Rattle.labels.specs.declared.Label.{Label}
 use Rattle.labels.specs.LabelCost.{costOf}
 use Rattle.labels.specs.Work.{HasNode, labelOf, costAt}
-use Rattle.product.specs.BestTheorem.{counts-always-fit}
+use Rattle.product.specs.SetsTheorem.{counts-of-sets-fit}
 use Rattle.product.specs.Laws.Accepted.{accepted-machines}
 use Rattle.product.specs.Laws.BestCandidate.{profile-length}
 use Rattle.tables.specs.Places.{sixPlaces}
 use Rattle.tables.specs.Laws.Edges.{sixGraph}
 use Rattle.positions.specs.Labelling.{LabelPre, PositionsDone}
 use Rattle.walk.specs.Walked.{WalkPre, Walked}
-use Rattle.optimizer.specs.Searching.{SearchPre, Searched, labelFits, RankingOfSome, CardOrder}
-use Rattle.optimizer.specs.AcceptedInput.{short-word}
+use Rattle.optimizer.specs.Searching.{SetsPre, Searched, labelFits, RankingOfSome, CardOrder}
 use Rattle.optimizer.proofs.Found.{FoundAt, not-found, found, path-found}
 use Rattle.optimizer.proofs.Answers.{no-best, no-room, best-fits, label-fits}
 
-module _ {card ranking word work : List ℕ} {size : ℕ} (pre : SearchPre card ranking word work size) where
-  pub label-pre : LabelPre card ranking word work size
-  label-pre = record { setting = record { accepted = pre .accepted; ranks = pre .ranks; sound = pre .sound; size = pre .states }; room = pre .room }
+module _ {card ranking sets work : List ℕ} {size : ℕ} (pre : SetsPre card ranking sets work size) where
+  pub label-pre : LabelPre card ranking sets work size
+  label-pre = record { setting = record { accepted = pre .accepted; ranks = pre .ranks; few = pre .few; symbols = pre .symbols; size = pre .states }; room = pre .room }
 
   some-state : 1 ≤ size
   some-state = omega (arith, pre .states, accepted-machines card (pre .accepted) .states, accepted card (pre .accepted) .some-state)
@@ -49,35 +48,35 @@ module _ {card ranking word work : List ℕ} {size : ℕ} (pre : SearchPre card 
       let p = ranking-facts (machineCount card) ranking (pre .ranks) .places in
       record { few = omega (arith, p, accepted card (pre .accepted) .head); ranks = rw p (pre .ranks) }
 
-  fitting : countsFit (best card ranking word) ≡ true
-  fitting = counts-always-fit card ranking word (pre .accepted) (short-word (symbolCount card) word (pre .sound))
+  fitting : countsFit (bestOfSets card ranking sets) ≡ true
+  fitting = counts-of-sets-fit card ranking sets (pre .accepted) (pre .ranks) (pre .bits) (pre .few)
 
-  module _ {after : List ℕ} (done : PositionsDone card ranking word work after 0) where
-    closed : Closed (sixGraph ranking word (machinesOf card)) (labelOf after)
+  module _ {after : List ℕ} (done : PositionsDone card ranking sets work after 0) where
+    closed : Closed (sixGraph ranking sets (machinesOf card)) (labelOf after)
     closed u = done .done .closed u (omega arith)
 
-    attained : Attained (sixGraph ranking word (machinesOf card)) (labelOf after)
+    attained : Attained (sixGraph ranking sets (machinesOf card)) (labelOf after)
     attained = done .done .attained
 
     pub start-there : HasNode after 0
     start-there =
-        let a : 1 ≤ length word + 1 = omega arith in
-        let b : 1 * 1 ≤ (length word + 1) * size = mul-le-mul a some-state in
+        let a : 1 ≤ length sets + 1 = omega arith in
+        let b : 1 * 1 ≤ (length sets + 1) * size = mul-le-mul a some-state in
         omega (arith, done .size, pre .room)
 
     -- no label at the start
-    pub none-answered : (answer : List ℕ) (r : Evaluation) → labelOf after 0 ≡ none → r ≡ refused 10 → Searched card ranking word work after answer answer r
+    pub none-answered : (answer : List ℕ) (r : Evaluation) → labelOf after 0 ≡ none → r ≡ refused 10 → Searched (bestOfSets card ranking sets) sets work after answer answer r
     none-answered answer r l q =
-        let e = not-found card ranking word (pre .accepted) (pre .ranks) (labelOf after) closed l in
+        let e = not-found card ranking sets (pre .accepted) (pre .ranks) (pre .bits) (labelOf after) closed l in
         record {
-          result = q ∙ no-best (best card ranking word) (length answer) (evaluationOf (best card ranking word) word) refused e;
-          answer-slice = no-best (best card ranking word) (length answer) (filled (best card ranking word) answer) (λ n. answer) e;
+          result = q ∙ no-best (bestOfSets card ranking sets) (length answer) (evaluationOf (bestOfSets card ranking sets) sets) refused e;
+          answer-slice = no-best (bestOfSets card ranking sets) (length answer) (filled (bestOfSets card ranking sets) answer) (λ n. answer) e;
           work-length = done .size;
         }
 
     module _ (label : Label) (l : labelOf after 0 ≡ some (costAt after 0)) (at : costOf label ≡ costAt after 0) where
-      the-best : FoundAt card ranking word (costAt after 0)
-      the-best = found card ranking word (pre .accepted) (pre .ranks) (labelOf after) closed attained (costAt after 0) l
+      the-best : FoundAt card ranking sets (costAt after 0)
+      the-best = found card ranking sets (pre .accepted) (pre .ranks) (pre .bits) (labelOf after) closed attained (costAt after 0) l
 
       cost : costOf label ≡ ranked (sixPlaces ranking) (the-best .form .profile) (length (the-best .form .candidate))
       cost = at ∙ the-best .cost
@@ -93,21 +92,22 @@ module _ {card ranking word work : List ℕ} {size : ℕ} (pre : SearchPre card 
       not-large f = clash (label-fits label ranking (the-best .form) (length (the-best .form .candidate)) fits-itself cost) f
 
       -- no room
-      pub room-answered : (answer : List ℕ) (r : Evaluation) → length answer / 2 < label .pairs → r ≡ refused 12 → Searched card ranking word work after answer answer r
+      pub room-answered : (answer : List ℕ) (r : Evaluation) → length answer / 2 < label .pairs → r ≡ refused 12 → Searched (bestOfSets card ranking sets) sets work after answer answer r
       room-answered answer r h q =
           let k : length answer < 2 * length (the-best .form .candidate) = omega (arith, its-pairs) in
           record {
-            result = q ∙ no-room (best card ranking word) (length answer) (evaluationOf (best card ranking word) word) refused (the-best .form) (the-best .is) fitting k;
-            answer-slice = no-room (best card ranking word) (length answer) (filled (best card ranking word) answer) (λ n. answer) (the-best .form) (the-best .is) fitting k;
+            result = q ∙ no-room (bestOfSets card ranking sets) (length answer) (evaluationOf (bestOfSets card ranking sets) sets) refused (the-best .form) (the-best .is) fitting k;
+            answer-slice = no-room (bestOfSets card ranking sets) (length answer) (filled (bestOfSets card ranking sets) answer) (λ n. answer) (the-best .form) (the-best .is) fitting k;
             work-length = done .size;
           }
 
       -- what the walk needs
-      pub walk-pre : (room : ℕ) → (room / 2 < label .pairs → ⊥) → WalkPre ranking card word after size room
+      pub walk-pre : (room : ℕ) → (room / 2 < label .pairs → ⊥) → WalkPre ranking card sets after size room
       walk-pre room h = record {
         labels = record {
           accepted = pre .accepted;
-          sound-word = pre .sound;
+          few = pre .few;
+          symbols = pre .symbols;
           states = pre .states;
           room = omega (arith, done .size, pre .room);
           closed = closed;
@@ -118,11 +118,11 @@ module _ {card ranking word work : List ℕ} {size : ℕ} (pre : SearchPre card 
       }
 
       -- the best
-      pub best-answered : {answer answerAfter : List ℕ} {n : ℕ} (profile : Profile) → (length answer / 2 < label .pairs → ⊥) → CardOrder ranking (costOf label) profile → Walked ranking card word after answer answerAfter n
-          → Searched card ranking word work after answer answerAfter (record { number = 0; profile = profile; pairs = label .pairs; «word_length» = length word })
+      pub best-answered : {answer answerAfter : List ℕ} {n : ℕ} (profile : Profile) → (length answer / 2 < label .pairs → ⊥) → CardOrder ranking (costOf label) profile → Walked ranking card sets after answer answerAfter n
+          → Searched (bestOfSets card ranking sets) sets work after answer answerAfter (record { number = 0; profile = profile; pairs = label .pairs; «word_length» = length sets })
       best-answered {answer = answer} {answerAfter = answerAfter} profile h order w = record {
-        result = evaluated ∙ best-fits (best card ranking word) (length answer) (evaluationOf (best card ranking word) word) refused (the-best .form) (the-best .is) fitting k;
-        answer-slice = written ∙ best-fits (best card ranking word) (length answer) (filled (best card ranking word) answer) (λ n. answer) (the-best .form) (the-best .is) fitting k;
+        result = evaluated ∙ best-fits (bestOfSets card ranking sets) (length answer) (evaluationOf (bestOfSets card ranking sets) sets) refused (the-best .form) (the-best .is) fitting k;
+        answer-slice = written ∙ best-fits (bestOfSets card ranking sets) (length answer) (filled (bestOfSets card ranking sets) answer) (λ n. answer) (the-best .form) (the-best .is) fitting k;
         work-length = done .size;
       }
         where
@@ -134,14 +134,14 @@ module _ {card ranking word work : List ℕ} {size : ℕ} (pre : SearchPre card 
               ap length (the-best .profile) ∙ profile-length (machinesOf card) (the-best .form .candidate) ∙ accepted-machines card (pre .accepted) .count
               ∙ sym (ranking-facts (machineCount card) ranking (pre .ranks) .places)
 
-          evaluated : _≡_ {A = Evaluation} (record { number = 0; profile = profile; pairs = label .pairs; «word_length» = length word }) (evaluationOf (best card ranking word) word)
+          evaluated : _≡_ {A = Evaluation} (record { number = 0; profile = profile; pairs = label .pairs; «word_length» = length sets }) (evaluationOf (bestOfSets card ranking sets) sets)
           evaluated =
               let p = order (the-best .form .profile) (length (the-best .form .candidate)) lengths cost in
-              let q : _≡_ {A = Evaluation} (record { number = 0; profile = profile; pairs = label .pairs; «word_length» = length word }) (evaluationOf (some (the-best .form)) word)
-              = λ i. record { number = 0; profile = p i; pairs = its-pairs i; «word_length» = length word } in
-              q ∙ ap (λ o. evaluationOf o word) (sym (the-best .is))
+              let q : _≡_ {A = Evaluation} (record { number = 0; profile = profile; pairs = label .pairs; «word_length» = length sets }) (evaluationOf (some (the-best .form)) sets)
+              = λ i. record { number = 0; profile = p i; pairs = its-pairs i; «word_length» = length sets } in
+              q ∙ ap (λ o. evaluationOf o sets) (sym (the-best .is))
 
-          written : answerAfter ≡ filled (best card ranking word) answer
+          written : answerAfter ≡ filled (bestOfSets card ranking sets) answer
           written =
-              let c = path-found card ranking word (pre .accepted) (pre .ranks) the-best (w .best) (w .is-best) in
+              let c = path-found card ranking sets (pre .accepted) (pre .ranks) (pre .bits) the-best (w .best) (w .is-best) in
               w .written ∙ ap (λ (d : List Pair). bytesOf d ++ drop (2 * length d) answer) c ∙ ap (λ o. filled o answer) (sym (the-best .is))

@@ -5,7 +5,8 @@ use mathlib.Core.List.{List, [], _∷_}
 use mathlib.Core.Option.{Option}
 use Prim.Native.Nat.{ℕ, _+_, _*_, _≤_}
 use lib.Dec.{leb}
-use lib.ListN.{length}
+use lib.ListN.{length, getD}
+use Rattle.basics.specs.Sets.{member}
 use Rattle.basics.specs.Refusals.{refuse, firstOf, unlessRefused}
 use Rattle.ranking.specs.declared.Profile.{Profile}
 use Rattle.ranking.specs.Rankings.{isRanking}
@@ -14,19 +15,30 @@ use Rattle.card.specs.Card.{cardRefusal, machinesOf}
 use Rattle.candidate.specs.declared.Evaluation.{Evaluation}
 use Rattle.candidate.specs.Candidates.{isSome}
 use Rattle.candidate.specs.Evaluating.{profileWith, refused}
-use Rattle.candidate.specs.Best.{Form, best}
+use Rattle.candidate.specs.Best.{Form}
 use Rattle.candidate.specs.Optimizing.{soundWord, countsFit, answerFits, evaluationOf, filled}
 use Rattle.paths.specs.Ranked.{Ranked}
 use Rattle.paths.specs.ByRanking.{ranked}
 use Rattle.labels.specs.declared.Label.{Label}
 use Rattle.product.specs.Nodes.{product, stateCounts}
+use Rattle.product.specs.Laws.BestOfSets.{are64Bits}
 use Rattle.tables.specs.Places.{sixPlaces}
 
 -- the checks 10 to 12
 abbrev pub searchRefusal : Option Form → ℕ → ℕ
 searchRefusal b room = firstOf (refuse 10 (isSome b) ∷ refuse 11 (countsFit b) ∷ refuse 12 (answerFits b room) ∷ [])
 
--- accepted input; size is the product of the state counts, and the work slice has just the room for the nodes
+-- accepted sets, all of them 64-bit numbers; size is the product of the state counts, and the work slice has just the room for the nodes
+pub record SetsPre (card ranking sets work : List ℕ) (size : ℕ) : Type 0 where
+  pub accepted : cardRefusal card ≡ 0
+  pub ranks : isRanking (machineCount card) ranking ≡ true
+  pub few : length sets ≤ 24
+  pub symbols : (i x : ℕ) → member (getD sets i 0) x ≡ true → (1 ≤ x) × (x ≤ symbolCount card)
+  pub bits : are64Bits sets ≡ true
+  pub states : size ≡ product (stateCounts (machinesOf card))
+  pub room : length work ≡ (length sets + 1) * size * 8
+
+-- the same with an accepted word
 pub record SearchPre (card ranking word work : List ℕ) (size : ℕ) : Type 0 where
   pub accepted : cardRefusal card ≡ 0
   pub ranks : isRanking (machineCount card) ranking ≡ true
@@ -34,10 +46,10 @@ pub record SearchPre (card ranking word work : List ℕ) (size : ℕ) : Type 0 w
   pub states : size ≡ product (stateCounts (machinesOf card))
   pub room : length work ≡ (length word + 1) * size * 8
 
--- what the search answers, and the slices at exit
-pub record Searched (card ranking word work workAfter answer answerAfter : List ℕ) (r : Evaluation) : Type 0 where
-  pub result : r ≡ unlessRefused (searchRefusal (best card ranking word) (length answer)) (evaluationOf (best card ranking word) word) refused
-  pub answer-slice : answerAfter ≡ unlessRefused (searchRefusal (best card ranking word) (length answer)) (filled (best card ranking word) answer) (λ n. answer)
+-- what the search answers by what the best is, and the slices at exit
+pub record Searched (b : Option Form) (word work workAfter answer answerAfter : List ℕ) (r : Evaluation) : Type 0 where
+  pub result : r ≡ unlessRefused (searchRefusal b (length answer)) (evaluationOf b word) refused
+  pub answer-slice : answerAfter ≡ unlessRefused (searchRefusal b (length answer)) (filled b answer) (λ n. answer)
   pub work-length : length workAfter ≡ length work
 
 -- no count of a label is over 60,000

@@ -1,13 +1,18 @@
 // The optimizer: from card, ranking and word to the best candidate.
 ghost use mathlib.Core.Path.{_≡_};
-ghost use Prim.Native.Nat.{_+_, _*_, _<_};
-ghost use lib.ListN.{length};
+ghost use Prim.Native.Nat.{_+_, _*_, _<_, _≤_};
+ghost use lib.Dec.{ltb};
+ghost use lib.ListN.{length, take};
+ghost use mathlib.Core.Bool.{true};
+ghost use Rattle.basics.specs.Search.{allOf};
+ghost use Rattle.candidate.specs.Best.{best};
+ghost use Rattle.candidate.specs.Sets.{singletons, bestOfSets};
 ghost use Rattle.card.specs.Card.{cardRefusal, machinesOf};
 ghost use Rattle.product.specs.Nodes.{product, stateCounts};
 ghost use Rattle.labels.specs.LabelCost.{costOf};
 ghost use Rattle.optimizer.specs.Refusals.{numberOf, stageNumber};
 ghost use Rattle.optimizer.specs.Optimizes.{Optimizes};
-ghost use Rattle.optimizer.specs.Searching.{SearchPre, Searched, labelFits, RankingOfSome, CardOrder};
+ghost use Rattle.optimizer.specs.Searching.{SetsPre, SearchPre, Searched, labelFits, RankingOfSome, CardOrder};
 use candidate::Evaluation;
 use candidate::refused;
 use labels::Label;
@@ -117,19 +122,19 @@ fn counts_fit(label: Label) -> bool
                 & ((label.fourth <= 60000) & ((label.fifth <= 60000) & (label.sixth <= 60000)))))
 }
 
-// The search for accepted input: labels the nodes, and writes the best candidate if there is one and it has room.
-fn search(
+// The search for accepted sets: labels the nodes, and writes the best candidate if there is one and it has room.
+fn search_sets(
     card: &[u8],
     ranking: &[u8],
-    word: &[u8],
+    sets: &[u64],
     size: usize,
     work: &mut [u16],
     answer: &mut [u8],
 ) -> Evaluation
-    requires { ⌜ SearchPre (now card) (now ranking) (now word) (now work) size ⌝ }
-    ensures { λ r. ⌜ Searched (now (card .entry)) (now (ranking .entry)) (now (word .entry)) (now (work .entry)) (now (work .exit)) (now (answer .entry)) (now (answer .exit)) r ⌝ }
+    requires { ⌜ SetsPre (now card) (now ranking) (now sets) (now work) size ⌝ }
+    ensures { λ r. ⌜ Searched (bestOfSets (now (card .entry)) (now (ranking .entry)) (now (sets .entry))) (now (sets .entry)) (now (work .entry)) (now (work .exit)) (now (answer .entry)) (now (answer .exit)) r ⌝ }
 {
-    positions::label(work, card, ranking, word, size);
+    positions::label(work, card, ranking, sets, size);
     if !labels::reached(work, 0) {
         return refused(Refusal::NoCandidate.number());
     }
@@ -141,13 +146,42 @@ fn search(
         return refused(Refusal::Answer.number());
     }
     let profile = profile_of(label, ranking);
-    walk::walk(work, card, ranking, word, size, answer);
+    walk::walk(work, card, ranking, sets, size, answer);
     Evaluation {
         number: 0,
         profile,
         pairs: label.pairs,
-        word_length: word.len() as u16,
+        word_length: sets.len() as u16,
     }
+}
+
+// The sets of one symbol each of a word.
+fn fill_sets(word: &[u8], sets: &mut [u64])
+    requires { ⌜ (length (now word) ≤ length (now sets)) × (allOf (λ x. ltb x 64) (now word) ≡ true) ⌝ }
+    ensures { λ _. ⌜ take (length (now (word .entry))) (now (sets .exit)) ≡ singletons (now (word .entry)) ⌝ }
+{
+    let mut i = 0;
+    while i < word.len() {
+        sets[i] = machine::sets::set_of(word[i]);
+        i += 1;
+    }
+}
+
+// The search for an accepted word: that for its sets of one symbol each.
+fn search(
+    card: &[u8],
+    ranking: &[u8],
+    word: &[u8],
+    size: usize,
+    work: &mut [u16],
+    answer: &mut [u8],
+) -> Evaluation
+    requires { ⌜ SearchPre (now card) (now ranking) (now word) (now work) size ⌝ }
+    ensures { λ r. ⌜ Searched (best (now (card .entry)) (now (ranking .entry)) (now (word .entry))) (now (word .entry)) (now (work .entry)) (now (work .exit)) (now (answer .entry)) (now (answer .exit)) r ⌝ }
+{
+    let mut sets = [0u64; 24];
+    fill_sets(word, &mut sets);
+    search_sets(card, ranking, &sets[..word.len()], size, work, answer)
 }
 
 // Answers the best candidate for a word under a ranking: 1 to 12.

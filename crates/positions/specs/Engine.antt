@@ -3,33 +3,34 @@ use mathlib.Core.Path.{_≡_}
 use mathlib.Core.Bool.{true}
 use mathlib.Core.List.{List}
 use Prim.Native.Nat.{ℕ, _*_, _≤_}
-use lib.ListN.{length}
+use lib.ListN.{length, getD}
+use Rattle.basics.specs.Sets.{member}
 use Rattle.ranking.specs.Rankings.{isRanking}
 use Rattle.card.specs.Layout.{machineCount, symbolCount}
 use Rattle.card.specs.Card.{cardRefusal, machinesOf}
-use Rattle.candidate.specs.Optimizing.{soundWord}
 use Rattle.paths.specs.Ranked.{rankedCosts}
 use Rattle.paths.specs.Graph.{Graph}
 use Rattle.labels.specs.Listing.{Listed}
 use Rattle.product.specs.Nodes.{product, stateCounts, positionAt}
-use Rattle.product.specs.ProductGraph.{pairs, cardGraph}
+use Rattle.product.specs.ProductGraph.{pairs, setGraph}
 use Rattle.tables.specs.Places.{sixPlaces}
 use Rattle.tables.specs.Tables.{HoldsRows}
 use Rattle.tables.specs.Insertions.{HoldsCheapest}
 
--- the product of the card's machines over the word, whose costs are six counts in ranked order and the number of pairs
-abbrev pub engineGraph : (card ranking word : List ℕ) → Graph (rankedCosts 6) pairs
-engineGraph card ranking word = cardGraph card (sixPlaces ranking) word
+-- the product of the card's machines over sets of symbols, whose costs are six counts in ranked order and the number of pairs
+abbrev pub engineGraph : (card ranking sets : List ℕ) → Graph (rankedCosts 6) pairs
+engineGraph card ranking sets = setGraph card (sixPlaces ranking) sets
 
 -- the input position of a node
 abbrev pub placeOf : List ℕ → ℕ → ℕ
 placeOf card u = positionAt (stateCounts (machinesOf card)) u
 
--- an accepted card, a ranking of its machines, a word over its symbols; P is the product of the state counts
-pub record Setting (card ranking word : List ℕ) (P : ℕ) : Type 0 where
+-- an accepted card, a ranking of its machines, at most 24 sets of its symbols; P is the product of the state counts
+pub record Setting (card ranking sets : List ℕ) (P : ℕ) : Type 0 where
   pub accepted : cardRefusal card ≡ 0
   pub ranks : isRanking (machineCount card) ranking ≡ true
-  pub sound : soundWord (symbolCount card) word ≡ true
+  pub few : length sets ≤ 24
+  pub symbols : (i x : ℕ) → member (getD sets i 0) x ≡ true → (1 ≤ x) × (x ≤ symbolCount card)
   pub size : P ≡ product (stateCounts (machinesOf card))
 
 -- what looking joint steps up needs: the rows of the codes, the state counts, the ranking as six places

@@ -10,6 +10,7 @@ use Rattle.machine.specs.Machine.{Machine}
 use Rattle.ranking.specs.declared.Order.the-variants.{Worse}
 use Rattle.ranking.specs.Harmony.{harmony}
 use Rattle.candidate.specs.Candidates.{bytesOf, profileOf, IsCandidate}
+use Rattle.candidate.specs.Sets.{IsCandidateOf}
 use Rattle.ranking.specs.ByteStrings.{smaller}
 
 -- c beats d: d has a worse profile; or an equal profile and more pairs; or an equal profile, as many pairs and a larger byte string
@@ -22,3 +23,8 @@ pub data Beats (ranking : List ℕ) (ms : List Machine) (c d : List Pair) : Type
 pub record IsBestCandidate (ranking : List ℕ) (ms : List Machine) (word : List ℕ) (c : List Pair) : Type 0 where
   pub candidate : IsCandidate ms word c
   pub rivals : (d : List Pair) → IsCandidate ms word d → d ≢ c → Beats ranking ms c d
+
+-- c is a candidate for a word with one symbol from each set, and beats every other candidate for such a word
+pub record IsBestOfSets (ranking : List ℕ) (ms : List Machine) (sets : List ℕ) (c : List Pair) : Type 0 where
+  pub candidate : IsCandidateOf ms sets c
+  pub rivals : (d : List Pair) → IsCandidateOf ms sets d → d ≢ c → Beats ranking ms c d

@@ -1,6 +1,7 @@
 -- Lemmas, in the order in which they build on one another: words, nodes and steps; the cost of a path, and that paths are
 -- candidates; edges and codes, for an engine; then what the definition of the best lists, and that its best is the best path.
 pub mod Words
+pub mod Sets
 pub mod Nodes
 pub mod JointStep
 pub mod PathCost
@@ -14,3 +15,4 @@ pub mod Listing
 pub mod Counts
 pub mod Best
 pub mod BestCandidate
+pub mod BestOfSets

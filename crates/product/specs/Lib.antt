@@ -11,3 +11,4 @@ pub mod Laws
 -- theorems
 pub mod CandidatePaths
 pub mod BestTheorem
+pub mod SetsTheorem

@@ -1,4 +1,3 @@
-pub mod Numbers
 pub mod Keeping
 pub mod Moves
 pub mod Writing

@@ -11,7 +11,7 @@ mul-settle : tie.Need-mul-settle
 mul-settle c =
     let t = c .before .before .before .before .before .before .before .before .before .before .before .before .before .before .before .before .before .before .before .before in
     let s = t .pre .0 .setting in
-    omega (arith, few-nodes s, node-below (length (t .args .word .now)) (t .args .size) (t .args .position) (t .args .position * t .args .size) (t .pre .0 .within) (omega (arith, some-code s)))
+    omega (arith, few-nodes s, node-below (length (t .args .sets .now)) (t .args .size) (t .args .position) (t .args .position * t .args .size) (t .pre .0 .within) (omega (arith, some-code s)))
 
 settle-requires : tie.Need-settle-requires
 settle-requires c κs =

@@ -36,7 +36,7 @@ returns-2 c =
     let l = c .before .before .lower in
     ending-some (t .pre .0 .setting) (t .args .work .now) (t .args .code) (t .pre .1) (c .before .before .before .before .before .before .ending .given .0 .0) (l .last .0)
     (ended-at (t .pre .0 .looked) (t .args .code) (c .before .before .before .before .before .before .before .before .joint-ending .result) (c .before .before .before .before .before .before .before .before .joint-ending .ensures) ∙ ap ended (c .before .before .before .before .before .before .ending .given .1))
-    (subst (λ (x : Ranked 6). Lowered (t .args .work .now) (l .last .0) (length (t .args .word .now) * t .args .size + t .args .code) x) (c .before .before .before .ending-label .ensures) (l .ensures))
+    (subst (λ (x : Ranked 6). Lowered (t .args .work .now) (l .last .0) (length (t .args .sets .now) * t .args .size + t .args .code) x) (c .before .before .before .ending-label .ensures) (l .ensures))
 
 pub try-ending-spec : {M : Type 1} → statement M
 try-ending-spec =

@@ -14,6 +14,7 @@ use Rattle.machine.specs.Symbols.{isPair}
 use Rattle.machine.specs.Machine.{Machine, startState, stepOf}
 use Rattle.card.specs.Card.{machinesOf, cardRefusal}
 use Rattle.candidate.specs.Candidates.{spelled, addMarks, marksFrom, marksOf, isSome, isComplete, profileOf, IsCandidate}
+use Rattle.candidate.specs.Sets.{singletons}
 use Rattle.candidate.specs.Best.{Form, sameWord, pairsOver, listsBelow, formsAmong, bestBelow, nodeCount, best}
 use Rattle.paths.specs.Total.{Upto}
 use Rattle.paths.specs.Ranked.{Ranked, rankedCosts}
@@ -90,7 +91,7 @@ module _ {S : ℕ} {ms : List Machine} (sound : AllSound S ms) (some-machine : 1
   best-facts b e = form-facts b (least-member r forms b e)
 
   -- the best below the bound is the best path of fewer pairs than the bound
-  pub best-below : (b : Form) → bestBelow N S ms r word ≡ some b → IsBestBelow (productGraph (byRanking r) word ms) N (startNode ms) (b .candidate)
+  pub best-below : (b : Form) → bestBelow N S ms r word ≡ some b → IsBestBelow (productGraph (byRanking r) (singletons word) ms) N (startNode ms) (b .candidate)
   unfolding bestBelow forms
   best-below b e = record {
     cost = ranked r (profileOf ms (b .candidate)) (length (b .candidate));
@@ -102,7 +103,7 @@ module _ {S : ℕ} {ms : List Machine} (sound : AllSound S ms) (some-machine : 1
       f : FormFacts b
       f = best-facts b e
 
-      first : (c : List Pair) (d : Ranked (length r)) → length c < N → c ≢ b .candidate → pathCost (productGraph (byRanking r) word ms) (startNode ms) c ≡ some d
+      first : (c : List Pair) (d : Ranked (length r)) → length c < N → c ≢ b .candidate → pathCost (productGraph (byRanking r) (singletons word) ms) (startNode ms) c ≡ some d
           → Before (rankedCosts (length r)) pairs (ranked r (profileOf ms (b .candidate)) (length (b .candidate)), b .candidate) (d, c)
       first c d k n h = go (l .upto)
         where
@@ -119,11 +120,11 @@ module _ {S : ℕ} {ms : List Machine} (sound : AllSound S ms) (some-machine : 1
           go (inl z) = rw (q .cost) (rw same at z)
           go (inr z) = absurd (n (sym (ap (λ (x : Ranked (length r) × List Pair). x .1) z) ∙ ap (λ (a : Form). a .candidate) same))
 
-  pub none-below : bestBelow N S ms r word ≡ none → (c : List Pair) → length c < N → pathCost (productGraph (byRanking r) word ms) (startNode ms) c ≡ none
+  pub none-below : bestBelow N S ms r word ≡ none → (c : List Pair) → length c < N → pathCost (productGraph (byRanking r) (singletons word) ms) (startNode ms) c ≡ none
   unfolding bestBelow forms
-  none-below e c k = go (pathCost (productGraph (byRanking r) word ms) (startNode ms) c) refl
+  none-below e c k = go (pathCost (productGraph (byRanking r) (singletons word) ms) (startNode ms) c) refl
     where
-      go : (o : Option (Ranked (length r))) → pathCost (productGraph (byRanking r) word ms) (startNode ms) c ≡ o → o ≡ none
+      go : (o : Option (Ranked (length r))) → pathCost (productGraph (byRanking r) (singletons word) ms) (startNode ms) c ≡ o → o ≡ none
       go none h = refl
       go (some d) h =
           let l = least-upto r (short-form c (cost-candidate (byRanking r) word sound c d h .is) k) in

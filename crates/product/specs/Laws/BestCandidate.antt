@@ -17,7 +17,8 @@ use Rattle.ranking.specs.declared.Order.the-variants.{Better, Equal, Worse}
 use Rattle.ranking.specs.Rankings.{isRanking}
 use Rattle.ranking.specs.Harmony.{harmony}
 use Rattle.ranking.specs.HarmonicInequality.{better-worse, equal-means, itself}
-use Rattle.candidate.specs.Candidates.{bytesOf, marksOf, countOf, profileOf, IsCandidate}
+use Rattle.candidate.specs.Candidates.{bytesOf, marksOf, countOf, profileOf}
+use Rattle.candidate.specs.Sets.{singletons, IsCandidateOf}
 use Rattle.ranking.specs.ByteStrings.{smaller}
 use Rattle.candidate.specs.Best.{shorter, preferred}
 use Rattle.paths.specs.Ranked.{Ranked, rankedCosts}
@@ -26,9 +27,9 @@ use Rattle.paths.specs.Graph.{pathCost}
 use Rattle.paths.specs.Best.{Before, IsBest}
 use Rattle.product.specs.Prices.{byRanking}
 use Rattle.product.specs.ProductGraph.{pairs, startNode, productGraph}
-use Rattle.product.specs.BestCandidate.{Beats, better-profile, fewer-pairs, smaller-bytes, IsBestCandidate}
+use Rattle.product.specs.BestCandidate.{Beats, better-profile, fewer-pairs, smaller-bytes, IsBestCandidate, IsBestOfSets}
 use Rattle.product.specs.Laws.JointStep.{AllSound}
-use Rattle.product.specs.Laws.Candidates.{candidate-cost, CostOfCandidate, cost-candidate}
+use Rattle.product.specs.Laws.Candidates.{fitting-cost, CostOfFitting, cost-fitting, as-sets, as-word}
 use Rattle.product.specs.Laws.Preference.{or-right, preferred-earlier, earlier-preferred}
 use Rattle.product.specs.Laws.Listing.{formOf}
 
@@ -72,23 +73,33 @@ module _ (r : List ℕ) (ms : List Machine) (c d : List Pair) where
 
 -- ---- and the best candidate is the best path
 
-module _ {S : ℕ} {ms : List Machine} (sound : AllSound S ms) (r word : List ℕ) where
-  pub best-path-candidate : isRanking (length ms) r ≡ true → (c : List Pair) → IsBest (productGraph (byRanking r) word ms) (startNode ms) c → IsBestCandidate r ms word c
-  best-path-candidate is c a = record { candidate = k .is; rivals = rivals }
+module _ {S : ℕ} {ms : List Machine} (sound : AllSound S ms) (r sets : List ℕ) where
+  pub best-path-fits : isRanking (length ms) r ≡ true → (c : List Pair) → IsBest (productGraph (byRanking r) sets ms) (startNode ms) c → IsBestOfSets r ms sets c
+  best-path-fits is c a = record { candidate = k .is; rivals = rivals }
     where
-      k : CostOfCandidate (byRanking r) word sound c (a .cost)
-      k = cost-candidate (byRanking r) word sound c (a .cost) (a .is)
+      k : CostOfFitting (byRanking r) sets sound c (a .cost)
+      k = cost-fitting (byRanking r) sets sound c (a .cost) (a .is)
 
-      rivals : (d : List Pair) → IsCandidate ms word d → d ≢ c → Beats r ms c d
+      rivals : (d : List Pair) → IsCandidateOf ms sets d → d ≢ c → Beats r ms c d
       rivals d h n =
           preferred-beats r ms c d is
-          (earlier-preferred r (formOf ms c) (formOf ms d) (rw (k .cost) at (a .first d (ranked r (profileOf ms d) (length d)) n (candidate-cost (byRanking r) word sound d h))))
+          (earlier-preferred r (formOf ms c) (formOf ms d) (rw (k .cost) at (a .first d (ranked r (profileOf ms d) (length d)) n (fitting-cost (byRanking r) sets sound d h))))
 
-  pub best-candidate-path : (c : List Pair) → IsBestCandidate r ms word c → IsBest (productGraph (byRanking r) word ms) (startNode ms) c
-  best-candidate-path c a = record { cost = ranked r (profileOf ms c) (length c); is = candidate-cost (byRanking r) word sound c (a .candidate); first = first }
+  pub best-fits-path : (c : List Pair) → IsBestOfSets r ms sets c → IsBest (productGraph (byRanking r) sets ms) (startNode ms) c
+  best-fits-path c a = record { cost = ranked r (profileOf ms c) (length c); is = fitting-cost (byRanking r) sets sound c (a .candidate); first = first }
     where
-      first : (d : List Pair) (x : Ranked (length r)) → d ≢ c → pathCost (productGraph (byRanking r) word ms) (startNode ms) d ≡ some x
+      first : (d : List Pair) (x : Ranked (length r)) → d ≢ c → pathCost (productGraph (byRanking r) sets ms) (startNode ms) d ≡ some x
           → Before (rankedCosts (length r)) pairs (ranked r (profileOf ms c) (length c), c) (x, d)
       first d x n h =
-          let k = cost-candidate (byRanking r) word sound d x h in
+          let k = cost-fitting (byRanking r) sets sound d x h in
           rw (k .cost) (preferred-earlier r (formOf ms c) (formOf ms d) (beats-preferred r ms c d (a .rivals d (k .is) n)))
+
+-- for a word
+module _ {S : ℕ} {ms : List Machine} (sound : AllSound S ms) (r word : List ℕ) where
+  pub best-path-candidate : isRanking (length ms) r ≡ true → (c : List Pair) → IsBest (productGraph (byRanking r) (singletons word) ms) (startNode ms) c → IsBestCandidate r ms word c
+  best-path-candidate is c a =
+      let b = best-path-fits sound r (singletons word) is c a in
+      record { candidate = as-word word c (b .candidate); rivals = λ d h. b .rivals d (as-sets word d h) }
+
+  pub best-candidate-path : (c : List Pair) → IsBestCandidate r ms word c → IsBest (productGraph (byRanking r) (singletons word) ms) (startNode ms) c
+  best-candidate-path c a = best-fits-path sound r (singletons word) c (record { candidate = as-sets word c (a .candidate); rivals = λ d h. a .rivals d (as-word word d h) })

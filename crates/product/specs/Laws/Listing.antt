@@ -27,7 +27,7 @@ use Rattle.product.specs.Laws.Preference.{keyOf, preferred-earlier, earl
 
 -- the elements of a mapped list
 module _ {A B : Type 0} (f : A → B) where
-  map-member : {y : B} (xs : List A) → List·Memᴰ y (map f xs) → (x : A) × List·Memᴰ x xs × (y ≡ f x)
+  pub map-member : {y : B} (xs : List A) → List·Memᴰ y (map f xs) → (x : A) × List·Memᴰ x xs × (y ≡ f x)
   map-member [] m = absurd (List·Memᴰ·not-nil m)
   map-member {y} (x ∷ xs) m = go (map-member xs) (List·Memᴰ·cases-cons m)
     where
@@ -35,7 +35,7 @@ module _ {A B : Type 0} (f : A → B) where
       go rec (inl e) = (x, List·Memᴰ·head refl, e)
       go rec (inr k) = let q = rec k in (q .0, List·Memᴰ·tail (q .1), q .2)
 
-  member-map : {x : A} {xs : List A} → List·Memᴰ x xs → List·Memᴰ (f x) (map f xs)
+  pub member-map : {x : A} {xs : List A} → List·Memᴰ x xs → List·Memᴰ (f x) (map f xs)
   member-map (List·Memᴰ·head e) = List·Memᴰ·head (ap f e)
   member-map (List·Memᴰ·tail m) = List·Memᴰ·tail (member-map m)
 
