@@ -1,5 +1,5 @@
 -- The best candidate for a word: the order on candidates, and the least in that order.
-use mathlib.Core.Bool.{Bool, true, false, _&&_, _||_}
+use mathlib.Core.Bool.{Bool, true, false, not, _&&_, _||_}
 use mathlib.Core.List.{List, [], _∷_, map}
 use mathlib.Core.Option.{Option, some, none}
 use Prim.Native.Nat.{ℕ, zero, suc, _+_, _*_}
@@ -22,19 +22,20 @@ pub record Form : Type 0 where
   pub candidate : List Pair
   pub profile : List ℕ
 
+abbrev pub formOf : List Machine → List Pair → Form
+formOf ms c = record { candidate = c; profile = profileOf ms c }
+
 -- fewer pairs; then the smaller byte string
 unfoldable pub shorter : List Pair → List Pair → Bool
 shorter c d = ltb (length c) (length d) || (eqb (length c) (length d) && smaller (bytesOf c) (bytesOf d))
 
--- by how the profiles stand: the better profile; between equal ones what comes next
-abbrev pub byOrder : Order → Bool → Bool
-byOrder Better next = true
-byOrder Equal next = next
-byOrder Worse next = false
+-- an order on profiles, as a test: is the first better than the second? The second is then worse than the first
+abbrev pub ProfileOrder : Type 0
+ProfileOrder = List ℕ → List ℕ → Bool
 
--- the better profile under the ranking; then fewest pairs; then the smallest byte string
-unfoldable pub preferred : List ℕ → Form → Form → Bool
-preferred ranking a b = byOrder (harmony ranking (a .profile) (b .profile)) (shorter (a .candidate) (b .candidate))
+-- the better profile in the order; where neither is better, fewest pairs; then the smallest byte string
+unfoldable pub preferred : ProfileOrder → Form → Form → Bool
+preferred better a b = better (a .profile) (b .profile) || (not (better (b .profile) (a .profile)) && shorter (a .candidate) (b .candidate))
 
 -- two words are the same
 unfoldable pub sameWord : List ℕ → List ℕ → Bool
@@ -56,22 +57,35 @@ listsBelow (suc n) ps = let shorterLists = listsBelow n ps in [] ∷ joined (λ 
 unfoldable pub formsAmong : List Machine → List ℕ → List (List Pair) → List Form
 formsAmong ms word [] = []
 formsAmong ms word (c ∷ cs) =
-    elim (sameWord (spelled c) word && isComplete ms c) [ true ↦ record { candidate = c; profile = profileOf ms c } ∷ formsAmong ms word cs | false ↦ formsAmong ms word cs ]
+    elim (sameWord (spelled c) word && isComplete ms c) [ true ↦ formOf ms c ∷ formsAmong ms word cs | false ↦ formsAmong ms word cs ]
 
 -- the least in the order of preference
-unfoldable pub leastOf : List ℕ → List Form → Option Form
-leastOf ranking [] = none
-leastOf ranking (a ∷ rest) =
-    elim (leastOf ranking rest) [ none ↦ some a | some b ↦ elim (preferred ranking b a) [ true ↦ some b | false ↦ some a ] ]
+unfoldable pub leastOf : ProfileOrder → List Form → Option Form
+leastOf better [] = none
+leastOf better (a ∷ rest) =
+    elim (leastOf better rest) [ none ↦ some a | some b ↦ elim (preferred better b a) [ true ↦ some b | false ↦ some a ] ]
 
 -- the best among the candidates of fewer pairs than a bound
-unfoldable pub bestBelow : ℕ → ℕ → List Machine → List ℕ → List ℕ → Option Form
-bestBelow bound S ms ranking word = leastOf ranking (formsAmong ms word (listsBelow bound (pairsOver S)))
+unfoldable pub bestBelow : ℕ → ℕ → List Machine → ProfileOrder → List ℕ → Option Form
+bestBelow bound S ms better word = leastOf better (formsAmong ms word (listsBelow bound (pairsOver S)))
 
 -- the number of nodes: (n + 1) × P
 abbrev pub nodeCount : List ℕ → List ℕ → ℕ
 nodeCount card word = (length word + 1) * stateProduct (partsOf card)
 
--- the best candidate for a word. That lists of as many pairs as nodes, or more, change nothing is a theorem
+-- the best candidate for a word in an order on profiles. That lists of as many pairs as nodes, or more, change nothing is a theorem
+unfoldable pub bestIn : ProfileOrder → List ℕ → List ℕ → Option Form
+bestIn better card word = bestBelow (nodeCount card word) (symbolCount card) (machinesOf card) better word
+
+-- the order of a ranking
+abbrev pub isBetter : Order → Bool
+isBetter Better = true
+isBetter Equal = false
+isBetter Worse = false
+
+abbrev pub harmonic : List ℕ → ProfileOrder
+harmonic ranking v w = isBetter (harmony ranking v w)
+
+-- the best candidate under a ranking
 unfoldable pub best : List ℕ → List ℕ → List ℕ → Option Form
-best card ranking word = bestBelow (nodeCount card word) (symbolCount card) (machinesOf card) ranking word
+best card ranking word = bestIn (harmonic ranking) card word

@@ -9,7 +9,7 @@ use Rattle.basics.specs.Sets.{member}
 use Rattle.machine.specs.declared.Pair.{Pair}
 use Rattle.machine.specs.Machine.{Machine}
 use Rattle.candidate.specs.Candidates.{IsCandidate}
-use Rattle.candidate.specs.Best.{Form, leastOf, best}
+use Rattle.candidate.specs.Best.{Form, ProfileOrder, leastOf, bestIn, harmonic}
 
 -- the word has one symbol from each set
 unfoldable pub fitsSets : List ℕ → List ℕ → Bool
@@ -39,5 +39,9 @@ found none = []
 found (some b) = b ∷ []
 
 -- the best candidate over all words with one symbol from each set: the least of their best ones in the order of preference
+unfoldable pub bestOfSetsIn : ProfileOrder → List ℕ → List ℕ → Option Form
+bestOfSetsIn better card sets = leastOf better (joined (λ word. found (bestIn better card word)) (wordsFrom sets))
+
+-- under a ranking
 unfoldable pub bestOfSets : List ℕ → List ℕ → List ℕ → Option Form
-bestOfSets card ranking sets = leastOf ranking (joined (λ word. found (best card ranking word)) (wordsFrom sets))
+bestOfSets card ranking sets = bestOfSetsIn (harmonic ranking) card sets

@@ -31,7 +31,7 @@ use Rattle.product.specs.BestCandidate.{Beats, better-profile, fewer-pairs, sma
 use Rattle.product.specs.SetsTheorem.{BestOfAllWords, best-is-best-of-all-words}
 use Rattle.product.specs.Laws.Accepted.{accepted-machines}
 use Rattle.product.specs.Laws.Candidates.{fitting-cost, cost-fitting}
-use Rattle.product.specs.Laws.BestCandidate.{profile-length, best-fits-path}
+use Rattle.product.specs.Laws.BestCandidate.{profile-length, best-sets-path}
 use Rattle.product.specs.Laws.BestOfSets.{are64Bits}
 use Rattle.tables.specs.Places.{sixPlaces}
 use Rattle.tables.specs.Laws.Harmony.{six-harmony}
@@ -74,7 +74,7 @@ module _ (card ranking sets : List ℕ) (ok : cardRefusal card ≡ 0) (ranks : i
   best-six : (c : List Pair) → IsBestOfSets ranking (machinesOf card) sets c → IsBest (sixGraph ranking sets (machinesOf card)) 0 c
   best-six c b =
       subst (λ (u : ℕ). IsBest (sixGraph ranking sets (machinesOf card)) u c) (start-is-zero (machinesOf card))
-      (best-fits-path (accepted-machines card ok .sound) (sixPlaces ranking) sets c (record { candidate = b .candidate; rivals = λ d k n. beats-six c d (b .rivals d k n) }))
+      (best-sets-path (accepted-machines card ok .sound) (sixPlaces ranking) sets c (record { candidate = b .candidate; rivals = λ d k n. beats-six c d (b .rivals d k n) }))
 
   -- ---- candidates are the paths from 0
 

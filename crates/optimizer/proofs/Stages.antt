@@ -49,7 +49,7 @@ module _ {card ranking sets work : List ℕ} {size : ℕ} (pre : SetsPre card ra
       record { few = omega (arith, p, accepted card (pre .accepted) .head); ranks = rw p (pre .ranks) }
 
   fitting : countsFit (bestOfSets card ranking sets) ≡ true
-  fitting = counts-of-sets-fit card ranking sets (pre .accepted) (pre .ranks) (pre .bits) (pre .few)
+  fitting = counts-of-sets-fit card ranking sets (pre .accepted) (pre .few)
 
   module _ {after : List ℕ} (done : PositionsDone card ranking sets work after 0) where
     closed : Closed (sixGraph ranking sets (machinesOf card)) (labelOf after)

@@ -110,7 +110,7 @@ module _ {card ranking word work : List ℕ} {size : ℕ} (pre : SearchPre card 
     }
       where
         S : Searched (best card ranking word) (singletons word) work after answer answerAfter r
-        S = rw (are, best-of-one-word card ranking word (pre .accepted) (pre .ranks) word-small) at T
+        S = rw (are, best-of-one-word card ranking word (pre .accepted) word-small) at T
 
         evaluated : (o : Option Form) → evaluationOf o (singletons word) ≡ evaluationOf o word
         evaluated none = refl

@@ -33,7 +33,7 @@ use Rattle.product.specs.Laws.JointStep.{AllSound, all-none, all-next, step-of-
 use Rattle.product.specs.Laws.Accepted.{accepted-machines}
 use Rattle.product.specs.Laws.Codes.{code-step-below}
 use Rattle.product.specs.Laws.Edges.{Advanced, stays, goes-on, advanced, Moved, moved, EdgeOf, edge-of, ending-of, ended, move-position, product-within, step-marks-bound, ending-marks-bound}
-use Rattle.product.specs.Laws.CardGraph.{set-positioned, set-sized}
+use Rattle.product.specs.Laws.CardGraph.{priced-positioned, set-sized}
 use Rattle.labels.proofs.Room.{SmallMarks}
 use Rattle.tables.specs.Places.{sixPlaces, markNumber}
 use Rattle.tables.specs.JointNumbers.{numbered, jointFrom}
@@ -96,7 +96,7 @@ module _ {card ranking sets : List ℕ} {P : ℕ} (s : Setting card ranking sets
   -- ---- what the theory of paths asks
 
   pub positioned : Positioned (engineGraph card ranking sets) (placeOf card) (length sets)
-  positioned = set-positioned card (sixPlaces ranking) sets (s .accepted)
+  positioned = priced-positioned card sets (s .accepted) (byRanking (sixPlaces ranking))
 
   pub within : Within (engineGraph card ranking sets) ((length sets + 1) * P)
   within = rw (s .size) (product-within (byRanking (sixPlaces ranking)) sets (machinesOf card) machines-sound)

@@ -88,9 +88,13 @@ module _ {costs : Costs} (price : Price costs) (sets : List ℕ) (ms : List Mach
   abbrev pub productGraph : Graph costs pairs
   productGraph = record { edge = λ u p. pricedMove (move sets ms u p); ending = λ u. pricedEnding (ending sets ms u); positive = positive }
 
--- the product of a card's machines, for a ranking and a list of sets
+-- the product of a card's machines over a list of sets, at a price
+abbrev pub pricedGraph : {costs : Costs} (price : Price costs) (card sets : List ℕ) → Graph costs pairs
+pricedGraph price card sets = productGraph price sets (machinesOf card)
+
+-- under a ranking
 abbrev pub setGraph : (card ranking sets : List ℕ) → Graph (rankedCosts (length ranking)) pairs
-setGraph card ranking sets = productGraph (byRanking ranking) sets (machinesOf card)
+setGraph card ranking sets = pricedGraph (byRanking ranking) card sets
 
 -- and for a word
 abbrev pub cardGraph : (card ranking word : List ℕ) → Graph (rankedCosts (length ranking)) pairs

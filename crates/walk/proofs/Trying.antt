@@ -26,7 +26,7 @@ use Rattle.product.specs.Prices.{byRanking}
 use Rattle.product.specs.ProductGraph.{pairs, same-bytes}
 use Rattle.product.specs.Laws.Nodes.{position-at}
 use Rattle.product.specs.Laws.Edges.{Advanced, stays, goes-on, advanced, edge-of, moved}
-use Rattle.product.specs.Laws.CardGraph.{set-sized, set-symbols}
+use Rattle.product.specs.Laws.CardGraph.{set-sized, priced-symbols}
 use Rattle.product.specs.Laws.Sets.{member-within}
 use Rattle.labels.specs.Work.{labelOf}
 use Rattle.steps.specs.StepTable.{HoldsSteps}
@@ -49,7 +49,7 @@ module _ {places card sets xs : List ℕ} {size : ℕ} (K : Labelled places card
   tight-pair p t =
       let e = edge-of (byRanking (sixPlaces places)) sets (machinesOf card) (i * size + code) p (t .to) (t .edge-is) in
       let m = moved sets (machinesOf card) (i * size + code) p (e .by) (e .is) in
-      let w = set-symbols card (sixPlaces places) sets (K .accepted) (i * size + code) p (t .to) (t .edge-is) in
+      let w = priced-symbols card sets (K .accepted) (byRanking (sixPlaces places)) (i * size + code) p (t .to) (t .edge-is) in
       go (m .is-pair) (leb-true (p .output) (symbolCount card) (right (leb (p .input) (symbolCount card)) (leb (p .output) (symbolCount card)) w))
       (subst (λ (n : ℕ). Advanced sets n p (m .position)) at (advanced sets (positionAt (stateCounts (machinesOf card)) (i * size + code)) p (m .position) (m .advances)))
     where

@@ -18,21 +18,19 @@ use Rattle.basics.proofs.Search.{those-member, member-those, joined-member, mem
 use Rattle.basics.proofs.Below.{member-numbers}
 use Rattle.basics.proofs.Sets.{member-beyond}
 use Rattle.machine.specs.declared.Pair.{Pair}
-use Rattle.ranking.specs.Rankings.{isRanking}
-use Rattle.card.specs.Layout.{machineCount}
 use Rattle.card.specs.Card.{machinesOf, cardRefusal}
 use Rattle.candidate.specs.Candidates.{IsCandidate}
-use Rattle.candidate.specs.Best.{Form, leastOf, best}
-use Rattle.candidate.specs.Sets.{fitsSets, singletons, IsCandidateOf, wordsFrom, found, bestOfSets}
+use Rattle.candidate.specs.Best.{Form, formOf, ProfileOrder, leastOf, bestIn}
+use Rattle.candidate.specs.Sets.{fitsSets, singletons, IsCandidateOf, wordsFrom, found, bestOfSetsIn}
 use Rattle.paths.specs.Total.{Upto, upto-trans, not-less-upto, asym, less-not-same}
-use Rattle.paths.specs.Ranked.{rankedCosts}
+use Rattle.paths.specs.Costs.{Costs}
 use Rattle.paths.specs.Best.{Before, before-total}
+use Rattle.product.specs.Prices.{Price, Agrees}
 use Rattle.product.specs.ProductGraph.{pairs}
-use Rattle.product.specs.BestTheorem.{BestOfAll, best-is-best-of-all}
-use Rattle.product.specs.Laws.Preference.{keyOf, Earlier, preferred-earlier}
-use Rattle.product.specs.Laws.Listing.{map-member, member-map, formOf, least-member, LeastUpto, least-upto}
+use Rattle.product.specs.BestTheorem.{best-in-is-best-of-all}
+use Rattle.product.specs.Laws.Preference.{keyOf, Earlier, beats-earlier}
+use Rattle.product.specs.Laws.Listing.{map-member, member-map, least-member, LeastUpto, least-upto}
 use Rattle.product.specs.Laws.Best.{best-form}
-use Rattle.product.specs.Laws.BestCandidate.{beats-preferred}
 
 -- ---- the words
 
@@ -82,54 +80,54 @@ fits-listed (set ∷ sets) (x ∷ word) b t =
 
 -- ---- their best candidates
 
--- what the definition finds is the best for one of the words
-pub record BestForOne (card r sets : List ℕ) (b : Form) : Type 0 where
-  pub word : List ℕ
-  pub fits : fitsSets sets word ≡ true
-  pub is-best : best card r word ≡ some b
+module _ (better : ProfileOrder) (card sets : List ℕ) where
+  -- what the definition finds is the best for one of the words
+  pub record BestForOne (b : Form) : Type 0 where
+    pub word : List ℕ
+    pub fits : fitsSets sets word ≡ true
+    pub is-best : bestIn better card word ≡ some b
 
--- it finds something, and the candidate d does not come before it
-pub record BestUpto (card r sets : List ℕ) (d : List Pair) : Type 0 where
-  pub least : Form
-  pub is : bestOfSets card r sets ≡ some least
-  pub upto : Upto (Before (rankedCosts (length r)) pairs) (keyOf r least) (keyOf r (formOf (machinesOf card) d))
-
-module _ (card r : List ℕ) (ok : cardRefusal card ≡ 0) (is : isRanking (machineCount card) r ≡ true) where
-  -- no candidate for a word comes before its best one
-  upto-candidate : (word : List ℕ) (d : List Pair) → IsCandidate (machinesOf card) word d → (b : Form) → best card r word ≡ some b
-      → Upto (Before (rankedCosts (length r)) pairs) (keyOf r b) (keyOf r (formOf (machinesOf card) d))
-  upto-candidate word d h b e = not-less-upto (before-total (rankedCosts (length r)) pairs) (keyOf r b) (keyOf r (formOf (machinesOf card) d)) later
-    where
-      form : b ≡ formOf (machinesOf card) (b .candidate)
-      form = best-form card r word ok b e
-
-      later : ¬ (Earlier r (formOf (machinesOf card) d) b)
-      later k =
-          let n : d ≡ b .candidate → ⊥ = λ q. less-not-same (before-total (rankedCosts (length r)) pairs) k (ap (λ c. keyOf r (formOf (machinesOf card) c)) q ∙ ap (keyOf r) (sym form)) in
-          let p = beats-preferred r (machinesOf card) (b .candidate) d (best-is-best-of-all card r word ok is .is-best b e .rivals d h n) in
-          asym (before-total (rankedCosts (length r)) pairs) (keyOf r (formOf (machinesOf card) d)) (keyOf r b) k (preferred-earlier r b (formOf (machinesOf card) d) (rw (← form) at p))
-
-module _ (card r sets : List ℕ) where
   forms : List Form
-  forms = joined (λ word. found (best card r word)) (wordsFrom sets)
+  forms = joined (λ word. found (bestIn better card word)) (wordsFrom sets)
 
-  pub best-for-one : (b : Form) → bestOfSets card r sets ≡ some b → BestForOne card r sets b
-  unfolding bestOfSets forms
+  pub best-for-one : (b : Form) → bestOfSetsIn better card sets ≡ some b → BestForOne b
+  unfolding bestOfSetsIn forms
   best-for-one b e =
-      let j = joined-member (λ word. found (best card r word)) (wordsFrom sets) (least-member r forms b e) in
-      record { word = j .0; fits = words-fit sets (j .0) (j .1); is-best = there (best card r (j .0)) (j .2) }
+      let j = joined-member (λ word. found (bestIn better card word)) (wordsFrom sets) (least-member better forms b e) in
+      record { word = j .0; fits = words-fit sets (j .0) (j .1); is-best = there (bestIn better card (j .0)) (j .2) }
     where
       there : (o : Option Form) → List·Memᴰ b (found o) → o ≡ some b
       there none m = absurd (List·Memᴰ·not-nil m)
       there (some a) m = ap {B = Option Form} some (sym (List·Memᴰ·eq-of-singleton m))
 
-  pub best-upto : cardRefusal card ≡ 0 → isRanking (machineCount card) r ≡ true → are64Bits sets ≡ true → (d : List Pair) → IsCandidateOf (machinesOf card) sets d → BestUpto card r sets d
-  unfolding bestOfSets forms
-  best-upto ok is w d h = go (best card r (h .word)) refl
+-- it finds something, and the candidate d does not come before it
+pub record BestUpto {costs : Costs} (price : Price costs) (better : ProfileOrder) (card sets : List ℕ) (d : List Pair) : Type 0 where
+  pub least : Form
+  pub is : bestOfSetsIn better card sets ≡ some least
+  pub upto : Upto (Before costs pairs) (keyOf price least) (keyOf price (formOf (machinesOf card) d))
+
+module _ {costs : Costs} {price : Price costs} {better : ProfileOrder} (agrees : Agrees price better) (card : List ℕ) (ok : cardRefusal card ≡ 0) where
+  -- no candidate for a word comes before its best one
+  upto-candidate : (word : List ℕ) (d : List Pair) → IsCandidate (machinesOf card) word d → (b : Form) → bestIn better card word ≡ some b
+      → Upto (Before costs pairs) (keyOf price b) (keyOf price (formOf (machinesOf card) d))
+  upto-candidate word d h b e = not-less-upto (before-total costs pairs) (keyOf price b) (keyOf price (formOf (machinesOf card) d)) later
     where
-      go : (o : Option Form) → best card r (h .word) ≡ o → BestUpto card r sets d
-      go none e = absurd (best-is-best-of-all card r (h .word) ok is .none-exactly .0 e d (h .is))
+      form : b ≡ formOf (machinesOf card) (b .candidate)
+      form = best-form agrees card word ok b e
+
+      later : ¬ (Earlier price (formOf (machinesOf card) d) b)
+      later k =
+          let n : d ≡ b .candidate → ⊥ = λ q. less-not-same (before-total costs pairs) k (ap (λ c. keyOf price (formOf (machinesOf card) c)) q ∙ ap (keyOf price) (sym form)) in
+          let p = best-in-is-best-of-all agrees card word ok .is-best b e .rivals d h n in
+          asym (before-total costs pairs) (keyOf price (formOf (machinesOf card) d)) (keyOf price b) k (beats-earlier agrees b (formOf (machinesOf card) d) (rw (← form) at p))
+
+  pub best-upto : (sets : List ℕ) → are64Bits sets ≡ true → (d : List Pair) → IsCandidateOf (machinesOf card) sets d → BestUpto price better card sets d
+  unfolding bestOfSetsIn forms
+  best-upto sets w d h = go (bestIn better card (h .word)) refl
+    where
+      go : (o : Option Form) → bestIn better card (h .word) ≡ o → BestUpto price better card sets d
+      go none e = absurd (best-in-is-best-of-all agrees card (h .word) ok .none-exactly .0 e d (h .is))
       go (some a) e =
-          let m : List·Memᴰ a forms = member-joined (λ word. found (best card r word)) (fits-listed sets (h .word) w (h .fits)) (rw e (List·Memᴰ·head refl)) in
-          let l = least-upto r m in
-          record { least = l .least; is = l .is; upto = upto-trans (before-total (rankedCosts (length r)) pairs) (l .upto) (upto-candidate card r ok is (h .word) d (h .is) a e) }
+          let m : List·Memᴰ a (forms better card sets) = member-joined (λ word. found (bestIn better card word)) (fits-listed sets (h .word) w (h .fits)) (rw e (List·Memᴰ·head refl)) in
+          let l = least-upto agrees m in
+          record { least = l .least; is = l .is; upto = upto-trans (before-total costs pairs) (l .upto) (upto-candidate (h .word) d (h .is) a e) }

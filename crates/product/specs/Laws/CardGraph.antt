@@ -12,13 +12,14 @@ use Rattle.card.specs.Layout.{symbolCount}
 use Rattle.card.specs.Card.{machinesOf, cardRefusal}
 use Rattle.candidate.specs.Best.{nodeCount}
 use Rattle.candidate.specs.Sets.{singletons}
+use Rattle.paths.specs.Costs.{Costs}
 use Rattle.paths.specs.Ranked.{Ranked, letterCount, countAt}
 use Rattle.paths.specs.Graph.{Edge, Within}
 use Rattle.paths.specs.Bounds.{Sized, BoundedCount}
 use Rattle.paths.specs.Positions.{Positioned}
 use Rattle.product.specs.Nodes.{stateCounts, product, positionAt}
-use Rattle.product.specs.Prices.{byRanking}
-use Rattle.product.specs.ProductGraph.{setGraph, cardGraph, cardStart}
+use Rattle.product.specs.Prices.{Price}
+use Rattle.product.specs.ProductGraph.{pricedGraph, setGraph, cardStart}
 use Rattle.product.specs.Laws.Sets.{as-many}
 use Rattle.product.specs.Laws.Nodes.{node-below}
 use Rattle.product.specs.Laws.JointStep.{starts-below}
@@ -37,20 +38,21 @@ module _ (card sets : List ℕ) (ok : cardRefusal card ≡ 0) where
   pub start-within : cardStart card < nodeCount card sets
   start-within = rw (← card-nodes) (node-below (stateCounts (machinesOf card)) 0 (starts (machinesOf card)) (starts-below (accepted-machines card ok .sound)) (length sets) (omega arith))
 
+  -- at any price: edges lead to its nodes, at the same position or at the next one, by pairs of the card's symbols
+  module _ {costs : Costs} (price : Price costs) where
+    pub priced-within : Within (pricedGraph price card sets) (nodeCount card sets)
+    priced-within = rw (← card-nodes) (product-within price sets (machinesOf card) (accepted-machines card ok .sound))
+
+    pub priced-positioned : Positioned (pricedGraph price card sets) (positionAt (stateCounts (machinesOf card))) (length sets)
+    priced-positioned = product-positioned price sets (machinesOf card) (accepted-machines card ok .sound)
+
+    pub priced-symbols : (u : ℕ) (p : Pair) (e : Edge (costs .Cost)) → pricedGraph price card sets .edge u p ≡ some e → withinSymbols (symbolCount card) p ≡ true
+    priced-symbols u p e h =
+        let k = edge-of price sets (machinesOf card) u p e h in
+        move-symbols (accepted-machines card ok .sound) (some-machine card ok) sets u p (k .by) (k .is)
+
+-- under a ranking the pair count of a path is the number of its pairs, and a count of it is at most 15 a pair, and 15 at the end
 module _ (card r sets : List ℕ) (ok : cardRefusal card ≡ 0) where
-  -- edges lead to its nodes, at the same position or at the next one, by pairs of the card's symbols
-  pub set-within : Within (setGraph card r sets) (nodeCount card sets)
-  set-within = rw (← card-nodes card sets ok) (product-within (byRanking r) sets (machinesOf card) (accepted-machines card ok .sound))
-
-  pub set-positioned : Positioned (setGraph card r sets) (positionAt (stateCounts (machinesOf card))) (length sets)
-  set-positioned = product-positioned (byRanking r) sets (machinesOf card) (accepted-machines card ok .sound)
-
-  pub set-symbols : (u : ℕ) (p : Pair) (e : Edge (Ranked (length r))) → setGraph card r sets .edge u p ≡ some e → withinSymbols (symbolCount card) p ≡ true
-  set-symbols u p e h =
-      let k = edge-of (byRanking r) sets (machinesOf card) u p e h in
-      move-symbols (accepted-machines card ok .sound) (some-machine card ok) sets u p (k .by) (k .is)
-
-  -- the pair count of a path is the number of its pairs, and a count of it is at most 15 a pair, and 15 at the end
   pub set-sized : Sized (setGraph card r sets) (letterCount (length r))
   set-sized = product-sized r sets (machinesOf card)
 
@@ -58,5 +60,5 @@ module _ (card r sets : List ℕ) (ok : cardRefusal card ≡ 0) where
   set-counts i = product-counts r sets (machinesOf card) (accepted-machines card ok .sound) i
 
 -- a word has as many symbols as it has sets
-pub card-within : (card r word : List ℕ) → cardRefusal card ≡ 0 → Within (cardGraph card r word) (nodeCount card word)
-card-within card r word ok = rw (as-many word) at (set-within card r (singletons word) ok)
+pub word-within : (card word : List ℕ) → cardRefusal card ≡ 0 → {costs : Costs} (price : Price costs) → Within (pricedGraph price card (singletons word)) (nodeCount card word)
+word-within card word ok price = rw (as-many word) at (priced-within card (singletons word) ok price)

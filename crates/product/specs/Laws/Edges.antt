@@ -14,7 +14,7 @@ use Rattle.machine.specs.declared.Pair.{Pair}
 use Rattle.machine.specs.Symbols.{emptySymbol, isPair, withinSymbols}
 use Rattle.machine.specs.Machine.{Machine, endingOf}
 use Rattle.paths.specs.Costs.{Costs}
-use Rattle.paths.specs.Ranked.{Ranked, letterCount, countAt}
+use Rattle.paths.specs.Ranked.{Ranked, rankedCosts, letterCount, countAt}
 use Rattle.paths.specs.ByRanking.{ranked, ranked-letters}
 use Rattle.paths.specs.Graph.{Edge, Within}
 use Rattle.paths.specs.Bounds.{Sized, BoundedCount}
@@ -205,14 +205,19 @@ ranked-upto [] xs n b h i = omega arith
 ranked-upto (m ∷ r) xs n b h zero = h m
 ranked-upto (m ∷ r) xs n b h (suc i) = ranked-upto r xs n b h i
 
--- ---- the ranked product: the pair count is the number of pairs, and each count is bounded
+-- ---- where a price tells the number of pairs, the pair count of a path is the number of its pairs
+
+pub priced-sized : (k : ℕ) (price : Price (rankedCosts k)) → ((xs : List ℕ) (n : ℕ) → letterCount k (price .of xs n) ≡ n) → (sets : List ℕ) (ms : List Machine) → Sized (productGraph price sets ms) (letterCount k)
+priced-sized k price letters sets ms =
+    ranked-sized k (productGraph price sets ms)
+    (λ u p e h. let l = edge-of price sets ms u p e h in rw (l .cost-is) (letters (l .by .marks) 1))
+    (λ u c h. let l = ending-of price sets ms u c h in rw (l .cost-is) (letters (l .marks) 0))
+
+-- ---- the ranked product: that, and each count is bounded
 
 module _ (r sets : List ℕ) (ms : List Machine) where
   pub product-sized : Sized (productGraph (byRanking r) sets ms) (letterCount (length r))
-  product-sized =
-      ranked-sized (length r) (productGraph (byRanking r) sets ms)
-      (λ u p e h. let k = edge-of (byRanking r) sets ms u p e h in rw (k .cost-is) (ranked-letters r (k .by .marks) 1))
-      (λ u c h. let k = ending-of (byRanking r) sets ms u c h in rw (k .cost-is) (ranked-letters r (k .marks) 0))
+  product-sized = priced-sized (length r) (byRanking r) (ranked-letters r) sets ms
 
   pub product-counts : {S : ℕ} → AllSound S ms → (i : ℕ) → BoundedCount (productGraph (byRanking r) sets ms) (countAt (length r) i) 15 15
   product-counts sound i = ranked-counts (length r) (productGraph (byRanking r) sets ms) i 15 15 edges ends
