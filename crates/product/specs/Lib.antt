@@ -5,6 +5,8 @@ pub mod JointStep
 pub mod Prices
 pub mod ProductGraph
 pub mod Codes
+pub mod Setting
+pub mod Pairs
 pub mod BestCandidate
 -- lemmas
 pub mod Laws
@@ -12,3 +14,4 @@ pub mod Laws
 pub mod CandidatePaths
 pub mod BestTheorem
 pub mod SetsTheorem
+pub mod LabelTheorem

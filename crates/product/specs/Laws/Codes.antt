@@ -1,5 +1,5 @@
 -- Laws for an engine: a node's moves and ending by its position and its code, and the step by codes machine by machine.
-use mathlib.Core.Path.{_≡_, refl, _∙_}
+use mathlib.Core.Path.{_≡_, refl, _∙_, ap}
 use mathlib.Core.Bool.{true, false}
 use mathlib.Core.List.{List, [], _∷_, map}
 use mathlib.Core.Option.{Option, some, none, Option·none-ne-some}
@@ -12,7 +12,10 @@ use Rattle.machine.specs.Symbols.{emptySymbol, isPair}
 use Rattle.machine.specs.Machine.{Machine, stepOf, endingOf}
 use Rattle.product.specs.Nodes.{product, stateCounts, codeOf, statesOf}
 use Rattle.product.specs.JointStep.{andThose, ofEach, jointStep}
-use Rattle.product.specs.ProductGraph.{advance, Move, moveBy, move, ending}
+use Rattle.paths.specs.Costs.{Costs}
+use Rattle.paths.specs.Graph.{Edge}
+use Rattle.product.specs.Prices.{Price}
+use Rattle.product.specs.ProductGraph.{advance, Move, moveBy, move, ending, pricedMove, pricedEnding, productGraph}
 use Rattle.product.specs.Codes.{coded, codeStep, codeEnding, movedBy}
 use Rattle.product.specs.Laws.Nodes.{position-at, states-at, code-below}
 use Rattle.product.specs.Laws.JointStep.{AllSound, joint-below}
@@ -57,6 +60,32 @@ module _ (sets : List ℕ) (ms : List Machine) where
   pub ending-before : (i c : ℕ) → c < product (stateCounts ms) → (i ≡ length sets → ⊥) → ending sets ms (i * product (stateCounts ms) + c) ≡ none
   unfolding ending
   ending-before i c h n = rw (position-at (stateCounts ms) i c h, ne-eqb i (length sets) n, ending)
+
+-- ---- the same as edges and endings, at any price
+
+-- a step by codes as an edge to the nodes from a number on
+abbrev pub pricedStep : {costs : Costs} (price : Price costs) (base : ℕ) → Option Move → Option (Edge (costs .Cost))
+pricedStep price base none = none
+pricedStep price base (some m) = some (record { target = base + m .target; cost = price .of (m .marks) 1 })
+
+module _ {costs : Costs} (price : Price costs) (sets : List ℕ) (ms : List Machine) where
+  by-step : (base : ℕ) (o : Option Move) → pricedMove price sets ms (movedBy base o) ≡ pricedStep price base o
+  by-step base none = refl
+  by-step base (some m) = refl
+
+  module _ (i c : ℕ) (h : c < product (stateCounts ms)) (p : Pair) where
+    pub insertion-edge : i ≤ length sets → isPair p ≡ true → p .input ≡ emptySymbol → productGraph price sets ms .edge (i * product (stateCounts ms) + c) p ≡ pricedStep price (i * product (stateCounts ms)) (codeStep ms c p)
+    insertion-edge k t e = ap (pricedMove price sets ms) (insertion-move sets ms i c h p k t e) ∙ by-step (i * product (stateCounts ms)) (codeStep ms c p)
+
+    pub symbol-edge : (p .input ≡ emptySymbol → ⊥) → member (getD sets i 0) (p .input) ≡ true → productGraph price sets ms .edge (i * product (stateCounts ms) + c) p ≡ pricedStep price ((i + 1) * product (stateCounts ms)) (codeStep ms c p)
+    symbol-edge n e = ap (pricedMove price sets ms) (symbol-move sets ms i c h p n e) ∙ by-step ((i + 1) * product (stateCounts ms)) (codeStep ms c p)
+
+  module _ (c : ℕ) (h : c < product (stateCounts ms)) where
+    pub ending-edge : productGraph price sets ms .ending (length sets * product (stateCounts ms) + c) ≡ pricedEnding price sets ms (codeEnding ms c)
+    ending-edge = ap (pricedEnding price sets ms) (ending-at sets ms c h)
+
+    pub no-ending : (i : ℕ) → (i ≡ length sets → ⊥) → productGraph price sets ms .ending (i * product (stateCounts ms) + c) ≡ none
+    no-ending i n = ap (pricedEnding price sets ms) (ending-before sets ms i c h n)
 
 -- ---- machine by machine, the first one's state being the quotient of the code by the product of the other counts
 
