@@ -16,6 +16,7 @@ pub mod Letters
 pub mod Entering
 pub mod LeastPair
 pub mod Preference
+pub mod Following
 pub mod Listing
 pub mod Counts
 pub mod Best
