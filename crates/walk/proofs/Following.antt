@@ -1,12 +1,16 @@
 -- The walk: what is written, and what is left. Assumes nothing.
 use mathlib.Core.Path.{_≡_, refl, sym, _∙_, ap, subst}
 use mathlib.Core.Logic.{_≢_}
+use mathlib.Core.Bool.{true, _||_}
 use mathlib.Core.Option.{Option, some}
 use mathlib.Core.List.{List, [], _∷_, _++_}
 use Prim.Native.Nat.{ℕ, suc, _+_, _*_, _<_, _≤_}
 use native.Mathlib.Omega.{arith}
-use lib.ListN.{length, drop, set, length-set, length-append}
+use lib.Dec.{eqb}
+use lib.ListN.{length, getD, drop, set, length-set, length-append}
+use Rattle.basics.specs.Sets.{member}
 use Rattle.machine.specs.declared.Pair.{Pair}
+use Rattle.machine.specs.Symbols.{emptySymbol}
 use Rattle.card.specs.Layout.{machineCount}
 use Rattle.candidate.specs.Candidates.{bytesOf}
 use Rattle.paths.specs.Ranked.{Ranked, letterCount}
@@ -19,10 +23,11 @@ use Rattle.tables.specs.Places.{sixPlaces}
 use Rattle.walk.specs.declared.Step.{Step}
 use Rattle.walk.specs.Pairs.{positionAfter}
 use Rattle.walk.specs.Setting.{graphOf, Labelled, TablesFor}
-use Rattle.walk.specs.Keeping.{TightTo, FindPre, Finds}
+use Rattle.walk.specs.Keeping.{TightTo, TryPre, Finds}
 use Rattle.walk.specs.Walked.{Walked, FollowPre}
 use Rattle.walk.proofs.Moves.{some-state, node-within, label-room}
 use Rattle.walk.proofs.Writing.{pair-more}
+use Rattle.walk.proofs.Trying.{Finding, finding-start}
 
 -- ---- the loop
 
@@ -91,10 +96,13 @@ module _ {places card sets xs insertions rows counts before : List ℕ} {size : 
         let r = label-room (F .labels) 0 (omega (arith, node-within (F .labels) 0 0 (omega arith) (some-state (F .labels)))) (F .cost) (F .cost-is) in
         omega (arith, F .walking .written, F .count, r .1 .1 .1 .1 .1 .1)
 
-    -- otherwise the least pair that keeps to the labels is to be found
-    pub following-find : (steps : List ℕ) → machineCount card * 2048 ≤ length steps → letterCount 6 (costAt xs (i * size + code)) ≢ 0 → FindPre xs card sets insertions steps rows counts places size i code
-    following-find steps h z = record {
-      outputs = record {
+    -- otherwise a pair keeps to the labels
+    pub following-finding : letterCount 6 (costAt xs (i * size + code)) ≢ 0 → (left : ℕ) → ((x : ℕ) → member left x ≡ (eqb x emptySymbol || member (getD sets i 0) x)) → Finding places card sets xs size i code left
+    following-finding z left f = finding-start (F .labels) (F .state) (F .rest) (F .walking .label) (λ e. z (ap (letterCount 6) here ∙ e)) left f
+
+    pub following-try : (steps : List ℕ) → machineCount card * 2048 ≤ length steps → {left : ℕ} → Finding places card sets xs size i code left → (x : ℕ) → x < 64 → member left x ≡ true → TryPre xs card sets insertions steps rows counts places size i x code
+    following-try steps h D x k m = record {
+      insertions-there = record {
         labels = F .labels;
         six = F .tables .six;
         tables = F .tables .for-insertions;
@@ -104,7 +112,8 @@ module _ {places card sets xs insertions rows counts before : List ℕ} {size : 
         label = F .rest;
         label-is = F .walking .label;
       };
-      left = λ e. z (ap (letterCount 6) here ∙ e);
+      reads = D .inside x m;
+      small = k;
       room = h;
     }
 

@@ -11,7 +11,7 @@ use Rattle.machine.specs.declared.Pair.{Pair}
 use Rattle.machine.specs.Symbols.{emptySymbol}
 use Rattle.card.specs.Layout.{machineCount, symbolCount}
 use Rattle.card.specs.Card.{machinesOf}
-use Rattle.paths.specs.Ranked.{Ranked, add, letterCount}
+use Rattle.paths.specs.Ranked.{Ranked, add}
 use Rattle.paths.specs.Walk.{Tight}
 use Rattle.product.specs.Nodes.{product}
 use Rattle.product.specs.ProductGraph.{pairs}
@@ -84,19 +84,21 @@ pub record OutputsPre (xs card sets table rows counts places : List ℕ) (size i
   pub label : Ranked 6
   pub label-is : labelOf xs (i * size + code) ≡ some label
 
--- from an output on: the least one whose pair keeps to the labels, or there is none
-pub record OutputsTried (xs card sets places : List ℕ) (size i x code first : ℕ) (r : Tried) : Type 0 where
-  pub to : (c y : ℕ) → r ≡ Least c y → TightTo xs card sets places size i code (record { input = x; output = y }) c
-  pub within : (c y : ℕ) → r ≡ Least c y → y ≤ symbolCount card
-  pub passed : (c y : ℕ) → r ≡ Least c y → (z : ℕ) → first ≤ z → z < y → ¬ (Tight (graphOf places card sets) (labelOf xs) (i * size + code) (record { input = x; output = z }))
-  pub none : r ≡ Without → (z : ℕ) → first ≤ z → z ≤ symbolCount card → ¬ (Tight (graphOf places card sets) (labelOf xs) (i * size + code) (record { input = x; output = z }))
+-- the least of them that keeps to the labels, or that none does
+pub record Tries (xs card sets places : List ℕ) (size i x code : ℕ) (r : Tried) : Type 0 where
+  pub to : (s : Step) → r ≡ Least s → TightTo xs card sets places size i code (s .pair) (s .code)
+  pub input : (s : Step) → r ≡ Least s → s .pair .input ≡ x
+  pub passed : (s : Step) → r ≡ Least s → (q : Pair) → q .input ≡ x → q .output < s .pair .output → ¬ (Tight (graphOf places card sets) (labelOf xs) (i * size + code) q)
+  pub none : r ≡ Without → (q : Pair) → q .input ≡ x → ¬ (Tight (graphOf places card sets) (labelOf xs) (i * size + code) q)
 
--- ---- the least pair at a node that keeps to the labels, where a pair is left
-
-pub record FindPre (xs card sets insertions steps rows counts places : List ℕ) (size i code : ℕ) : Type 0 where
-  pub outputs : OutputsPre xs card sets insertions rows counts places size i emptySymbol code
-  pub left : letterCount 6 (outputs .label) ≢ 0
+-- the table of the insertions is filled, and there is room for one of a symbol
+pub record TryPre (xs card sets insertions steps rows counts places : List ℕ) (size i x code : ℕ) : Type 0 where
+  pub insertions-there : OutputsPre xs card sets insertions rows counts places size i emptySymbol code
+  pub reads : x ≢ emptySymbol → member (getD sets i 0) x ≡ true
+  pub small : x < 64
   pub room : machineCount card * 2048 ≤ length steps
+
+-- ---- the least pair at a node that keeps to the labels
 
 pub record Finds (xs card sets places : List ℕ) (size i code : ℕ) (r : Step) : Type 0 where
   pub to : TightTo xs card sets places size i code (r .pair) (r .code)

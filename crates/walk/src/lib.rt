@@ -1,11 +1,14 @@
 // The walk from the start along the labels, which writes the pairs of the best candidate.
 ghost use mathlib.Core.Path.{_≡_};
-ghost use Prim.Native.Nat.{_+_, _*_, _<_, _≤_};
-ghost use lib.ListN.{length, set};
-ghost use Rattle.card.specs.Layout.{machineCount, symbolCount};
+ghost use mathlib.Core.Bool.{_||_};
+ghost use Prim.Native.Nat.{ℕ, _+_, _*_, _<_, _≤_};
+ghost use lib.Dec.{eqb};
+ghost use lib.ListN.{length, getD, set};
+ghost use Rattle.basics.specs.Sets.{member};
+ghost use Rattle.card.specs.Layout.{machineCount};
 ghost use Rattle.machine.specs.Symbols.{emptySymbol};
-ghost use Rattle.walk.specs.Pairs.{positionAfter};
-ghost use Rattle.walk.specs.Keeping.{KeepsPre, Keeps, StepPre, StepKeeps, OutputsPre, OutputsTried, FindPre, Finds};
+ghost use Rattle.walk.specs.Pairs.{positionAfter, firstOutput};
+ghost use Rattle.walk.specs.Keeping.{KeepsPre, Keeps, StepPre, StepKeeps, OutputsPre, TryPre, Tries};
 ghost use Rattle.walk.specs.Walked.{FollowPre, TablesLent, WalkPre, Walked};
 use machine::Pair;
 use tables::Joint;
@@ -16,17 +19,20 @@ pub enum Kept {
     No,
 }
 
-// The least of some pairs that keeps to the labels: the code that it leads to, and its out.
-pub enum Tried {
-    Least(usize, usize),
-    Without,
-}
-
 // A pair, and the code that it leads to.
 pub struct Step {
     pub pair: Pair,
     pub code: usize,
 }
+
+// The least of some pairs that keeps to the labels.
+pub enum Tried {
+    Least(Step),
+    Without,
+}
+
+// The set of the empty symbol alone, the in of an insertion.
+const INSERTION: u64 = 1;
 
 // Whether a joint step from the node u to the nodes from base on keeps to the labels.
 fn keeps(work: &[u16], u: usize, base: usize, found: Joint) -> Kept
@@ -65,7 +71,7 @@ fn keeps_by(
     keeps(work, u, base, found)
 }
 
-// The least out from `first` on whose pair with the in `symbol` keeps to the labels, by the table of the steps with that in.
+// The least pair with an in that keeps to the labels, by the table of the steps with that in, out by out.
 fn try_outputs(
     work: &[u16],
     card: &[u8],
@@ -77,12 +83,12 @@ fn try_outputs(
     size: usize,
     position: usize,
     next: usize,
-    symbol: usize,
+    input: u8,
     code: usize,
     first: usize,
 ) -> Tried
-    requires { ⌜ OutputsPre (now work) (now card) (now sets) (now table) (now rows) (now counts) (now places) size position symbol code × (next ≡ positionAfter position symbol) × (symbol ≡ emptySymbol → 1 ≤ first) × (first ≤ 1) ⌝ }
-    ensures { λ r. ⌜ OutputsTried (now (work .entry)) (now (card .entry)) (now (sets .entry)) (now (places .entry)) size position symbol code first r ⌝ }
+    requires { ⌜ OutputsPre (now work) (now card) (now sets) (now table) (now rows) (now counts) (now places) size position input code × (next ≡ positionAfter position input) × (first ≡ firstOutput input) ⌝ }
+    ensures { λ r. ⌜ Tries (now (work .entry)) (now (card .entry)) (now (sets .entry)) (now (places .entry)) size position input code r ⌝ }
 {
     let symbols = card::symbol_count(card) as usize;
     let mut output = first;
@@ -99,15 +105,21 @@ fn try_outputs(
             output,
         );
         if let Kept::To(to) = kept {
-            return Tried::Least(to, output);
+            return Tried::Least(Step {
+                pair: Pair {
+                    input,
+                    output: output as u8,
+                },
+                code: to,
+            });
         }
         output += 1;
     }
     Tried::Without
 }
 
-// The least pair at a node that keeps to the labels: an insertion, or else one of the symbols of the position's set, one after the other.
-fn find(
+// The least pair with an in that keeps to the labels. The table of the insertions is filled; that of a symbol is filled here.
+fn try_input(
     work: &[u16],
     card: &[u8],
     sets: &[u64],
@@ -118,65 +130,55 @@ fn find(
     size: usize,
     position: usize,
     code: usize,
+    input: u8,
     steps: &mut [u16],
-) -> Step
-    requires { ⌜ FindPre (now work) (now card) (now sets) (now insertions) (now steps) (now rows) (now counts) (now places) size position code ⌝ }
-    ensures { λ r. ⌜ Finds (now (work .entry)) (now (card .entry)) (now (sets .entry)) (now (places .entry)) size position code r ⌝ }
+) -> Tried
+    requires { ⌜ TryPre (now work) (now card) (now sets) (now insertions) (now steps) (now rows) (now counts) (now places) size position input code ⌝ }
+    ensures { λ r. ⌜ Tries (now (work .entry)) (now (card .entry)) (now (sets .entry)) (now (places .entry)) size position input code r ⌝ }
 {
-    let inserted = try_outputs(
-        work,
-        card,
-        sets,
-        insertions,
-        rows,
-        counts,
-        places,
-        size,
-        position,
-        position,
-        0,
-        code,
-        1,
-    );
-    if let Tried::Least(to, output) = inserted {
-        return Step {
-            pair: Pair {
-                input: Pair::EMPTY,
-                output: output as u8,
-            },
-            code: to,
-        };
-    }
-    let mut left = sets[position];
-    loop {
-        let symbol = machine::sets::least(left);
-        steps::fill_steps(card, symbol as u8, steps);
-        let read = try_outputs(
+    if input == Pair::EMPTY {
+        return try_outputs(
             work,
             card,
             sets,
-            steps,
+            insertions,
             rows,
             counts,
             places,
             size,
             position,
-            position + 1,
-            symbol,
+            position,
+            input,
             code,
-            0,
+            1,
         );
-        if let Tried::Least(to, output) = read {
-            break Step {
-                pair: Pair {
-                    input: symbol as u8,
-                    output: output as u8,
-                },
-                code: to,
-            };
-        }
-        left = machine::sets::without_least(left);
     }
+    steps::fill_steps(card, input, steps);
+    try_outputs(
+        work,
+        card,
+        sets,
+        steps,
+        rows,
+        counts,
+        places,
+        size,
+        position,
+        position + 1,
+        input,
+        code,
+        0,
+    )
+}
+
+// The ins of the pairs at a position: the empty symbol, and the symbols of the set there.
+fn inputs_at(sets: &[u64], position: usize) -> u64
+    ensures { λ r. ⌜ ((x : ℕ) → member r x ≡ (eqb x emptySymbol || member (getD (now (sets .entry)) position 0) x)) ⌝ }
+{
+    if position < sets.len() {
+        return INSERTION | sets[position];
+    }
+    INSERTION
 }
 
 // Writes a pair after as many pairs.
@@ -199,7 +201,7 @@ fn pass(position: usize, pair: Pair) -> usize
     position + 1
 }
 
-// Walks from the start along the labels, each time by the least pair that keeps to them, and writes the pairs: their number.
+// Walks from the start along the labels, each time by the least pair that keeps to them, in by in, and writes the pairs: their number.
 fn follow(
     work: &[u16],
     card: &[u8],
@@ -223,19 +225,28 @@ fn follow(
         if label.pairs == 0 {
             break pairs;
         }
-        let step = find(
-            work,
-            card,
-            sets,
-            insertions,
-            rows,
-            counts,
-            places,
-            size,
-            position,
-            code,
-            steps,
-        );
+        let mut left = inputs_at(sets, position);
+        let step = 'least: loop {
+            let input = machine::sets::least(left) as u8;
+            let tried = try_input(
+                work,
+                card,
+                sets,
+                insertions,
+                rows,
+                counts,
+                places,
+                size,
+                position,
+                code,
+                input,
+                steps,
+            );
+            if let Tried::Least(found) = tried {
+                break 'least found;
+            }
+            left = machine::sets::without_least(left);
+        };
         write_pair(answer, pairs, step.pair);
         position = pass(position, step.pair);
         code = step.code;

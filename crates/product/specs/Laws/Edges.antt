@@ -7,7 +7,7 @@ use mathlib.Core.Option.{Option, some, none, Option·none-ne-some}
 use Prim.Native.Nat.{ℕ, zero, suc, _+_, _*_, _<_, _≤_}
 use native.Mathlib.Omega.{arith}
 use lib.ListN.{length, getD}
-use lib.Dec.{eqb, leb}
+use lib.Dec.{eqb}
 use borrow.Author.Tests.{eqb-true, eqb-false, leb-true}
 use Rattle.basics.specs.Sets.{member}
 use Rattle.machine.specs.declared.Pair.{Pair}
@@ -23,7 +23,7 @@ use Rattle.paths.specs.RankedGraph.{ranked-sized, ranked-counts}
 use Rattle.product.specs.Nodes.{product, stateCounts, nodeOf, positionAt, statesAt}
 use Rattle.product.specs.JointStep.{andThose, ofEach, jointStep, jointEnding}
 use Rattle.product.specs.Prices.{Price, byRanking}
-use Rattle.product.specs.ProductGraph.{advance, Move, moveBy, move, ending, pricedMove, pricedEnding, productGraph}
+use Rattle.product.specs.ProductGraph.{insertsAt, advance, Move, moveBy, move, ending, pricedMove, pricedEnding, productGraph}
 use Rattle.product.specs.Laws.Sets.{member-within}
 use Rattle.product.specs.Laws.Nodes.{position-of-node, node-below}
 use Rattle.product.specs.Laws.JointStep.{AllSound, all-none, all-next, step-of-each, no-states-left, joint-below}
@@ -37,8 +37,10 @@ pub advanced : (sets : List ℕ) (i : ℕ) (p : Pair) (j : ℕ) → advance sets
 unfolding advance
 advanced sets i p j h = go (eqb (p .input) emptySymbol) refl
   where
-    insertion : p .input ≡ emptySymbol → (t : Bool) → leb i (length sets) ≡ t → cond t (some i) none ≡ some j → Advanced sets i p j
-    insertion e true t k = let q : j ≡ i = cc in stays e q (leb-true i (length sets) t)
+    insertion : p .input ≡ emptySymbol → (t : Bool) → insertsAt sets i ≡ t → cond t (some i) none ≡ some j → Advanced sets i p j
+    insertion e true t k =
+        let q : j ≡ i = cc in
+        stays e q (omega (arith, leb-true))
     insertion e false t k = absurd (Option·none-ne-some j k)
 
     symbol : (p .input ≡ emptySymbol → ⊥) → (t : Bool) → member (getD sets i 0) (p .input) ≡ t → cond t (some (i + 1)) none ≡ some j → Advanced sets i p j
@@ -46,7 +48,7 @@ advanced sets i p j h = go (eqb (p .input) emptySymbol) refl
     symbol e false t k = absurd (Option·none-ne-some j k)
 
     go : (t : Bool) → eqb (p .input) emptySymbol ≡ t → Advanced sets i p j
-    go true t = insertion (eqb-true (p .input) 0 t) (leb i (length sets)) refl (rw (t, advance) at h)
+    go true t = insertion (eqb-true (p .input) 0 t) (insertsAt sets i) refl (rw (t, advance) at h)
     go false t = symbol (eqb-false (p .input) 0 t) (member (getD sets i 0) (p .input)) refl (rw (t, advance) at h)
 
 -- a move is a pair that leads on, and a joint step

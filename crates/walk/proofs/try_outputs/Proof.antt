@@ -10,16 +10,16 @@ use Rattle.walk.proofs.try_outputs.Statement.{statement}
 use Rattle.walk.proofs.try_outputs.Tie as tie
 
 abbrev Inv-loop : tie.InvT-loop
-Inv-loop work card sets table rows counts places size position next symbol code first symbols output₀ output = Passing places card sets work size position code symbol first output × (symbols ≡ symbolCount card)
+Inv-loop work card sets table rows counts places size position next input code first symbols output₀ output = Passing places card sets work size position code input output × (symbols ≡ symbolCount card)
 
 abbrev μ-loop : tie.MeasureT-loop
-μ-loop work card sets table rows counts places size position next symbol code first symbols output₀ output = symbols + 1 - output
+μ-loop work card sets table rows counts places size position next input code first symbols output₀ output = symbols + 1 - output
 
 symbol-count-requires : tie.Need-symbol-count-requires Inv-loop μ-loop
 symbol-count-requires c κs = c .before .before .before .before .before .before .pre .0 .labels .accepted
 
 loop-holds : tie.Need-loop-holds Inv-loop μ-loop
-loop-holds c = (passing-start (omega (arith, c .before .before .before .before .before .before .before .pre .3)), c .symbol-count .ensures)
+loop-holds c = let t = c .before .before .before .before .before .before .before in (passing-start (t .pre .0) _ (t .pre .2), c .symbol-count .ensures)
 
 -- the node's number is small; the out is one of the symbols, and in and out are not both empty
 small : (c : tie.In-loop Inv-loop μ-loop) → let t = c .before .before .before .before .before .before .before .before .before in t .args .position * t .args .size + t .args .code < 3200
@@ -28,8 +28,8 @@ small c = let t = c .before .before .before .before .before .before .before .bef
 few : (c : tie.In-loop Inv-loop μ-loop) → c .before .loop .output ≤ symbolCount (c .before .before .before .before .before .before .before .before .before .args .card .now)
 few c = omega (arith, c .loop-test .taken, c .before .loop .inv .1)
 
-a-pair : (c : tie.In-loop Inv-loop μ-loop) → c .before .before .before .before .before .before .before .before .before .args .symbol ≡ 0 → 1 ≤ c .before .loop .output
-a-pair c e = omega (arith, c .before .before .before .before .before .before .before .before .before .pre .2 e, c .before .loop .inv .0 .from)
+a-pair : (c : tie.In-loop Inv-loop μ-loop) → c .before .before .before .before .before .before .before .before .before .args .input ≡ 0 → 1 ≤ c .before .loop .output
+a-pair c e = c .before .loop .inv .0 .from e
 
 mul-keeps-by : tie.Need-mul-keeps-by Inv-loop μ-loop
 mul-keeps-by c = omega (arith, small c)
@@ -43,11 +43,14 @@ mul-keeps-by-2 c = let t = c .before .before .before .before .before .before .be
 keeps-by-requires : tie.Need-keeps-by-requires Inv-loop μ-loop
 keeps-by-requires c κs = let t = c .before .before .before .before .before .before .before .before .before in step-pre-at (t .pre .0) (c .before .loop .output) (few c) (t .args .next) (t .pre .1)
 
+cast-t23 : tie.Need-cast-t23 Inv-loop μ-loop
+cast-t23 c = omega (arith, few (c .before .before .before .before), c .before .before .before .before .before .before .before .before .before .before .before .before .before .pre .0 .tables .machines .symbols)
+
 returns : tie.Need-returns Inv-loop μ-loop
 returns c =
     let t = c .before .before .before .before .before .before .before .before .before .before .before .before .before in
     let k = c .before .before .before .before in
-    passing-found (c .before .before .before .before .before .loop .inv .0) _ (few k)
+    passing-found (t .pre .0) (c .before .before .before .before .before .loop .inv .0) _
     (kept-tight (t .pre .0) (c .before .before .before .before .before .loop .output) (few k) (t .args .next) (t .pre .1) (a-pair k) (c .before .before .before .keeps-by .ensures) _ (c .before .kept .given .1))
 
 add-output : tie.Need-add-output Inv-loop μ-loop
@@ -60,10 +63,10 @@ loop-again : tie.Need-loop-again Inv-loop μ-loop
 loop-again c =
     let t = c .before .before .before .before .before .before .before .before .before .before .before .before in
     let k = c .before .before .before in
-    (passing-next (c .before .before .before .before .loop .inv .0) (few k) (kept-not (t .pre .0) (c .before .before .before .before .loop .output) (few k) (t .args .next) (t .pre .1) (a-pair k) (c .before .before .keeps-by .ensures) (c .enum-told .given .1)), c .before .before .before .before .loop .inv .1)
+    (passing-next (t .pre .0) (c .before .before .before .before .loop .inv .0) (few k) (kept-not (t .pre .0) (c .before .before .before .before .loop .output) (few k) (t .args .next) (t .pre .1) (a-pair k) (c .before .before .keeps-by .ensures) (c .enum-told .given .1)), c .before .before .before .before .loop .inv .1)
 
 returns-2 : tie.Need-returns-2 Inv-loop μ-loop
-returns-2 c = passing-end (c .before .loop .inv .0) (omega (arith, c .loop-test .left, c .before .loop .inv .1))
+returns-2 c = passing-end (c .before .before .before .before .before .before .before .before .before .pre .0) (c .before .loop .inv .0) (omega (arith, c .loop-test .left, c .before .loop .inv .1))
 
 pub try-outputs-spec : {M : Type 1} → statement M
 try-outputs-spec =
@@ -79,6 +82,7 @@ try-outputs-spec =
     mul-keeps-by-2
     keeps-by-requires
     (λ c. search needs)
+    cast-t23
     returns
     (λ c. search needs)
     add-output
