@@ -9,7 +9,7 @@ ghost use Rattle.ranking.specs.Finder.{finding};
 ghost use Rattle.card.specs.Reading.{reading};
 ghost use Rattle.card.specs.Packing.{packing, packedTarget};
 ghost use Rattle.candidate.specs.Evaluating.{evaluating};
-ghost use Rattle.candidate.specs.Optimizing.{optimized};
+ghost use Rattle.product.specs.Optimizing.{optimized};
 ghost use Rattle.optimizer.specs.Optimizes.{Optimizes};
 ghost use Rattle.engine.specs.Results.{evaluationNumbers, placeNumbers, orderNumber, orderNumbers, conditionNumbers, profileOf};
 use candidate::Evaluation;

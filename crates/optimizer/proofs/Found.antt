@@ -15,8 +15,8 @@ use Rattle.card.specs.Layout.{machineCount}
 use Rattle.card.specs.Card.{machinesOf, cardRefusal}
 use Rattle.card.specs.Accepted.{accepted}
 use Rattle.candidate.specs.Candidates.{profileOf}
-use Rattle.candidate.specs.Sets.{IsCandidateOf, bestOfSets}
-use Rattle.candidate.specs.Best.{Form}
+use Rattle.product.specs.Sets.{IsCandidateOf, bestOfSets}
+use Rattle.product.specs.Best.{Contender}
 use Rattle.paths.specs.Costs.{Labels, atmost-some}
 use Rattle.paths.specs.Total.{asym, upto-not-less, less-not-same}
 use Rattle.paths.specs.Ranked.{Ranked, Less, less-total, rankedCosts}
@@ -48,7 +48,7 @@ start-is-zero ms = omega (arith, start-code ms)
 
 -- the best candidate, and the cost x of its path
 pub record FoundAt (card ranking sets : List ℕ) (x : Ranked 6) : Type 0 where
-  pub form : Form
+  pub form : Contender
   pub is : bestOfSets card ranking sets ≡ some form
   pub profile : form .profile ≡ profileOf (machinesOf card) (form .candidate)
   pub cost : x ≡ ranked (sixPlaces ranking) (form .profile) (length (form .candidate))
@@ -104,7 +104,7 @@ module _ (card ranking sets : List ℕ) (ok : cardRefusal card ≡ 0) (ranks : i
         d-cost : pathCost (sixGraph ranking sets (machinesOf card)) 0 d ≡ some x
         d-cost = run→cost (sixGraph ranking sets (machinesOf card)) (held→run (sixGraph ranking sets (machinesOf card)) (attained 0 x l .held))
 
-        go : (o : Option Form) → bestOfSets card ranking sets ≡ o → FoundAt card ranking sets x
+        go : (o : Option Contender) → bestOfSets card ranking sets ≡ o → FoundAt card ranking sets x
         go none e = absurd (all .none-exactly .0 e d (is-candidate d x d-cost))
         go (some b) e = record { form = b; is = e; profile = all .its-profile b e; cost = same (less-total 6 .compare x (a .cost)) ∙ a-cost; path = a }
           where

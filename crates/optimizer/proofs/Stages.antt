@@ -17,8 +17,8 @@ use Rattle.card.specs.Accepted.{accepted}
 use Rattle.candidate.specs.declared.Evaluation.{Evaluation}
 use Rattle.candidate.specs.Candidates.{bytesOf}
 use Rattle.candidate.specs.Evaluating.{refused}
-use Rattle.candidate.specs.Sets.{bestOfSets}
-use Rattle.candidate.specs.Optimizing.{countsFit, evaluationOf, filled}
+use Rattle.product.specs.Sets.{bestOfSets}
+use Rattle.product.specs.Optimizing.{countsFit, evaluationOf, filled}
 use Rattle.paths.specs.Ranked.{letterCount}
 use Rattle.paths.specs.ByRanking.{ranked, ranked-letters}
 use Rattle.paths.specs.Labels.{Closed, Attained}
@@ -41,7 +41,7 @@ module _ {card ranking sets work : List ℕ} {size : ℕ} (pre : SetsPre card ra
   label-pre = record { setting = record { accepted = pre .accepted; ranks = pre .ranks; few = pre .few; symbols = pre .symbols; size = pre .states }; room = pre .room }
 
   some-state : 1 ≤ size
-  some-state = omega (arith, pre .states, accepted-machines card (pre .accepted) .states, accepted card (pre .accepted) .some-state)
+  some-state = omega (arith, pre .states, accepted-machines card (pre .accepted) .some-state)
 
   pub some-ranking : RankingOfSome ranking
   some-ranking =

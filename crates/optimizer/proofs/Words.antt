@@ -20,9 +20,9 @@ use Rattle.card.specs.Card.{cardRefusal}
 use Rattle.card.specs.Accepted.{accepted}
 use Rattle.candidate.specs.declared.Evaluation.{Evaluation}
 use Rattle.candidate.specs.Evaluating.{refused}
-use Rattle.candidate.specs.Best.{Form, best}
-use Rattle.candidate.specs.Sets.{singletons, bestOfSets}
-use Rattle.candidate.specs.Optimizing.{soundWord, evaluationOf}
+use Rattle.product.specs.Best.{Contender, best}
+use Rattle.product.specs.Sets.{singletons, bestOfSets}
+use Rattle.product.specs.Optimizing.{soundWord, evaluationOf}
 use Rattle.product.specs.SetsTheorem.{best-of-one-word}
 use Rattle.product.specs.Laws.Words.{accepted-word}
 use Rattle.product.specs.Laws.Sets.{as-many, reads-word}
@@ -112,6 +112,6 @@ module _ {card ranking word work : List ℕ} {size : ℕ} (pre : SearchPre card 
         S : Searched (best card ranking word) (singletons word) work after answer answerAfter r
         S = rw (are, best-of-one-word card ranking word (pre .accepted) word-small) at T
 
-        evaluated : (o : Option Form) → evaluationOf o (singletons word) ≡ evaluationOf o word
+        evaluated : (o : Option Contender) → evaluationOf o (singletons word) ≡ evaluationOf o word
         evaluated none = refl
         evaluated (some b) = rw (as-many word)

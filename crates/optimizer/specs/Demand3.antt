@@ -16,8 +16,8 @@ use Rattle.card.specs.Card.{machinesOf}
 use Rattle.candidate.specs.declared.Evaluation.{Evaluation}
 use Rattle.candidate.specs.Candidates.{bytesOf, profileOf, IsCandidate}
 use Rattle.candidate.specs.Evaluating.{profileWith}
-use Rattle.candidate.specs.Best.{Form, best}
-use Rattle.candidate.specs.Optimizing.{inputRefusal, countsFit, optimizerRefusal, evaluationOf, filled, optimized, optimizedAnswer}
+use Rattle.product.specs.Best.{Contender, best}
+use Rattle.product.specs.Optimizing.{inputRefusal, countsFit, optimizerRefusal, evaluationOf, filled, optimized, optimizedAnswer}
 use Rattle.product.specs.BestCandidate.{IsBestCandidate}
 use Rattle.product.specs.BestTheorem.{BestOfAll, best-is-best-of-all, counts-always-fit}
 use Rattle.optimizer.specs.AcceptedInput.{AcceptedInput, accepted-input, short-word}
@@ -49,8 +49,8 @@ pub record Demand3 (card ranking word answer : List ℕ) (room : ℕ) : Type 0 w
 -- what the call answers, by what the best is
 data Outcome (card ranking word answer : List ℕ) (room : ℕ) : Type 0 where
   nothing : best card ranking word ≡ none → optimized card ranking word room (length answer) .number ≡ 10 → optimizedAnswer card ranking word room answer ≡ answer → Outcome card ranking word answer room
-  no-room : (b : Form) → best card ranking word ≡ some b → length answer < 2 * length (b .candidate) → optimized card ranking word room (length answer) .number ≡ 12 → optimizedAnswer card ranking word room answer ≡ answer → Outcome card ranking word answer room
-  found : (b : Form) → best card ranking word ≡ some b → 2 * length (b .candidate) ≤ length answer → optimized card ranking word room (length answer) ≡ evaluationOf (some b) word → optimizedAnswer card ranking word room answer ≡ filled (some b) answer → Outcome card ranking word answer room
+  no-room : (b : Contender) → best card ranking word ≡ some b → length answer < 2 * length (b .candidate) → optimized card ranking word room (length answer) .number ≡ 12 → optimizedAnswer card ranking word room answer ≡ answer → Outcome card ranking word answer room
+  found : (b : Contender) → best card ranking word ≡ some b → 2 * length (b .candidate) ≤ length answer → optimized card ranking word room (length answer) ≡ evaluationOf (some b) word → optimizedAnswer card ranking word room answer ≡ filled (some b) answer → Outcome card ranking word answer room
 
 module _ (card ranking word answer : List ℕ) (room : ℕ) (ok : inputRefusal card ranking word room ≡ 0) where
   accepts : AcceptedInput card ranking word room
@@ -60,7 +60,7 @@ module _ (card ranking word answer : List ℕ) (room : ℕ) (ok : inputRefusal c
   unfolding optimized optimizedAnswer optimizerRefusal
   outcome = go (best card ranking word) refl (rw (counts-always-fit card ranking word (accepts .accepted) (short-word (symbolCount card) word (accepts .sound))))
     where
-      go : (o : Option Form) → best card ranking word ≡ o → countsFit (best card ranking word) ≡ true → Outcome card ranking word answer room
+      go : (o : Option Contender) → best card ranking word ≡ o → countsFit (best card ranking word) ≡ true → Outcome card ranking word answer room
       go none e f = nothing e (rw (ok, e)) (rw (ok, e))
       go (some b) e f = fits (decLt (length answer) (2 * length (b .candidate)))
         where
@@ -75,13 +75,13 @@ module _ (card ranking word answer : List ℕ) (room : ℕ) (ok : inputRefusal c
   all = best-is-best-of-all card ranking word (accepts .accepted) (accepts .ranks)
 
   -- the pairs of a best candidate are those of the definition's
-  same-pairs : (b : Form) → best card ranking word ≡ some b → (c : List Pair) → IsBestCandidate ranking (machinesOf card) word c → length c ≡ length (b .candidate)
-  same-pairs b e c k = let q : b ≡ record { candidate = c; profile = profileOf (machinesOf card) c } = cc (e, all .only-it c k) in ap (λ (f : Form). length (f .candidate)) (sym q)
+  same-pairs : (b : Contender) → best card ranking word ≡ some b → (c : List Pair) → IsBestCandidate ranking (machinesOf card) word c → length c ≡ length (b .candidate)
+  same-pairs b e c k = let q : b ≡ record { candidate = c; profile = profileOf (machinesOf card) c } = cc (e, all .only-it c k) in ap (λ (f : Contender). length (f .candidate)) (sym q)
 
   no-best : best card ranking word ≡ none → (c : List Pair) → IsBestCandidate ranking (machinesOf card) word c → ⊥
   no-best e c k = all .none-exactly .0 e c (k .candidate)
 
-  some-candidate : (b : Form) → best card ranking word ≡ some b → ((c : List Pair) → ¬ (IsCandidate (machinesOf card) word c)) → ⊥
+  some-candidate : (b : Contender) → best card ranking word ≡ some b → ((c : List Pair) → ¬ (IsCandidate (machinesOf card) word c)) → ⊥
   some-candidate b e f = f (b .candidate) (all .is-best b e .candidate)
 
   fitting : countsFit (best card ranking word) ≡ true

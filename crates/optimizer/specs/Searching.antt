@@ -15,8 +15,8 @@ use Rattle.card.specs.Card.{cardRefusal, machinesOf}
 use Rattle.candidate.specs.declared.Evaluation.{Evaluation}
 use Rattle.candidate.specs.Candidates.{isSome}
 use Rattle.candidate.specs.Evaluating.{profileWith, refused}
-use Rattle.candidate.specs.Best.{Form}
-use Rattle.candidate.specs.Optimizing.{soundWord, countsFit, answerFits, evaluationOf, filled}
+use Rattle.product.specs.Best.{Contender}
+use Rattle.product.specs.Optimizing.{soundWord, countsFit, answerFits, evaluationOf, filled}
 use Rattle.paths.specs.Ranked.{Ranked}
 use Rattle.paths.specs.ByRanking.{ranked}
 use Rattle.labels.specs.declared.Label.{Label}
@@ -25,7 +25,7 @@ use Rattle.product.specs.Laws.BestOfSets.{are64Bits}
 use Rattle.tables.specs.Places.{sixPlaces}
 
 -- the checks 10 to 12
-abbrev pub searchRefusal : Option Form → ℕ → ℕ
+abbrev pub searchRefusal : Option Contender → ℕ → ℕ
 searchRefusal b room = firstOf (refuse 10 (isSome b) ∷ refuse 11 (countsFit b) ∷ refuse 12 (answerFits b room) ∷ [])
 
 -- accepted sets, all of them 64-bit numbers; size is the product of the state counts, and the work slice has just the room for the nodes
@@ -47,7 +47,7 @@ pub record SearchPre (card ranking word work : List ℕ) (size : ℕ) : Type 0 w
   pub room : length work ≡ (length word + 1) * size * 8
 
 -- what the search answers by what the best is, and the slices at exit
-pub record Searched (b : Option Form) (word work workAfter answer answerAfter : List ℕ) (r : Evaluation) : Type 0 where
+pub record Searched (b : Option Contender) (word work workAfter answer answerAfter : List ℕ) (r : Evaluation) : Type 0 where
   pub result : r ≡ unlessRefused (searchRefusal b (length answer)) (evaluationOf b word) refused
   pub answer-slice : answerAfter ≡ unlessRefused (searchRefusal b (length answer)) (filled b answer) (λ n. answer)
   pub work-length : length workAfter ≡ length work

@@ -3,12 +3,13 @@ ghost use mathlib.Core.Path.{_≡_};
 ghost use mathlib.Core.Bool.{true};
 ghost use Prim.Native.Nat.{_*_};
 ghost use lib.Dec.{leb};
+ghost use lib.ListN.{length};
 ghost use Rattle.basics.specs.Refusals.{refuse};
 ghost use Rattle.ranking.specs.Rankings.{isRanking};
 ghost use Rattle.card.specs.Layout.{machineCount, symbolCount};
-ghost use Rattle.card.specs.Card.{cardRefusal};
-ghost use Rattle.candidate.specs.Best.{nodeCount};
-ghost use Rattle.candidate.specs.Optimizing.{soundWord, inputRefusal};
+ghost use Rattle.card.specs.Card.{cardRefusal, machinesOf};
+ghost use Rattle.product.specs.Nodes.{nodeCount};
+ghost use Rattle.product.specs.Optimizing.{soundWord, inputRefusal};
 ghost use Rattle.optimizer.specs.Refusals.{stageNumber};
 use crate::Refusal;
 use crate::Stage;
@@ -50,7 +51,7 @@ fn check_word(card: &[u8], word: &[u8]) -> Stage
 // Refusal 9, for an accepted card and word: whether a work slice of `room` numbers has eight for each node.
 fn check_work(card: &[u8], word: &[u8], room: usize) -> Stage
     requires { ⌜ (cardRefusal (now card) ≡ 0) × (soundWord (symbolCount (now card)) (now word) ≡ true) ⌝ }
-    ensures { λ r. ⌜ stageNumber r ≡ refuse 9 (leb (8 * nodeCount (now (card .entry)) (now (word .entry))) room) ⌝ }
+    ensures { λ r. ⌜ stageNumber r ≡ refuse 9 (leb (8 * nodeCount (machinesOf (now (card .entry))) (length (now (word .entry)))) room) ⌝ }
 {
     if room < (word.len() + 1) * joint_states(card) * 8 {
         return Stage::Refused(Refusal::Work);

@@ -32,7 +32,7 @@ use Rattle.product.specs.Codes.{codeStep}
 use Rattle.product.specs.Laws.JointStep.{AllSound, all-none, all-next, step-of-each, no-states-left}
 use Rattle.product.specs.Laws.Accepted.{accepted-machines}
 use Rattle.product.specs.Laws.Codes.{code-step-below}
-use Rattle.product.specs.Laws.Edges.{Advanced, stays, goes-on, advanced, Moved, moved, EdgeOf, edge-of, ending-of, ended, move-position, product-within, step-marks-bound, ending-marks-bound}
+use Rattle.product.specs.Laws.Edges.{Advanced, stays, goes-on, advanced, Moved, moved, EdgeOf, edge-of, ending-of, word-ended, move-position, product-within, step-marks-bound, ending-marks-bound}
 use Rattle.product.specs.Laws.CardGraph.{priced-positioned, set-sized}
 use Rattle.labels.proofs.Room.{SmallMarks}
 use Rattle.tables.specs.Places.{sixPlaces, markNumber}
@@ -66,10 +66,10 @@ module _ {card ranking sets : List ℕ} {P : ℕ} (s : Setting card ranking sets
   symbols-few = accepted card (s .accepted) .head .counts .symbols
 
   pub some-code : 0 < P
-  some-code = omega (arith, s .size, accepted-machines card (s .accepted) .states, accepted card (s .accepted) .some-state)
+  some-code = omega (arith, s .size, accepted-machines card (s .accepted) .some-state)
 
   pub few-codes : P ≤ 128
-  few-codes = omega (arith, s .size, accepted-machines card (s .accepted) .states, accepted-machines card (s .accepted) .few-states)
+  few-codes = omega (arith, s .size, accepted-machines card (s .accepted) .few-states)
 
   pub few-nodes : (length sets + 1) * P ≤ 3200
   few-nodes = let n : length sets + 1 ≤ 25 = omega (arith, s .few) in mul-le-mul n few-codes
@@ -121,7 +121,7 @@ module _ {card ranking sets : List ℕ} {P : ℕ} (s : Setting card ranking sets
       end-mark : (u : ℕ) (c : Ranked 6) → engineGraph card ranking sets .ending u ≡ some c → (i : ℕ) → countAt 6 i c ≤ 15
       end-mark u c h i =
           let k = ending-of (byRanking (sixPlaces ranking)) sets (machinesOf card) u c h in
-          let l = ended sets (machinesOf card) u (k .marks) (k .is) in
+          let l = word-ended sets (machinesOf card) u (k .marks) (k .is) in
           rw (k .cost-is) (ranked-upto (sixPlaces ranking) (k .marks) 0 15 (ending-marks-bound machines-sound (statesAt (stateCounts (machinesOf card)) u) (k .marks) (l .ends)) i)
 
   -- ---- a joint step as an edge

@@ -11,15 +11,15 @@ use Rattle.machine.specs.Machine.{Machine}
 use Rattle.ranking.specs.declared.Order.the-variants.{Worse}
 use Rattle.ranking.specs.Harmony.{harmony}
 use Rattle.candidate.specs.Candidates.{bytesOf, profileOf, IsCandidate}
-use Rattle.candidate.specs.Sets.{IsCandidateOf}
-use Rattle.candidate.specs.Best.{Form, formOf, ProfileOrder}
+use Rattle.product.specs.Sets.{IsCandidateOf}
+use Rattle.product.specs.Best.{Contender, contenderOf, ProfileOrder}
 use Rattle.ranking.specs.ByteStrings.{smaller}
 use Rattle.product.specs.Prices.{Alike}
 
 -- ---- in an order on profiles
 
 -- a beats b: it has the better profile; or neither has, and a has fewer pairs; or neither has, and of as many pairs the smaller byte string
-pub data BeatsIn (better : ProfileOrder) (a b : Form) : Type 0 where
+pub data BeatsIn (better : ProfileOrder) (a b : Contender) : Type 0 where
   by-profile : better (a .profile) (b .profile) ≡ true → BeatsIn better a b
   by-pairs : Alike better (a .profile) (b .profile) → length (a .candidate) < length (b .candidate) → BeatsIn better a b
   by-bytes : Alike better (a .profile) (b .profile) → length (a .candidate) ≡ length (b .candidate) → smaller (bytesOf (a .candidate)) (bytesOf (b .candidate)) ≡ true → BeatsIn better a b
@@ -27,7 +27,7 @@ pub data BeatsIn (better : ProfileOrder) (a b : Form) : Type 0 where
 -- of the candidates meant, those for a word or for the words of sets, c is the one that beats every other one, however long
 pub record IsBestIn (better : ProfileOrder) (ms : List Machine) (Meant : List Pair → Type 0) (c : List Pair) : Type 0 where
   pub candidate : Meant c
-  pub rivals : (d : List Pair) → Meant d → d ≢ c → BeatsIn better (formOf ms c) (formOf ms d)
+  pub rivals : (d : List Pair) → Meant d → d ≢ c → BeatsIn better (contenderOf ms c) (contenderOf ms d)
 
 -- ---- under a ranking, where equal in harmony is equal
 
@@ -49,11 +49,11 @@ pub record IsBestOfSets (ranking : List ℕ) (ms : List Machine) (sets : List �
 
 -- ---- an answer is the best of the candidates meant, of any length, by what it is for one to be the best
 
-pub record BestOf (ms : List Machine) (Meant IsBest : List Pair → Type 0) (answer : Option Form) : Type 0 where
+pub record BestOf (ms : List Machine) (Meant IsBest : List Pair → Type 0) (answer : Option Contender) : Type 0 where
   -- there is none exactly when no list of pairs, however long, is such a candidate
   pub none-exactly : (answer ≡ none) ↔ ((c : List Pair) → ¬ (Meant c))
   -- otherwise it is the best, and it comes with its profile
-  pub is-best : (b : Form) → answer ≡ some b → IsBest (b .candidate)
-  pub its-profile : (b : Form) → answer ≡ some b → b .profile ≡ profileOf ms (b .candidate)
+  pub is-best : (b : Contender) → answer ≡ some b → IsBest (b .candidate)
+  pub its-profile : (b : Contender) → answer ≡ some b → b .profile ≡ profileOf ms (b .candidate)
   -- and no other candidate is
-  pub only-it : (c : List Pair) → IsBest c → answer ≡ some (formOf ms c)
+  pub only-it : (c : List Pair) → IsBest c → answer ≡ some (contenderOf ms c)

@@ -16,9 +16,10 @@ use Rattle.ranking.specs.Rankings.{isRanking}
 use Rattle.card.specs.Layout.{machineCount}
 use Rattle.card.specs.Card.{machinesOf, cardRefusal}
 use Rattle.candidate.specs.Candidates.{profileOf, IsCandidate}
-use Rattle.candidate.specs.Sets.{singletons}
-use Rattle.candidate.specs.Best.{Form, formOf, ProfileOrder, nodeCount, bestIn, best}
-use Rattle.candidate.specs.Optimizing.{countsFit}
+use Rattle.product.specs.Sets.{singletons}
+use Rattle.product.specs.Best.{Contender, contenderOf, ProfileOrder, bestIn, best}
+use Rattle.product.specs.Nodes.{nodeCount}
+use Rattle.product.specs.Optimizing.{countsFit}
 use Rattle.paths.specs.Total.{lex-total, same?, asym}
 use Rattle.paths.specs.Costs.{Costs}
 use Rattle.paths.specs.Pigeonhole.{Distinct}
@@ -31,7 +32,7 @@ use Rattle.product.specs.Laws.Candidates.{candidate-cost, cost-candidate
 use Rattle.product.specs.Laws.Accepted.{accepted-machines}
 use Rattle.product.specs.Laws.CardGraph.{start-within, word-within}
 use Rattle.product.specs.Laws.Preference.{keyOf, beats-earlier}
-use Rattle.product.specs.Laws.Best.{candidateOf, best-answers, best-form, is-the-best, there-is-none}
+use Rattle.product.specs.Laws.Best.{candidateOf, best-answers, best-contender, is-the-best, there-is-none}
 use Rattle.product.specs.Laws.BestCandidate.{best-harmonic, harmonic-best, path-best-in, best-in-path}
 use Rattle.product.specs.Laws.Counts.{profile-bound, all-below}
 
@@ -54,21 +55,21 @@ module _ {costs : Costs} {price : Price costs} {better : ProfileOrder} (agrees :
           go c none h = refl
           go c (some x) h = absurd (f c (cost-candidate price word (accepted-machines card ok .sound) c x h .is))
 
-      best-one : (b : Form) → bestIn better card word ≡ some b → IsBestIn better (machinesOf card) (IsCandidate (machinesOf card) word) (b .candidate)
+      best-one : (b : Contender) → bestIn better card word ≡ some b → IsBestIn better (machinesOf card) (IsCandidate (machinesOf card) word) (b .candidate)
       best-one b e = path-best-in agrees (accepted-machines card ok .sound) word (b .candidate) (best-answers agrees card word ok .best (b .candidate) (ap candidateOf e))
 
-      profile : (b : Form) → bestIn better card word ≡ some b → b .profile ≡ profileOf (machinesOf card) (b .candidate)
-      profile b e = ap (λ (a : Form). a .profile) (best-form agrees card word ok b e)
+      profile : (b : Contender) → bestIn better card word ≡ some b → b .profile ≡ profileOf (machinesOf card) (b .candidate)
+      profile b e = ap (λ (a : Contender). a .profile) (best-contender agrees card word ok b e)
 
-      only : (c : List Pair) → IsBestIn better (machinesOf card) (IsCandidate (machinesOf card) word) c → bestIn better card word ≡ some (formOf (machinesOf card) c)
+      only : (c : List Pair) → IsBestIn better (machinesOf card) (IsCandidate (machinesOf card) word) c → bestIn better card word ≡ some (contenderOf (machinesOf card) c)
       only c a = is-the-best agrees card word ok c (best-in-path agrees (accepted-machines card ok .sound) word c a)
 
 -- it passes no node twice, so it has fewer pairs than there are nodes
-pub record ShortAt {costs : Costs} (price : Price costs) (card word : List ℕ) (b : Form) : Type 0 where
+pub record ShortAt {costs : Costs} (price : Price costs) (card word : List ℕ) (b : Contender) : Type 0 where
   pub no-node-twice : Distinct (nodes (pricedGraph price card (singletons word)) (cardStart card) (b .candidate))
-  pub fewer-pairs : length (b .candidate) < nodeCount card word
+  pub fewer-pairs : length (b .candidate) < nodeCount (machinesOf card) (length word)
 
-pub best-in-is-short : {costs : Costs} {price : Price costs} {better : ProfileOrder} → Agrees price better → (card word : List ℕ) → cardRefusal card ≡ 0 → (b : Form) → bestIn better card word ≡ some b → ShortAt price card word b
+pub best-in-is-short : {costs : Costs} {price : Price costs} {better : ProfileOrder} → Agrees price better → (card word : List ℕ) → cardRefusal card ≡ 0 → (b : Contender) → bestIn better card word ≡ some b → ShortAt price card word b
 best-in-is-short {price = price} agrees card word ok b e =
     let G = pricedGraph price card (singletons word) in
     let a = best-answers agrees card word ok .best (b .candidate) (ap candidateOf e) in
@@ -79,18 +80,18 @@ best-in-is-short {price = price} agrees card word ok b e =
 
 -- two orders that compare their two bests alike have one best
 module _ {costs costs′ : Costs} {price : Price costs} {price′ : Price costs′} {better better′ : ProfileOrder} (agrees : Agrees price better) (agrees′ : Agrees price′ better′) where
-  pub same-best : (card word : List ℕ) → cardRefusal card ≡ 0 → (a b : Form) → bestIn better card word ≡ some a → bestIn better′ card word ≡ some b
+  pub same-best : (card word : List ℕ) → cardRefusal card ≡ 0 → (a b : Contender) → bestIn better card word ≡ some a → bestIn better′ card word ≡ some b
       → better (a .profile) (b .profile) ≡ better′ (a .profile) (b .profile) → better (b .profile) (a .profile) ≡ better′ (b .profile) (a .profile) → a ≡ b
   same-best card word ok a b ea eb p q = go (same? (lex-total (pairs ._◃_) (pairs .total)) (a .candidate) (b .candidate))
     where
       ms : List Machine
       ms = machinesOf card
 
-      one : a ≡ formOf ms (a .candidate)
-      one = best-form agrees card word ok a ea
+      one : a ≡ contenderOf ms (a .candidate)
+      one = best-contender agrees card word ok a ea
 
-      other : b ≡ formOf ms (b .candidate)
-      other = best-form agrees′ card word ok b eb
+      other : b ≡ contenderOf ms (b .candidate)
+      other = best-contender agrees′ card word ok b eb
 
       neither : Alike better (a .profile) (b .profile) → Alike better′ (a .profile) (b .profile)
       neither e = (sym p ∙ e .0, sym q ∙ e .1)
@@ -101,7 +102,7 @@ module _ {costs costs′ : Costs} {price : Price costs} {price′ : Price costs�
       alike (by-bytes e k l) = by-bytes (neither e) k l
 
       go : Dec (a .candidate ≡ b .candidate) → a ≡ b
-      go (yes e) = one ∙ ap (formOf ms) e ∙ sym other
+      go (yes e) = one ∙ ap (contenderOf ms) e ∙ sym other
       go (no n) =
           let x = best-in-is-best-of-all agrees card word ok .is-best a ea in
           let y = best-in-is-best-of-all agrees′ card word ok .is-best b eb in
@@ -110,14 +111,14 @@ module _ {costs costs′ : Costs} {price : Price costs} {price′ : Price costs�
           absurd (asym (before-total costs′ pairs) (keyOf price′ a) (keyOf price′ b) (beats-earlier agrees′ a b (alike ab)) (beats-earlier agrees′ b a ba))
 
 -- of a word of at most 24 symbols it has at most 3,199 pairs and no count above 47,985, which is 15 a pair
-pub record SmallBest (b : Form) : Type 0 where
+pub record SmallBest (b : Contender) : Type 0 where
   pub pairs : length (b .candidate) ≤ 3199
   pub counts : allOf (λ n. leb n 47985) (b .profile) ≡ true
 
-pub best-in-is-small : {costs : Costs} {price : Price costs} {better : ProfileOrder} → Agrees price better → (card word : List ℕ) → cardRefusal card ≡ 0 → length word ≤ 24 → (b : Form) → bestIn better card word ≡ some b → SmallBest b
-best-in-is-small agrees card word ok h b e = record { pairs = short; counts = rw (best-form agrees card word ok b e) (profile-bound (accepted-machines card ok .sound) (b .candidate) 47985 (omega (arith, short))) }
+pub best-in-is-small : {costs : Costs} {price : Price costs} {better : ProfileOrder} → Agrees price better → (card word : List ℕ) → cardRefusal card ≡ 0 → length word ≤ 24 → (b : Contender) → bestIn better card word ≡ some b → SmallBest b
+best-in-is-small agrees card word ok h b e = record { pairs = short; counts = rw (best-contender agrees card word ok b e) (profile-bound (accepted-machines card ok .sound) (b .candidate) 47985 (omega (arith, short))) }
   where
-    few : nodeCount card word ≤ 25 * 128
+    few : nodeCount (machinesOf card) (length word) ≤ 25 * 128
     few = let n : length word + 1 ≤ 25 = omega arith in mul-le-mul n (accepted-machines card ok .few-states)
 
     short : length (b .candidate) ≤ 3199
@@ -150,14 +151,14 @@ unfolding best
 no-path-no-best card r word ok = there-is-none (ranking-agrees r) card word ok
 
 -- how long it is
-abbrev pub ShortBest : (card ranking word : List ℕ) → Form → Type 0
+abbrev pub ShortBest : (card ranking word : List ℕ) → Contender → Type 0
 ShortBest card ranking word b = ShortAt (byRanking ranking) card word b
 
-pub best-is-short : (card ranking word : List ℕ) → cardRefusal card ≡ 0 → (b : Form) → best card ranking word ≡ some b → ShortBest card ranking word b
+pub best-is-short : (card ranking word : List ℕ) → cardRefusal card ≡ 0 → (b : Contender) → best card ranking word ≡ some b → ShortBest card ranking word b
 unfolding best
 best-is-short card r word ok b e = best-in-is-short (ranking-agrees r) card word ok b e
 
-pub best-is-small : (card ranking word : List ℕ) → cardRefusal card ≡ 0 → length word ≤ 24 → (b : Form) → best card ranking word ≡ some b → SmallBest b
+pub best-is-small : (card ranking word : List ℕ) → cardRefusal card ≡ 0 → length word ≤ 24 → (b : Contender) → best card ranking word ≡ some b → SmallBest b
 unfolding best
 best-is-small card r word ok h b e = best-in-is-small (ranking-agrees r) card word ok h b e
 
@@ -165,6 +166,6 @@ best-is-small card r word ok h b e = best-in-is-small (ranking-agrees r) card wo
 pub counts-always-fit : (card ranking word : List ℕ) → cardRefusal card ≡ 0 → length word ≤ 24 → countsFit (best card ranking word) ≡ true
 counts-always-fit card r word ok h = go (best card r word) refl
   where
-    go : (o : Option Form) → best card r word ≡ o → countsFit o ≡ true
+    go : (o : Option Contender) → best card r word ≡ o → countsFit o ≡ true
     go none e = refl
     go (some b) e = all-below (b .profile) 47985 60000 (omega arith) (best-is-small card r word ok h b e .counts)

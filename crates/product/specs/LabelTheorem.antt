@@ -10,8 +10,6 @@ use lib.ListN.{length}
 use Rattle.machine.specs.declared.Pair.{Pair}
 use Rattle.card.specs.Card.{machinesOf, cardRefusal}
 use Rattle.candidate.specs.Candidates.{profileOf}
-use Rattle.candidate.specs.Best.{Form, ProfileOrder}
-use Rattle.candidate.specs.Sets.{IsCandidateOf, bestOfSetsIn}
 use Rattle.paths.specs.Total.{asym, upto-not-less, less-not-same}
 use Rattle.paths.specs.Costs.{Costs, Labels, atmost-some}
 use Rattle.paths.specs.Graph.{pathCost, run→cost}
@@ -19,6 +17,8 @@ use Rattle.paths.specs.Labels.{Closed, Attained, lower-bound, unlabelled-none, 
 use Rattle.paths.specs.Best.{IsBest, before-total}
 use Rattle.product.specs.Prices.{Price, Agrees}
 use Rattle.product.specs.ProductGraph.{pairs, pricedGraph, cardStart}
+use Rattle.product.specs.Best.{Contender, ProfileOrder}
+use Rattle.product.specs.Sets.{IsCandidateOf, bestOfSetsIn}
 use Rattle.product.specs.BestCandidate.{IsBestIn, BestOf}
 use Rattle.product.specs.SetsTheorem.{no-path-no-best-of-sets, best-in-is-best-of-all-words}
 use Rattle.product.specs.Laws.Accepted.{accepted-machines}
@@ -28,11 +28,11 @@ use Rattle.product.specs.Laws.BestOfSets.{are64Bits}
 
 -- the best over the sets, whose path costs x
 pub record BestAt {costs : Costs} (price : Price costs) (better : ProfileOrder) (card sets : List ℕ) (x : costs .Cost) : Type 0 where
-  pub form : Form
-  pub is : bestOfSetsIn better card sets ≡ some form
-  pub its-profile : form .profile ≡ profileOf (machinesOf card) (form .candidate)
-  pub cost : x ≡ price .of (form .profile) (length (form .candidate))
-  pub path : IsBest (pricedGraph price card sets) (cardStart card) (form .candidate)
+  pub contender : Contender
+  pub is : bestOfSetsIn better card sets ≡ some contender
+  pub its-profile : contender .profile ≡ profileOf (machinesOf card) (contender .candidate)
+  pub cost : x ≡ price .of (contender .profile) (length (contender .candidate))
+  pub path : IsBest (pricedGraph price card sets) (cardStart card) (contender .candidate)
 
 module _ {costs : Costs} {price : Price costs} {better : ProfileOrder} (agrees : Agrees price better) (card sets : List ℕ) (ok : cardRefusal card ≡ 0) (bits : are64Bits sets ≡ true) (L : Labels costs) (closed : Closed (pricedGraph price card sets) L) where
   pub no-label-no-best : L (cardStart card) ≡ none → bestOfSetsIn better card sets ≡ none
@@ -50,9 +50,9 @@ module _ {costs : Costs} {price : Price costs} {better : ProfileOrder} (agrees :
       d-cost : pathCost (pricedGraph price card sets) (cardStart card) d ≡ some x
       d-cost = run→cost (pricedGraph price card sets) (held→run (pricedGraph price card sets) (attained (cardStart card) x l .held))
 
-      go : (o : Option Form) → bestOfSetsIn better card sets ≡ o → BestAt price better card sets x
+      go : (o : Option Contender) → bestOfSetsIn better card sets ≡ o → BestAt price better card sets x
       go none e = absurd (all .none-exactly .0 e d (cost-fitting price sets (accepted-machines card ok .sound) d x d-cost .is))
-      go (some b) e = record { form = b; is = e; its-profile = all .its-profile b e; cost = same (costs .total .compare x (a .cost)) ∙ a-cost; path = a }
+      go (some b) e = record { contender = b; is = e; its-profile = all .its-profile b e; cost = same (costs .total .compare x (a .cost)) ∙ a-cost; path = a }
         where
           a : IsBest (pricedGraph price card sets) (cardStart card) (b .candidate)
           a = best-of-sets-path agrees (accepted-machines card ok .sound) sets (b .candidate) (all .is-best b e)

@@ -7,6 +7,9 @@ pub mod ProductGraph
 pub mod Codes
 pub mod Setting
 pub mod Pairs
+pub mod Best
+pub mod Sets
+pub mod Optimizing
 pub mod BestCandidate
 -- lemmas
 pub mod Laws

@@ -12,7 +12,7 @@ use Rattle.machine.specs.declared.Pair.{Pair}
 use Rattle.machine.specs.Symbols.{emptySymbol, isPair}
 use Rattle.machine.specs.Machine.{Machine, startState}
 use Rattle.card.specs.Card.{machinesOf}
-use Rattle.candidate.specs.Sets.{singletons}
+use Rattle.product.specs.Sets.{singletons}
 use Rattle.paths.specs.Total.{Then, then-total, On, on-total, ℕ-total}
 use Rattle.paths.specs.Costs.{Costs}
 use Rattle.paths.specs.Ranked.{rankedCosts}

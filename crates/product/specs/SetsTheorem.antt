@@ -17,9 +17,9 @@ use Rattle.ranking.specs.Rankings.{isRanking}
 use Rattle.card.specs.Layout.{machineCount}
 use Rattle.card.specs.Card.{machinesOf, cardRefusal}
 use Rattle.candidate.specs.Candidates.{IsCandidate}
-use Rattle.candidate.specs.Best.{Form, formOf, ProfileOrder, bestIn, best}
-use Rattle.candidate.specs.Sets.{singletons, IsCandidateOf, bestOfSetsIn, bestOfSets}
-use Rattle.candidate.specs.Optimizing.{countsFit}
+use Rattle.product.specs.Best.{Contender, contenderOf, ProfileOrder, bestIn, best}
+use Rattle.product.specs.Sets.{singletons, IsCandidateOf, bestOfSetsIn, bestOfSets}
+use Rattle.product.specs.Optimizing.{countsFit}
 use Rattle.paths.specs.Total.{Upto}
 use Rattle.paths.specs.Costs.{Costs}
 use Rattle.paths.specs.Graph.{pathCost}
@@ -31,7 +31,7 @@ use Rattle.product.specs.BestTheorem.{best-in-is-best-of-all, SmallBest,
 use Rattle.product.specs.Laws.Candidates.{fitting-cost, as-sets, as-word}
 use Rattle.product.specs.Laws.Preference.{keyOf, earlier-beats}
 use Rattle.product.specs.Laws.Accepted.{accepted-machines}
-use Rattle.product.specs.Laws.Best.{best-form}
+use Rattle.product.specs.Laws.Best.{best-contender}
 use Rattle.product.specs.Laws.BestCandidate.{sets-harmonic, harmonic-sets, path-best-of-sets, best-of-sets-path}
 use Rattle.product.specs.Laws.BestOfSets.{are64Bits, singletons-64, fits-length, BestForOne, best-for-one, BestUpto, best-upto}
 use Rattle.product.specs.Laws.Counts.{all-below}
@@ -39,17 +39,17 @@ use Rattle.product.specs.Laws.Counts.{all-below}
 -- ---- in an order on profiles, with a price that agrees with it
 
 module _ {costs : Costs} {price : Price costs} {better : ProfileOrder} (agrees : Agrees price better) (card sets : List ℕ) (ok : cardRefusal card ≡ 0) where
-  pub best-of-sets-form : (b : Form) → bestOfSetsIn better card sets ≡ some b → b ≡ formOf (machinesOf card) (b .candidate)
-  best-of-sets-form b e = let o = best-for-one better card sets b e in best-form agrees card (o .word) ok b (o .is-best)
+  pub best-of-sets-contender : (b : Contender) → bestOfSetsIn better card sets ≡ some b → b ≡ contenderOf (machinesOf card) (b .candidate)
+  best-of-sets-contender b e = let o = best-for-one better card sets b e in best-contender agrees card (o .word) ok b (o .is-best)
 
   -- of at most 24 sets it has at most 3,199 pairs and no count above 47,985
-  pub best-of-sets-is-small : length sets ≤ 24 → (b : Form) → bestOfSetsIn better card sets ≡ some b → SmallBest b
+  pub best-of-sets-is-small : length sets ≤ 24 → (b : Contender) → bestOfSetsIn better card sets ≡ some b → SmallBest b
   best-of-sets-is-small h b e =
       let o = best-for-one better card sets b e in
       best-in-is-small agrees card (o .word) ok (rw (fits-length sets (o .word) (o .fits)) h) b (o .is-best)
 
   module _ (bits : are64Bits sets ≡ true) where
-    best-one : (b : Form) → bestOfSetsIn better card sets ≡ some b → IsBestIn better (machinesOf card) (IsCandidateOf (machinesOf card) sets) (b .candidate)
+    best-one : (b : Contender) → bestOfSetsIn better card sets ≡ some b → IsBestIn better (machinesOf card) (IsCandidateOf (machinesOf card) sets) (b .candidate)
     best-one b e = record { candidate = record { word = o .word; fits = o .fits; is = best-in-is-best-of-all agrees card (o .word) ok .is-best b (o .is-best) .candidate }; rivals = rivals }
       where
         ms : List Machine
@@ -58,31 +58,31 @@ module _ {costs : Costs} {price : Price costs} {better : ProfileOrder} (agrees :
         o : BestForOne better card sets b
         o = best-for-one better card sets b e
 
-        rivals : (d : List Pair) → IsCandidateOf ms sets d → d ≢ b .candidate → BeatsIn better (formOf ms (b .candidate)) (formOf ms d)
+        rivals : (d : List Pair) → IsCandidateOf ms sets d → d ≢ b .candidate → BeatsIn better (contenderOf ms (b .candidate)) (contenderOf ms d)
         rivals d h n = go (l .upto)
           where
             l : BestUpto price better card sets d
             l = best-upto agrees card ok sets bits d h
 
-            same : l .least ≡ formOf ms (b .candidate)
-            same = let z : l .least ≡ b = cc (l .is, e) in z ∙ best-of-sets-form b e
+            same : l .least ≡ contenderOf ms (b .candidate)
+            same = let z : l .least ≡ b = cc (l .is, e) in z ∙ best-of-sets-contender b e
 
-            go : Upto (Before costs pairs) (keyOf price (l .least)) (keyOf price (formOf ms d)) → BeatsIn better (formOf ms (b .candidate)) (formOf ms d)
-            go (inl k) = earlier-beats agrees (formOf ms (b .candidate)) (formOf ms d) (rw same at k)
-            go (inr k) = absurd (n (sym (ap (λ (x : costs .Cost × List Pair). x .1) k) ∙ ap (λ (a : Form). a .candidate) same))
+            go : Upto (Before costs pairs) (keyOf price (l .least)) (keyOf price (contenderOf ms d)) → BeatsIn better (contenderOf ms (b .candidate)) (contenderOf ms d)
+            go (inl k) = earlier-beats agrees (contenderOf ms (b .candidate)) (contenderOf ms d) (rw same at k)
+            go (inr k) = absurd (n (sym (ap (λ (x : costs .Cost × List Pair). x .1) k) ∙ ap (λ (a : Contender). a .candidate) same))
 
     -- the best path of the product over the sets is it, and without a path there is none: how an engine shows that it found it
-    pub best-path-is-best-of-sets : (c : List Pair) → IsBest (pricedGraph price card sets) (cardStart card) c → bestOfSetsIn better card sets ≡ some (formOf (machinesOf card) c)
+    pub best-path-is-best-of-sets : (c : List Pair) → IsBest (pricedGraph price card sets) (cardStart card) c → bestOfSetsIn better card sets ≡ some (contenderOf (machinesOf card) c)
     best-path-is-best-of-sets c a =
         let sound = accepted-machines card ok .sound in
         let l = best-upto agrees card ok sets bits c (path-best-of-sets agrees sound sets c a .candidate) in
         let q = best-unique (pricedGraph price card sets) (cardStart card) (l .least .candidate) c (best-of-sets-path agrees sound sets (l .least .candidate) (best-one (l .least) (l .is))) a in
-        l .is ∙ ap {B = Option Form} some (best-of-sets-form (l .least) (l .is) ∙ ap (formOf (machinesOf card)) q)
+        l .is ∙ ap {B = Option Contender} some (best-of-sets-contender (l .least) (l .is) ∙ ap (contenderOf (machinesOf card)) q)
 
     pub no-path-no-best-of-sets : ((c : List Pair) → pathCost (pricedGraph price card sets) (cardStart card) c ≡ none) → bestOfSetsIn better card sets ≡ none
     no-path-no-best-of-sets f = go (bestOfSetsIn better card sets) refl
       where
-        go : (o : Option Form) → bestOfSetsIn better card sets ≡ o → o ≡ none
+        go : (o : Option Contender) → bestOfSetsIn better card sets ≡ o → o ≡ none
         go none e = refl
         go (some b) e = absurd (Option·none-ne-some _ (sym (f (b .candidate)) ∙ fitting-cost price sets (accepted-machines card ok .sound) (b .candidate) (best-one b e .candidate)))
 
@@ -90,11 +90,11 @@ module _ {costs : Costs} {price : Price costs} {better : ProfileOrder} (agrees :
     best-in-is-best-of-all-words = record {
       none-exactly = (λ e c h. let l = best-upto agrees card ok sets bits c h in Option·none-ne-some (l .least) (sym e ∙ l .is), nothing (bestOfSetsIn better card sets) refl);
       is-best = best-one;
-      its-profile = λ b e. ap (λ (a : Form). a .profile) (best-of-sets-form b e);
+      its-profile = λ b e. ap (λ (a : Contender). a .profile) (best-of-sets-contender b e);
       only-it = λ c a. best-path-is-best-of-sets c (best-of-sets-path agrees (accepted-machines card ok .sound) sets c a);
     }
       where
-        nothing : (o : Option Form) → bestOfSetsIn better card sets ≡ o → ((c : List Pair) → ¬ (IsCandidateOf (machinesOf card) sets c)) → o ≡ none
+        nothing : (o : Option Contender) → bestOfSetsIn better card sets ≡ o → ((c : List Pair) → ¬ (IsCandidateOf (machinesOf card) sets c)) → o ≡ none
         nothing none e f = refl
         nothing (some b) e f = absurd (f (b .candidate) (best-one b e .candidate))
 
@@ -112,12 +112,12 @@ best-in-of-one-word {better = better} agrees card word ok small = go (bestIn bet
     sets : BestOf ms (IsCandidateOf ms (singletons word)) (IsBestIn better ms (IsCandidateOf ms (singletons word))) (bestOfSetsIn better card (singletons word))
     sets = best-in-is-best-of-all-words agrees card (singletons word) ok (singletons-64 word small)
 
-    go : (o : Option Form) → bestIn better card word ≡ o → bestOfSetsIn better card (singletons word) ≡ o
+    go : (o : Option Contender) → bestIn better card word ≡ o → bestOfSetsIn better card (singletons word) ≡ o
     go none e = sets .none-exactly .1 (λ c h. all .none-exactly .0 e c (as-word word c h))
     go (some b) e =
         let a = all .is-best b e in
         sets .only-it (b .candidate) (record { candidate = as-sets word (b .candidate) (a .candidate); rivals = λ d h. a .rivals d (as-word word d h) })
-        ∙ ap {B = Option Form} some (sym (best-form agrees card word ok b e))
+        ∙ ap {B = Option Contender} some (sym (best-contender agrees card word ok b e))
 
 -- ---- under a ranking
 
@@ -141,7 +141,7 @@ pub counts-of-sets-fit : (card ranking sets : List ℕ) → cardRefusal card ≡
 unfolding bestOfSets
 counts-of-sets-fit card r sets ok h = go (bestOfSets card r sets) refl
   where
-    go : (o : Option Form) → bestOfSets card r sets ≡ o → countsFit o ≡ true
+    go : (o : Option Contender) → bestOfSets card r sets ≡ o → countsFit o ≡ true
     go none e = refl
     go (some b) e = all-below (b .profile) 47985 60000 (omega arith) (best-of-sets-is-small (ranking-agrees r) card sets ok h b e .counts)
 

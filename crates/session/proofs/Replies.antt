@@ -8,7 +8,7 @@ use lib.ListN.{length, take, drop, replicate, length-append, length-drop}
 use lib.Seq.{take-append-seam}
 use Rattle.candidate.specs.declared.Evaluation.{Evaluation}
 use Rattle.card.specs.Layout.{machineCount}
-use Rattle.candidate.specs.Optimizing.{optimized, optimizedAnswer}
+use Rattle.product.specs.Optimizing.{optimized, optimizedAnswer}
 use Rattle.lines.specs.declared.Parsed.the-variants as parsed
 use Rattle.lines.specs.Buffers.{atFront}
 use Rattle.lines.specs.Parsing.{Request, answerOf, rankingOf, wordOf}

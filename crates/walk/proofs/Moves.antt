@@ -14,7 +14,6 @@ use Rattle.machine.specs.Symbols.{emptySymbol}
 use Rattle.machine.specs.Machine.{Machine}
 use Rattle.card.specs.Layout.{symbolCount}
 use Rattle.card.specs.Card.{machinesOf}
-use Rattle.card.specs.Accepted.{accepted}
 use Rattle.paths.specs.Ranked.{Ranked, letterCount}
 use Rattle.paths.specs.Graph.{Edge, Within}
 use Rattle.paths.specs.Bounds.{Sized, attained-size, attained-count-size}
@@ -62,10 +61,10 @@ module _ {places card sets xs : List ℕ} {size : ℕ} (K : Labelled places card
   machines = accepted-machines card (K .accepted)
 
   pub small-size : size ≤ 128
-  small-size = omega (arith, K .states, machines .states, machines .few-states)
+  small-size = omega (arith, K .states, machines .few-states)
 
   pub some-state : 0 < size
-  some-state = omega (arith, K .states, machines .states, accepted card (K .accepted) .some-state)
+  some-state = omega (arith, K .states, machines .some-state)
 
   pub few-nodes : (length sets + 1) * size ≤ 3200
   few-nodes = let n : length sets + 1 ≤ 25 = omega (arith, K .few) in mul-le-mul n small-size

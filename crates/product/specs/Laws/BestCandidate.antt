@@ -16,8 +16,8 @@ use Rattle.ranking.specs.Rankings.{isRanking}
 use Rattle.ranking.specs.Harmony.{harmony}
 use Rattle.ranking.specs.HarmonicInequality.{better-worse, equal-means, itself}
 use Rattle.candidate.specs.Candidates.{marksOf, countOf, profileOf, IsCandidate}
-use Rattle.candidate.specs.Sets.{singletons, IsCandidateOf}
-use Rattle.candidate.specs.Best.{formOf, ProfileOrder, isBetter, harmonic}
+use Rattle.product.specs.Sets.{singletons, IsCandidateOf}
+use Rattle.product.specs.Best.{contenderOf, ProfileOrder, isBetter, harmonic}
 use Rattle.paths.specs.Costs.{Costs}
 use Rattle.paths.specs.Graph.{pathCost}
 use Rattle.paths.specs.Best.{Before, IsBest}
@@ -50,18 +50,18 @@ alike-equal r v w e = go (harmony r v w) refl
     go Worse q = absurd (clash (ap isBetter (better-worse r w v .1 q)) (e .1))
 
 module _ (r : List ℕ) (ms : List Machine) (c d : List Pair) where
-  beats-harmonic : Beats r ms c d → BeatsIn (harmonic r) (formOf ms c) (formOf ms d)
+  beats-harmonic : Beats r ms c d → BeatsIn (harmonic r) (contenderOf ms c) (contenderOf ms d)
   beats-harmonic = go
     where
       same : profileOf ms d ≡ profileOf ms c → Alike (harmonic r) (profileOf ms c) (profileOf ms d)
       same e = let q = ap isBetter (itself r (profileOf ms c)) in (rw e q, rw e q)
 
-      go : Beats r ms c d → BeatsIn (harmonic r) (formOf ms c) (formOf ms d)
+      go : Beats r ms c d → BeatsIn (harmonic r) (contenderOf ms c) (contenderOf ms d)
       go (better-profile h) = by-profile (ap isBetter (better-worse r (profileOf ms c) (profileOf ms d) .1 h))
       go (fewer-pairs e h) = by-pairs (same e) h
       go (smaller-bytes e h k) = by-bytes (same e) (sym h) k
 
-  harmonic-beats : isRanking (length ms) r ≡ true → BeatsIn (harmonic r) (formOf ms c) (formOf ms d) → Beats r ms c d
+  harmonic-beats : isRanking (length ms) r ≡ true → BeatsIn (harmonic r) (contenderOf ms c) (contenderOf ms d) → Beats r ms c d
   harmonic-beats is = go
     where
       same : Alike (harmonic r) (profileOf ms c) (profileOf ms d) → profileOf ms d ≡ profileOf ms c
@@ -69,7 +69,7 @@ module _ (r : List ℕ) (ms : List Machine) (c d : List Pair) where
           let agree = equal-means (length ms) r is (profileOf ms c) (profileOf ms d) .0 (alike-equal r (profileOf ms c) (profileOf ms d) e) in
           ext-getD 0 (profileOf ms d) (profileOf ms c) (profile-length ms d ∙ sym (profile-length ms c)) (λ i k. sym (agree i (rw profile-length at k)))
 
-      go : BeatsIn (harmonic r) (formOf ms c) (formOf ms d) → Beats r ms c d
+      go : BeatsIn (harmonic r) (contenderOf ms c) (contenderOf ms d) → Beats r ms c d
       go (by-profile e) = better-profile (better-worse r (profileOf ms c) (profileOf ms d) .0 (better-is (harmony r (profileOf ms c) (profileOf ms d)) e))
       go (by-pairs e h) = fewer-pairs (same e) h
       go (by-bytes e h k) = smaller-bytes (same e) (sym h) k
@@ -99,9 +99,9 @@ module _ {costs : Costs} {price : Price costs} {better : ProfileOrder} (agrees :
         k : CostOfFitting price sets sound c (a .cost)
         k = cost-fitting price sets sound c (a .cost) (a .is)
 
-        rivals : (d : List Pair) → IsCandidateOf ms sets d → d ≢ c → BeatsIn better (formOf ms c) (formOf ms d)
+        rivals : (d : List Pair) → IsCandidateOf ms sets d → d ≢ c → BeatsIn better (contenderOf ms c) (contenderOf ms d)
         rivals d h n =
-            earlier-beats agrees (formOf ms c) (formOf ms d) (rw (k .cost) at (a .first d (price .of (profileOf ms d) (length d)) n (fitting-cost price sets sound d h)))
+            earlier-beats agrees (contenderOf ms c) (contenderOf ms d) (rw (k .cost) at (a .first d (price .of (profileOf ms d) (length d)) n (fitting-cost price sets sound d h)))
 
     pub best-of-sets-path : (c : List Pair) → IsBestIn better ms (IsCandidateOf ms sets) c → IsBest (productGraph price sets ms) (startNode ms) c
     best-of-sets-path c a = record { cost = price .of (profileOf ms c) (length c); is = fitting-cost price sets sound c (a .candidate); first = first }
@@ -110,7 +110,7 @@ module _ {costs : Costs} {price : Price costs} {better : ProfileOrder} (agrees :
             → Before costs pairs (price .of (profileOf ms c) (length c), c) (x, d)
         first d x n h =
             let k = cost-fitting price sets sound d x h in
-            rw (k .cost) (beats-earlier agrees (formOf ms c) (formOf ms d) (a .rivals d (k .is) n))
+            rw (k .cost) (beats-earlier agrees (contenderOf ms c) (contenderOf ms d) (a .rivals d (k .is) n))
 
   -- for a word
   module _ (word : List ℕ) where

@@ -20,8 +20,8 @@ use Rattle.basics.proofs.Sets.{member-beyond}
 use Rattle.machine.specs.declared.Pair.{Pair}
 use Rattle.card.specs.Card.{machinesOf, cardRefusal}
 use Rattle.candidate.specs.Candidates.{IsCandidate}
-use Rattle.candidate.specs.Best.{Form, formOf, ProfileOrder, leastOf, bestIn}
-use Rattle.candidate.specs.Sets.{fitsSets, singletons, IsCandidateOf, wordsFrom, found, bestOfSetsIn}
+use Rattle.product.specs.Best.{Contender, contenderOf, ProfileOrder, leastOf, bestIn}
+use Rattle.product.specs.Sets.{fitsSets, singletons, IsCandidateOf, wordsFrom, found, bestOfSetsIn}
 use Rattle.paths.specs.Total.{Upto, upto-trans, not-less-upto, asym, less-not-same}
 use Rattle.paths.specs.Costs.{Costs}
 use Rattle.paths.specs.Best.{Before, before-total}
@@ -30,7 +30,7 @@ use Rattle.product.specs.ProductGraph.{pairs}
 use Rattle.product.specs.BestTheorem.{best-in-is-best-of-all}
 use Rattle.product.specs.Laws.Preference.{keyOf, Earlier, beats-earlier}
 use Rattle.product.specs.Laws.Listing.{map-member, member-map, least-member, LeastUpto, least-upto}
-use Rattle.product.specs.Laws.Best.{best-form}
+use Rattle.product.specs.Laws.Best.{best-contender}
 
 -- ---- the words
 
@@ -82,50 +82,50 @@ fits-listed (set ∷ sets) (x ∷ word) b t =
 
 module _ (better : ProfileOrder) (card sets : List ℕ) where
   -- what the definition finds is the best for one of the words
-  pub record BestForOne (b : Form) : Type 0 where
+  pub record BestForOne (b : Contender) : Type 0 where
     pub word : List ℕ
     pub fits : fitsSets sets word ≡ true
     pub is-best : bestIn better card word ≡ some b
 
-  forms : List Form
+  forms : List Contender
   forms = joined (λ word. found (bestIn better card word)) (wordsFrom sets)
 
-  pub best-for-one : (b : Form) → bestOfSetsIn better card sets ≡ some b → BestForOne b
+  pub best-for-one : (b : Contender) → bestOfSetsIn better card sets ≡ some b → BestForOne b
   unfolding bestOfSetsIn forms
   best-for-one b e =
       let j = joined-member (λ word. found (bestIn better card word)) (wordsFrom sets) (least-member better forms b e) in
       record { word = j .0; fits = words-fit sets (j .0) (j .1); is-best = there (bestIn better card (j .0)) (j .2) }
     where
-      there : (o : Option Form) → List·Memᴰ b (found o) → o ≡ some b
+      there : (o : Option Contender) → List·Memᴰ b (found o) → o ≡ some b
       there none m = absurd (List·Memᴰ·not-nil m)
-      there (some a) m = ap {B = Option Form} some (sym (List·Memᴰ·eq-of-singleton m))
+      there (some a) m = ap {B = Option Contender} some (sym (List·Memᴰ·eq-of-singleton m))
 
 -- it finds something, and the candidate d does not come before it
 pub record BestUpto {costs : Costs} (price : Price costs) (better : ProfileOrder) (card sets : List ℕ) (d : List Pair) : Type 0 where
-  pub least : Form
+  pub least : Contender
   pub is : bestOfSetsIn better card sets ≡ some least
-  pub upto : Upto (Before costs pairs) (keyOf price least) (keyOf price (formOf (machinesOf card) d))
+  pub upto : Upto (Before costs pairs) (keyOf price least) (keyOf price (contenderOf (machinesOf card) d))
 
 module _ {costs : Costs} {price : Price costs} {better : ProfileOrder} (agrees : Agrees price better) (card : List ℕ) (ok : cardRefusal card ≡ 0) where
   -- no candidate for a word comes before its best one
-  upto-candidate : (word : List ℕ) (d : List Pair) → IsCandidate (machinesOf card) word d → (b : Form) → bestIn better card word ≡ some b
-      → Upto (Before costs pairs) (keyOf price b) (keyOf price (formOf (machinesOf card) d))
-  upto-candidate word d h b e = not-less-upto (before-total costs pairs) (keyOf price b) (keyOf price (formOf (machinesOf card) d)) later
+  upto-candidate : (word : List ℕ) (d : List Pair) → IsCandidate (machinesOf card) word d → (b : Contender) → bestIn better card word ≡ some b
+      → Upto (Before costs pairs) (keyOf price b) (keyOf price (contenderOf (machinesOf card) d))
+  upto-candidate word d h b e = not-less-upto (before-total costs pairs) (keyOf price b) (keyOf price (contenderOf (machinesOf card) d)) later
     where
-      form : b ≡ formOf (machinesOf card) (b .candidate)
-      form = best-form agrees card word ok b e
+      form : b ≡ contenderOf (machinesOf card) (b .candidate)
+      form = best-contender agrees card word ok b e
 
-      later : ¬ (Earlier price (formOf (machinesOf card) d) b)
+      later : ¬ (Earlier price (contenderOf (machinesOf card) d) b)
       later k =
-          let n : d ≡ b .candidate → ⊥ = λ q. less-not-same (before-total costs pairs) k (ap (λ c. keyOf price (formOf (machinesOf card) c)) q ∙ ap (keyOf price) (sym form)) in
+          let n : d ≡ b .candidate → ⊥ = λ q. less-not-same (before-total costs pairs) k (ap (λ c. keyOf price (contenderOf (machinesOf card) c)) q ∙ ap (keyOf price) (sym form)) in
           let p = best-in-is-best-of-all agrees card word ok .is-best b e .rivals d h n in
-          asym (before-total costs pairs) (keyOf price (formOf (machinesOf card) d)) (keyOf price b) k (beats-earlier agrees b (formOf (machinesOf card) d) (rw (← form) at p))
+          asym (before-total costs pairs) (keyOf price (contenderOf (machinesOf card) d)) (keyOf price b) k (beats-earlier agrees b (contenderOf (machinesOf card) d) (rw (← form) at p))
 
   pub best-upto : (sets : List ℕ) → are64Bits sets ≡ true → (d : List Pair) → IsCandidateOf (machinesOf card) sets d → BestUpto price better card sets d
   unfolding bestOfSetsIn forms
   best-upto sets w d h = go (bestIn better card (h .word)) refl
     where
-      go : (o : Option Form) → bestIn better card (h .word) ≡ o → BestUpto price better card sets d
+      go : (o : Option Contender) → bestIn better card (h .word) ≡ o → BestUpto price better card sets d
       go none e = absurd (best-in-is-best-of-all agrees card (h .word) ok .none-exactly .0 e d (h .is))
       go (some a) e =
           let m : List·Memᴰ a (forms better card sets) = member-joined (λ word. found (bestIn better card word)) (fits-listed sets (h .word) w (h .fits)) (rw e (List·Memᴰ·head refl)) in

@@ -1,23 +1,22 @@
 -- The graph of an accepted card, as the theory of paths and an engine ask for it.
-use mathlib.Core.Path.{_≡_, ap}
+use mathlib.Core.Path.{_≡_}
 use mathlib.Core.Bool.{true}
 use mathlib.Core.List.{List}
 use mathlib.Core.Option.{some}
-use Prim.Native.Nat.{ℕ, _+_, _*_, _<_, _≤_}
+use Prim.Native.Nat.{ℕ, _<_, _≤_}
 use native.Mathlib.Omega.{arith}
 use lib.ListN.{length}
 use Rattle.machine.specs.declared.Pair.{Pair}
 use Rattle.machine.specs.Symbols.{withinSymbols}
 use Rattle.card.specs.Layout.{symbolCount}
 use Rattle.card.specs.Card.{machinesOf, cardRefusal}
-use Rattle.candidate.specs.Best.{nodeCount}
-use Rattle.candidate.specs.Sets.{singletons}
+use Rattle.product.specs.Sets.{singletons}
 use Rattle.paths.specs.Costs.{Costs}
 use Rattle.paths.specs.Ranked.{Ranked, letterCount, countAt}
 use Rattle.paths.specs.Graph.{Edge, Within}
 use Rattle.paths.specs.Bounds.{Sized, BoundedCount}
 use Rattle.paths.specs.Positions.{Positioned}
-use Rattle.product.specs.Nodes.{stateCounts, product, positionAt}
+use Rattle.product.specs.Nodes.{stateCounts, nodeCount, positionAt}
 use Rattle.product.specs.Prices.{Price}
 use Rattle.product.specs.ProductGraph.{pricedGraph, setGraph, cardStart}
 use Rattle.product.specs.Laws.Sets.{as-many}
@@ -31,17 +30,14 @@ pub some-machine : (card : List ℕ) → cardRefusal card ≡ 0 → 1 ≤ length
 some-machine card ok = let a = accepted-machines card ok in omega (arith, a .count, a .some-machine)
 
 module _ (card sets : List ℕ) (ok : cardRefusal card ≡ 0) where
-  -- it has (n + 1) × P nodes, and the start node is one of them
-  pub card-nodes : (length sets + 1) * product (stateCounts (machinesOf card)) ≡ nodeCount card sets
-  card-nodes = ap (λ P. (length sets + 1) * P) (accepted-machines card ok .states)
-
-  pub start-within : cardStart card < nodeCount card sets
-  start-within = rw (← card-nodes) (node-below (stateCounts (machinesOf card)) 0 (starts (machinesOf card)) (starts-below (accepted-machines card ok .sound)) (length sets) (omega arith))
+  -- the start node is one of its (n + 1) × P nodes
+  pub start-within : cardStart card < nodeCount (machinesOf card) (length sets)
+  start-within = node-below (stateCounts (machinesOf card)) 0 (starts (machinesOf card)) (starts-below (accepted-machines card ok .sound)) (length sets) (omega arith)
 
   -- at any price: edges lead to its nodes, at the same position or at the next one, by pairs of the card's symbols
   module _ {costs : Costs} (price : Price costs) where
-    pub priced-within : Within (pricedGraph price card sets) (nodeCount card sets)
-    priced-within = rw (← card-nodes) (product-within price sets (machinesOf card) (accepted-machines card ok .sound))
+    pub priced-within : Within (pricedGraph price card sets) (nodeCount (machinesOf card) (length sets))
+    priced-within = product-within price sets (machinesOf card) (accepted-machines card ok .sound)
 
     pub priced-positioned : Positioned (pricedGraph price card sets) (positionAt (stateCounts (machinesOf card))) (length sets)
     priced-positioned = product-positioned price sets (machinesOf card) (accepted-machines card ok .sound)
@@ -60,5 +56,5 @@ module _ (card r sets : List ℕ) (ok : cardRefusal card ≡ 0) where
   set-counts i = product-counts r sets (machinesOf card) (accepted-machines card ok .sound) i
 
 -- a word has as many symbols as it has sets
-pub word-within : (card word : List ℕ) → cardRefusal card ≡ 0 → {costs : Costs} (price : Price costs) → Within (pricedGraph price card (singletons word)) (nodeCount card word)
+pub word-within : (card word : List ℕ) → cardRefusal card ≡ 0 → {costs : Costs} (price : Price costs) → Within (pricedGraph price card (singletons word)) (nodeCount (machinesOf card) (length word))
 word-within card word ok price = rw (as-many word) at (priced-within card (singletons word) ok price)

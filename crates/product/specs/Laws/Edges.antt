@@ -80,15 +80,15 @@ moved sets ms u p m h = pair (isPair p) refl
     pair false t = let z : _≡_ {A = Option Move} none (some m) = rw (t, move) at h in absurd (Option·none-ne-some m z)
 
 -- an ending is past the last set
-pub record Ended (sets : List ℕ) (ms : List Machine) (u : ℕ) (xs : List ℕ) : Type 0 where
+pub record WordEnded (sets : List ℕ) (ms : List Machine) (u : ℕ) (xs : List ℕ) : Type 0 where
   pub at-end : positionAt (stateCounts ms) u ≡ length sets
   pub ends : jointEnding ms (statesAt (stateCounts ms) u) ≡ some xs
 
-pub ended : (sets : List ℕ) (ms : List Machine) (u : ℕ) (xs : List ℕ) → ending sets ms u ≡ some xs → Ended sets ms u xs
+pub word-ended : (sets : List ℕ) (ms : List Machine) (u : ℕ) (xs : List ℕ) → ending sets ms u ≡ some xs → WordEnded sets ms u xs
 unfolding ending
-ended sets ms u xs h = go (eqb (positionAt (stateCounts ms) u) (length sets)) refl
+word-ended sets ms u xs h = go (eqb (positionAt (stateCounts ms) u) (length sets)) refl
   where
-    go : (t : Bool) → eqb (positionAt (stateCounts ms) u) (length sets) ≡ t → Ended sets ms u xs
+    go : (t : Bool) → eqb (positionAt (stateCounts ms) u) (length sets) ≡ t → WordEnded sets ms u xs
     go true t = record { at-end = eqb-true (positionAt (stateCounts ms) u) (length sets) t; ends = rw (t, ending) at h }
     go false t = let z : _≡_ {A = Option (List ℕ)} none (some xs) = rw (t, ending) at h in absurd (Option·none-ne-some xs z)
 
@@ -142,14 +142,7 @@ module _ {costs : Costs} (price : Price costs) (sets : List ℕ) (ms : List Mach
     pub product-within : Within (productGraph price sets ms) ((length sets + 1) * product (stateCounts ms))
     product-within u p e h = let k = edge-of u p e h in rw (k .target-is) (move-within u p (k .by) (k .is))
 
-    -- a move stays at its position if it is an insertion, and leads to the next one if not
-    pub insertion-stays : (u : ℕ) (p : Pair) (m : Move) → move sets ms u p ≡ some m → p .input ≡ emptySymbol → positionAt (stateCounts ms) (m .target) ≡ positionAt (stateCounts ms) u
-    insertion-stays u p m h z = let k = moved sets ms u p m h in move-position u p m k ∙ go (advanced sets (positionAt (stateCounts ms) u) p (k .position) (k .advances))
-      where
-        go : {j : ℕ} → Advanced sets (positionAt (stateCounts ms) u) p j → j ≡ positionAt (stateCounts ms) u
-        go (stays e q h) = q
-        go (goes-on e q h k) = absurd (e z)
-
+    -- a pair that is no insertion leads to the next position
     pub symbol-moves-on : (u : ℕ) (p : Pair) (m : Move) → move sets ms u p ≡ some m → (p .input ≡ emptySymbol → ⊥) → positionAt (stateCounts ms) (m .target) ≡ positionAt (stateCounts ms) u + 1
     symbol-moves-on u p m h z = let k = moved sets ms u p m h in move-position u p m k ∙ go (advanced sets (positionAt (stateCounts ms) u) p (k .position) (k .advances))
       where
@@ -158,7 +151,7 @@ module _ {costs : Costs} (price : Price costs) (sets : List ℕ) (ms : List Mach
         go (goes-on e q h k) = q
 
     pub product-positioned : Positioned (productGraph price sets ms) (positionAt (stateCounts ms)) (length sets)
-    product-positioned = record { next = next; ends = λ u c h. let k = ending-of u c h in ended sets ms u (k .marks) (k .is) .at-end }
+    product-positioned = record { next = next; ends = λ u c h. let k = ending-of u c h in word-ended sets ms u (k .marks) (k .is) .at-end }
       where
         go : (u : ℕ) (p : Pair) (j : ℕ) → Advanced sets (positionAt (stateCounts ms) u) p j → (j ≡ positionAt (stateCounts ms) u) ⊎ (j ≡ suc (positionAt (stateCounts ms) u))
         go u p j (stays e q h) = inl q
@@ -233,5 +226,5 @@ module _ (r sets : List ℕ) (ms : List Machine) where
       ends : (u : ℕ) (c : Ranked (length r)) → productGraph (byRanking r) sets ms .ending u ≡ some c → countAt (length r) i c ≤ 15
       ends u c h =
           let k = ending-of (byRanking r) sets ms u c h in
-          let l = ended sets ms u (k .marks) (k .is) in
+          let l = word-ended sets ms u (k .marks) (k .is) in
           rw (k .cost-is) (ranked-upto r (k .marks) 0 15 (ending-marks-bound sound (statesAt (stateCounts ms) u) (k .marks) (l .ends)) i)

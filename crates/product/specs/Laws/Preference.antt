@@ -15,7 +15,7 @@ use Rattle.ranking.specs.Profiles.{merge}
 use Rattle.ranking.specs.ByteStrings.{smaller}
 use Rattle.ranking.specs.Lemmas.Harmony.{Standing, fewer, same, more, standing}
 use Rattle.candidate.specs.Candidates.{bytesOf}
-use Rattle.candidate.specs.Best.{Form, shorter, ProfileOrder, preferred}
+use Rattle.product.specs.Best.{Contender, winsTie, ProfileOrder, preferred}
 use Rattle.paths.specs.Total.{Lex, asym, less-not-same}
 use Rattle.paths.specs.Strings.{string, lex-string}
 use Rattle.paths.specs.Costs.{Costs}
@@ -76,27 +76,27 @@ before-bytes c d e h =
 
 -- ---- being preferred, case by case
 
-abbrev Shorter : List Pair → List Pair → Type 0
-Shorter c d = (length c < length d) ⊎ ((length c ≡ length d) × (smaller (bytesOf c) (bytesOf d) ≡ true))
+abbrev WinsTie : List Pair → List Pair → Type 0
+WinsTie c d = (length c < length d) ⊎ ((length c ≡ length d) × (smaller (bytesOf c) (bytesOf d) ≡ true))
 
-shorter-cases : (c d : List Pair) → shorter c d ≡ true → Shorter c d
-unfolding shorter
-shorter-cases c d h = go (either (ltb (length c) (length d)) (eqb (length c) (length d) && smaller (bytesOf c) (bytesOf d)) h)
+tie-cases : (c d : List Pair) → winsTie c d ≡ true → WinsTie c d
+unfolding winsTie
+tie-cases c d h = go (either (ltb (length c) (length d)) (eqb (length c) (length d) && smaller (bytesOf c) (bytesOf d)) h)
   where
-    go : (ltb (length c) (length d) ≡ true) ⊎ ((eqb (length c) (length d) && smaller (bytesOf c) (bytesOf d)) ≡ true) → Shorter c d
+    go : (ltb (length c) (length d) ≡ true) ⊎ ((eqb (length c) (length d) && smaller (bytesOf c) (bytesOf d)) ≡ true) → WinsTie c d
     go (inl k) = inl (ltb-true (length c) (length d) k)
     go (inr k) = inr (eqb-true (length c) (length d) (left (eqb (length c) (length d)) (smaller (bytesOf c) (bytesOf d)) k), right (eqb (length c) (length d)) (smaller (bytesOf c) (bytesOf d)) k)
 
-cases-shorter : (c d : List Pair) → Shorter c d → shorter c d ≡ true
-unfolding shorter
-cases-shorter c d (inl k) = or-left (eqb (length c) (length d) && smaller (bytesOf c) (bytesOf d)) (lt-ltb (length c) (length d) k)
-cases-shorter c d (inr k) = or-right (ltb (length c) (length d)) (both (eq-eqb (length c) (length d) (k .0)) (k .1))
+cases-tie : (c d : List Pair) → WinsTie c d → winsTie c d ≡ true
+unfolding winsTie
+cases-tie c d (inl k) = or-left (eqb (length c) (length d) && smaller (bytesOf c) (bytesOf d)) (lt-ltb (length c) (length d) k)
+cases-tie c d (inr k) = or-right (ltb (length c) (length d)) (both (eq-eqb (length c) (length d) (k .0)) (k .1))
 
 not-true : (a : Bool) → not a ≡ true → a ≡ false
 not-true true e = absurd (false≢true e)
 not-true false e = refl
 
-module _ {better : ProfileOrder} (a b : Form) where
+module _ {better : ProfileOrder} (a b : Contender) where
   pub preferred-beats : preferred better a b ≡ true → BeatsIn better a b
   unfolding preferred
   preferred-beats h = go (decided here) (either here (not there && next) h)
@@ -108,26 +108,26 @@ module _ {better : ProfileOrder} (a b : Form) where
       there = better (b .profile) (a .profile)
 
       next : Bool
-      next = shorter (a .candidate) (b .candidate)
+      next = winsTie (a .candidate) (b .candidate)
 
-      by-shorter : Alike better (a .profile) (b .profile) → Shorter (a .candidate) (b .candidate) → BeatsIn better a b
-      by-shorter e (inl k) = by-pairs e k
-      by-shorter e (inr k) = by-bytes e (k .0) (k .1)
+      by-tie : Alike better (a .profile) (b .profile) → WinsTie (a .candidate) (b .candidate) → BeatsIn better a b
+      by-tie e (inl k) = by-pairs e k
+      by-tie e (inr k) = by-bytes e (k .0) (k .1)
 
       go : (here ≡ true) ⊎ (here ≡ false) → (here ≡ true) ⊎ ((not there && next) ≡ true) → BeatsIn better a b
       go (inl e) k = by-profile e
       go (inr e) (inl k) = absurd (clash k e)
-      go (inr e) (inr k) = by-shorter (e, not-true there (left (not there) next k)) (shorter-cases (a .candidate) (b .candidate) (right (not there) next k))
+      go (inr e) (inr k) = by-tie (e, not-true there (left (not there) next k)) (tie-cases (a .candidate) (b .candidate) (right (not there) next k))
 
   pub beats-preferred : BeatsIn better a b → preferred better a b ≡ true
   unfolding preferred
   beats-preferred = go
     where
-      alike : Alike better (a .profile) (b .profile) → Shorter (a .candidate) (b .candidate) → preferred better a b ≡ true
-      alike e k = or-right (better (a .profile) (b .profile)) (both (ap not (e .1)) (cases-shorter (a .candidate) (b .candidate) k))
+      alike : Alike better (a .profile) (b .profile) → WinsTie (a .candidate) (b .candidate) → preferred better a b ≡ true
+      alike e k = or-right (better (a .profile) (b .profile)) (both (ap not (e .1)) (cases-tie (a .candidate) (b .candidate) k))
 
       go : BeatsIn better a b → preferred better a b ≡ true
-      go (by-profile e) = or-left (not (better (b .profile) (a .profile)) && shorter (a .candidate) (b .candidate)) e
+      go (by-profile e) = or-left (not (better (b .profile) (a .profile)) && winsTie (a .candidate) (b .candidate)) e
       go (by-pairs e k) = alike e (inl k)
       go (by-bytes e k s) = alike e (inr (k, s))
 
@@ -135,10 +135,10 @@ module _ {better : ProfileOrder} (a b : Form) where
 
 module _ {costs : Costs} (price : Price costs) where
   -- the cost, and the letters
-  abbrev pub keyOf : Form → costs .Cost × List Pair
+  abbrev pub keyOf : Contender → costs .Cost × List Pair
   keyOf a = (price .of (a .profile) (length (a .candidate)), a .candidate)
 
-  abbrev pub Earlier : Form → Form → Type 0
+  abbrev pub Earlier : Contender → Contender → Type 0
   Earlier a b = Before costs pairs (keyOf a) (keyOf b)
 
   -- of one profile, fewer pairs cost less
@@ -158,7 +158,7 @@ module _ {costs : Costs} (price : Price costs) where
       go (same k) rec = rw k (one-pair-more xs m)
       go (more k) rec = absurd (omega arith)
 
-module _ {costs : Costs} {price : Price costs} {better : ProfileOrder} (agrees : Agrees price better) (a b : Form) where
+module _ {costs : Costs} {price : Price costs} {better : ProfileOrder} (agrees : Agrees price better) (a b : Contender) where
   -- profiles of which neither is better, with as many pairs, cost the same
   same-cost : Alike better (a .profile) (b .profile) → length (a .candidate) ≡ length (b .candidate) → keyOf price a .0 ≡ keyOf price b .0
   same-cost e k = agrees .alike (a .profile) (b .profile) (length (a .candidate)) e ∙ ap (price .of (b .profile)) k

@@ -13,8 +13,8 @@ use Rattle.basics.proofs.Bools.{clash}
 use Rattle.basics.proofs.Search.{left-next, left-none}
 use Rattle.basics.proofs.Sets.{no-member, member-one}
 use Rattle.machine.specs.Symbols.{emptySymbol}
-use Rattle.candidate.specs.Best.{sameWord}
-use Rattle.candidate.specs.Sets.{fitsSets, singletons}
+use Rattle.product.specs.Best.{sameWord}
+use Rattle.product.specs.Sets.{fitsSets, singletons}
 
 -- a symbol of the set at a position: there is a set
 past : (sets : List ℕ) (i : ℕ) → length sets ≤ i → getD sets i 0 ≡ 0

@@ -21,10 +21,10 @@ module _ {card sets : List ℕ} {P : ℕ} (s : Setting card sets P) where
   symbols-few = accepted card (s .accepted) .head .counts .symbols
 
   pub some-code : 0 < P
-  some-code = omega (arith, s .states, accepted-machines card (s .accepted) .states, accepted card (s .accepted) .some-state)
+  some-code = omega (arith, s .states, accepted-machines card (s .accepted) .some-state)
 
   pub few-codes : P ≤ 128
-  few-codes = omega (arith, s .states, accepted-machines card (s .accepted) .states, accepted-machines card (s .accepted) .few-states)
+  few-codes = omega (arith, s .states, accepted-machines card (s .accepted) .few-states)
 
   pub few-nodes : (length sets + 1) * P ≤ 3200
   few-nodes = let n : length sets + 1 ≤ 25 = omega (arith, s .few) in mul-le-mul n few-codes

@@ -38,7 +38,7 @@ module _ (card : List ℕ) (ok : cardRefusal card ≡ 0) where
         machines = omega (arith, b .count, a .head .counts);
         sound = b .sound;
         states = λ m. few-states m (decLt m (machineCount card));
-        joint-states = omega (arith, b .states, b .few-states);
+        joint-states = b .few-states;
         symbols = omega (arith, a .head .counts);
       }
 

@@ -1,19 +1,20 @@
 -- What the optimizer answers: the whole result, and the answer slice at exit.
-use mathlib.Core.Bool.{Bool, true, false, _&&_}
+use mathlib.Core.Bool.{Bool, true, _&&_}
 use mathlib.Core.List.{List, [], _∷_, _++_}
 use mathlib.Core.Option.{Option, some, none}
 use Prim.Native.Nat.{ℕ, _*_}
 use lib.ListN.{length, drop}
-use lib.Dec.{leb, ltb}
+use lib.Dec.{leb}
 use Rattle.basics.specs.Search.{allOf}
 use Rattle.basics.specs.Refusals.{refuse, firstOf, unlessRefused}
 use Rattle.ranking.specs.Rankings.{isRanking}
 use Rattle.card.specs.Layout.{machineCount, symbolCount}
-use Rattle.card.specs.Card.{cardRefusal}
+use Rattle.card.specs.Card.{cardRefusal, machinesOf}
 use Rattle.candidate.specs.declared.Evaluation.{Evaluation}
 use Rattle.candidate.specs.Candidates.{bytesOf, isSome}
 use Rattle.candidate.specs.Evaluating.{profileWith, refused}
-use Rattle.candidate.specs.Best.{Form, nodeCount, best}
+use Rattle.product.specs.Nodes.{nodeCount}
+use Rattle.product.specs.Best.{Contender, best}
 
 -- a word: 1 to 24 symbols, each of 1 to S
 unfoldable pub soundWord : ℕ → List ℕ → Bool
@@ -26,16 +27,16 @@ inputRefusal card ranking word room =
     (cardRefusal card
     ∷ refuse 7 (isRanking (machineCount card) ranking)
     ∷ refuse 8 (soundWord (symbolCount card) word)
-    ∷ refuse 9 (leb (8 * nodeCount card word) room)
+    ∷ refuse 9 (leb (8 * nodeCount (machinesOf card) (length word)) room)
     ∷ [])
 
 -- no count over 60,000
-abbrev pub countsFit : Option Form → Bool
+abbrev pub countsFit : Option Contender → Bool
 countsFit none = true
 countsFit (some b) = allOf (λ n. leb n 60000) (b .profile)
 
 -- the best does not outgrow an answer slice of so many bytes
-abbrev pub answerFits : Option Form → ℕ → Bool
+abbrev pub answerFits : Option Contender → ℕ → Bool
 answerFits none room = true
 answerFits (some b) room = leb (2 * length (b .candidate)) room
 
@@ -49,11 +50,11 @@ optimizerRefusal card ranking word workRoom answerRoom =
     ∷ refuse 12 (answerFits (best card ranking word) answerRoom)
     ∷ [])
 
-abbrev pub evaluationOf : Option Form → List ℕ → Evaluation
+abbrev pub evaluationOf : Option Contender → List ℕ → Evaluation
 evaluationOf none word = refused 10
 evaluationOf (some b) word = record { number = 0; profile = profileWith (b .profile); pairs = length (b .candidate); «word_length» = length word }
 
-abbrev pub filled : Option Form → List ℕ → List ℕ
+abbrev pub filled : Option Contender → List ℕ → List ℕ
 filled none answer = answer
 filled (some b) answer = bytesOf (b .candidate) ++ drop (2 * length (b .candidate)) answer
 

@@ -8,8 +8,8 @@ use Rattle.basics.specs.Search.{those, joined, numbersBelow}
 use Rattle.basics.specs.Sets.{member}
 use Rattle.machine.specs.declared.Pair.{Pair}
 use Rattle.machine.specs.Machine.{Machine}
 use Rattle.candidate.specs.Candidates.{IsCandidate}
-use Rattle.candidate.specs.Best.{Form, ProfileOrder, leastOf, bestIn, harmonic}
+use Rattle.product.specs.Best.{Contender, ProfileOrder, leastOf, bestIn, harmonic}
 
 -- the word has one symbol from each set
 unfoldable pub fitsSets : List ℕ → List ℕ → Bool
@@ -34,14 +34,14 @@ wordsFrom [] = [] ∷ []
 wordsFrom (set ∷ sets) = joined (λ x. map (λ word. x ∷ word) (wordsFrom sets)) (those (member set) (numbersBelow 64))
 
 -- what is there, as a list
-abbrev pub found : Option Form → List Form
+abbrev pub found : Option Contender → List Contender
 found none = []
 found (some b) = b ∷ []
 
 -- the best candidate over all words with one symbol from each set: the least of their best ones in the order of preference
-unfoldable pub bestOfSetsIn : ProfileOrder → List ℕ → List ℕ → Option Form
+unfoldable pub bestOfSetsIn : ProfileOrder → List ℕ → List ℕ → Option Contender
 bestOfSetsIn better card sets = leastOf better (joined (λ word. found (bestIn better card word)) (wordsFrom sets))
 
 -- under a ranking
-unfoldable pub bestOfSets : List ℕ → List ℕ → List ℕ → Option Form
+unfoldable pub bestOfSets : List ℕ → List ℕ → List ℕ → Option Contender
 bestOfSets card ranking sets = bestOfSetsIn (harmonic ranking) card sets
