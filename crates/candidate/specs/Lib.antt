@@ -1,4 +1,5 @@
 pub mod Refusals
 pub mod Candidates
+pub mod ProfileMerge
 pub mod Evaluating
 pub mod Scoring

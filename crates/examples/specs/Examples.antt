@@ -12,7 +12,7 @@ use Rattle.card.specs.Card.{cardRefusal, partsRefusal, machinesOf}
 use Rattle.ranking.specs.Rankings.{isRanking, arrangements}
 use Rattle.ranking.specs.Harmony.{harmony}
 use Rattle.ranking.specs.Conditions.{conditionOf, highest, fits}
-use Rattle.ranking.specs.Finder.{conditionsOf, apart, soundCondition, soundList, smallest, finding}
+use Rattle.ranking.specs.Finder.{conditionsOf, disjoint, soundCondition, soundList, smallest, finding}
 use Rattle.candidate.specs.declared.Evaluation.{Evaluation}
 use Rattle.candidate.specs.Candidates.{pairsOf, bytesOf, spelled, marksFrom, isComplete, profileOf}
 use Rattle.candidate.specs.Evaluating.{refused, soundCandidate, evaluating}
@@ -53,7 +53,7 @@ pub record TenExamples : Type 0 where
   pub ten : finding 3 (4 ∷ 1 ∷ []) ≡ record { number = 0; ranking = 1 ∷ 2 ∷ 0 ∷ 0 ∷ 0 ∷ 0 ∷ [] }
 
 pub the-ten-examples : TenExamples
-unfolding allOf pairwise those firstThat joined everyBelow someBelow numbersBelow occurrences setOf takes stepAmong endingOf takeOnePair clash arcAt arcsAt machineOf soundArc shaped partRefusal counted dueOffset laidOut partsOf cardRefusal partsRefusal stateProduct machinesOf isRanking arrangements harmony highest fits conditionsOf apart soundCondition soundList smallest finding pairsOf bytesOf spelled marksFrom isComplete profileOf soundCandidate evaluating smaller winsTie preferred sameWord pairsOver listsBelow contendersAmong leastOf bestBelow bestIn best soundWord inputRefusal optimizerRefusal optimized optimizedAnswer
+unfolding allOf pairwise those firstThat joined everyBelow someBelow numbersBelow occurrences setOf takes stepAmong endingOf takeOnePair clash arcAt arcsAt machineOf soundArc shaped partRefusal counted dueOffset laidOut partsOf cardRefusal partsRefusal product machinesOf isRanking arrangements harmony highest fits conditionsOf disjoint soundCondition soundList smallest finding pairsOf bytesOf spelled marksFrom isComplete profileOf soundCandidate evaluating smaller winsTie preferred sameWord pairsOver listsBelow contendersAmong leastOf bestBelow bestOf bestIn best soundWord inputRefusal optimizerRefusal optimized optimizedAnswer
 the-ten-examples = record {
   one = (refl, refl);
   two = (refl, refl);

@@ -1,5 +1,5 @@
 -- A word as sets of one symbol each: filling them, and what the search for them says of the word. Assumes nothing.
-use mathlib.Core.Path.{_≡_, refl, sym, _∙_, ap}
+use mathlib.Core.Path.{_≡_, refl, _∙_, ap}
 use mathlib.Core.Bool.{true, _&&_}
 use mathlib.Core.List.{List, [], _∷_}
 use mathlib.Core.Option.{Option, some, none}
@@ -88,12 +88,9 @@ module _ {card ranking word work : List ℕ} {size : ℕ} (pre : SearchPre card 
 
   own-sets : SetsPre card ranking (singletons word) work size
   own-sets = record {
-    accepted = pre .accepted;
+    setting = record { accepted = pre .accepted; few = omega (arith, as-many word, short); symbols = of-sets card word (pre .accepted) (pre .sound); states = pre .states };
     ranks = pre .ranks;
-    few = omega (arith, as-many word, short);
-    symbols = of-sets card word (pre .accepted) (pre .sound);
     bits = singletons-64 word word-small;
-    states = pre .states;
     room = rw (as-many word) (pre .room);
   }
 

@@ -1,14 +1,13 @@
 -- What input promises that the checks 1 to 9 accept.
-use mathlib.Core.Path.{_≡_, refl}
+use mathlib.Core.Path.{_≡_}
 use mathlib.Core.Bool.{true, _&&_}
 use mathlib.Core.List.{List, [], _∷_}
 use Prim.Native.Nat.{ℕ, _*_, _≤_}
-use native.Mathlib.Omega.{arith}
 use lib.ListN.{length}
 use lib.Dec.{leb, lit<}
 use borrow.Author.Tests.{leb-true}
 use Rattle.basics.specs.Search.{allOf}
-use Rattle.basics.specs.Refusals.{refuse, firstOf}
+use Rattle.basics.specs.Refusals.{refuse}
 use Rattle.basics.proofs.Bools.{left, right}
 use Rattle.basics.proofs.Refusals.{passed, none-first}
 use Rattle.ranking.specs.Rankings.{isRanking}

@@ -2,11 +2,10 @@
 use mathlib.Core.Path.{_≡_}
 use mathlib.Core.Bool.{Bool, true, _&&_}
 use mathlib.Core.List.{List, [], _∷_}
-use mathlib.Core.Option.{Option}
+use mathlib.Core.Option.{Option, some, none}
 use Prim.Native.Nat.{ℕ, _+_, _*_, _≤_}
 use lib.Dec.{leb}
-use lib.ListN.{length, getD}
-use Rattle.basics.specs.Sets.{member}
+use lib.ListN.{length}
 use Rattle.basics.specs.Refusals.{refuse, firstOf, unlessRefused}
 use Rattle.ranking.specs.declared.Profile.{Profile}
 use Rattle.ranking.specs.Rankings.{isRanking}
@@ -17,10 +16,10 @@ use Rattle.candidate.specs.Candidates.{isSome}
 use Rattle.candidate.specs.Evaluating.{profileWith, refused}
 use Rattle.product.specs.Best.{Contender}
 use Rattle.product.specs.Optimizing.{soundWord, countsFit, answerFits, evaluationOf, filled}
-use Rattle.paths.specs.Ranked.{Ranked}
+use Rattle.paths.specs.Ranked.{Ranked, letterCount}
 use Rattle.paths.specs.ByRanking.{ranked}
-use Rattle.labels.specs.declared.Label.{Label}
 use Rattle.product.specs.Nodes.{product, stateCounts}
+use Rattle.product.specs.Setting.{Setting}
 use Rattle.product.specs.Laws.BestOfSets.{are64Bits}
 use Rattle.tables.specs.Places.{sixPlaces}
 
@@ -28,14 +27,11 @@ use Rattle.tables.specs.Places.{sixPlaces}
 abbrev pub searchRefusal : Option Contender → ℕ → ℕ
 searchRefusal b room = firstOf (refuse 10 (isSome b) ∷ refuse 11 (countsFit b) ∷ refuse 12 (answerFits b room) ∷ [])
 
--- accepted sets, all of them 64-bit numbers; size is the product of the state counts, and the work slice has just the room for the nodes
+-- accepted sets, all of them 64-bit numbers, with just the room for the nodes in the work slice
 pub record SetsPre (card ranking sets work : List ℕ) (size : ℕ) : Type 0 where
-  pub accepted : cardRefusal card ≡ 0
+  pub setting : Setting card sets size
   pub ranks : isRanking (machineCount card) ranking ≡ true
-  pub few : length sets ≤ 24
-  pub symbols : (i x : ℕ) → member (getD sets i 0) x ≡ true → (1 ≤ x) × (x ≤ symbolCount card)
   pub bits : are64Bits sets ≡ true
-  pub states : size ≡ product (stateCounts (machinesOf card))
   pub room : length work ≡ (length sets + 1) * size * 8
 
 -- the same with an accepted word
@@ -52,9 +48,14 @@ pub record Searched (b : Option Contender) (word work workAfter answer answerAft
   pub answer-slice : answerAfter ≡ unlessRefused (searchRefusal b (length answer)) (filled b answer) (λ n. answer)
   pub work-length : length workAfter ≡ length work
 
--- no count of a label is over 60,000
-abbrev pub labelFits : Label → Bool
-labelFits l = leb (l .first) 60000 && (leb (l .second) 60000 && (leb (l .third) 60000 && (leb (l .fourth) 60000 && (leb (l .fifth) 60000 && leb (l .sixth) 60000))))
+-- no count of a cost is over 60,000
+abbrev pub costFits : Ranked 6 → Bool
+costFits c = leb (c .0) 60000 && (leb (c .1 .0) 60000 && (leb (c .1 .1 .0) 60000 && (leb (c .1 .1 .1 .0) 60000 && (leb (c .1 .1 .1 .1 .0) 60000 && leb (c .1 .1 .1 .1 .1 .0) 60000))))
+
+-- the checks 10 to 12 by the label of the start, which is what the best candidate costs
+abbrev pub labelRefusal : Option (Ranked 6) → ℕ → ℕ
+labelRefusal none room = 10
+labelRefusal (some c) room = firstOf (refuse 11 (costFits c) ∷ refuse 12 (leb (2 * letterCount 6 c) room) ∷ [])
 
 -- a ranking of at most six machines
 pub record RankingOfSome (ranking : List ℕ) : Type 0 where

@@ -1,43 +1,22 @@
--- The graph that the engine searches, and what it is given.
+-- The tables that the engine is given.
 use mathlib.Core.Path.{_≡_}
-use mathlib.Core.Bool.{true}
 use mathlib.Core.List.{List}
 use Prim.Native.Nat.{ℕ, _*_, _≤_}
-use lib.ListN.{length, getD}
-use Rattle.basics.specs.Sets.{member}
-use Rattle.ranking.specs.Rankings.{isRanking}
-use Rattle.card.specs.Layout.{machineCount, symbolCount}
+use lib.ListN.{length}
+use Rattle.card.specs.Layout.{symbolCount}
 use Rattle.card.specs.Card.{cardRefusal, machinesOf}
-use Rattle.paths.specs.Ranked.{rankedCosts}
-use Rattle.paths.specs.Graph.{Graph}
 use Rattle.labels.specs.Listing.{Listed}
-use Rattle.product.specs.Nodes.{product, stateCounts, positionAt}
-use Rattle.product.specs.ProductGraph.{pairs, setGraph}
-use Rattle.tables.specs.Places.{sixPlaces}
+use Rattle.product.specs.Nodes.{product, stateCounts}
+use Rattle.tables.specs.Places.{sixPlaces, SixPlaces}
 use Rattle.tables.specs.Tables.{HoldsRows}
 use Rattle.tables.specs.Insertions.{HoldsCheapest}
-
--- the product of the card's machines over sets of symbols, whose costs are six counts in ranked order and the number of pairs
-abbrev pub engineGraph : (card ranking sets : List ℕ) → Graph (rankedCosts 6) pairs
-engineGraph card ranking sets = setGraph card (sixPlaces ranking) sets
-
--- the input position of a node
-abbrev pub placeOf : List ℕ → ℕ → ℕ
-placeOf card u = positionAt (stateCounts (machinesOf card)) u
-
--- an accepted card, a ranking of its machines, at most 24 sets of its symbols; P is the product of the state counts
-pub record Setting (card ranking sets : List ℕ) (P : ℕ) : Type 0 where
-  pub accepted : cardRefusal card ≡ 0
-  pub ranks : isRanking (machineCount card) ranking ≡ true
-  pub few : length sets ≤ 24
-  pub symbols : (i x : ℕ) → member (getD sets i 0) x ≡ true → (1 ≤ x) × (x ≤ symbolCount card)
-  pub size : P ≡ product (stateCounts (machinesOf card))
 
 -- what looking joint steps up needs: the rows of the codes, the state counts, the ranking as six places
 pub record Looked (card ranking rs cs ps : List ℕ) : Type 0 where
   pub rows : HoldsRows (stateCounts (machinesOf card)) rs
   pub counts : cs ≡ stateCounts (machinesOf card)
   pub places : ps ≡ sixPlaces ranking
+  pub six : SixPlaces ps
 
 -- room for the steps of one machine, and for a table of the joint steps of P codes
 pub record Lent (ss js : List ℕ) (P : ℕ) : Type 0 where
@@ -47,10 +26,10 @@ pub record Lent (ss js : List ℕ) (P : ℕ) : Type 0 where
 -- what filling the table of the cheapest insertions needs
 pub record InsertionsPre (card ranking cs ps ks : List ℕ) (P : ℕ) : Type 0 where
   pub accepted : cardRefusal card ≡ 0
-  pub ranks : isRanking (machineCount card) ranking ≡ true
-  pub size : P ≡ product (stateCounts (machinesOf card))
+  pub states : P ≡ product (stateCounts (machinesOf card))
   pub counts : cs ≡ stateCounts (machinesOf card)
   pub places : ps ≡ sixPlaces ranking
+  pub six : SixPlaces ps
   pub room : P * P ≤ length ks
 
 -- lists of the cheapest insertions from code to code: those of a table that has them

@@ -1,25 +1,27 @@
 -- Entering a position: every pair that leaves it is tried, from the first node of it on; at the last position every ending.
 use mathlib.Core.Path.{_≡_}
-use mathlib.Core.Logic.{_⊎_, _≢_}
-use mathlib.Core.Bool.{true, false}
+use mathlib.Core.Logic.{_≢_}
+use mathlib.Core.Bool.{true}
 use mathlib.Core.Option.{none, some}
 use mathlib.Core.List.{List}
 use Prim.Native.Nat.{ℕ, suc, _+_, _*_, _/_, _%_, _^_, _<_, _≤_}
 use lib.ListN.{length, getD}
 use Rattle.basics.specs.Sets.{member}
-use Rattle.machine.specs.declared.Pair.{Pair}
 use Rattle.card.specs.Layout.{symbolCount}
 use Rattle.card.specs.Card.{machinesOf}
 use Rattle.paths.specs.Costs.{Labels}
 use Rattle.paths.specs.Ranked.{Ranked, add, rankedCosts}
 use Rattle.paths.specs.Positions.{Entering}
-use Rattle.labels.specs.Marks.{marksOf}
+use Rattle.product.specs.Setting.{placeOf, Setting}
+use Rattle.product.specs.Laws.Entering.{TriedBefore}
+use Rattle.labels.specs.Marks.{marksCost}
 use Rattle.labels.specs.LabelCost.{RoomFor}
 use Rattle.labels.specs.Work.{HasNode, stateOf, labelOf, AlikeAt}
 use Rattle.labels.specs.Lowering.{Lowered}
+use Rattle.tables.specs.Engine.{engineGraph}
 use Rattle.tables.specs.Places.{sixPlaces}
 use Rattle.tables.specs.JointTable.{HoldsJoint}
-use Rattle.positions.specs.Engine.{engineGraph, placeOf, Setting, Looked}
+use Rattle.positions.specs.Engine.{Looked}
 
 -- the first three counts of a cost as one number
 abbrev pub firstThree : Ranked 6 → ℕ
@@ -49,16 +51,11 @@ pub record EdgePre (xs : List ℕ) (u v m : ℕ) : Type 0 where
 
 pub record EdgeTried (xs ys : List ℕ) (u v m : ℕ) : Type 0 where
   pub unlabelled : labelOf xs v ≡ none → ys ≡ xs
-  pub labelled : (d : Ranked 6) → labelOf xs v ≡ some d → Lowered xs ys u (add 6 (marksOf m) d)
-
--- the pairs that were tried: those whose in is not in the set `left`; and with the in x all of the nodes below u, and those of u with an output
--- below y
-abbrev pub TriedBefore : ℕ → ℕ → ℕ → ℕ → ℕ → Pair → Type 0
-TriedBefore left x u y w p = (member left (p .input) ≡ false) ⊎ ((p .input ≡ x) × ((w < u) ⊎ ((w ≡ u) × (p .output < y))))
+  pub labelled : (d : Ranked 6) → labelOf xs v ≡ some d → Lowered xs ys u (add 6 (marksCost m) d)
 
 -- what trying the pairs of the nodes of the position i with the in x needs: a symbol of the set there, its joint steps, and room for a pair more
 pub record EnterPre (card ranking sets js xs : List ℕ) (P i x : ℕ) : Type 0 where
-  pub setting : Setting card ranking sets P
+  pub setting : Setting card sets P
   pub below : i < length sets
   pub reads : member (getD sets i 0) x ≡ true
   pub joint : HoldsJoint (symbolCount card) (machinesOf card) x (sixPlaces ranking) js
@@ -80,7 +77,7 @@ pub record Tried (card ranking sets xs ys : List ℕ) (i x u y u′ y′ : ℕ) 
 
 -- what trying the endings of the last position needs
 pub record EndPre (card ranking sets rs cs ps xs : List ℕ) (P : ℕ) : Type 0 where
-  pub setting : Setting card ranking sets P
+  pub setting : Setting card sets P
   pub looked : Looked card ranking rs cs ps
   pub room : length xs ≡ (length sets + 1) * P * 8
 

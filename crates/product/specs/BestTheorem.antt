@@ -78,6 +78,18 @@ best-in-is-short {price = price} agrees card word ok b e =
       fewer-pairs = best-short G (word-within card word ok price) (cardStart card) (start-within card word ok) (b .candidate) a;
     }
 
+-- orders that compare two profiles alike prefer alike
+pub beats-alike : {better better′ : ProfileOrder} {a b : Contender} → better (a .profile) (b .profile) ≡ better′ (a .profile) (b .profile) → better (b .profile) (a .profile) ≡ better′ (b .profile) (a .profile) → BeatsIn better a b → BeatsIn better′ a b
+beats-alike {better} {better′} {a} {b} p q = go
+  where
+    neither : Alike better (a .profile) (b .profile) → Alike better′ (a .profile) (b .profile)
+    neither e = (sym p ∙ e .0, sym q ∙ e .1)
+
+    go : BeatsIn better a b → BeatsIn better′ a b
+    go (by-profile e) = by-profile (sym p ∙ e)
+    go (by-pairs e k) = by-pairs (neither e) k
+    go (by-bytes e k l) = by-bytes (neither e) k l
+
 -- two orders that compare their two bests alike have one best
 module _ {costs costs′ : Costs} {price : Price costs} {price′ : Price costs′} {better better′ : ProfileOrder} (agrees : Agrees price better) (agrees′ : Agrees price′ better′) where
   pub same-best : (card word : List ℕ) → cardRefusal card ≡ 0 → (a b : Contender) → bestIn better card word ≡ some a → bestIn better′ card word ≡ some b
@@ -93,14 +105,6 @@ module _ {costs costs′ : Costs} {price : Price costs} {price′ : Price costs�
       other : b ≡ contenderOf ms (b .candidate)
       other = best-contender agrees′ card word ok b eb
 
-      neither : Alike better (a .profile) (b .profile) → Alike better′ (a .profile) (b .profile)
-      neither e = (sym p ∙ e .0, sym q ∙ e .1)
-
-      alike : BeatsIn better a b → BeatsIn better′ a b
-      alike (by-profile e) = by-profile (sym p ∙ e)
-      alike (by-pairs e k) = by-pairs (neither e) k
-      alike (by-bytes e k l) = by-bytes (neither e) k l
-
       go : Dec (a .candidate ≡ b .candidate) → a ≡ b
       go (yes e) = one ∙ ap (contenderOf ms) e ∙ sym other
       go (no n) =
@@ -108,7 +112,7 @@ module _ {costs costs′ : Costs} {price : Price costs} {price′ : Price costs�
           let y = best-in-is-best-of-all agrees′ card word ok .is-best b eb in
           let ab : BeatsIn better a b = rw (one, other) (x .rivals (b .candidate) (y .candidate) (λ e. n (sym e))) in
           let ba : BeatsIn better′ b a = rw (one, other) (y .rivals (a .candidate) (x .candidate) n) in
-          absurd (asym (before-total costs′ pairs) (keyOf price′ a) (keyOf price′ b) (beats-earlier agrees′ a b (alike ab)) (beats-earlier agrees′ b a ba))
+          absurd (asym (before-total costs′ pairs) (keyOf price′ a) (keyOf price′ b) (beats-earlier agrees′ a b (beats-alike p q ab)) (beats-earlier agrees′ b a ba))
 
 -- of a word of at most 24 symbols it has at most 3,199 pairs and no count above 47,985, which is 15 a pair
 pub record SmallBest (b : Contender) : Type 0 where

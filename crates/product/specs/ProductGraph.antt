@@ -1,7 +1,7 @@
 -- The product of the machines over a list of sets of symbols as a graph: its letters are the pairs, and its paths from the start are the candidates
 -- for the words with one symbol from each set. A word is the case of sets of one symbol.
 use mathlib.Core.Path.{_≡_}
-use mathlib.Core.Bool.{Bool, true, false, cond}
+use mathlib.Core.Bool.{true, false, cond}
 use mathlib.Core.List.{List, map}
 use mathlib.Core.Option.{Option, some, none, Option·none-ne-some}
 use Prim.Native.Nat.{ℕ, _+_, _<_}
@@ -21,16 +21,12 @@ use Rattle.product.specs.Nodes.{stateCounts, nodeOf, positionAt, statesA
 use Rattle.product.specs.JointStep.{jointStep, jointEnding}
 use Rattle.product.specs.Prices.{Price, byRanking}
 
--- insertions are allowed at every position, 0 to n
-abbrev pub insertsAt : List ℕ → ℕ → Bool
-insertsAt sets i = leb i (length sets)
-
 -- where a pair leads from an input position, 0 to n: an insertion stays there; any other pair needs its in in the set there, and moves on by one.
 -- Past the last set there is the empty one
 unfoldable pub advance : List ℕ → ℕ → Pair → Option ℕ
 advance sets i p =
     elim (eqb (p .input) emptySymbol) [
-      | true ↦ cond (insertsAt sets i) (some i) none
+      | true ↦ cond (leb i (length sets)) (some i) none
       | false ↦ cond (member (getD sets i 0) (p .input)) (some (i + 1)) none
     ]
 

@@ -16,7 +16,7 @@ use Rattle.machine.specs.Machine.{Machine}
 use Rattle.ranking.specs.Rankings.{isRanking}
 use Rattle.card.specs.Layout.{machineCount}
 use Rattle.card.specs.Card.{machinesOf, cardRefusal}
-use Rattle.candidate.specs.Candidates.{IsCandidate}
+use Rattle.candidate.specs.Candidates.{profileOf, IsCandidate}
 use Rattle.product.specs.Best.{Contender, contenderOf, ProfileOrder, bestIn, best}
 use Rattle.product.specs.Sets.{singletons, IsCandidateOf, bestOfSetsIn, bestOfSets}
 use Rattle.product.specs.Optimizing.{countsFit}
@@ -27,7 +27,7 @@ use Rattle.paths.specs.Best.{Before, IsBest, best-unique}
 use Rattle.product.specs.Prices.{Price, Agrees, ranking-agrees}
 use Rattle.product.specs.ProductGraph.{pairs, pricedGraph, cardStart}
 use Rattle.product.specs.BestCandidate.{BeatsIn, IsBestIn, IsBestOfSets, BestOf}
-use Rattle.product.specs.BestTheorem.{best-in-is-best-of-all, SmallBest, best-in-is-small}
+use Rattle.product.specs.BestTheorem.{beats-alike, best-in-is-best-of-all, SmallBest, best-in-is-small}
 use Rattle.product.specs.Laws.Candidates.{fitting-cost, as-sets, as-word}
 use Rattle.product.specs.Laws.Preference.{keyOf, earlier-beats}
 use Rattle.product.specs.Laws.Accepted.{accepted-machines}
@@ -118,6 +118,27 @@ best-in-of-one-word {better = better} agrees card word ok small = go (bestIn bet
         let a = all .is-best b e in
         sets .only-it (b .candidate) (record { candidate = as-sets word (b .candidate) (a .candidate); rivals = λ d h. a .rivals d (as-word word d h) })
         ∙ ap {B = Option Contender} some (sym (best-contender agrees card word ok b e))
+
+-- orders that compare the profiles of candidates alike have one best
+pub same-order : {costs costs′ : Costs} {price : Price costs} {price′ : Price costs′} {better better′ : ProfileOrder} → Agrees price better → Agrees price′ better′ → (card sets : List ℕ) → cardRefusal card ≡ 0 → are64Bits sets ≡ true
+    → ((c d : List Pair) → better (profileOf (machinesOf card) c) (profileOf (machinesOf card) d) ≡ better′ (profileOf (machinesOf card) c) (profileOf (machinesOf card) d)) → bestOfSetsIn better card sets ≡ bestOfSetsIn better′ card sets
+same-order {better = better} {better′ = better′} agrees agrees′ card sets ok bits same = go (bestOfSetsIn better card sets) refl
+  where
+    ms : List Machine
+    ms = machinesOf card
+
+    all : BestOf ms (IsCandidateOf ms sets) (IsBestIn better ms (IsCandidateOf ms sets)) (bestOfSetsIn better card sets)
+    all = best-in-is-best-of-all-words agrees card sets ok bits
+
+    all′ : BestOf ms (IsCandidateOf ms sets) (IsBestIn better′ ms (IsCandidateOf ms sets)) (bestOfSetsIn better′ card sets)
+    all′ = best-in-is-best-of-all-words agrees′ card sets ok bits
+
+    go : (o : Option Contender) → bestOfSetsIn better card sets ≡ o → o ≡ bestOfSetsIn better′ card sets
+    go none e = sym (all′ .none-exactly .1 (all .none-exactly .0 e))
+    go (some b) e =
+        let k = all .is-best b e in
+        let a : IsBestIn better′ ms (IsCandidateOf ms sets) (b .candidate) = record { candidate = k .candidate; rivals = λ d h n. beats-alike (same (b .candidate) d) (same d (b .candidate)) (k .rivals d h n) } in
+        ap {B = Option Contender} some (best-of-sets-contender agrees card sets ok b e) ∙ sym (all′ .only-it (b .candidate) a)
 
 -- ---- under a ranking
 

@@ -1,16 +1,14 @@
--- What the walk starts from: its tables, and the node of the start. Assumes nothing.
+-- What the walk starts from: its tables. Assumes nothing.
 use mathlib.Core.Path.{_≡_, refl, sym, _∙_, ap, subst}
-use mathlib.Core.List.{List, [], _∷_, map}
+use mathlib.Core.List.{List, [], _∷_}
 use Prim.Native.Nat.{ℕ, zero, suc, _*_, _≤_}
 use native.Mathlib.Omega.{arith}
 use lib.ListN.{length, take, replicate, length-map, length-replicate}
 use Rattle.machine.specs.Symbols.{emptySymbol}
-use Rattle.machine.specs.Machine.{Machine, startState}
 use Rattle.card.specs.Layout.{machineCount}
 use Rattle.card.specs.Card.{machinesOf}
 use Rattle.card.specs.Accepted.{accepted}
-use Rattle.product.specs.Nodes.{stateCountOf, stateCounts, product, codeOf}
-use Rattle.product.specs.ProductGraph.{startNode}
+use Rattle.product.specs.Nodes.{stateCountOf, stateCounts, product}
 use Rattle.steps.specs.StepTable.{HoldsSteps}
 use Rattle.card.specs.Laws.Machines.{length-machines}
 use Rattle.tables.specs.Places.{sixPlaces, SixPlaces}
@@ -20,15 +18,6 @@ use Rattle.tables.specs.Laws.Harmony.{six-places}
 use Rattle.tables.specs.Laws.Cards.{card-counts, card-tables}
 use Rattle.walk.specs.Setting.{Labelled}
 use Rattle.walk.specs.Walked.{WalkPre, TablesLent, FollowPre, Walked}
-
--- the start is the node 0: the position is 0, and each machine's start state is 0
-start-code : (ms : List Machine) → codeOf (stateCounts ms) (map (λ m. startState) ms) ≡ 0
-unfolding codeOf
-start-code [] = refl
-start-code (m ∷ ms) = omega (arith, start-code ms)
-
-pub start-is-zero : (ms : List Machine) → startNode ms ≡ 0
-start-is-zero ms = omega (arith, start-code ms)
 
 take-short : (m : ℕ) (l : List ℕ) → length (take m l) ≡ m → m ≤ length l
 take-short zero l h = omega arith
@@ -48,19 +37,19 @@ module _ (card : List ℕ) (m : ℕ) (counts : List ℕ) (e : m ≡ machineCount
 
 module _ {ranking card sets work : List ℕ} {size room : ℕ} (pre : WalkPre ranking card sets work size room) where
   pub rows-pre : (counts rows : List ℕ) → counts ≡ stateCounts (machinesOf card) → length rows ≡ 1024 → RowsPre counts rows size
-  rows-pre counts rows e h = record { counts-of = card-counts card (pre .labels .accepted) e; states = pre .labels .states ∙ ap product (sym e); room = h }
+  rows-pre counts rows e h = record { counts-of = card-counts card (pre .labels .setting .accepted) e; states = pre .labels .setting .states ∙ ap product (sym e); room = h }
 
   -- by the six places of the ranking the graph is the same
   by-places : Labelled (sixPlaces ranking) card sets work size
-  by-places = let L = pre .labels in record { accepted = L .accepted; few = L .few; symbols = L .symbols; states = L .states; room = L .room; closed = L .closed; attained = L .attained }
+  by-places = let L = pre .labels in record { setting = L .setting; room = L .room; closed = L .closed; attained = L .attained }
 
   pub follow-pre : (places insertions steps rows counts : List ℕ) → places ≡ sixPlaces ranking → HoldsSteps (machinesOf card) emptySymbol insertions → machineCount card * 2048 ≤ length steps → HoldsRows counts rows
       → counts ≡ stateCounts (machinesOf card) → FollowPre places card sets work insertions steps rows counts size room
   follow-pre places insertions steps rows counts p i z r e = record {
     labels = subst (λ (l : List ℕ). Labelled l card sets work size) (sym p) by-places;
     tables = record {
-      six = subst SixPlaces (sym p) (six-places (machineCount card) ranking (omega (arith, accepted card (pre .labels .accepted) .head .counts)) (pre .is-ranking));
-      for-insertions = card-tables card (pre .labels .accepted) i r e;
+      six = subst SixPlaces (sym p) (six-places (machineCount card) ranking (omega (arith, accepted card (pre .labels .setting .accepted) .head .counts)) (pre .is-ranking));
+      for-insertions = card-tables card (pre .labels .setting .accepted) i r e;
     };
     steps-room = z;
     start = pre .start;

@@ -15,11 +15,13 @@ use Rattle.paths.specs.Ranked.{Ranked, add}
 use Rattle.paths.specs.Walk.{Tight}
 use Rattle.product.specs.Nodes.{product}
 use Rattle.product.specs.ProductGraph.{pairs}
-use Rattle.labels.specs.Marks.{marksOf}
+use Rattle.product.specs.Pairs.{positionAfter}
+use Rattle.labels.specs.Marks.{marksCost}
 use Rattle.labels.specs.LabelCost.{RoomFor}
 use Rattle.labels.specs.Work.{HasNode, costAt, labelOf}
 use Rattle.tables.specs.declared.Joint as joint
 use Rattle.tables.specs.declared.Joint.the-variants as joints
+use Rattle.tables.specs.Engine.{engineGraph}
 use Rattle.tables.specs.Places.{SixPlaces}
 use Rattle.tables.specs.Tables.{JointPre, Tables, Joins}
 use Rattle.walk.specs.declared.Kept.{Kept}
@@ -27,8 +29,7 @@ use Rattle.walk.specs.declared.Kept.the-variants.{To, No}
 use Rattle.walk.specs.declared.Step.{Step}
 use Rattle.walk.specs.declared.Tried.{Tried}
 use Rattle.walk.specs.declared.Tried.the-variants.{Least, Without}
-use Rattle.walk.specs.Pairs.{positionAfter}
-use Rattle.walk.specs.Setting.{graphOf, Labelled}
+use Rattle.walk.specs.Setting.{Labelled}
 
 -- ---- a joint step from the node u to the nodes from `base` on
 
@@ -38,7 +39,7 @@ pub record KeepsTo (xs : List ℕ) (u base : ℕ) (found : joint.Joint) (c : ℕ
   pub leads : found ≡ joints.To c marks
   pub rest : Ranked 6
   pub rest-is : labelOf xs (base + c) ≡ some rest
-  pub sum : costAt xs u ≡ add 6 (marksOf marks) rest
+  pub sum : costAt xs u ≡ add 6 (marksCost marks) rest
 
 pub record KeepsPre (xs : List ℕ) (u base : ℕ) (found : joint.Joint) : Type 0 where
   pub from : HasNode xs u
@@ -63,11 +64,15 @@ pub record StepKeeps (xs steps rows counts places : List ℕ) (u base code y : �
   pub joins : Joins steps rows counts places code y found
   pub keeps : Keeps xs u base found r
 
--- ---- a pair at a node
+-- ---- a pair at the node of a position and a code
 
--- it keeps to the labels, and leads to the code c
+-- it keeps to the labels
+abbrev pub KeepsAt : (xs card sets places : List ℕ) (size i code : ℕ) → Pair → Type 0
+KeepsAt xs card sets places size i code p = Tight (engineGraph card places sets) (labelOf xs) (i * size + code) p
+
+-- and leads to the code c
 pub record TightTo (xs card sets places : List ℕ) (size i code : ℕ) (p : Pair) (c : ℕ) : Type 0 where
-  pub tight : Tight (graphOf places card sets) (labelOf xs) (i * size + code) p
+  pub tight : KeepsAt xs card sets places size i code p
   pub target : tight .to .target ≡ positionAfter i (p .input) * size + c
   pub state : c < size
   pub position : positionAfter i (p .input) ≤ length sets
@@ -88,8 +93,8 @@ pub record OutputsPre (xs card sets table rows counts places : List ℕ) (size i
 pub record Tries (xs card sets places : List ℕ) (size i x code : ℕ) (r : Tried) : Type 0 where
   pub to : (s : Step) → r ≡ Least s → TightTo xs card sets places size i code (s .pair) (s .code)
   pub input : (s : Step) → r ≡ Least s → s .pair .input ≡ x
-  pub passed : (s : Step) → r ≡ Least s → (q : Pair) → q .input ≡ x → q .output < s .pair .output → ¬ (Tight (graphOf places card sets) (labelOf xs) (i * size + code) q)
-  pub none : r ≡ Without → (q : Pair) → q .input ≡ x → ¬ (Tight (graphOf places card sets) (labelOf xs) (i * size + code) q)
+  pub passed : (s : Step) → r ≡ Least s → (q : Pair) → q .input ≡ x → q .output < s .pair .output → ¬ (KeepsAt xs card sets places size i code q)
+  pub none : r ≡ Without → (q : Pair) → q .input ≡ x → ¬ (KeepsAt xs card sets places size i code q)
 
 -- the table of the insertions is filled, and there is room for one of a symbol
 pub record TryPre (xs card sets insertions steps rows counts places : List ℕ) (size i x code : ℕ) : Type 0 where
@@ -102,4 +107,4 @@ pub record TryPre (xs card sets insertions steps rows counts places : List ℕ) 
 
 pub record Finds (xs card sets places : List ℕ) (size i code : ℕ) (r : Step) : Type 0 where
   pub to : TightTo xs card sets places size i code (r .pair) (r .code)
-  pub least : (q : Pair) → pairs ._◃_ q (r .pair) → ¬ (Tight (graphOf places card sets) (labelOf xs) (i * size + code) q)
+  pub least : (q : Pair) → pairs ._◃_ q (r .pair) → ¬ (KeepsAt xs card sets places size i code q)

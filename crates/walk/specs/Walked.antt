@@ -12,19 +12,21 @@ use Rattle.candidate.specs.Candidates.{bytesOf}
 use Rattle.paths.specs.Ranked.{Ranked, letterCount}
 use Rattle.paths.specs.Graph.{pathCost}
 use Rattle.paths.specs.Best.{IsBest}
+use Rattle.product.specs.ProductGraph.{cardStart}
 use Rattle.labels.specs.Work.{costAt, labelOf}
-use Rattle.walk.specs.Setting.{graphOf, Labelled, TablesFor}
+use Rattle.tables.specs.Engine.{engineGraph}
+use Rattle.walk.specs.Setting.{Labelled, TablesFor}
 
 -- the start has a label, and the answer slice has room for as many pairs as it says
-pub record StartsAt (work : List ℕ) (room : ℕ) : Type 0 where
+pub record StartsAt (card work : List ℕ) (room : ℕ) : Type 0 where
   pub cost : Ranked 6
-  pub label-is : labelOf work 0 ≡ some cost
+  pub label-is : labelOf work (cardStart card) ≡ some cost
   pub fits : 2 * letterCount 6 cost ≤ room
 
 pub record WalkPre (ranking card sets work : List ℕ) (size room : ℕ) : Type 0 where
   pub labels : Labelled ranking card sets work size
   pub is-ranking : isRanking (machineCount card) ranking ≡ true
-  pub start : StartsAt work room
+  pub start : StartsAt card work room
 
 -- the bytes of a list of pairs fill the front of the answer, and its other bytes keep their values; r is the number of pairs. The list is
 -- the best path from the start, and it costs what the label there says
@@ -32,8 +34,8 @@ pub record Walked (ranking card sets work before after : List ℕ) (r : ℕ) : T
   pub best : List Pair
   pub count : r ≡ length best
   pub written : after ≡ bytesOf best ++ drop (2 * length best) before
-  pub is-best : IsBest (graphOf ranking card sets) 0 best
-  pub costs : pathCost (graphOf ranking card sets) 0 best ≡ some (costAt work 0)
+  pub is-best : IsBest (engineGraph card ranking sets) (cardStart card) best
+  pub costs : pathCost (engineGraph card ranking sets) (cardStart card) best ≡ some (costAt work (cardStart card))
 
 -- two tables of steps to fill, of the same length, with a stretch for each machine
 pub record TablesLent (card insertions steps : List ℕ) : Type 0 where
@@ -45,4 +47,4 @@ pub record FollowPre (places card sets work insertions steps rows counts : List 
   pub labels : Labelled places card sets work size
   pub tables : TablesFor places card insertions rows counts
   pub steps-room : machineCount card * 2048 ≤ length steps
-  pub start : StartsAt work room
+  pub start : StartsAt card work room

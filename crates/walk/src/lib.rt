@@ -7,7 +7,7 @@ ghost use lib.ListN.{length, getD, set};
 ghost use Rattle.basics.specs.Sets.{member};
 ghost use Rattle.card.specs.Layout.{machineCount};
 ghost use Rattle.machine.specs.Symbols.{emptySymbol};
-ghost use Rattle.walk.specs.Pairs.{positionAfter, firstOutput};
+ghost use Rattle.product.specs.Pairs.{positionAfter, firstOutput};
 ghost use Rattle.walk.specs.Keeping.{KeepsPre, Keeps, StepPre, StepKeeps, OutputsPre, TryPre, Tries};
 ghost use Rattle.walk.specs.Walked.{FollowPre, TablesLent, WalkPre, Walked};
 use machine::Pair;
@@ -218,7 +218,7 @@ fn follow(
     ensures { λ r. ⌜ Walked (now (places .entry)) (now (card .entry)) (now (sets .entry)) (now (work .entry)) (now (answer .entry)) (now (answer .exit)) r ⌝ }
 {
     let mut position = 0;
-    let mut code = 0;
+    let mut code = tables::start_node(counts);
     let mut pairs = 0;
     loop {
         let label = labels::load(work, position * size + code);

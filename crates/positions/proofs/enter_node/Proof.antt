@@ -4,7 +4,7 @@ use Prim.Native.Nat.{_+_, _*_, _-_, _≤_}
 use native.Mathlib.Omega.{arith}
 use Rattle.card.specs.Layout.{symbolCount}
 use Rattle.positions.specs.Entering.{FrontOf, Tried}
-use Rattle.positions.proofs.Edges.{few-nodes, symbols-few}
+use Rattle.product.specs.Laws.Setting.{few-nodes, symbols-few}
 use Rattle.positions.proofs.Entering.{tried-start, tried-trans, tried-node, node-next, code-there}
 use Rattle.positions.proofs.enter_node.Statement.{statement}
 use Rattle.positions.proofs.enter_node.Tie as tie
@@ -55,7 +55,7 @@ same-length c = c .before .loop .inv .2 .size
 returns : tie.Need-returns Inv-loop μ-loop
 returns c =
     let t = c .before .before .before .before .before .before .before .before .before .before .before in
-    tried-node (t .pre .0 .enter .setting) _ _ _ _ _ (c .before .loop .output) (t .pre .1) (omega (arith, c .before .loop .inv .1, c .loop-test .left)) (c .before .loop .inv .2)
+    tried-node (t .pre .0 .enter .setting) _ _ _ _ _ (c .before .loop .output) (omega (arith, c .before .loop .inv .1, c .loop-test .left)) (c .before .loop .inv .2)
 
 pub enter-node-spec : {M : Type 1} → statement M
 enter-node-spec =

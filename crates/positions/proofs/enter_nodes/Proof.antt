@@ -2,7 +2,7 @@ use borrow.Author.Needs.{needs}
 use Prim.Native.Nat.{_+_, _*_, _-_, _≤_}
 use native.Mathlib.Omega.{arith}
 use Rattle.positions.specs.Entering.{Tried}
-use Rattle.positions.proofs.Edges.{few-nodes, few-codes}
+use Rattle.product.specs.Laws.Setting.{few-nodes, few-codes}
 use Rattle.positions.proofs.Entering.{tried-first, tried-trans, tried-whole, node-next, next-there}
 use Rattle.positions.proofs.enter_nodes.Statement.{statement}
 use Rattle.positions.proofs.enter_nodes.Tie as tie

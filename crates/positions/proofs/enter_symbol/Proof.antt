@@ -46,7 +46,7 @@ fill-requires c κs =
     let t = c .before .before .before .before .before .before .before .before .before .before .before .before .before .before .before in
     let q = t .pre .0 in
     let v = c .before .before .before .before .loop .inv in
-    joint-ready (t .args .card .now) (t .args .ranking .now) (q .setting .accepted) (q .looked .counts) (q .looked .places) (q .setting .ranks) (q .setting .size)
+    joint-ready (t .args .card .now) (t .args .ranking .now) (q .setting .accepted) (q .looked .counts) (q .looked .places) (q .looked .six) (q .setting .states)
     (c .before .before .least .ensures .1) (v .1)
     (record { stretch = v .2 ∙ t .pre .1 .stretch; joint = omega (arith, v .3, t .pre .1 .joint) })
 

@@ -1,9 +1,9 @@
 use mathlib.Core.Path.{_≡_, refl, _∙_}
-use Prim.Native.Nat.{_+_, _-_, _≤_}
+use Prim.Native.Nat.{_+_, _≤_}
 use native.Mathlib.Omega.{arith}
 use lib.ListN.{length}
 use Rattle.positions.specs.Labelling.{PositionsDone}
-use Rattle.positions.proofs.Edges.{few-nodes}
+use Rattle.product.specs.Laws.Setting.{few-nodes}
 use Rattle.positions.proofs.Labelling.{cleared-pre, positions-start, position-ready, position-passed, positions-end}
 use Rattle.positions.proofs.label_positions.Statement.{statement}
 use Rattle.positions.proofs.label_positions.Tie as tie

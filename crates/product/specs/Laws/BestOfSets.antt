@@ -1,10 +1,9 @@
 -- What the definition of the best over sets lists: the words with one symbol from each set, and their best candidates.
 use mathlib.Core.Path.{_≡_, refl, sym, _∙_, ap}
-use mathlib.Core.Logic.{_⊎_, inl, inr}
-use mathlib.Core.Bool.{Bool, true, false, _&&_, false≢true}
+use mathlib.Core.Bool.{Bool, true, false, false≢true}
 use mathlib.Core.List.{List, [], _∷_, map, List·Memᴰ, List·Memᴰ·head, List·Memᴰ·not-nil, List·Memᴰ·eq-of-singleton}
-use mathlib.Core.Option.{Option, some, none, Option·none-ne-some}
-use Prim.Native.Nat.{ℕ, suc, _+_, _*_, _^_, _<_}
+use mathlib.Core.Option.{Option, some, none}
+use Prim.Native.Nat.{ℕ, _^_, _<_}
 use native.Mathlib.Decide.{decLt}
 use native.Mathlib.Omega.{arith}
 use lib.ListN.{length}
@@ -20,7 +19,7 @@ use Rattle.basics.proofs.Sets.{member-beyond}
 use Rattle.machine.specs.declared.Pair.{Pair}
 use Rattle.card.specs.Card.{machinesOf, cardRefusal}
 use Rattle.candidate.specs.Candidates.{IsCandidate}
-use Rattle.product.specs.Best.{Contender, contenderOf, ProfileOrder, leastOf, bestIn}
+use Rattle.product.specs.Best.{Contender, contenderOf, ProfileOrder, bestIn}
 use Rattle.product.specs.Sets.{fitsSets, singletons, IsCandidateOf, wordsFrom, found, bestOfSetsIn}
 use Rattle.paths.specs.Total.{Upto, upto-trans, not-less-upto, asym, less-not-same}
 use Rattle.paths.specs.Costs.{Costs}
@@ -29,7 +28,7 @@ use Rattle.product.specs.Prices.{Price, Agrees}
 use Rattle.product.specs.ProductGraph.{pairs}
 use Rattle.product.specs.BestTheorem.{best-in-is-best-of-all}
 use Rattle.product.specs.Laws.Preference.{keyOf, Earlier, beats-earlier}
-use Rattle.product.specs.Laws.Listing.{map-member, member-map, least-member, LeastUpto, least-upto}
+use Rattle.product.specs.Laws.Listing.{map-member, member-map, least-member, least-upto}
 use Rattle.product.specs.Laws.Best.{best-contender}
 
 -- ---- the words

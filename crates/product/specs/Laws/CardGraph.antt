@@ -12,7 +12,7 @@ use Rattle.card.specs.Layout.{symbolCount}
 use Rattle.card.specs.Card.{machinesOf, cardRefusal}
 use Rattle.product.specs.Sets.{singletons}
 use Rattle.paths.specs.Costs.{Costs}
-use Rattle.paths.specs.Ranked.{Ranked, letterCount, countAt}
+use Rattle.paths.specs.Ranked.{letterCount, countAt}
 use Rattle.paths.specs.Graph.{Edge, Within}
 use Rattle.paths.specs.Bounds.{Sized, BoundedCount}
 use Rattle.paths.specs.Positions.{Positioned}

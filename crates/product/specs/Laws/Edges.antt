@@ -7,7 +7,7 @@ use mathlib.Core.Option.{Option, some, none, Option·none-ne-some}
 use Prim.Native.Nat.{ℕ, zero, suc, _+_, _*_, _<_, _≤_}
 use native.Mathlib.Omega.{arith}
 use lib.ListN.{length, getD}
-use lib.Dec.{eqb}
+use lib.Dec.{eqb, leb}
 use borrow.Author.Tests.{eqb-true, eqb-false, leb-true}
 use Rattle.basics.specs.Sets.{member}
 use Rattle.machine.specs.declared.Pair.{Pair}
@@ -23,7 +23,7 @@ use Rattle.paths.specs.RankedGraph.{ranked-sized, ranked-counts}
 use Rattle.product.specs.Nodes.{product, stateCounts, nodeOf, positionAt, statesAt}
 use Rattle.product.specs.JointStep.{andThose, ofEach, jointStep, jointEnding}
 use Rattle.product.specs.Prices.{Price, byRanking}
-use Rattle.product.specs.ProductGraph.{insertsAt, advance, Move, moveBy, move, ending, pricedMove, pricedEnding, productGraph}
+use Rattle.product.specs.ProductGraph.{advance, Move, moveBy, move, ending, pricedMove, pricedEnding, productGraph}
 use Rattle.product.specs.Laws.Sets.{member-within}
 use Rattle.product.specs.Laws.Nodes.{position-of-node, node-below}
 use Rattle.product.specs.Laws.JointStep.{AllSound, all-none, all-next, step-of-each, no-states-left, joint-below}
@@ -37,10 +37,8 @@ pub advanced : (sets : List ℕ) (i : ℕ) (p : Pair) (j : ℕ) → advance sets
 unfolding advance
 advanced sets i p j h = go (eqb (p .input) emptySymbol) refl
   where
-    insertion : p .input ≡ emptySymbol → (t : Bool) → insertsAt sets i ≡ t → cond t (some i) none ≡ some j → Advanced sets i p j
-    insertion e true t k =
-        let q : j ≡ i = cc in
-        stays e q (omega (arith, leb-true))
+    insertion : p .input ≡ emptySymbol → (t : Bool) → leb i (length sets) ≡ t → cond t (some i) none ≡ some j → Advanced sets i p j
+    insertion e true t k = let q : j ≡ i = cc in stays e q (leb-true i (length sets) t)
     insertion e false t k = absurd (Option·none-ne-some j k)
 
     symbol : (p .input ≡ emptySymbol → ⊥) → (t : Bool) → member (getD sets i 0) (p .input) ≡ t → cond t (some (i + 1)) none ≡ some j → Advanced sets i p j
@@ -48,7 +46,7 @@ advanced sets i p j h = go (eqb (p .input) emptySymbol) refl
     symbol e false t k = absurd (Option·none-ne-some j k)
 
     go : (t : Bool) → eqb (p .input) emptySymbol ≡ t → Advanced sets i p j
-    go true t = insertion (eqb-true (p .input) 0 t) (insertsAt sets i) refl (rw (t, advance) at h)
+    go true t = insertion (eqb-true (p .input) 0 t) (leb i (length sets)) refl (rw (t, advance) at h)
     go false t = symbol (eqb-false (p .input) 0 t) (member (getD sets i 0) (p .input)) refl (rw (t, advance) at h)
 
 -- a move is a pair that leads on, and a joint step
@@ -214,17 +212,19 @@ module _ (r sets : List ℕ) (ms : List Machine) where
   pub product-sized : Sized (productGraph (byRanking r) sets ms) (letterCount (length r))
   product-sized = priced-sized (length r) (byRanking r) (ranked-letters r) sets ms
 
-  pub product-counts : {S : ℕ} → AllSound S ms → (i : ℕ) → BoundedCount (productGraph (byRanking r) sets ms) (countAt (length r) i) 15 15
-  product-counts sound i = ranked-counts (length r) (productGraph (byRanking r) sets ms) i 15 15 edges ends
-    where
-      edges : (u : ℕ) (p : Pair) (e : Edge (Ranked (length r))) → productGraph (byRanking r) sets ms .edge u p ≡ some e → countAt (length r) i (e .cost) ≤ 15
-      edges u p e h =
-          let k = edge-of (byRanking r) sets ms u p e h in
-          let l = moved sets ms u p (k .by) (k .is) in
-          rw (k .cost-is, l .marks-are) (ranked-upto r (map (λ r. r .1) (l .steps)) 1 15 (step-marks-bound sound (statesAt (stateCounts ms) u) p (l .steps) (l .steps-are)) i)
+  module _ {S : ℕ} (sound : AllSound S ms) where
+    -- a count of an edge and of an ending is at most 15
+    pub edge-counts : (u : ℕ) (p : Pair) (e : Edge (Ranked (length r))) → productGraph (byRanking r) sets ms .edge u p ≡ some e → (i : ℕ) → countAt (length r) i (e .cost) ≤ 15
+    edge-counts u p e h i =
+        let k = edge-of (byRanking r) sets ms u p e h in
+        let l = moved sets ms u p (k .by) (k .is) in
+        rw (k .cost-is, l .marks-are) (ranked-upto r (map (λ r. r .1) (l .steps)) 1 15 (step-marks-bound sound (statesAt (stateCounts ms) u) p (l .steps) (l .steps-are)) i)
 
-      ends : (u : ℕ) (c : Ranked (length r)) → productGraph (byRanking r) sets ms .ending u ≡ some c → countAt (length r) i c ≤ 15
-      ends u c h =
-          let k = ending-of (byRanking r) sets ms u c h in
-          let l = word-ended sets ms u (k .marks) (k .is) in
-          rw (k .cost-is) (ranked-upto r (k .marks) 0 15 (ending-marks-bound sound (statesAt (stateCounts ms) u) (k .marks) (l .ends)) i)
+    pub ending-counts : (u : ℕ) (c : Ranked (length r)) → productGraph (byRanking r) sets ms .ending u ≡ some c → (i : ℕ) → countAt (length r) i c ≤ 15
+    ending-counts u c h i =
+        let k = ending-of (byRanking r) sets ms u c h in
+        let l = word-ended sets ms u (k .marks) (k .is) in
+        rw (k .cost-is) (ranked-upto r (k .marks) 0 15 (ending-marks-bound sound (statesAt (stateCounts ms) u) (k .marks) (l .ends)) i)
+
+    pub product-counts : (i : ℕ) → BoundedCount (productGraph (byRanking r) sets ms) (countAt (length r) i) 15 15
+    product-counts i = ranked-counts (length r) (productGraph (byRanking r) sets ms) i 15 15 (λ u p e h. edge-counts u p e h i) (λ u c h. ending-counts u c h i)

@@ -4,8 +4,8 @@ use mathlib.Core.Path.{_≡_, refl, sym, _∙_, ap}
 use mathlib.Core.Logic.{_⊎_, inl, inr, _≢_}
 use mathlib.Core.Bool.{Bool, true, false, not, _&&_}
 use mathlib.Core.List.{List}
-use mathlib.Core.Option.{Option, some, none, Option·none-ne-some}
-use Prim.Native.Nat.{ℕ, suc, _+_, _*_, _<_, _≤_}
+use mathlib.Core.Option.{some, none, Option·none-ne-some}
+use Prim.Native.Nat.{ℕ, suc, _+_, _*_, _<_}
 use native.Mathlib.Omega.{arith}
 use native.Mathlib.Decide.{decLt, ℕ-discrete}
 use lib.Dec.{eqb}
@@ -25,7 +25,7 @@ use Rattle.paths.specs.Positions.{Done, Entering, Entered, MoreLeaving, enterin
 use Rattle.product.specs.ProductGraph.{pairs}
 use Rattle.product.specs.Setting.{placeOf, Setting}
 use Rattle.product.specs.Laws.Setting.{node-place, place-low, place-high}
-use Rattle.product.specs.Laws.Letters.{PairAt, LetterAt, OverSets, letter-at, over-positioned}
+use Rattle.product.specs.Laws.Letters.{LetterAt, OverSets, letter-at, over-positioned}
 
 -- the pairs whose in is not left were looked at
 abbrev pub NotLeft : ℕ → ℕ → Pair → Type 0

@@ -14,7 +14,7 @@ use Rattle.paths.specs.Graph.{Graph, pathCost}
 use Rattle.paths.specs.Labels.{Closed, Attained}
 use Rattle.paths.specs.Bounds.{Sized}
 use Rattle.paths.specs.Best.{IsBest}
-use Rattle.paths.specs.Walk.{Tight, LeastTight, Walk, Walking, walking-start, walking-next, walking-end, walk-best, walk-cost, tight-size}
+use Rattle.paths.specs.Walk.{LeastTight, Walk, Walking, walking-start, walking-next, walking-end, walk-best, walk-cost, tight-size}
 use Rattle.product.specs.ProductGraph.{pairs}
 use Rattle.product.specs.Laws.Preference.{length-bytes}
 

@@ -14,7 +14,7 @@ use Rattle.basics.specs.Sets.{member}
 use Rattle.basics.proofs.Bools.{left as left-passes, either, left-fails, right-fails, clash}
 use Rattle.basics.proofs.Sets.{no-member}
 use Rattle.machine.specs.declared.Pair.{Pair}
-use Rattle.machine.specs.Symbols.{emptySymbol, isPair}
+use Rattle.machine.specs.Symbols.{emptySymbol}
 use Rattle.machine.specs.SymbolSets.{leastSymbol}
 use Rattle.machine.proofs.SymbolSets.{below-least}
 use Rattle.machine.proofs.SetLoops.{with-true}

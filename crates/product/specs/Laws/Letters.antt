@@ -1,11 +1,11 @@
 -- The letters of the edges at a node: an insertion stays at its position, any other pair reads a symbol of the set there and leads to the next one.
 -- It is all that labelling and walking ask of a graph over a card's nodes, whatever its costs: the product at any price, or a part of it.
-use mathlib.Core.Path.{_≡_, sym, _∙_, ap, subst}
+use mathlib.Core.Path.{_≡_, _∙_, ap, subst}
 use mathlib.Core.Logic.{_⊎_, inl, inr, _≢_}
 use mathlib.Core.Bool.{true}
 use mathlib.Core.List.{List}
-use mathlib.Core.Option.{Option, some}
-use Prim.Native.Nat.{ℕ, suc, _+_, _≤_, _<_}
+use mathlib.Core.Option.{some}
+use Prim.Native.Nat.{ℕ, suc, _≤_, _<_}
 use native.Mathlib.Omega.{arith}
 use lib.Dec.{leb}
 use lib.ListN.{length, getD}
@@ -22,7 +22,7 @@ use Rattle.paths.specs.Positions.{Positioned}
 use Rattle.product.specs.Prices.{Price}
 use Rattle.product.specs.ProductGraph.{pairs, pricedGraph}
 use Rattle.product.specs.Setting.{placeOf}
-use Rattle.product.specs.Laws.Edges.{Advanced, stays, goes-on, advanced, Moved, moved, EdgeOf, edge-of, ending-of, ended, move-position}
+use Rattle.product.specs.Laws.Edges.{Advanced, stays, goes-on, advanced, Moved, moved, EdgeOf, edge-of, ending-of, word-ended, move-position}
 use Rattle.product.specs.Laws.Accepted.{accepted-machines}
 use Rattle.product.specs.Laws.CardGraph.{priced-symbols}
 
@@ -66,7 +66,7 @@ module _ {costs : Costs} {G : Graph costs pairs} {card sets : List ℕ} (O : Ove
 pub priced-over : {costs : Costs} (price : Price costs) (card sets : List ℕ) → cardRefusal card ≡ 0 → OverSets (pricedGraph price card sets) card sets
 priced-over {costs} price card sets ok = record {
   letters = letters;
-  ends = λ u c h. let k = ending-of price sets (machinesOf card) u c h in ended sets (machinesOf card) u (k .marks) (k .is) .at-end;
+  ends = λ u c h. let k = ending-of price sets (machinesOf card) u c h in word-ended sets (machinesOf card) u (k .marks) (k .is) .at-end;
 }
   where
     letters : (u : ℕ) (p : Pair) (e : Edge (costs .Cost)) → pricedGraph price card sets .edge u p ≡ some e → LetterAt card sets (placeOf card u) p (e .target)

@@ -22,19 +22,15 @@ use Rattle.paths.specs.Graph.{pathCost, addTo, follow}
 use Rattle.product.specs.Nodes.{stateCounts, nodeOf}
 use Rattle.product.specs.JointStep.{jointStep, jointEnding}
 use Rattle.product.specs.Prices.{Price}
-use Rattle.product.specs.ProductGraph.{insertsAt, advance, moveBy, move, ending, pricedMove, pricedEnding, productGraph}
+use Rattle.product.specs.ProductGraph.{advance, moveBy, move, ending, pricedMove, pricedEnding, productGraph}
 use Rattle.product.specs.Laws.Sets.{member-within, fits-end, fits-more, fits-next}
 use Rattle.product.specs.Laws.Nodes.{Below, position-of-node, states-of-node}
 use Rattle.product.specs.Laws.JointStep.{jointMarks, joint-marks-end, joint-marks-next, addToEach, onward, AllSound, joint-below}
 
--- an insertion is allowed from the first position to past the last set
-inserts-at : (sets : List ℕ) (i : ℕ) → i ≤ length sets → insertsAt sets i ≡ true
-inserts-at sets i h = le-leb i (length sets) h
-
 -- where a pair leads, case by case
 pub advance-insertion : (sets : List ℕ) (i : ℕ) (p : Pair) → p .input ≡ emptySymbol → i ≤ length sets → advance sets i p ≡ some i
 unfolding advance
-advance-insertion sets i p e h = rw (eq-eqb (p .input) 0 e, advance, inserts-at sets i h)
+advance-insertion sets i p e h = rw (eq-eqb (p .input) 0 e, advance, le-leb i (length sets) h)
 
 pub advance-symbol : (sets : List ℕ) (i : ℕ) (p : Pair) → (p .input ≡ emptySymbol → ⊥) → member (getD sets i 0) (p .input) ≡ true → advance sets i p ≡ some (i + 1)
 unfolding advance

@@ -9,7 +9,7 @@ use native.Mathlib.Omega.{arith}
 use lib.ListN.{length}
 use lib.Dec.{eqb, ltb}
 use borrow.Author.Tests.{eqb-true, ltb-true, eq-eqb, lt-ltb}
-use Rattle.basics.proofs.Bools.{decided, clash, both, left, right, either}
+use Rattle.basics.proofs.Bools.{clash, both, left, right, either}
 use Rattle.machine.specs.declared.Pair.{Pair}
 use Rattle.ranking.specs.Profiles.{merge}
 use Rattle.ranking.specs.ByteStrings.{smaller}
@@ -91,6 +91,11 @@ cases-tie : (c d : List Pair) → WinsTie c d → winsTie c d ≡ true
 unfolding winsTie
 cases-tie c d (inl k) = or-left (eqb (length c) (length d) && smaller (bytesOf c) (bytesOf d)) (lt-ltb (length c) (length d) k)
 cases-tie c d (inr k) = or-right (ltb (length c) (length d)) (both (eq-eqb (length c) (length d) (k .0)) (k .1))
+
+-- a test passes or fails
+decided : (a : Bool) → (a ≡ true) ⊎ (a ≡ false)
+decided true = inl refl
+decided false = inr refl
 
 not-true : (a : Bool) → not a ≡ true → a ≡ false
 not-true true e = absurd (false≢true e)

@@ -1,5 +1,5 @@
 -- `walk::inputs_at`: the union with the set of the empty symbol. Assumes nothing.
-use mathlib.Core.Path.{_≡_, sym, _∙_, ap}
+use mathlib.Core.Path.{sym, _∙_, ap}
 use mathlib.Core.Bool.{Bool, _||_, or-false}
 use native.Mathlib.Omega.{arith}
 use lib.Dec.{eqb}

@@ -16,7 +16,7 @@ try-outputs-requires c κs =
     (insertion-outputs (t .pre) (c .if1 .taken), sym (ap (λ (b : Bool). cond b (t .args .position) (t .args .position + 1)) e), sym (ap (λ (b : Bool). cond b 1 0) e))
 
 fill-steps-requires : tie.Need-fill-steps-requires
-fill-steps-requires c κs = let t = c .before .before .before .before .before .before .before .before .before in (t .pre .insertions-there .labels .accepted, t .pre .small, t .pre .room)
+fill-steps-requires c κs = let t = c .before .before .before .before .before .before .before .before .before in (t .pre .insertions-there .labels .setting .accepted, t .pre .small, t .pre .room)
 
 add-try-outputs : tie.Need-add-try-outputs
 add-try-outputs c = omega (arith, position-small (c .before .before .before .before .before .before .before .before .before .before .before .before .before .pre))
@@ -26,7 +26,7 @@ try-outputs-requires-2 c κs =
     let t = c .before .before .before .before .before .before .before .before .before .before .before .before .before in
     let n = c .before .before .before .before .before .if1 .left in
     let e = ne-eqb (t .args .input) 0 n in
-    (symbol-outputs (t .pre) n (c .before .before .before .fill-steps .ensures), sym (ap (λ (b : Bool). cond b (t .args .position) (t .args .position + 1)) e), sym (ap (λ (b : Bool). cond b 1 0) e))
+    (symbol-outputs (t .pre) (c .before .before .before .fill-steps .ensures), sym (ap (λ (b : Bool). cond b (t .args .position) (t .args .position + 1)) e), sym (ap (λ (b : Bool). cond b 1 0) e))
 
 pub try-input-spec : {M : Type 1} → statement M
 try-input-spec =

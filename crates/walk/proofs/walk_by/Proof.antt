@@ -1,5 +1,5 @@
 -- `walk::walk_by`: the tables, and then the walk by them. Assumes nothing.
-use mathlib.Core.Path.{refl, sym, _∙_}
+use mathlib.Core.Path.{refl}
 use native.Mathlib.Omega.{arith}
 use borrow.Author.Needs.{needs}
 use Rattle.walk.proofs.Starting.{counts-are, counts-length, counts-within, rows-pre, follow-pre, walked-by-ranking}
