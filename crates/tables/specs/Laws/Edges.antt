@@ -5,6 +5,7 @@ use mathlib.Core.List.{List, map}
 use mathlib.Core.Option.{Option, some, none, Option·none-ne-some}
 use Prim.Native.Nat.{ℕ, _+_, _*_, _<_, _≤_}
 use lib.ListN.{length, getD}
+use Rattle.basics.specs.Sets.{member}
 use Rattle.machine.specs.declared.Pair.{Pair}
 use Rattle.machine.specs.Symbols.{emptySymbol, isPair}
 use Rattle.machine.specs.Machine.{Machine}
@@ -39,30 +40,30 @@ code-step-few {ms = ms} sound c p m h = go (jointStep ms (statesOf (stateCounts 
         rw (← z) (step-marks-bound sound (statesOf (stateCounts ms) c) p steps k i)
 
 -- the product under a ranking of six places
-abbrev pub sixGraph : (ranking word : List ℕ) (ms : List Machine) → Graph (rankedCosts 6) pairs
-sixGraph ranking word ms = productGraph (byRanking (sixPlaces ranking)) word ms
+abbrev pub sixGraph : (ranking sets : List ℕ) (ms : List Machine) → Graph (rankedCosts 6) pairs
+sixGraph ranking sets ms = productGraph (byRanking (sixPlaces ranking)) sets ms
 
 -- the node of a position and a code
 abbrev pub nodeAt : List Machine → ℕ → ℕ → ℕ
 nodeAt ms i c = i * product (stateCounts ms) + c
 
-module _ (ranking word : List ℕ) {S : ℕ} {ms : List Machine} (sound : AllSound S ms) where
+module _ (ranking sets : List ℕ) {S : ℕ} {ms : List Machine} (sound : AllSound S ms) where
   priced : (base : ℕ) (o : Option Move) → ((m : Move) → o ≡ some m → (i : ℕ) → getD (m .marks) i 0 ≤ 15)
-      → pricedMove (byRanking (sixPlaces ranking)) word ms (movedBy base o) ≡ edgeFrom base (numbered (sixPlaces ranking) o)
+      → pricedMove (byRanking (sixPlaces ranking)) sets ms (movedBy base o) ≡ edgeFrom base (numbered (sixPlaces ranking) o)
   priced base none f = refl
   priced base (some m) f = let e = six-cost (m .marks) (f m refl) ranking in λ i. some (record { target = base + m .target; cost = sym e i })
 
   module _ (i a : ℕ) (h : a < product (stateCounts ms)) (p : Pair) where
     -- an insertion, at every position
-    pub insertion-edge : i ≤ length word → isPair p ≡ true → p .input ≡ emptySymbol
-        → sixGraph ranking word ms .edge (nodeAt ms i a) p ≡ edgeFrom (i * product (stateCounts ms)) (jointFrom (sixPlaces ranking) ms a p)
+    pub insertion-edge : i ≤ length sets → isPair p ≡ true → p .input ≡ emptySymbol
+        → sixGraph ranking sets ms .edge (nodeAt ms i a) p ≡ edgeFrom (i * product (stateCounts ms)) (jointFrom (sixPlaces ranking) ms a p)
     insertion-edge k t e =
-        ap (pricedMove (byRanking (sixPlaces ranking)) word ms) (insertion-move word ms i a h p k t e)
+        ap (pricedMove (byRanking (sixPlaces ranking)) sets ms) (insertion-move sets ms i a h p k t e)
         ∙ priced (i * product (stateCounts ms)) (codeStep ms a p) (code-step-few sound a p)
 
-    -- a pair that reads the symbol at the position
-    pub symbol-edge : i < length word → (p .input ≡ emptySymbol → ⊥) → getD word i emptySymbol ≡ p .input
-        → sixGraph ranking word ms .edge (nodeAt ms i a) p ≡ edgeFrom ((i + 1) * product (stateCounts ms)) (jointFrom (sixPlaces ranking) ms a p)
-    symbol-edge k n e =
-        ap (pricedMove (byRanking (sixPlaces ranking)) word ms) (symbol-move word ms i a h p k n e)
+    -- a pair that reads a symbol of the set at the position
+    pub symbol-edge : (p .input ≡ emptySymbol → ⊥) → member (getD sets i 0) (p .input) ≡ true
+        → sixGraph ranking sets ms .edge (nodeAt ms i a) p ≡ edgeFrom ((i + 1) * product (stateCounts ms)) (jointFrom (sixPlaces ranking) ms a p)
+    symbol-edge n e =
+        ap (pricedMove (byRanking (sixPlaces ranking)) sets ms) (symbol-move sets ms i a h p n e)
         ∙ priced ((i + 1) * product (stateCounts ms)) (codeStep ms a p) (code-step-few sound a p)
