@@ -18,7 +18,8 @@ use Rattle.paths.specs.Ranked.{Ranked, rankedCosts}
 use Rattle.paths.specs.ByRanking.{ranked}
 use Rattle.paths.specs.Labels.{Closed, Attained}
 use Rattle.paths.specs.Best.{IsBest, best-unique}
-use Rattle.product.specs.Best.{Contender, isBetter, harmonic}
+use Rattle.ranking.specs.Harmony.{isBetter}
+use Rattle.product.specs.Best.{Contender, harmonic}
 use Rattle.product.specs.Sets.{bestOfSetsIn, bestOfSets}
 use Rattle.product.specs.Prices.{ranking-agrees}
 use Rattle.product.specs.ProductGraph.{cardStart}

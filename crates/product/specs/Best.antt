@@ -9,9 +9,7 @@ use Rattle.basics.specs.Search.{those, joined, numbersBelow}
 use Rattle.machine.specs.declared.Pair.{Pair}
 use Rattle.machine.specs.Symbols.{isPair}
 use Rattle.machine.specs.Machine.{Machine}
-use Rattle.ranking.specs.declared.Order.{Order}
-use Rattle.ranking.specs.declared.Order.the-variants.{Better, Equal, Worse}
-use Rattle.ranking.specs.Harmony.{harmony}
+use Rattle.ranking.specs.Harmony.{harmony, isBetter}
 use Rattle.ranking.specs.ByteStrings.{smaller}
 use Rattle.card.specs.Layout.{symbolCount}
 use Rattle.card.specs.Card.{machinesOf}
@@ -79,11 +77,6 @@ unfoldable pub bestIn : ProfileOrder → List ℕ → List ℕ → Option Conten
 bestIn better card word = bestOf (symbolCount card) (machinesOf card) better word
 
 -- the order of a ranking
-abbrev pub isBetter : Order → Bool
-isBetter Better = true
-isBetter Equal = false
-isBetter Worse = false
-
 abbrev pub harmonic : List ℕ → ProfileOrder
 harmonic ranking v w = isBetter (harmony ranking v w)
 

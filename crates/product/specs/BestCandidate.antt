@@ -8,8 +8,7 @@ use Prim.Native.Nat.{ℕ, _<_}
 use lib.ListN.{length}
 use Rattle.machine.specs.declared.Pair.{Pair}
 use Rattle.machine.specs.Machine.{Machine}
-use Rattle.ranking.specs.declared.Order.the-variants.{Worse}
-use Rattle.ranking.specs.Harmony.{harmony}
+use Rattle.ranking.specs.Harmony.{worse}
 use Rattle.candidate.specs.Candidates.{bytesOf, profileOf, IsCandidate}
 use Rattle.product.specs.Sets.{IsCandidateOf}
 use Rattle.product.specs.Best.{Contender, contenderOf, ProfileOrder}
@@ -33,7 +32,7 @@ pub record IsBestIn (better : ProfileOrder) (ms : List Machine) (Meant : List Pa
 
 -- c beats d: d has a worse profile; or an equal profile and more pairs; or an equal profile, as many pairs and a larger byte string
 pub data Beats (ranking : List ℕ) (ms : List Machine) (c d : List Pair) : Type 0 where
-  better-profile : harmony ranking (profileOf ms d) (profileOf ms c) ≡ Worse → Beats ranking ms c d
+  better-profile : worse ranking (profileOf ms d) (profileOf ms c) ≡ true → Beats ranking ms c d
   fewer-pairs : profileOf ms d ≡ profileOf ms c → length c < length d → Beats ranking ms c d
   smaller-bytes : profileOf ms d ≡ profileOf ms c → length d ≡ length c → smaller (bytesOf c) (bytesOf d) ≡ true → Beats ranking ms c d
 

@@ -8,9 +8,10 @@ use native.Mathlib.Omega.{arith}
 use lib.ListN.{length, getD}
 use Rattle.basics.proofs.Bools.{clash}
 use Rattle.ranking.specs.Profiles.{merge}
+use Rattle.ranking.specs.Harmony.{isBetter}
 use Rattle.ranking.specs.HarmonicInequality.{merge-count}
 use Rattle.ranking.specs.Lemmas.Harmony.{Standing, fewer, same, more, standing, harmony-end, at-fewer, at-same, at-more}
-use Rattle.product.specs.Best.{ProfileOrder, isBetter, harmonic}
+use Rattle.product.specs.Best.{ProfileOrder, harmonic}
 use Rattle.paths.specs.Costs.{Costs}
 use Rattle.paths.specs.Ranked.{Ranked, Less, rankedCosts, letter-positive}
 use Rattle.paths.specs.ByRanking.{ranked, ranked-letters, Sums, ranked-sum}

@@ -1,5 +1,5 @@
 -- The best candidate is the best path from the start node.
-use mathlib.Core.Path.{_≡_, refl, sym, _∙_, ap}
+use mathlib.Core.Path.{_≡_, sym, _∙_, ap}
 use mathlib.Core.Logic.{_≢_}
 use mathlib.Core.Bool.{true}
 use mathlib.Core.List.{List}
@@ -7,17 +7,14 @@ use mathlib.Core.Option.{some}
 use Prim.Native.Nat.{ℕ}
 use lib.ListN.{length, length-map}
 use lib.Seq.{ext-getD}
-use Rattle.basics.proofs.Bools.{clash}
 use Rattle.machine.specs.declared.Pair.{Pair}
 use Rattle.machine.specs.Machine.{Machine}
-use Rattle.ranking.specs.declared.Order.{Order}
-use Rattle.ranking.specs.declared.Order.the-variants.{Better, Equal, Worse}
 use Rattle.ranking.specs.Rankings.{isRanking}
-use Rattle.ranking.specs.Harmony.{harmony}
-use Rattle.ranking.specs.HarmonicInequality.{better-worse, equal-means, itself}
+use Rattle.ranking.specs.Harmony.{isBetter}
+use Rattle.ranking.specs.HarmonicInequality.{better-worse, neither-way, equal-means, itself}
 use Rattle.candidate.specs.Candidates.{marksOf, countOf, profileOf, IsCandidate}
 use Rattle.product.specs.Sets.{singletons, IsCandidateOf}
-use Rattle.product.specs.Best.{contenderOf, ProfileOrder, isBetter, harmonic}
+use Rattle.product.specs.Best.{contenderOf, ProfileOrder, harmonic}
 use Rattle.paths.specs.Costs.{Costs}
 use Rattle.paths.specs.Graph.{pathCost}
 use Rattle.paths.specs.Best.{Before, IsBest}
@@ -35,20 +32,6 @@ profile-length ms c = length-map ms (λ m. countOf (marksOf c m))
 
 -- ---- under a ranking the best candidate is the best in harmony
 
--- the test and the comparison
-better-is : (o : Order) → isBetter o ≡ true → o ≡ Better
-better-is Better e = refl
-better-is Equal e = absurd (clash e refl)
-better-is Worse e = absurd (clash e refl)
-
-alike-equal : (r v w : List ℕ) → Alike (harmonic r) v w → harmony r v w ≡ Equal
-alike-equal r v w e = go (harmony r v w) refl
-  where
-    go : (o : Order) → harmony r v w ≡ o → o ≡ Equal
-    go Better q = absurd (clash (ap isBetter q) (e .0))
-    go Equal q = refl
-    go Worse q = absurd (clash (ap isBetter (better-worse r w v .1 q)) (e .1))
-
 module _ (r : List ℕ) (ms : List Machine) (c d : List Pair) where
   beats-harmonic : Beats r ms c d → BeatsIn (harmonic r) (contenderOf ms c) (contenderOf ms d)
   beats-harmonic = go
@@ -57,7 +40,7 @@ module _ (r : List ℕ) (ms : List Machine) (c d : List Pair) where
       same e = let q = ap isBetter (itself r (profileOf ms c)) in (rw e q, rw e q)
 
       go : Beats r ms c d → BeatsIn (harmonic r) (contenderOf ms c) (contenderOf ms d)
-      go (better-profile h) = by-profile (ap isBetter (better-worse r (profileOf ms c) (profileOf ms d) .1 h))
+      go (better-profile h) = by-profile (sym (better-worse r (profileOf ms c) (profileOf ms d)) ∙ h)
       go (fewer-pairs e h) = by-pairs (same e) h
       go (smaller-bytes e h k) = by-bytes (same e) (sym h) k
 
@@ -66,11 +49,11 @@ module _ (r : List ℕ) (ms : List Machine) (c d : List Pair) where
     where
       same : Alike (harmonic r) (profileOf ms c) (profileOf ms d) → profileOf ms d ≡ profileOf ms c
       same e =
-          let agree = equal-means (length ms) r is (profileOf ms c) (profileOf ms d) .0 (alike-equal r (profileOf ms c) (profileOf ms d) e) in
+          let agree = equal-means (length ms) r is (profileOf ms c) (profileOf ms d) .0 (neither-way r (profileOf ms c) (profileOf ms d) (e .0) (e .1)) in
           ext-getD 0 (profileOf ms d) (profileOf ms c) (profile-length ms d ∙ sym (profile-length ms c)) (λ i k. sym (agree i (rw profile-length at k)))
 
       go : BeatsIn (harmonic r) (contenderOf ms c) (contenderOf ms d) → Beats r ms c d
-      go (by-profile e) = better-profile (better-worse r (profileOf ms c) (profileOf ms d) .0 (better-is (harmony r (profileOf ms c) (profileOf ms d)) e))
+      go (by-profile e) = better-profile (better-worse r (profileOf ms c) (profileOf ms d) ∙ e)
       go (by-pairs e h) = fewer-pairs (same e) h
       go (by-bytes e h k) = smaller-bytes (same e) (sym h) k
 
