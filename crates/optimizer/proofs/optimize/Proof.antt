@@ -3,7 +3,7 @@ use Prim.Native.Nat.{_≤_, _<_, _+_, _*_}
 use native.Mathlib.Omega.{arith}
 use lib.ListN.{length}
 use borrow.Author.Needs.{needs}
-use Rattle.candidate.specs.Optimizing.{inputRefusal}
+use Rattle.product.specs.Optimizing.{inputRefusal}
 use Rattle.optimizer.specs.Refusals.{stageNumber}
 use Rattle.optimizer.specs.AcceptedInput.{AcceptedInput, accepted-input}
 use Rattle.optimizer.proofs.Refusals.{number-positive}

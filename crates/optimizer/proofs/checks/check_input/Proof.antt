@@ -3,13 +3,14 @@ use mathlib.Core.Bool.{true}
 use Prim.Native.Nat.{_*_}
 use mathlib.Core.List.{[], _∷_}
 use lib.Dec.{leb, lit<}
+use lib.ListN.{length}
 use Rattle.basics.specs.Refusals.{refuse}
 use Rattle.basics.proofs.Refusals.{was-true, goes-up, last-one}
 use Rattle.ranking.specs.Rankings.{isRanking}
 use Rattle.card.specs.Layout.{machineCount, symbolCount}
-use Rattle.card.specs.Card.{cardRefusal}
-use Rattle.candidate.specs.Best.{nodeCount}
-use Rattle.candidate.specs.Optimizing.{soundWord, inputRefusal}
+use Rattle.card.specs.Card.{cardRefusal, machinesOf}
+use Rattle.product.specs.Nodes.{nodeCount}
+use Rattle.product.specs.Optimizing.{soundWord, inputRefusal}
 use Rattle.optimizer.specs.Refusals.{stageNumber}
 use Rattle.optimizer.proofs.Refusals.{number-positive}
 use borrow.Author.Needs.{needs}
@@ -37,7 +38,7 @@ unfolding inputRefusal
 returns c =
     let a = c .before .before .before .before .before .before .args in
     goes-up stageNumber (c .enum-told2 .given .1) (cardRefusal (a .card .now))
-    (refuse 7 (isRanking (machineCount (a .card .now)) (a .ranking .now)) ∷ refuse 8 (soundWord (symbolCount (a .card .now)) (a .word .now)) ∷ refuse 9 (leb (8 * nodeCount (a .card .now) (a .word .now)) (a .room)) ∷ [])
+    (refuse 7 (isRanking (machineCount (a .card .now)) (a .ranking .now)) ∷ refuse 8 (soundWord (symbolCount (a .card .now)) (a .word .now)) ∷ refuse 9 (leb (8 * nodeCount (machinesOf (a .card .now)) (length (a .word .now))) (a .room)) ∷ [])
     (c .before .before .check-card .ensures) (number-positive (c .enum-told2 .given .0 .0))
 
 check-ranking-requires : tie.Need-check-ranking-requires
@@ -50,7 +51,7 @@ returns-2 c =
     let a = p .before .before .before .before .before .before .args in
     rw (card-passed p)
     (goes-up stageNumber (c .enum-told4 .given .1) (refuse 7 (isRanking (machineCount (a .card .now)) (a .ranking .now)))
-    (refuse 8 (soundWord (symbolCount (a .card .now)) (a .word .now)) ∷ refuse 9 (leb (8 * nodeCount (a .card .now) (a .word .now)) (a .room)) ∷ [])
+    (refuse 8 (soundWord (symbolCount (a .card .now)) (a .word .now)) ∷ refuse 9 (leb (8 * nodeCount (machinesOf (a .card .now)) (length (a .word .now))) (a .room)) ∷ [])
     (c .before .before .check-ranking .ensures) (number-positive (c .enum-told4 .given .0 .0)))
 
 check-word-requires : tie.Need-check-word-requires
@@ -64,7 +65,7 @@ returns-3 c =
     let a = p .before .before .before .before .before .before .args in
     rw (card-passed p, ranking-passed q)
     (goes-up stageNumber (c .enum-told6 .given .1) (refuse 8 (soundWord (symbolCount (a .card .now)) (a .word .now)))
-    (refuse 9 (leb (8 * nodeCount (a .card .now) (a .word .now)) (a .room)) ∷ [])
+    (refuse 9 (leb (8 * nodeCount (machinesOf (a .card .now)) (length (a .word .now))) (a .room)) ∷ [])
     (c .before .before .check-word .ensures) (number-positive (c .enum-told6 .given .0 .0)))
 
 check-work-requires : tie.Need-check-work-requires
@@ -78,7 +79,7 @@ returns-4 c =
     let p = q .before .before .before in
     let a = p .before .before .before .before .before .before .args in
     rw (card-passed p, ranking-passed q, word-passed w)
-    (c .check-work .ensures ∙ sym (last-one (refuse 9 (leb (8 * nodeCount (a .card .now) (a .word .now)) (a .room)))))
+    (c .check-work .ensures ∙ sym (last-one (refuse 9 (leb (8 * nodeCount (machinesOf (a .card .now)) (length (a .word .now))) (a .room)))))
 
 pub check-input-spec : {M : Type 1} → statement M
 check-input-spec =

@@ -1,7 +1,7 @@
 use mathlib.Core.Path.{_≡_, sym, ap, _∙_}
 use Rattle.basics.specs.Refusals.{refuse}
 use Rattle.card.specs.Layout.{symbolCount}
-use Rattle.candidate.specs.Optimizing.{soundWord}
+use Rattle.product.specs.Optimizing.{soundWord}
 use Rattle.product.specs.Refusals.{stageNumber}
 use borrow.Author.Needs.{needs}
 use Rattle.optimizer.proofs.checks.check_word.Statement.{statement}

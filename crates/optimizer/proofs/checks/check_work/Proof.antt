@@ -3,7 +3,8 @@ use Prim.Native.Nat.{_≤_, _+_, _*_}
 use native.Mathlib.Omega.{arith}
 use lib.ListN.{length}
 use Rattle.basics.proofs.Refusals.{passes-with, refuses-with}
-use Rattle.candidate.specs.Best.{nodeCount}
+use Rattle.card.specs.Card.{machinesOf}
+use Rattle.product.specs.Nodes.{nodeCount}
 use Rattle.optimizer.proofs.Answers.{node-room, nodes-few}
 use borrow.Author.Tests.{le-leb, lt-leb}
 use borrow.Author.Needs.{needs}
@@ -15,7 +16,7 @@ few c =
     let s = c .before .before .before in
     nodes-few (s .args .card .now) (s .args .word .now) (s .pre .0) (c .joint-states .result) (c .joint-states .ensures) (s .pre .1)
 
-room : (c : tie.After-joint-states) → (length (c .before .before .before .args .word .now) + 1) * c .joint-states .result * 8 ≡ 8 * nodeCount (c .before .before .before .args .card .now) (c .before .before .before .args .word .now)
+room : (c : tie.After-joint-states) → (length (c .before .before .before .args .word .now) + 1) * c .joint-states .result * 8 ≡ 8 * nodeCount (machinesOf (c .before .before .before .args .card .now)) (length (c .before .before .before .args .word .now))
 room c =
     let s = c .before .before .before in
     node-room (s .args .card .now) (s .args .word .now) (s .pre .0) (c .joint-states .result) (c .joint-states .ensures)
@@ -29,12 +30,12 @@ mul-if1-2 c = omega (arith, few c)
 returns : tie.Need-returns
 returns c =
     let a = c .before .before .before .before .args in
-    sym (refuses-with 9 (lt-leb (8 * nodeCount (a .card .now) (a .word .now)) (a .room) (omega (arith, room (c .before)))))
+    sym (refuses-with 9 (lt-leb (8 * nodeCount (machinesOf (a .card .now)) (length (a .word .now))) (a .room) (omega (arith, room (c .before)))))
 
 returns-2 : tie.Need-returns-2
 returns-2 c =
     let a = c .before .before .before .before .args in
-    sym (passes-with 9 (le-leb (8 * nodeCount (a .card .now) (a .word .now)) (a .room) (omega (arith, room (c .before)))))
+    sym (passes-with 9 (le-leb (8 * nodeCount (machinesOf (a .card .now)) (length (a .word .now))) (a .room) (omega (arith, room (c .before)))))
 
 pub check-work-spec : {M : Type 1} → statement M
 check-work-spec =
