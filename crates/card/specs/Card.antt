@@ -7,7 +7,8 @@ use Rattle.basics.specs.Products.{product}
 use Rattle.basics.specs.Refusals.{refuse, firstOf}
 use Rattle.machine.specs.Machine.{Machine}
 use Rattle.machine.specs.Part.{machineOf, stateCount, partRefusal}
-use Rattle.card.specs.Layout.{symbolCount, counted, laidOut, partsOf}
+use Rattle.layout.specs.Layout.{laidOut}
+use Rattle.card.specs.Layout.{machineCount, symbolCount, counted, partsOf}
 
 -- the machines of a card, in card order
 unfoldable pub machinesOf : List ℕ → List Machine
@@ -29,4 +30,4 @@ machinesRefusal S parts = firstOf (partsRefusal S parts ∷ refuse 6 (fewStates 
 unfoldable pub cardRefusal : List ℕ → ℕ
 cardRefusal card =
     firstOf
-    (refuse 1 (counted card) ∷ refuse 2 (laidOut card) ∷ partsRefusal (symbolCount card) (partsOf card) ∷ refuse 6 (fewStates (partsOf card)) ∷ [])
+    (refuse 1 (counted card) ∷ refuse 2 (laidOut (machineCount card) card) ∷ partsRefusal (symbolCount card) (partsOf card) ∷ refuse 6 (fewStates (partsOf card)) ∷ [])

@@ -5,13 +5,14 @@ use Rattle.basics.specs.Sets.{setOf}
 use Rattle.basics.specs.Products.{product}
 use Rattle.machine.specs.Machine.{takes, stepAmong, endingOf, takeOnePair, clash}
 use Rattle.machine.specs.Part.{arcAt, arcsAt, machineOf, soundArc, shaped, partRefusal}
-use Rattle.card.specs.Layout.{counted, dueOffset, laidOut, partsOf}
+use Rattle.layout.specs.Layout.{dueOffset, laidOut, partsIn}
+use Rattle.card.specs.Layout.{counted, partsOf}
 use Rattle.card.specs.Card.{cardRefusal, partsRefusal, machinesOf}
 use Rattle.ranking.specs.Rankings.{isRanking}
 use Rattle.ranking.specs.Harmony.{harmony}
 use Rattle.candidate.specs.Candidates.{pairsOf, bytesOf, spelled, marksFrom, isComplete, profileOf}
 use Rattle.ranking.specs.ByteStrings.{smaller}
-use Rattle.product.specs.Best.{winsTie, preferred, sameWord, pairsOver, listsBelow, contendersAmong, leastOf, bestBelow, bestOf, best}
+use Rattle.product.specs.Best.{winsTie, preferred, sameWord, pairsOver, listsBelow, contendersAmong, leastOf, bestBelow, bestOf, bestIn, best}
 use Rattle.product.specs.Optimizing.{soundWord, inputRefusal, optimizerRefusal, optimized, optimizedAnswer}
 use Rattle.lines.specs.Text.{textOf, before, after, segments}
 use Rattle.lines.specs.Decimal.{digitsWithin, decimal, valueFrom}
@@ -23,9 +24,9 @@ use Rattle.session.specs.Output.{output}
 use Rattle.examples.specs.Cards.{cardB}
 
 pub example-printed : printed cardB (textOf "021 2") ≡ textOf "0,1,0 0:1 2:2\n"
-unfolding allOf pairwise those joined everyBelow someBelow numbersBelow occurrences setOf takes stepAmong endingOf takeOnePair clash arcAt arcsAt machineOf soundArc shaped partRefusal counted dueOffset laidOut partsOf cardRefusal partsRefusal product machinesOf isRanking harmony pairsOf bytesOf spelled marksFrom isComplete profileOf smaller winsTie preferred sameWord pairsOver listsBelow contendersAmong leastOf bestBelow bestOf best soundWord inputRefusal optimizerRefusal optimized optimizedAnswer before after segments digitsWithin decimal valueFrom isRankingText isSymbolText parsedLine nextCount withCommas pairText pairsText acceptedLine lineOf bestLine
+unfolding allOf pairwise those joined everyBelow someBelow numbersBelow occurrences setOf takes stepAmong endingOf takeOnePair clash arcAt arcsAt machineOf soundArc shaped partRefusal dueOffset laidOut partsIn counted partsOf cardRefusal partsRefusal product machinesOf isRanking harmony pairsOf bytesOf spelled marksFrom isComplete profileOf smaller winsTie preferred sameWord pairsOver listsBelow contendersAmong leastOf bestBelow bestOf bestIn best soundWord inputRefusal optimizerRefusal optimized optimizedAnswer before after segments digitsWithin decimal valueFrom isRankingText isSymbolText parsedLine nextCount withCommas pairText pairsText acceptedLine lineOf bestLine
 example-printed = refl
 
 pub example-output : output cardB (textOf "021 2") ≡ textOf "0,1,0 0:1 2:2\n"
-unfolding allOf pairwise those joined everyBelow someBelow numbersBelow occurrences setOf takes stepAmong endingOf takeOnePair clash arcAt arcsAt machineOf soundArc shaped partRefusal counted dueOffset laidOut partsOf cardRefusal partsRefusal product machinesOf isRanking harmony pairsOf bytesOf spelled marksFrom isComplete profileOf smaller winsTie preferred sameWord pairsOver listsBelow contendersAmong leastOf bestBelow bestOf best soundWord inputRefusal optimizerRefusal optimized optimizedAnswer before after segments digitsWithin decimal valueFrom isRankingText isSymbolText parsedLine linesOf nextCount withCommas pairText pairsText acceptedLine lineOf bestLine
+unfolding allOf pairwise those joined everyBelow someBelow numbersBelow occurrences setOf takes stepAmong endingOf takeOnePair clash arcAt arcsAt machineOf soundArc shaped partRefusal dueOffset laidOut partsIn counted partsOf cardRefusal partsRefusal product machinesOf isRanking harmony pairsOf bytesOf spelled marksFrom isComplete profileOf smaller winsTie preferred sameWord pairsOver listsBelow contendersAmong leastOf bestBelow bestOf bestIn best soundWord inputRefusal optimizerRefusal optimized optimizedAnswer before after segments digitsWithin decimal valueFrom isRankingText isSymbolText parsedLine linesOf nextCount withCommas pairText pairsText acceptedLine lineOf bestLine
 example-output = refl

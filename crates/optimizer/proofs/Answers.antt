@@ -3,8 +3,7 @@ use mathlib.Core.Path.{_≡_, refl, _∙_, ap}
 use mathlib.Core.Bool.{true}
 use mathlib.Core.List.{List, [], _∷_, _++_}
 use mathlib.Core.Option.{some}
-use Prim.Native.Nat.{ℕ, zero, suc, _+_, _*_, _<_, _≤_}
-use native.Mathlib.Nat.{mul-le-mul}
+use Prim.Native.Nat.{ℕ, zero, suc, _<_, _≤_}
 use native.Mathlib.Decide.{decLt}
 use native.Mathlib.Omega.{arith}
 use lib.ListN.{length, getD, take, drop, length-append, length-drop, List·getD-eq-default}
@@ -14,17 +13,12 @@ use Rattle.basics.specs.Search.{allOf}
 use Rattle.basics.specs.Refusals.{unlessRefused}
 use Rattle.basics.proofs.Bools.{both}
 use Rattle.basics.proofs.Search.{all-at}
-use Rattle.card.specs.Layout.{symbolCount}
-use Rattle.card.specs.Card.{cardRefusal, machinesOf}
 use Rattle.candidate.specs.Evaluating.{refused}
 use Rattle.product.specs.Best.{Contender, best}
-use Rattle.product.specs.Optimizing.{soundWord, inputRefusal, countsFit, optimizerRefusal, evaluationOf, filled, optimized, optimizedAnswer}
+use Rattle.product.specs.Optimizing.{inputRefusal, countsFit, optimizerRefusal, evaluationOf, filled, optimized, optimizedAnswer}
 use Rattle.paths.specs.Ranked.{Ranked, countAt}
 use Rattle.paths.specs.ByRanking.{ranked}
-use Rattle.product.specs.Nodes.{product, stateCounts, nodeCount}
-use Rattle.product.specs.Laws.Accepted.{accepted-machines}
 use Rattle.tables.specs.Places.{sixPlaces}
-use Rattle.optimizer.specs.AcceptedInput.{short-word}
 use Rattle.optimizer.specs.Searching.{searchRefusal, costFits}
 
 -- ---- the checks 1 to 9
@@ -72,18 +66,7 @@ cost-fits cost ranking b n t e =
     (both (ap (λ (c : Ranked 6). leb (countAt 6 4 c) 60000) e ∙ z 4)
     (ap (λ (c : Ranked 6). leb (countAt 6 5 c) 60000) e ∙ z 5)))))
 
--- ---- the room for the nodes
-
--- of a word of at most 24 symbols and at most 128 joint states
-pub few-nodes : (n P : ℕ) → n ≤ 24 → P ≤ 128 → (n + 1) * P ≤ 3200
-few-nodes n P h k = let q : n + 1 ≤ 25 = omega arith in mul-le-mul q k
-
-module _ (card word : List ℕ) (ok : cardRefusal card ≡ 0) (P : ℕ) (e : P ≡ product (stateCounts (machinesOf card))) where
-  pub node-room : (length word + 1) * P * 8 ≡ 8 * nodeCount (machinesOf card) (length word)
-  node-room = let q : (length word + 1) * P ≡ nodeCount (machinesOf card) (length word) = ap (λ (p : ℕ). (length word + 1) * p) e in omega arith
-
-  pub nodes-few : soundWord (symbolCount card) word ≡ true → (length word + 1) * P ≤ 3200
-  nodes-few t = few-nodes (length word) P (short-word (symbolCount card) word t) (omega (arith, accepted-machines card ok .few-states))
+-- ---- the work slice
 
 -- the front of a slice that has so many numbers
 pub front-room : (n : ℕ) (l : List ℕ) → n ≤ length l → length (take n l) ≡ n

@@ -22,7 +22,7 @@ use Rattle.product.specs.Best.{Contender, best}
 use Rattle.product.specs.Optimizing.{inputRefusal, countsFit, optimizerRefusal, evaluationOf, filled, optimized, optimizedAnswer}
 use Rattle.product.specs.BestCandidate.{IsBestCandidate}
 use Rattle.product.specs.BestTheorem.{BestOfAll, best-is-best-of-all, counts-always-fit}
-use Rattle.optimizer.specs.AcceptedInput.{AcceptedInput, accepted-input, short-word}
+use Rattle.input.specs.AcceptedInput.{AcceptedInput, accepted-input, short-word}
 use Rattle.optimizer.specs.Optimizes.{Optimizes}
 
 -- the best candidate and where it stands: it is a candidate for the word, beats every other one, however long, and the answer has it

@@ -14,18 +14,27 @@ use Rattle.card.specs.Card.{cardRefusal, machinesOf}
 use Rattle.candidate.specs.declared.Evaluation.{Evaluation}
 use Rattle.candidate.specs.Candidates.{isSome}
 use Rattle.candidate.specs.Evaluating.{profileWith, refused}
-use Rattle.product.specs.Best.{Contender, best}
+use Rattle.product.specs.Best.{Contender}
 use Rattle.product.specs.Optimizing.{soundWord, countsFit, answerFits, evaluationOf, filled}
 use Rattle.paths.specs.Ranked.{Ranked, letterCount}
 use Rattle.paths.specs.ByRanking.{ranked}
 use Rattle.product.specs.Nodes.{product, stateCounts}
+use Rattle.product.specs.Setting.{Setting}
+use Rattle.product.specs.Laws.BestOfSets.{are64Bits}
 use Rattle.tables.specs.Places.{sixPlaces}
 
 -- the checks 10 to 12
 abbrev pub searchRefusal : Option Contender → ℕ → ℕ
 searchRefusal b room = firstOf (refuse 10 (isSome b) ∷ refuse 11 (countsFit b) ∷ refuse 12 (answerFits b room) ∷ [])
 
--- accepted input; size is the product of the state counts, and the work slice has just the room for the nodes
+-- accepted sets, all of them 64-bit numbers, with just the room for the nodes in the work slice
+pub record SetsPre (card ranking sets work : List ℕ) (size : ℕ) : Type 0 where
+  pub setting : Setting card sets size
+  pub ranks : isRanking (machineCount card) ranking ≡ true
+  pub bits : are64Bits sets ≡ true
+  pub room : length work ≡ (length sets + 1) * size * 8
+
+-- the same with an accepted word
 pub record SearchPre (card ranking word work : List ℕ) (size : ℕ) : Type 0 where
   pub accepted : cardRefusal card ≡ 0
   pub ranks : isRanking (machineCount card) ranking ≡ true
@@ -33,10 +42,10 @@ pub record SearchPre (card ranking word work : List ℕ) (size : ℕ) : Type 0 w
   pub states : size ≡ product (stateCounts (machinesOf card))
   pub room : length work ≡ (length word + 1) * size * 8
 
--- what the search answers, and the slices at exit
-pub record Searched (card ranking word work workAfter answer answerAfter : List ℕ) (r : Evaluation) : Type 0 where
-  pub result : r ≡ unlessRefused (searchRefusal (best card ranking word) (length answer)) (evaluationOf (best card ranking word) word) refused
-  pub answer-slice : answerAfter ≡ unlessRefused (searchRefusal (best card ranking word) (length answer)) (filled (best card ranking word) answer) (λ n. answer)
+-- what the search answers by what the best is, and the slices at exit
+pub record Searched (b : Option Contender) (word work workAfter answer answerAfter : List ℕ) (r : Evaluation) : Type 0 where
+  pub result : r ≡ unlessRefused (searchRefusal b (length answer)) (evaluationOf b word) refused
+  pub answer-slice : answerAfter ≡ unlessRefused (searchRefusal b (length answer)) (filled b answer) (λ n. answer)
   pub work-length : length workAfter ≡ length work
 
 -- no count of a cost is over 60,000

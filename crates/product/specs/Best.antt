@@ -1,5 +1,5 @@
 -- The best candidate for a word: the order on candidates, and the least in that order.
-use mathlib.Core.Bool.{Bool, true, false, _&&_, _||_}
+use mathlib.Core.Bool.{Bool, true, false, not, _&&_, _||_}
 use mathlib.Core.List.{List, [], _∷_, map}
 use mathlib.Core.Option.{Option, some, none}
 use Prim.Native.Nat.{ℕ, zero, suc, _+_}
@@ -9,9 +9,7 @@ use Rattle.basics.specs.Search.{those, joined, numbersBelow}
 use Rattle.machine.specs.declared.Pair.{Pair}
 use Rattle.machine.specs.Symbols.{isPair}
 use Rattle.machine.specs.Machine.{Machine}
-use Rattle.ranking.specs.declared.Order.{Order}
-use Rattle.ranking.specs.declared.Order.the-variants.{Better, Equal, Worse}
-use Rattle.ranking.specs.Harmony.{harmony}
+use Rattle.ranking.specs.Harmony.{harmony, isBetter}
 use Rattle.ranking.specs.ByteStrings.{smaller}
 use Rattle.card.specs.Layout.{symbolCount}
 use Rattle.card.specs.Card.{machinesOf}
@@ -23,19 +21,20 @@ pub record Contender : Type 0 where
   pub candidate : List Pair
   pub profile : List ℕ
 
+abbrev pub contenderOf : List Machine → List Pair → Contender
+contenderOf ms c = record { candidate = c; profile = profileOf ms c }
+
 -- of two candidates with equal profiles: fewer pairs; then the smaller byte string
 unfoldable pub winsTie : List Pair → List Pair → Bool
 winsTie c d = ltb (length c) (length d) || (eqb (length c) (length d) && smaller (bytesOf c) (bytesOf d))
 
--- by how the profiles stand: the better profile; between equal ones what comes next
-abbrev pub byOrder : Order → Bool → Bool
-byOrder Better next = true
-byOrder Equal next = next
-byOrder Worse next = false
+-- an order on profiles, as a test: is the first better than the second? The second is then worse than the first
+abbrev pub ProfileOrder : Type 0
+ProfileOrder = List ℕ → List ℕ → Bool
 
--- the better profile under the ranking; then fewest pairs; then the smallest byte string
-unfoldable pub preferred : List ℕ → Contender → Contender → Bool
-preferred ranking a b = byOrder (harmony ranking (a .profile) (b .profile)) (winsTie (a .candidate) (b .candidate))
+-- the better profile in the order; where neither is better, fewest pairs; then the smallest byte string
+unfoldable pub preferred : ProfileOrder → Contender → Contender → Bool
+preferred better a b = better (a .profile) (b .profile) || (not (better (b .profile) (a .profile)) && winsTie (a .candidate) (b .candidate))
 
 -- two words are the same
 unfoldable pub sameWord : List ℕ → List ℕ → Bool
@@ -57,22 +56,30 @@ listsBelow (suc n) ps = let shorterLists = listsBelow n ps in [] ∷ joined (λ 
 unfoldable pub contendersAmong : List Machine → List ℕ → List (List Pair) → List Contender
 contendersAmong ms word [] = []
 contendersAmong ms word (c ∷ cs) =
-    elim (sameWord (spelled c) word && isComplete ms c) [ true ↦ record { candidate = c; profile = profileOf ms c } ∷ contendersAmong ms word cs | false ↦ contendersAmong ms word cs ]
+    elim (sameWord (spelled c) word && isComplete ms c) [ true ↦ contenderOf ms c ∷ contendersAmong ms word cs | false ↦ contendersAmong ms word cs ]
 
 -- the least in the order of preference
-unfoldable pub leastOf : List ℕ → List Contender → Option Contender
-leastOf ranking [] = none
-leastOf ranking (a ∷ rest) =
-    elim (leastOf ranking rest) [ none ↦ some a | some b ↦ elim (preferred ranking b a) [ true ↦ some b | false ↦ some a ] ]
+unfoldable pub leastOf : ProfileOrder → List Contender → Option Contender
+leastOf better [] = none
+leastOf better (a ∷ rest) =
+    elim (leastOf better rest) [ none ↦ some a | some b ↦ elim (preferred better b a) [ true ↦ some b | false ↦ some a ] ]
 
 -- the best among the candidates of fewer pairs than a bound
-unfoldable pub bestBelow : ℕ → ℕ → List Machine → List ℕ → List ℕ → Option Contender
-bestBelow bound S ms ranking word = leastOf ranking (contendersAmong ms word (listsBelow bound (pairsOver S)))
+unfoldable pub bestBelow : ℕ → ℕ → List Machine → ProfileOrder → List ℕ → Option Contender
+bestBelow bound S ms better word = leastOf better (contendersAmong ms word (listsBelow bound (pairsOver S)))
 
 -- the best candidate for a word, by machines over S symbols. That lists of as many pairs as nodes, or more, change nothing is a theorem
-unfoldable pub bestOf : ℕ → List Machine → List ℕ → List ℕ → Option Contender
-bestOf S ms ranking word = bestBelow (nodeCount ms (length word)) S ms ranking word
+unfoldable pub bestOf : ℕ → List Machine → ProfileOrder → List ℕ → Option Contender
+bestOf S ms better word = bestBelow (nodeCount ms (length word)) S ms better word
 
--- the best candidate for a word on a card
+-- on a card, in an order on profiles
+unfoldable pub bestIn : ProfileOrder → List ℕ → List ℕ → Option Contender
+bestIn better card word = bestOf (symbolCount card) (machinesOf card) better word
+
+-- the order of a ranking
+abbrev pub harmonic : List ℕ → ProfileOrder
+harmonic ranking v w = isBetter (harmony ranking v w)
+
+-- the best candidate under a ranking
 unfoldable pub best : List ℕ → List ℕ → List ℕ → Option Contender
-best card ranking word = bestOf (symbolCount card) (machinesOf card) ranking word
+best card ranking word = bestIn (harmonic ranking) card word

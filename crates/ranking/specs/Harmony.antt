@@ -1,5 +1,5 @@
 -- Harmonic comparison of two profiles, by their counts in card order.
-use mathlib.Core.Bool.{true, false}
+use mathlib.Core.Bool.{Bool, true, false}
 use mathlib.Core.List.{List, [], _∷_}
 use mathlib.Core.Option.{Option, some, none}
 use Prim.Native.Nat.{ℕ}
@@ -20,14 +20,31 @@ harmony [] v w = Equal
 harmony (m ∷ r) v w =
     elim (ltb (getD v m 0) (getD w m 0)) [ true ↦ Better | false ↦ elim (ltb (getD w m 0) (getD v m 0)) [ true ↦ Worse | false ↦ harmony r v w ] ]
 
+abbrev pub isBetter : Order → Bool
+isBetter Better = true
+isBetter Equal = false
+isBetter Worse = false
+
+abbrev pub isWorse : Order → Bool
+isWorse Better = false
+isWorse Equal = false
+isWorse Worse = true
+
+-- v is better than w under the ranking
+abbrev pub better : List ℕ → List ℕ → List ℕ → Bool
+better r v w = isBetter (harmony r v w)
+
+-- v is worse than w under the ranking
+abbrev pub worse : List ℕ → List ℕ → List ℕ → Bool
+worse r v w = isWorse (harmony r v w)
+
 -- the better of two: the first where it is better, else the second
-abbrev pub firstIfBetter : Order → List ℕ → List ℕ → List ℕ
-firstIfBetter Better v w = v
-firstIfBetter Equal v w = w
-firstIfBetter Worse v w = w
+abbrev pub firstIf : Bool → List ℕ → List ℕ → List ℕ
+firstIf true v w = v
+firstIf false v w = w
 
 unfoldable pub betterOf : List ℕ → List ℕ → List ℕ → List ℕ
-betterOf r v w = firstIfBetter (harmony r v w) v w
+betterOf r v w = firstIf (better r v w) v w
 
 -- what comparing answers, in the paper's terms: a refusal carries its number alone
 pub record Compared : Type 0 where

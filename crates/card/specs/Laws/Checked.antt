@@ -9,7 +9,7 @@ use lib.Seq.{length-take-le}
 use Rattle.basics.specs.Products.{product}
 use Rattle.machine.specs.Part.{stateCount, partRefusal}
 use Rattle.machine.specs.Accepted.{Shaped, shape-facts, accepted}
-use Rattle.card.specs.Layout.{Bytes}
+use Rattle.layout.specs.Layout.{Bytes}
 use Rattle.card.specs.Card.{partsRefusal}
 use Rattle.card.specs.Packing.{total, split}
 use Rattle.card.specs.Laws.Search.{first-passed, rest-passed}

@@ -1,8 +1,7 @@
 use borrow.Author.Needs.{needs}
 use Prim.Native.Nat.{_*_}
 use native.Mathlib.Omega.{arith}
-use lib.ListN.{length}
-use Rattle.positions.proofs.Edges.{few-nodes, node-below, some-code}
+use Rattle.product.specs.Laws.Setting.{few-nodes, node-below, some-code}
 use Rattle.positions.proofs.Labelling.{entered-last, settle-ready, position-labelled, last-ready, last-labelled}
 use Rattle.positions.proofs.label_position.Statement.{statement}
 use Rattle.positions.proofs.label_position.Tie as tie
@@ -14,7 +13,7 @@ mul-settle c =
     let i = c .before .before .before .before .before .before .before .before .before .before .before in
     let t = i .before .before .before .before .before .before .before .before .before .before in
     let s = t .pre .0 .setting in
-    omega (arith, few-nodes s, node-below (length (t .args .word .now)) (t .args .size) (t .args .position) (t .args .position * t .args .size) (t .pre .0 .within) (omega (arith, some-code s)))
+    omega (arith, few-nodes s, node-below s (t .args .position) (t .args .position * t .args .size) (t .pre .0 .within) (omega (arith, some-code s)))
 
 settle-requires : tie.Need-settle-requires
 settle-requires c κs =

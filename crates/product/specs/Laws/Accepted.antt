@@ -7,15 +7,14 @@ use lib.Dec.{eqb}
 use lib.ListN.{length, length-map}
 use lib.Seq.{length-slice}
 use borrow.Author.Tests.{le-leb}
-use Rattle.basics.specs.Search.{numbersBelow}
 use Rattle.basics.proofs.Bools.{both}
-use Rattle.basics.proofs.Below.{length-numbers}
 use Rattle.basics.proofs.Refusals.{none-first}
 use Rattle.machine.specs.Part.{machineOf, stateCount, stateBytes, partRefusal}
 use Rattle.machine.specs.Accepted.{shape-facts, accepted}
 use Rattle.machine.specs.Steps.{step-bounds, ending-bounds}
-use Rattle.card.specs.Layout.{machineCount, symbolCount, partOf, partsOf}
+use Rattle.card.specs.Layout.{machineCount, symbolCount, partsOf}
 use Rattle.card.specs.Card.{machinesOf, partsRefusal, cardRefusal}
+use Rattle.card.specs.Laws.Machines.{length-machines}
 use Rattle.card.specs.Accepted.{accepted as card-accepted}
 use Rattle.product.specs.Nodes.{stateCountOf, stateCounts, product}
 use Rattle.product.specs.Laws.JointStep.{Sound, AllSound, all-none, all-next}
@@ -62,13 +61,13 @@ pub record AcceptedMachines (card : List ℕ) : Type 0 where
   pub few-states : product (stateCounts (machinesOf card)) ≤ 128
 
 pub accepted-machines : (card : List ℕ) → cardRefusal card ≡ 0 → AcceptedMachines card
-unfolding machinesOf partsOf
+unfolding machinesOf
 accepted-machines card e =
     let a = card-accepted card e in
     let q = ap product (parts-states (symbolCount card) (partsOf card) (a .all-parts)) in
     record {
       sound = parts-sound (symbolCount card) (partsOf card) (a .all-parts);
-      count = length-map (partsOf card) machineOf ∙ length-map (numbersBelow (machineCount card)) (partOf card) ∙ length-numbers (machineCount card);
+      count = length-machines card;
       some-machine = omega (arith, a);
       some-state = rw q (a .some-state);
       few-states = rw q (a .states);

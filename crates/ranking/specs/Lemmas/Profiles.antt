@@ -2,16 +2,15 @@
 -- here; those of the engine have six. Assumes nothing.
 use mathlib.Core.Path.{_≡_, refl, sym, _∙_, ap}
 use mathlib.Core.List.{List, [], _∷_}
-use mathlib.Core.Bool.{true}
+use mathlib.Core.Bool.{Bool, true, false}
 use Prim.Native.Nat.{ℕ, zero, suc, _+_, _≤_}
 use native.Mathlib.Omega.{arith}
 use lib.ListN.{length, replicate}
-use Rattle.ranking.specs.declared.Order.{Order}
-use Rattle.ranking.specs.declared.Order.the-variants.{Better, Equal, Worse}
+use Rattle.ranking.specs.declared.Order.the-variants.{Equal}
 use Rattle.ranking.specs.Profiles.{zeroProfile, merge}
 use Rattle.ranking.specs.Rankings.{isRanking}
-use Rattle.ranking.specs.Harmony.{harmony, betterOf, firstIfBetter}
-use Rattle.ranking.specs.HarmonicInequality.{Agree, opposite, reversed, better-worse, itself, transitive, equals-alike, equal-means, merged-alike}
+use Rattle.ranking.specs.Harmony.{harmony, isBetter, better, firstIf, betterOf}
+use Rattle.ranking.specs.HarmonicInequality.{Agree, itself, one-way, neither-way, transitive, not-better, equal-means, merged-alike}
 
 -- merge is a commutative monoid with the zero profile
 
@@ -46,47 +45,40 @@ merge-length (x ∷ v) [] h = refl
 merge-length (x ∷ v) (y ∷ w) h = ap suc (merge-length v w (omega arith))
 
 module _ (r : List ℕ) where
-  -- what the better of two is, by how they stand
-  chosen : (v w : List ℕ) {o : Order} → harmony r v w ≡ o → betterOf r v w ≡ firstIfBetter o v w
+  -- what the better of two is, by the test
+  chosen : (v w : List ℕ) {b : Bool} → better r v w ≡ b → betterOf r v w ≡ firstIf b v w
   unfolding betterOf
-  chosen v w e = ap (λ o. firstIfBetter o v w) e
+  chosen v w e = ap (λ b. firstIf b v w) e
 
   pub profile-idempotent : (v : List ℕ) → betterOf r v v ≡ v
-  profile-idempotent v = chosen v v (itself r v)
+  profile-idempotent v = chosen v v (ap isBetter (itself r v))
 
   pub profile-associative : (u v w : List ℕ) → betterOf r (betterOf r u v) w ≡ betterOf r u (betterOf r v w)
-  profile-associative u v w = go (harmony r u v) refl (harmony r v w) refl
+  profile-associative u v w = go (better r u v) refl (better r v w) refl
     where
-      go : (o : Order) → harmony r u v ≡ o → (p : Order) → harmony r v w ≡ p → betterOf r (betterOf r u v) w ≡ betterOf r u (betterOf r v w)
-      go Better d Better e = rw (chosen u v d, chosen v w e, chosen u v d) (chosen u w (transitive r u v w d e))
-      go Better d Equal e = rw (chosen u v d, chosen v w e)
-      go Better d Worse e = rw (chosen u v d, chosen v w e)
-      go Equal d Better e = rw (chosen u v d, chosen v w e) (sym (chosen u v d))
-      go Equal d Equal e = rw (chosen u v d, chosen v w e) (sym (chosen u w (equals-alike r u w v w d (itself r w) ∙ e)))
-      go Equal d Worse e = rw (chosen u v d, chosen v w e) (sym (chosen u w (equals-alike r u w v w d (itself r w) ∙ e)))
-      go Worse d Better e = rw (chosen u v d, chosen v w e) (sym (chosen u v d))
-      go Worse d Equal e = rw (chosen u v d, chosen v w e) (sym (chosen u w (sym (equals-alike r u v u w (itself r u) e) ∙ d)))
-      go Worse d Worse e =
-          let back : harmony r w u ≡ Better = transitive r w v u (better-worse r w v .1 e) (better-worse r v u .1 d) in
-          rw (chosen u v d, chosen v w e) (sym (chosen u w (better-worse r w u .0 back)))
+      go : (b : Bool) → better r u v ≡ b → (c : Bool) → better r v w ≡ c → betterOf r (betterOf r u v) w ≡ betterOf r u (betterOf r v w)
+      go true d true e = rw (chosen u v d, chosen v w e, chosen u v d) (chosen u w (transitive r u v w d e))
+      go true d false e = rw (chosen u v d, chosen v w e)
+      go false d true e = rw (chosen u v d, chosen v w e) (sym (chosen u v d))
+      go false d false e = rw (chosen u v d, chosen v w e) (sym (chosen u w (not-better r u v w d e)))
 
   -- the order of the two does not matter, up to counts that are not compared
   either-way : (v w : List ℕ) → harmony r (betterOf r v w) (betterOf r w v) ≡ Equal
-  either-way v w = go (harmony r v w) refl
+  either-way v w = go (better r v w) refl (better r w v) refl
     where
-      go : (o : Order) → harmony r v w ≡ o → harmony r (betterOf r v w) (betterOf r w v) ≡ Equal
-      go Better e = rw (chosen v w e, chosen w v (better-worse r v w .0 e)) (itself r v)
-      go Equal e = rw (chosen v w e, chosen w v (reversed r v w ∙ ap opposite e)) (reversed r v w ∙ ap opposite e)
-      go Worse e = rw (chosen v w e, chosen w v (better-worse r w v .1 e)) (itself r w)
+      go : (b : Bool) → better r v w ≡ b → (c : Bool) → better r w v ≡ c → harmony r (betterOf r v w) (betterOf r w v) ≡ Equal
+      go true d true e = absurd (one-way r v w d e)
+      go true d false e = rw (chosen v w d, chosen w v e) (itself r v)
+      go false d true e = rw (chosen v w d, chosen w v e) (itself r w)
+      go false d false e = rw (chosen v w d, chosen w v e) (neither-way r w v e d)
 
   -- merge distributes over it
   pub counts-distribute : (u v w : List ℕ) → merge u (betterOf r v w) ≡ betterOf r (merge u v) (merge u w)
-  counts-distribute u v w = go (harmony r v w) refl
+  counts-distribute u v w = go (better r v w) refl
     where
-      go : (o : Order) → harmony r v w ≡ o → merge u (betterOf r v w) ≡ betterOf r (merge u v) (merge u w)
-      go Better e = rw (chosen v w e, chosen (merge u v) (merge u w) (merged-alike r u v w ∙ e))
-      go Equal e = rw (chosen v w e, chosen (merge u v) (merge u w) (merged-alike r u v w ∙ e))
-      go Worse e = rw (chosen v w e, chosen (merge u v) (merge u w) (merged-alike r u v w ∙ e))
+      go : (b : Bool) → better r v w ≡ b → merge u (betterOf r v w) ≡ betterOf r (merge u v) (merge u w)
+      go true e = rw (chosen v w e, chosen (merge u v) (merge u w) (ap isBetter (merged-alike r u v w) ∙ e))
+      go false e = rw (chosen v w e, chosen (merge u v) (merge u w) (ap isBetter (merged-alike r u v w) ∙ e))
 
 pub profile-commutative : (K : ℕ) (r : List ℕ) → isRanking K r ≡ true → (v w : List ℕ) → Agree K (betterOf r v w) (betterOf r w v)
 profile-commutative K r is v w = equal-means K r is (betterOf r v w) (betterOf r w v) .0 (either-way r v w)
