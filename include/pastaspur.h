@@ -72,15 +72,16 @@ uint32_t pastaspur_read_part(const uint8_t *card, size_t card_len, uint8_t machi
 uint32_t pastaspur_pack(uint8_t symbols, const uint16_t *lengths, size_t lengths_len, const uint8_t *parts, size_t parts_len,
                         uint8_t *target, size_t target_len, size_t result[1]);
 
-/* What pastaspur_compare answers of the first profile; 0 on a refusal. */
+/* How the first profile stands to the second, as pastaspur_compare answers it; 0 on a refusal. */
 #define PASTASPUR_BETTER 1
 #define PASTASPUR_EQUAL 2
 #define PASTASPUR_WORSE 3
 
 /* Compares two profiles of that many machines under a ranking: refusals 1, 7. Counts from K on are not looked at.
- * result: how the first stands to the second. */
+ * result: how the first stands to the second; the machine that decided, by its number in the card: the highest ranked one where
+ * they differ, 0 where they are equal. */
 uint32_t pastaspur_compare(uint8_t machines, const uint8_t *ranking, size_t ranking_len, const uint16_t first[6],
-                           const uint16_t second[6], uint8_t result[1]);
+                           const uint16_t second[6], uint8_t result[2]);
 
 /* Derives the ranking condition from two profiles of that many machines: refusal 1. Counts from K on are not looked at.
  * result: W, the machines where the first has fewer, and L, where it has more; bit i is machine i. */

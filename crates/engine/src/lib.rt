@@ -10,7 +10,7 @@ ghost use Rattle.card.specs.Packing.{packing, packedTarget};
 ghost use Rattle.candidate.specs.Evaluating.{evaluating};
 ghost use Rattle.product.specs.Optimizing.{optimized};
 ghost use Rattle.optimizer.specs.Optimizes.{Optimizes};
-ghost use Rattle.engine.specs.Results.{evaluationNumbers, placeNumbers, orderNumber, orderNumbers, conditionNumbers, asProfile};
+ghost use Rattle.engine.specs.Results.{evaluationNumbers, placeNumbers, orderNumber, decidingMachine, orderNumbers, conditionNumbers, asProfile};
 use candidate::Evaluation;
 use ranking::Comparison;
 use ranking::Condition;
@@ -107,20 +107,31 @@ fn order_number(order: Order) -> u8
     ensures { λ r. ⌜ r ≡ orderNumber order ⌝ }
 {
     match order {
-        Order::Better => 1,
+        Order::Better(_) => 1,
         Order::Equal => 2,
-        Order::Worse => 3,
+        Order::Worse(_) => 3,
     }
 }
 
-// Compares two profiles under a ranking: 1, 7.
+// The machine that decided, 0 where none did.
+fn deciding_machine(order: Order) -> u8
+    ensures { λ r. ⌜ r ≡ decidingMachine order ⌝ }
+{
+    match order {
+        Order::Better(machine) => machine,
+        Order::Equal => 0,
+        Order::Worse(machine) => machine,
+    }
+}
+
+// Compares two profiles under a ranking, the order and the machine that decided: 1, 7.
 #[no_mangle]
 pub extern "C" fn pastaspur_compare(
     machines: u8,
     ranking: &[u8],
     first: &[u16; 6],
     second: &[u16; 6],
-    result: &mut [u8; 1],
+    result: &mut [u8; 2],
 ) -> u32
     ensures { λ r. ⌜ r ≡ comparing machines (now (ranking .entry)) (asProfile (now (first .entry))) (asProfile (now (second .entry))) .number ⌝ }
     ensures { λ _. ⌜ now (result .exit) ≡ orderNumbers (comparing machines (now (ranking .entry)) (asProfile (now (first .entry))) (asProfile (now (second .entry))) .order) ⌝ }
@@ -133,11 +144,11 @@ pub extern "C" fn pastaspur_compare(
     );
     match answer {
         Comparison::Ordered(order) => {
-            *result = [order_number(order)];
+            *result = [order_number(order), deciding_machine(order)];
             0
         }
         Comparison::Refused(refusal) => {
-            *result = [0];
+            *result = [0; 2];
             refusal.number() as u32
         }
     }

@@ -27,11 +27,11 @@ pub record MoreHarmonic (r v w : List ℕ) : Type 0 where
 abbrev pub Agree : ℕ → List ℕ → List ℕ → Type 0
 Agree K v w = (m : ℕ) → m < K → getD v m 0 ≡ getD w m 0
 
--- the other way round
+-- the other way round, by the same machine
 abbrev pub opposite : Order → Order
-opposite Better = Worse
+opposite (Better m) = Worse m
 opposite Equal = Equal
-opposite Worse = Better
+opposite (Worse m) = Better m
 
 -- exactly one of three holds
 pub record ExactlyOne (A B C : Type 0) : Type 0 where
@@ -42,14 +42,14 @@ pub record ExactlyOne (A B C : Type 0) : Type 0 where
 
 -- none is both better and worse, and what is neither is equal
 pub not-both : (o : Order) → isBetter o ≡ true → isWorse o ≡ true → ⊥
-not-both Better b w = clash w refl
+not-both (Better m) b w = clash w refl
 not-both Equal b w = clash b refl
-not-both Worse b w = clash b refl
+not-both (Worse m) b w = clash b refl
 
 pub neither : (o : Order) → isBetter o ≡ false → isWorse o ≡ false → o ≡ Equal
-neither Better b w = absurd (clash refl b)
+neither (Better m) b w = absurd (clash refl b)
 neither Equal b w = refl
-neither Worse b w = absurd (clash refl w)
+neither (Worse m) b w = absurd (clash refl w)
 
 nothing-ranked : (v w : List ℕ) → harmony [] v w ≡ Equal
 unfolding harmony
@@ -94,9 +94,9 @@ pub better-worse : (r v w : List ℕ) → worse r w v ≡ better r v w
 better-worse r v w = ap isWorse (reversed r v w) ∙ turned (harmony r v w)
   where
     turned : (o : Order) → isWorse (opposite o) ≡ isBetter o
-    turned Better = refl
+    turned (Better m) = refl
     turned Equal = refl
-    turned Worse = refl
+    turned (Worse m) = refl
 
 pub worse-means : (r v w : List ℕ) → (worse r v w ≡ true) ↔ MoreHarmonic r w v
 worse-means r v w = (λ e. better-is r w v (sym (better-worse r w v) ∙ e), λ d. better-worse r w v ∙ better-means r w v .1 d)
@@ -109,7 +109,7 @@ pub neither-way : (r v w : List ℕ) → better r v w ≡ false → better r w v
 neither-way r v w p q = neither (harmony r v w) p (better-worse r w v ∙ q)
 
 -- equal: the counts of all ranked machines are
-equal-at : (r v w : List ℕ) → harmony r v w ≡ Equal → (i : ℕ) → i < length r → getD v (getD r i 0) 0 ≡ getD w (getD r i 0) 0
+pub equal-at : (r v w : List ℕ) → harmony r v w ≡ Equal → (i : ℕ) → i < length r → getD v (getD r i 0) 0 ≡ getD w (getD r i 0) 0
 equal-at [] v w e i q = absurd (omega arith)
 equal-at (m ∷ r) v w e i q = go (standing (getD v m 0) (getD w m 0)) (equal-at r v w) i q
   where
@@ -121,7 +121,7 @@ equal-at (m ∷ r) v w e i q = go (standing (getD v m 0) (getD w m 0)) (equal-at
     go (more h) k j p = absurd (clash (ap isWorse (at-more m r v w h)) (ap isWorse e))
 
 -- comparison looks at the counts of the ranked machines alone
-same-at : (r v w x y : List ℕ) → ((i : ℕ) → i < length r → getD v (getD r i 0) 0 ≡ getD x (getD r i 0) 0)
+pub same-at : (r v w x y : List ℕ) → ((i : ℕ) → i < length r → getD v (getD r i 0) 0 ≡ getD x (getD r i 0) 0)
     → ((i : ℕ) → i < length r → getD w (getD r i 0) 0 ≡ getD y (getD r i 0) 0) → harmony r v w ≡ harmony r x y
 same-at [] v w x y p q = nothing-ranked v w ∙ sym (nothing-ranked x y)
 same-at (m ∷ r) v w x y p q =

@@ -14,21 +14,21 @@ use Rattle.ranking.specs.declared.Profile.{Profile}
 use Rattle.ranking.specs.Refusals.{numberOf, isMachineCount}
 use Rattle.ranking.specs.Rankings.{isRanking}
 
--- down the ranking: the smaller count at the highest ranked machine where the two differ
+-- down the ranking: the smaller count at the highest ranked machine where the two differ, and that machine's number
 unfoldable pub harmony : List ℕ → List ℕ → List ℕ → Order
 harmony [] v w = Equal
 harmony (m ∷ r) v w =
-    elim (ltb (getD v m 0) (getD w m 0)) [ true ↦ Better | false ↦ elim (ltb (getD w m 0) (getD v m 0)) [ true ↦ Worse | false ↦ harmony r v w ] ]
+    elim (ltb (getD v m 0) (getD w m 0)) [ true ↦ Better m | false ↦ elim (ltb (getD w m 0) (getD v m 0)) [ true ↦ Worse m | false ↦ harmony r v w ] ]
 
 abbrev pub isBetter : Order → Bool
-isBetter Better = true
+isBetter (Better m) = true
 isBetter Equal = false
-isBetter Worse = false
+isBetter (Worse m) = false
 
 abbrev pub isWorse : Order → Bool
-isWorse Better = false
+isWorse (Better m) = false
 isWorse Equal = false
-isWorse Worse = true
+isWorse (Worse m) = true
 
 -- v is better than w under the ranking
 abbrev pub better : List ℕ → List ℕ → List ℕ → Bool

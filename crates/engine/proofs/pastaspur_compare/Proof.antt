@@ -17,9 +17,9 @@ agreed c =
 
 returns : tie.Need-returns
 returns c =
-    let k = c .before .before .before in
+    let k = c .before .before .before .before in
     let e = sym (ap compared (k .answer .given .1)) ∙ agreed (k .before .before) in
-    (ap (λ (r : Compared). r .number) e, rw (c .before .order-number .ensures) (ap (λ (r : Compared). orderNumbers (r .order)) e))
+    (ap (λ (r : Compared). r .number) e, rw (c .before .before .order-number .ensures, c .before .deciding-machine .ensures) (ap (λ (r : Compared). orderNumbers (r .order)) e))
 
 returns-2 : tie.Need-returns-2
 returns-2 c =
@@ -35,6 +35,7 @@ pastaspur-compare-spec =
     (λ c κs. search needs)
     (λ c κs. search needs)
     (λ c. search needs)
+    (λ c κs. search needs)
     (λ c κs. search needs)
     (λ c. search needs)
     (λ c κs. search needs)
