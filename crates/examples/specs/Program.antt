@@ -14,7 +14,7 @@ use Rattle.candidate.specs.Best.{shorter, preferred, sameWord, pairsOver, lists
 use Rattle.candidate.specs.Optimizing.{soundWord, inputRefusal, optimizerRefusal, optimized, optimizedAnswer}
 use Rattle.lines.specs.Text.{textOf, before, after, segments}
 use Rattle.lines.specs.Decimal.{digitsWithin, decimal, valueFrom}
-use Rattle.lines.specs.Parsing.{isRankingText, isSymbolText, parsedLine}
+use Rattle.lines.specs.Parsing.{isRankingText, isSymbolText, symbolsIn, parsedLine}
 use Rattle.lines.specs.Input.{linesOf}
 use Rattle.lines.specs.Writing.{nextCount, withCommas, pairText, pairsText, acceptedLine, lineOf}
 use Rattle.session.specs.Printed.{bestLine, printed}
@@ -22,9 +22,9 @@ use Rattle.session.specs.Output.{output}
 use Rattle.examples.specs.Cards.{cardB}
 
 pub example-printed : printed cardB (textOf "021 2") ≡ textOf "0,1,0 0:1 2:2\n"
-unfolding allOf pairwise those joined everyBelow someBelow numbersBelow occurrences setOf takes stepAmong endingOf takeOnePair clash arcAt arcsAt machineOf soundArc shaped partRefusal counted dueOffset laidOut partsOf cardRefusal partsRefusal stateProduct machinesOf isRanking harmony pairsOf bytesOf spelled marksFrom isComplete profileOf smaller shorter preferred sameWord pairsOver listsBelow formsAmong leastOf bestBelow best soundWord inputRefusal optimizerRefusal optimized optimizedAnswer before after segments digitsWithin decimal valueFrom isRankingText isSymbolText parsedLine nextCount withCommas pairText pairsText acceptedLine lineOf bestLine
+unfolding allOf pairwise those joined everyBelow someBelow numbersBelow occurrences setOf takes stepAmong endingOf takeOnePair clash arcAt arcsAt machineOf soundArc shaped partRefusal counted dueOffset laidOut partsOf cardRefusal partsRefusal stateProduct machinesOf isRanking harmony pairsOf bytesOf spelled marksFrom isComplete profileOf smaller shorter preferred sameWord pairsOver listsBelow formsAmong leastOf bestBelow best soundWord inputRefusal optimizerRefusal optimized optimizedAnswer before after segments digitsWithin decimal valueFrom isRankingText isSymbolText symbolsIn parsedLine nextCount withCommas pairText pairsText acceptedLine lineOf bestLine
 example-printed = refl
 
 pub example-output : output cardB (textOf "021 2") ≡ textOf "0,1,0 0:1 2:2\n"
-unfolding allOf pairwise those joined everyBelow someBelow numbersBelow occurrences setOf takes stepAmong endingOf takeOnePair clash arcAt arcsAt machineOf soundArc shaped partRefusal counted dueOffset laidOut partsOf cardRefusal partsRefusal stateProduct machinesOf isRanking harmony pairsOf bytesOf spelled marksFrom isComplete profileOf smaller shorter preferred sameWord pairsOver listsBelow formsAmong leastOf bestBelow best soundWord inputRefusal optimizerRefusal optimized optimizedAnswer before after segments digitsWithin decimal valueFrom isRankingText isSymbolText parsedLine linesOf nextCount withCommas pairText pairsText acceptedLine lineOf bestLine
+unfolding allOf pairwise those joined everyBelow someBelow numbersBelow occurrences setOf takes stepAmong endingOf takeOnePair clash arcAt arcsAt machineOf soundArc shaped partRefusal counted dueOffset laidOut partsOf cardRefusal partsRefusal stateProduct machinesOf isRanking harmony pairsOf bytesOf spelled marksFrom isComplete profileOf smaller shorter preferred sameWord pairsOver listsBelow formsAmong leastOf bestBelow best soundWord inputRefusal optimizerRefusal optimized optimizedAnswer before after segments digitsWithin decimal valueFrom isRankingText isSymbolText symbolsIn parsedLine linesOf nextCount withCommas pairText pairsText acceptedLine lineOf bestLine
 example-output = refl
