@@ -8,7 +8,7 @@ use lib.Dec.{leb, lit<}
 use borrow.Author.Tests.{leb-true}
 use Rattle.basics.specs.Search.{allOf}
 use Rattle.basics.specs.Refusals.{refuse}
-use Rattle.basics.proofs.Bools.{left, right}
+use Rattle.basics.proofs.Bools.{left}
 use Rattle.basics.proofs.Refusals.{passed, none-first}
 use Rattle.ranking.specs.Rankings.{isRanking}
 use Rattle.card.specs.Layout.{machineCount, symbolCount}
@@ -43,6 +43,4 @@ accepted-input card ranking word room e =
 pub short-word : (S : ℕ) (word : List ℕ) → soundWord S word ≡ true → length word ≤ 24
 unfolding soundWord
 short-word S word t =
-    let a = leb 1 (length word) in
-    let b = leb (length word) 24 in
-    leb-true (length word) 24 (right a b (left (a && b) (allOf (λ x. leb 1 x && leb x S) word) t))
+    leb-true (length word) 24 (left (leb (length word) 24) (allOf (λ x. leb 1 x && leb x S) word) t)
