@@ -23,7 +23,7 @@
  *    5  two arcs of a state take one pair
  *    6  product of the state counts, P, over 128
  *    7  not a ranking: each of 0 to K - 1 once, the highest first
- *    8  word length n not 1 to 24, a symbol 0 or over S
+ *    8  word length n over 24, a symbol 0 or over S
  *    9  work slice under 8 * (n + 1) * P numbers
  *   10  no complete candidate
  *   11  the best profile has a count over 60,000

@@ -15,11 +15,11 @@ fn line(ranking: &str, word: impl IntoIterator<Item = u8>) -> String {
     format!("{ranking} {}", symbols.join(","))
 }
 
-/// Card B, all six rankings, all words of one to four symbols.
+/// Card B, all six rankings, all words of at most four symbols.
 fn card_b() -> Vec<String> {
     let mut lines = Vec::new();
     for ranking in ["012", "021", "102", "120", "201", "210"] {
-        for length in 1..=4 {
+        for length in 0..=4 {
             for number in 0..1u8 << length {
                 lines.push(line(ranking, (0..length).rev().map(|place| 1 + (number >> place & 1))));
             }
@@ -41,7 +41,7 @@ pub fn cases() -> Vec<Case> {
     let case = |name, card, lines| Case { name, card, lines };
     vec![
         case("card_b", samples::card_b(), card_b()),
-        case("chain", samples::chain(), long_words(&["01", "10"], 3)),
+        case("chain", samples::chain(), [long_words(&["01", "10"], 3), vec![line("01", [])]].concat()),
         case("chain_full", samples::chain_full(), long_words(&["012345", "543210"], 63)),
         case("shortcuts", samples::shortcuts(), long_words(&["012", "210", "102"], 63)),
         case("full", samples::full(), long_words(&six, 63)),

@@ -7,7 +7,7 @@
 use crate::call::{reference, Call, Outcome, KINDS};
 use crate::generators::Generator;
 use crate::random::Random;
-use crate::samples;
+use crate::samples::{self, arc, machine, set};
 use std::collections::BTreeMap;
 
 pub struct Corpus {
@@ -183,6 +183,30 @@ fn longest() -> Vec<Call> {
     vec![call(6_398), call(6_397), evaluate(candidate), evaluate(with_another)]
 }
 
+/// The empty word: on a card whose best for it has insertions alone, on one that has no candidate, and on card B, where it
+/// is the candidate of no pairs.
+fn empty_words() -> Vec<Call> {
+    let inserting = samples::card(2, &[machine(&[false, true], vec![arc(0, 1, 3, set([0]), set([1, 2]))])]);
+    let none = samples::card(2, &[machine(&[false], vec![arc(0, 0, 0, set([0, 1]), set([1, 2]))])]);
+    let call = |card: &[u8], machines: u8, work: usize, answer: usize| Call::Optimize {
+        card: card.to_vec(),
+        ranking: (0..machines).collect(),
+        word: vec![],
+        work: vec![0; work],
+        answer: vec![170; answer],
+    };
+    vec![
+        call(&inserting, 1, 16, 2),
+        call(&inserting, 1, 15, 2),
+        call(&inserting, 1, 16, 1),
+        call(&none, 1, 8, 2),
+        call(&none, 1, 7, 2),
+        call(&samples::card_b(), 3, 16, 0),
+        call(&samples::card_b(), 3, 17, 3),
+        call(&samples::card_b(), 3, 15, 0),
+    ]
+}
+
 /// Calls by chance until there are as many of each kind and number as wanted.
 pub fn corpus() -> Corpus {
     let generator = Generator::default();
@@ -194,7 +218,7 @@ pub fn corpus() -> Corpus {
         corpus.lines.push('\n');
         corpus.count += 1;
     };
-    for call in longest() {
+    for call in longest().into_iter().chain(empty_words()) {
         add(&call, &reference(&call));
     }
     let numbers = |kind: usize| [0].into_iter().chain(KINDS[kind].1.iter().copied());

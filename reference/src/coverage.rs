@@ -11,15 +11,23 @@ type Counts = BTreeMap<i64, u64>;
 const OFTEN: u64 = 100;
 
 /// What an answer of the optimizer can have.
-const TRAITS: [&str; 6] =
-    ["an insertion", "an insertion at its end", "a deletion", "another symbol", "marks", "insertions without marks"];
+const TRAITS: [&str; 7] = [
+    "no pair",
+    "an insertion",
+    "an insertion at its end",
+    "a deletion",
+    "another symbol",
+    "marks",
+    "insertions without marks",
+];
 
 /// Which of `TRAITS` these pairs and counts have.
-fn traits(pairs: &[u8], counts: &[usize]) -> [bool; 6] {
+fn traits(pairs: &[u8], counts: &[usize]) -> [bool; 7] {
     let any = |test: fn(u8, u8) -> bool| pairs.chunks(2).any(|pair| test(pair[0], pair[1]));
     let inserts = any(|input, _| input == 0);
     let marks = counts.iter().any(|&count| count > 0);
     [
+        pairs.is_empty(),
         inserts,
         pairs.chunks(2).next_back().is_some_and(|pair| pair[0] == 0),
         any(|_, output| output == 0),
@@ -40,7 +48,9 @@ pub struct Coverage {
     words: Counts,
     pairs: Counts,
     /// How often an answer has each of `TRAITS`.
-    traits: [u64; 6],
+    traits: [u64; 7],
+    /// What is answered for the empty word.
+    empty_words: Counts,
     /// Lengths of slices, less what is needed.
     work: Counts,
     answer: Counts,
@@ -89,6 +99,9 @@ impl Coverage {
             Call::Optimize { card, word, work, answer, .. } if matches!(outcome.number, 0 | 9..) => {
                 let need = 8 * (word.len() + 1) * product(card);
                 count_around(&mut self.work, work.len(), need);
+                if word.is_empty() {
+                    count(&mut self.empty_words, outcome.number as usize);
+                }
                 if outcome.number != 9 {
                     count(&mut self.machines, card[0] as usize);
                     count(&mut self.symbols, card[1] as usize);
@@ -136,7 +149,7 @@ impl Coverage {
         for (name, counts, values) in [
             ("machines", &self.machines, 1..=6),
             ("symbols", &self.symbols, 1..=63),
-            ("symbols of a word", &self.words, 1..=24),
+            ("symbols of a word", &self.words, 0..=24),
         ] {
             for value in values {
                 ask(format!("{value} {name}"), counts, value, 1);
@@ -147,6 +160,9 @@ impl Coverage {
         }
         for (name, &times) in TRAITS.iter().zip(&self.traits) {
             ask(format!("an answer with {name}"), &Counts::from([(0, times)]), 0, OFTEN);
+        }
+        for number in [0, 9, 10, 12] {
+            ask(format!("the empty word answered {number}"), &self.empty_words, number, OFTEN / 2);
         }
         ask("3199 pairs answered".to_string(), &self.pairs, 3_199, 1);
         for (name, counts, values) in [
@@ -191,6 +207,7 @@ impl fmt::Display for Coverage {
         writeln!(text, "  joined states, P     {}", range(&self.states))?;
         writeln!(text, "  symbols, S           {}", range(&self.symbols))?;
         writeln!(text, "  word lengths         {}", range(&self.words))?;
+        writeln!(text, "  empty words          {}", each(&self.empty_words, false))?;
         writeln!(text, "  pairs of the best    {}", range(&self.pairs))?;
         for (name, times) in TRAITS.iter().zip(&self.traits) {
             writeln!(text, "  answers with {name:<25} {times}")?;

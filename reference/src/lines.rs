@@ -2,7 +2,7 @@
 
 use crate::optimizer::optimize;
 
-/// A line's ranking and word, or nothing where its form is another.
+/// A line's ranking and word, or nothing where its form is another. Nothing after the space is the empty word.
 pub fn parse(line: &[u8]) -> Option<(Vec<u8>, Vec<u8>)> {
     if line.len() > 200 {
         return None;
@@ -14,6 +14,9 @@ pub fn parse(line: &[u8]) -> Option<(Vec<u8>, Vec<u8>)> {
     }
     let ranking = digits.iter().map(|byte| byte - b'0').collect();
     let mut word = Vec::new();
+    if rest.is_empty() {
+        return Some((ranking, word));
+    }
     for number in rest.split(|&byte| byte == b',') {
         if number.is_empty() || number.len() > 3 || !number.iter().all(u8::is_ascii_digit) {
             return None;

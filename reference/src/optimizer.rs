@@ -178,7 +178,7 @@ pub fn optimize(
     if !is_ranking(card.machines.len(), ranking) {
         return Err(7);
     }
-    if !(1..=24).contains(&word.len()) || word.iter().any(|&symbol| symbol == 0 || symbol > card.symbols) {
+    if word.len() > 24 || word.iter().any(|&symbol| symbol == 0 || symbol > card.symbols) {
         return Err(8);
     }
     if work < 8 * (word.len() + 1) * card.states() {

@@ -36,6 +36,12 @@ fn examples_3_to_5() {
     assert_eq!(answer(&card_b(), b"120 2"), "1,0,0 2:2");
 }
 
+/// Words with nothing in them.
+#[test]
+fn the_empty_word() {
+    assert_eq!(answer(&card_b(), b"012 "), "0,0,0");
+}
+
 #[test]
 fn example_6() {
     let mut machine = read_card(&CARD_A).unwrap().machines.remove(0);

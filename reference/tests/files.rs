@@ -32,7 +32,7 @@ fn the_demo() {
             cards += 1;
         }
     }
-    assert_eq!(cards, 6);
+    assert_eq!(cards, 7);
 }
 
 /// Ellison's set has 64 syllabifications of alqalamu.

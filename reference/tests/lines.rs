@@ -1,7 +1,7 @@
 //! The program's lines.
 
 use reference::lines::{answer, run};
-use reference::samples::{card_b, CARD_A};
+use reference::samples::{arc, card, card_b, machine, set, CARD_A};
 
 #[test]
 fn bad_lines() {
@@ -16,7 +16,7 @@ fn bad_lines() {
         &b""[..],
         b" ",
         b"0",
-        b"0 ",
+        b"0  ",
         b" 1",
         b"0  1",
         b"0 1 ",
@@ -58,6 +58,21 @@ fn well_formed_lines() {
     assert_eq!(answer(&CARD_A, b"0 0"), "refused 8");
     assert_eq!(answer(&CARD_A, b"123456789 1"), "refused 7");
     assert_eq!(answer(&[], b"0 1"), "refused 1");
+}
+
+#[test]
+fn the_empty_word() {
+    assert_eq!(answer(&card_b(), b"012 "), "0,0,0");
+    assert_eq!(answer(&card_b(), b"011 "), "refused 7");
+    assert_eq!(answer(&card_b(), b"012"), "bad line");
+    assert_eq!(answer(&card_b(), b"012  "), "bad line");
+    assert_eq!(answer(&CARD_A, b"0 "), "0");
+    assert_eq!(answer(&[], b"0 "), "refused 1");
+    assert_eq!(run(&card_b(), b"012 \n210 "), "0,0,0\n0,0,0\n");
+    // a form of insertions alone: a syllable has to be there
+    let syllable =
+        machine(&[false, false, true], vec![arc(0, 1, 1, set([0]), set([1])), arc(1, 2, 1, set([0]), set([2]))]);
+    assert_eq!(answer(&card(2, &[syllable]), b"0 "), "2 0:1 0:2");
 }
 
 #[test]

@@ -35,7 +35,7 @@ fn rounds_and_listing_agree() {
     let (mut answered, mut inserted_last, mut longer, mut deleted) = (0, 0, 0, 0);
     for _ in 0..4000 {
         let card = small_card(&mut random);
-        let word: Vec<u8> = (0..1 + random.below(3)).map(|_| 1 + random.below(card.symbols as usize) as u8).collect();
+        let word: Vec<u8> = (0..random.below(4)).map(|_| 1 + random.below(card.symbols as usize) as u8).collect();
         let mut ranking: Vec<u8> = (0..card.machines.len() as u8).collect();
         random.shuffle(&mut ranking);
         // the best passes no node twice
@@ -48,7 +48,7 @@ fn rounds_and_listing_agree() {
         assert_eq!(found, best_by_listing(&card, &ranking, &word, most + 1));
         if let Some(candidate) = found {
             answered += 1;
-            inserted_last += (candidate.last().unwrap().0 == 0) as usize;
+            inserted_last += candidate.last().is_some_and(|pair| pair.0 == 0) as usize;
             longer += (candidate.len() > word.len()) as usize;
             deleted += candidate.iter().any(|pair| pair.1 == 0) as usize;
         }

@@ -167,7 +167,7 @@ fn refusal_8() {
     assert_eq!(call(&CARD_A, &[0], &[2]), 10);
     assert_eq!(call(&CARD_A, &[0], &[0]), 8);
     assert_eq!(call(&CARD_A, &[0], &[1, 1, 0]), 8);
-    assert_eq!(call(&CARD_A, &[0], &[]), 8);
+    assert_eq!(call(&CARD_A, &[0], &[]), 0);
     assert_eq!(call(&CARD_A, &[0], &[1; 24]), 0);
     assert_eq!(call(&CARD_A, &[0], &[1; 25]), 8);
 }
@@ -181,6 +181,10 @@ fn refusal_9() {
     assert_eq!(with(&CARD_A, &[0], &[1], 16), 0);
     assert_eq!(with(&card_b(), &[0, 1, 2], &[1, 2], 47), 9);
     assert_eq!(with(&card_b(), &[0, 1, 2], &[1, 2], 48), 0);
+    assert_eq!(with(&CARD_A, &[0], &[], 7), 9);
+    assert_eq!(with(&CARD_A, &[0], &[], 8), 0);
+    assert_eq!(with(&chain(), &[0, 1], &[], 1_023), 9);
+    assert_eq!(with(&chain(), &[0, 1], &[], 1_024), 0);
     assert_eq!(with(&chain(), &[0, 1], &[1; 24], 25_599), 9);
     assert_eq!(with(&chain(), &[0, 1], &[1; 24], 25_600), 0);
 }
@@ -190,6 +194,7 @@ fn refusal_10() {
     assert_eq!(call(&CARD_A, &[0], &[2]), 10);
     assert_eq!(call(&CARD_A, &[0], &[1]), 0);
     assert_eq!(call(&card_a(&[(8, 0)]), &[0], &[1]), 10);
+    assert_eq!(call(&card_a(&[(8, 0)]), &[0], &[]), 10);
 }
 
 #[test]
@@ -206,6 +211,11 @@ fn refusal_12() {
             assert_eq!(answer[4..], vec![9; length - 4]);
         }
     }
+    // the empty word: no pairs, and insertions alone
+    assert_eq!(optimize(&CARD_A, &[0], &[], 8, &mut []).unwrap().pairs, 0);
+    assert_eq!(optimize(&chain(), &[0, 1], &[], 1_024, &mut [0; 253]), Err(12));
+    let found = optimize(&chain(), &[0, 1], &[], 1_024, &mut [0; 254]).unwrap();
+    assert_eq!((found.profile, found.pairs, found.word_length), ([1_905, 1_905, 0, 0, 0, 0], 127, 0));
     assert_eq!(optimize(&chain(), &[0, 1], &[1; 24], 25_600, &mut [0; 6_397]), Err(12));
     let found = optimize(&chain(), &[0, 1], &[1; 24], 25_600, &mut [0; 6_398]).unwrap();
     assert_eq!((found.profile, found.pairs, found.word_length), ([47_985, 47_985, 0, 0, 0, 0], 3_199, 24));
@@ -331,8 +341,8 @@ fn the_first_refusal_met() {
         card[1] = 64;
         assert_eq!(number(&card), 1);
     }
-    assert_eq!(optimize(&CARD_A, &[1], &[], 0, &mut []), Err(7));
-    assert_eq!(optimize(&CARD_A, &[0], &[], 0, &mut []), Err(8));
+    assert_eq!(optimize(&CARD_A, &[1], &[0], 0, &mut []), Err(7));
+    assert_eq!(optimize(&CARD_A, &[0], &[0], 0, &mut []), Err(8));
     assert_eq!(optimize(&CARD_A, &[0], &[2], 0, &mut []), Err(9));
     assert_eq!(optimize(&CARD_A, &[0], &[2], 16, &mut []), Err(10));
     assert_eq!(optimize(&CARD_A, &[0], &[1], 16, &mut []), Err(12));

@@ -16,7 +16,7 @@ use Rattle.product.specs.Best.{winsTie, preferred, sameWord, pairsOver, listsBe
 use Rattle.product.specs.Optimizing.{soundWord, inputRefusal, optimizerRefusal, optimized, optimizedAnswer}
 use Rattle.lines.specs.Text.{textOf, before, after, segments}
 use Rattle.lines.specs.Decimal.{digitsWithin, decimal, valueFrom}
-use Rattle.lines.specs.Parsing.{isRankingText, isSymbolText, parsedLine}
+use Rattle.lines.specs.Parsing.{isRankingText, isSymbolText, symbolsIn, parsedLine}
 use Rattle.lines.specs.Input.{linesOf}
 use Rattle.lines.specs.Writing.{nextCount, withCommas, pairText, pairsText, acceptedLine, lineOf}
 use Rattle.session.specs.Printed.{bestLine, printed}
@@ -24,9 +24,14 @@ use Rattle.session.specs.Output.{output}
 use Rattle.examples.specs.Cards.{cardB}
 
 pub example-printed : printed cardB (textOf "021 2") ≡ textOf "0,1,0 0:1 2:2\n"
-unfolding allOf pairwise those joined everyBelow someBelow numbersBelow occurrences setOf takes stepAmong endingOf takeOnePair clash arcAt arcsAt machineOf soundArc shaped partRefusal dueOffset laidOut partsIn counted partsOf cardRefusal partsRefusal product machinesOf isRanking harmony pairsOf bytesOf spelled marksFrom isComplete profileOf smaller winsTie preferred sameWord pairsOver listsBelow contendersAmong leastOf bestBelow bestOf bestIn best soundWord inputRefusal optimizerRefusal optimized optimizedAnswer before after segments digitsWithin decimal valueFrom isRankingText isSymbolText parsedLine nextCount withCommas pairText pairsText acceptedLine lineOf bestLine
+unfolding allOf pairwise those joined everyBelow someBelow numbersBelow occurrences setOf takes stepAmong endingOf takeOnePair clash arcAt arcsAt machineOf soundArc shaped partRefusal dueOffset laidOut partsIn counted partsOf cardRefusal partsRefusal product machinesOf isRanking harmony pairsOf bytesOf spelled marksFrom isComplete profileOf smaller winsTie preferred sameWord pairsOver listsBelow contendersAmong leastOf bestBelow bestOf bestIn best soundWord inputRefusal optimizerRefusal optimized optimizedAnswer before after segments digitsWithin decimal valueFrom isRankingText isSymbolText symbolsIn parsedLine nextCount withCommas pairText pairsText acceptedLine lineOf bestLine
 example-printed = refl
 
+-- the empty word: a line with no pairs ends after the counts
+pub example-empty-word : printed cardB (textOf "012 ") ≡ textOf "0,0,0\n"
+unfolding allOf pairwise those joined everyBelow someBelow numbersBelow occurrences setOf takes stepAmong endingOf takeOnePair clash arcAt arcsAt machineOf soundArc shaped partRefusal dueOffset laidOut partsIn counted partsOf cardRefusal partsRefusal product machinesOf isRanking harmony pairsOf bytesOf spelled marksFrom isComplete profileOf smaller winsTie preferred sameWord pairsOver listsBelow contendersAmong leastOf bestBelow bestOf bestIn best soundWord inputRefusal optimizerRefusal optimized optimizedAnswer before after segments digitsWithin decimal valueFrom isRankingText isSymbolText symbolsIn parsedLine nextCount withCommas pairText pairsText acceptedLine lineOf bestLine
+example-empty-word = refl
+
 pub example-output : output cardB (textOf "021 2") ≡ textOf "0,1,0 0:1 2:2\n"
-unfolding allOf pairwise those joined everyBelow someBelow numbersBelow occurrences setOf takes stepAmong endingOf takeOnePair clash arcAt arcsAt machineOf soundArc shaped partRefusal dueOffset laidOut partsIn counted partsOf cardRefusal partsRefusal product machinesOf isRanking harmony pairsOf bytesOf spelled marksFrom isComplete profileOf smaller winsTie preferred sameWord pairsOver listsBelow contendersAmong leastOf bestBelow bestOf bestIn best soundWord inputRefusal optimizerRefusal optimized optimizedAnswer before after segments digitsWithin decimal valueFrom isRankingText isSymbolText parsedLine linesOf nextCount withCommas pairText pairsText acceptedLine lineOf bestLine
+unfolding allOf pairwise those joined everyBelow someBelow numbersBelow occurrences setOf takes stepAmong endingOf takeOnePair clash arcAt arcsAt machineOf soundArc shaped partRefusal dueOffset laidOut partsIn counted partsOf cardRefusal partsRefusal product machinesOf isRanking harmony pairsOf bytesOf spelled marksFrom isComplete profileOf smaller winsTie preferred sameWord pairsOver listsBelow contendersAmong leastOf bestBelow bestOf bestIn best soundWord inputRefusal optimizerRefusal optimized optimizedAnswer before after segments digitsWithin decimal valueFrom isRankingText isSymbolText symbolsIn parsedLine linesOf nextCount withCommas pairText pairsText acceptedLine lineOf bestLine
 example-output = refl

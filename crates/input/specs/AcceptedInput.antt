@@ -1,20 +1,19 @@
 -- What input promises that the checks 1 to 9 accept.
 use mathlib.Core.Path.{_≡_}
-use mathlib.Core.Bool.{true, _&&_}
+use mathlib.Core.Bool.{true}
 use mathlib.Core.List.{List, [], _∷_}
 use Prim.Native.Nat.{ℕ, _*_, _≤_}
 use lib.ListN.{length}
 use lib.Dec.{leb, lit<}
 use borrow.Author.Tests.{leb-true}
-use Rattle.basics.specs.Search.{allOf}
 use Rattle.basics.specs.Refusals.{refuse}
-use Rattle.basics.proofs.Bools.{left, right}
 use Rattle.basics.proofs.Refusals.{passed, none-first}
 use Rattle.ranking.specs.Rankings.{isRanking}
 use Rattle.card.specs.Layout.{machineCount, symbolCount}
 use Rattle.card.specs.Card.{cardRefusal, machinesOf}
 use Rattle.product.specs.Nodes.{nodeCount}
 use Rattle.product.specs.Optimizing.{soundWord, inputRefusal}
+use Rattle.product.specs.Laws.Words.{accepted-word}
 
 pub record AcceptedInput (card ranking word : List ℕ) (room : ℕ) : Type 0 where
   pub accepted : cardRefusal card ≡ 0
@@ -41,8 +40,4 @@ accepted-input card ranking word room e =
 
 -- a word has at most 24 symbols
 pub short-word : (S : ℕ) (word : List ℕ) → soundWord S word ≡ true → length word ≤ 24
-unfolding soundWord
-short-word S word t =
-    let a = leb 1 (length word) in
-    let b = leb (length word) 24 in
-    leb-true (length word) 24 (right a b (left (a && b) (allOf (λ x. leb 1 x && leb x S) word) t))
+short-word S word t = accepted-word S word t .short

@@ -10,9 +10,9 @@ use lib.ListN.{length, drop, length-map, length-take, length-drop}
 use borrow.Author.Tests.{leb-true, leb-false}
 use Rattle.lines.specs.declared.Parsed.{Parsed}
 use Rattle.lines.specs.declared.Next.{Next}
-use Rattle.lines.specs.Text.{space, comma, lineEnd, before, after, segments}
+use Rattle.lines.specs.Text.{space, lineEnd, before, after}
 use Rattle.lines.specs.Decimal.{digitValue, valueOf}
-use Rattle.lines.specs.Parsing.{isRankingText, isWordText, parsedParts, parsedLine, parsedAnswer}
+use Rattle.lines.specs.Parsing.{isRankingText, symbolsIn, isWordText, parsedParts, parsedLine, parsedAnswer}
 use Rattle.lines.specs.Input.{kept, nextOf}
 use Rattle.lines.proofs.Cutting.{before-short, after-short}
 use Rattle.lines.proofs.Forms.{line-long, line-parts, parts-unranked, parts-unworded, parts-formed, ranking-digits, word-symbols}
@@ -90,8 +90,8 @@ parts-bounds digits symbols short = go (isRankingText digits) refl (isWordText s
     go false e t d = rw (parts-unranked digits symbols e) bad-bounds
     go true e false d = rw (parts-unworded digits symbols d) bad-bounds
     go true e true d =
-        rw (parts-formed digits symbols e d, length-map digits digitValue, length-map (segments comma symbols) valueOf)
-        (good-bounds (length digits) (length (segments comma symbols)) (ranking-digits digits e .no-more) (omega (arith, word-symbols symbols d)))
+        rw (parts-formed digits symbols e d, length-map digits digitValue, length-map (symbolsIn symbols) valueOf)
+        (good-bounds (length digits) (length (symbolsIn symbols)) (ranking-digits digits e .no-more) (omega (arith, word-symbols symbols d)))
 
 pub parsed-bounds : (l : List ℕ) → ParsedBounds (parsedAnswer (parsedLine l))
 parsed-bounds l = go (leb (length l) 200) refl (after space l) refl

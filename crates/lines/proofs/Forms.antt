@@ -4,6 +4,7 @@ use mathlib.Core.Bool.{Bool, true, false, _&&_, and-false}
 use mathlib.Core.List.{List, [], _∷_, map}
 use mathlib.Core.Option.{some, none}
 use Prim.Native.Nat.{ℕ, _+_, _-_, _*_, _<_, _≤_, zero-le}
+use native.Mathlib.Nat.{suc-ne-zero}
 use native.Mathlib.Omega.{arith}
 use lib.ListN.{length, length-map, take, drop}
 use lib.Dec.{leb}
@@ -14,7 +15,7 @@ use Rattle.lines.specs.declared.Parsed.{Parsed}
 use Rattle.lines.specs.Text.{space, comma, before, after, segments}
 use Rattle.lines.specs.Decimal.{isDigit, digitValue, valueOf}
 use Rattle.lines.specs.Buffers.{atFront}
-use Rattle.lines.specs.Parsing.{isRankingText, isSymbolText, isWordText, requestOf, parsedParts, parsedLine, parsedAnswer, rankingOf, wordOf}
+use Rattle.lines.specs.Parsing.{isRankingText, isSymbolText, symbolsIn, isWordText, requestOf, parsedParts, parsedLine, parsedAnswer, rankingOf, wordOf}
 use Rattle.basics.proofs.Bools.{left, right}
 use Rattle.lines.proofs.Lists.{all-first, all-rest}
 use Rattle.lines.proofs.Cutting.{take-before, after-none, after-some, part-rest, lengths, segments-lengths}
@@ -65,8 +66,21 @@ symbols-lengths (p ∷ ps) h =
     let i = symbols-lengths ps (all-rest isSymbolText refl h) in
     omega (arith, symbol-digits p (all-first isSymbolText refl h) .one)
 
-pub word-symbols : (l : List ℕ) → isWordText l ≡ true → 2 * length (segments comma l) ≤ length l + 1
-word-symbols l h = rw (segments-lengths comma l) at (symbols-lengths (segments comma l) h)
+-- the empty text has no symbols, any other has those between its commas
+pub symbols-none : (l : List ℕ) → length l ≡ 0 → symbolsIn l ≡ []
+unfolding symbolsIn
+symbols-none [] e = refl
+symbols-none (x ∷ l) e = absurd (suc-ne-zero (length l) e)
+
+pub symbols-some : (l : List ℕ) → (length l ≡ 0 → ⊥) → symbolsIn l ≡ segments comma l
+unfolding symbolsIn
+symbols-some [] h = absurd (h refl)
+symbols-some (x ∷ l) h = refl
+
+pub word-symbols : (l : List ℕ) → isWordText l ≡ true → 2 * length (symbolsIn l) ≤ length l + 1
+unfolding symbolsIn
+word-symbols [] h = zero-le
+word-symbols (x ∷ l) h = rw (segments-lengths comma (x ∷ l)) at (symbols-lengths (segments comma (x ∷ l)) h)
 
 -- a line that is parsed: too long; with no space; with the parts before and after the space, which end and start at places
 module _ (l : List ℕ) where
@@ -106,7 +120,7 @@ unparsed l ranking word e = rw e (refl, (refl, refl))
 
 pub parsed : (l digits symbols ranking word : List ℕ) {newRanking newWord : List ℕ} {n count : ℕ} → parsedLine l ≡ some (requestOf digits symbols)
     → n ≡ length digits → newRanking ≡ atFront (map digitValue digits) ranking
-    → count ≡ length (segments comma symbols) → newWord ≡ atFront (map valueOf (segments comma symbols)) word
+    → count ≡ length (symbolsIn symbols) → newWord ≡ atFront (map valueOf (symbolsIn symbols)) word
     → Parses (Line n count) l ranking newRanking word newWord
 parsed l digits symbols ranking word e n r c w =
-    rw e ((λ i. Line ((n ∙ sym (length-map digits digitValue)) i) ((c ∙ sym (length-map (segments comma symbols) valueOf)) i)), (r, w))
+    rw e ((λ i. Line ((n ∙ sym (length-map digits digitValue)) i) ((c ∙ sym (length-map (symbolsIn symbols) valueOf)) i)), (r, w))

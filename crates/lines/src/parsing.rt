@@ -32,6 +32,9 @@ fn is_symbol_text(text: &[u8]) -> bool
 fn is_word_text(text: &[u8]) -> bool
     ensures { λ r. ⌜ r ≡ isWordText (now (text .entry)) ⌝ }
 {
+    if text.len() == 0 {
+        return true;
+    }
     let mut rest = text;
     loop {
         let n = length_before(rest, b',');
@@ -63,6 +66,9 @@ fn write_word(text: &[u8], word: &mut [u8]) -> usize
     ensures { λ r. ⌜ r ≡ length (symbolsIn (now (text .entry))) ⌝ }
     ensures { λ _. ⌜ now (word .exit) ≡ atFront (map valueOf (symbolsIn (now (text .entry)))) (now (word .entry)) ⌝ }
 {
+    if text.len() == 0 {
+        return 0;
+    }
     let mut rest = text;
     let mut count = 0;
     loop {

@@ -16,9 +16,9 @@ use Rattle.candidate.specs.Evaluating.{profileWith, refused}
 use Rattle.product.specs.Nodes.{nodeCount}
 use Rattle.product.specs.Best.{Contender, best}
 
--- a word: 1 to 24 symbols, each of 1 to S
+-- a word: 0 to 24 symbols, each of 1 to S
 unfoldable pub soundWord : ℕ → List ℕ → Bool
-soundWord S word = leb 1 (length word) && leb (length word) 24 && allOf (λ x. leb 1 x && leb x S) word
+soundWord S word = leb (length word) 24 && allOf (λ x. leb 1 x && leb x S) word
 
 -- the checks before the search, 1 to 9: 0 where card, ranking, word and work slice are accepted
 unfoldable pub inputRefusal : List ℕ → List ℕ → List ℕ → ℕ → ℕ

@@ -59,9 +59,15 @@ impl Generator {
     }
 
     fn optimize(&self, random: &mut Random) -> Call {
-        let read = self.card(random);
+        let mut read = self.card(random);
         let mut ranking = any_ranking(random, read.machines.len());
         let mut word = any_word(random, read.symbols);
+        if word.is_empty() && random.percent(50) {
+            // a start state that is not final, where another is, asks for insertions
+            if let Some(machine) = read.machines.iter_mut().find(|machine| machine.finals[1..].contains(&true)) {
+                machine.finals[0] = false;
+            }
+        }
         if read.states() == 128 && random.percent(40) {
             word.resize(24, 1);
         }

@@ -303,10 +303,14 @@ pub fn any_ranking(random: &mut Random, machines: usize) -> Vec<u8> {
     ranking
 }
 
-/// A word of 1 to 24 symbols, short ones more often.
+/// A word of 0 to 24 symbols, short ones more often.
 pub fn any_word(random: &mut Random, symbols: u8) -> Vec<u8> {
     let most = random.one_of(&[2, 3, 4, 5, 6, 8, 12, 24]);
-    let length = if random.percent(4) { 24 } else { random.between(1, most) };
+    let length = match random.below(100) {
+        0..=3 => 24,
+        4..=11 => 0,
+        _ => random.between(1, most),
+    };
     let kinds = random.between(1, symbols as usize);
     let lowest = random.between(0, symbols as usize - kinds);
     (0..length).map(|_| (lowest + random.between(1, kinds)) as u8).collect()

@@ -247,15 +247,14 @@ pub fn damage_a_ranking(random: &mut Random, ranking: &mut Vec<u8>) {
     }
 }
 
-/// A word too long or empty, or with a symbol that is none: refusal 8.
+/// A word too long, or with a symbol that is none: refusal 8.
 pub fn damage_a_word(random: &mut Random, word: &mut Vec<u8>, symbols: u8) {
     let place = random.below(word.len().max(1));
-    match random.below(6) {
-        0 => word.clear(),
-        1 => word.resize(25, 1),
-        2 => word.resize(random.between(26, 290), symbols),
-        3 if !word.is_empty() => word[place] = 0,
-        4 if !word.is_empty() => word[place] = symbols.wrapping_add(1),
+    match random.below(5) {
+        0 => word.resize(25, 1),
+        1 => word.resize(random.between(26, 290), symbols),
+        2 if !word.is_empty() => word[place] = 0,
+        3 if !word.is_empty() => word[place] = symbols.wrapping_add(1),
         _ if !word.is_empty() => word[place] = random.one_of(&[64, 128, 255]),
         _ => word.push(0),
     }
