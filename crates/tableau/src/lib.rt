@@ -1,4 +1,19 @@
 // Tableaux from the textbooks: whether one is right for a card, a ranking and a word.
+ghost use mathlib.Core.Path.{_≡_};
+ghost use mathlib.Core.Bool.{true};
+ghost use Prim.Native.Nat.{ℕ, _+_, _%_, _<_, _≤_};
+ghost use lib.ListN.{length};
+ghost use Rattle.basics.specs.Refusals.{refuse};
+ghost use Rattle.card.specs.Layout.{shortAt, laidOut};
+ghost use Rattle.card.specs.Card.{cardRefusal};
+ghost use Rattle.candidate.specs.Candidates.{pairsOf, spelled};
+ghost use Rattle.candidate.specs.Best.{sameWord};
+ghost use Rattle.tableau.specs.Refusals.{stageNumber};
+ghost use Rattle.tableau.specs.Tableau.{rowCount, rowOf, countsOf, everyRow, soundRow, soundTableau};
+ghost use Rattle.tableau.specs.Reading.{Readable, CompleteRow};
+ghost use Rattle.tableau.specs.Judging.{isForWord, sameCounts, countsAreProfile, verdictOf};
+use machine::Pair;
+use ranking::Profile;
 
 // What a tableau is said to be.
 pub enum Verdict {
@@ -8,4 +23,266 @@ pub enum Verdict {
     AnotherRow(u8),
     // No row wins.
     NotInTable,
+}
+
+// Why a tableau is refused.
+pub enum Refusal {
+    // Card, ranking, word or work slice.
+    Input(optimizer::Refusal),
+    // The layout, or the claimed row.
+    Layout,
+    // A row's candidate.
+    Candidate,
+    // A row's counts.
+    Profile,
+    // The best profile has a count over 60,000.
+    Counts,
+}
+
+// What a checking stage answers.
+pub enum Stage {
+    Passed,
+    Refused(Refusal),
+}
+
+// A byte as a number to index with.
+fn index(x: u8) -> usize
+    ensures { λ r. ⌜ (r ≡ x) × (r < 256) ⌝ }
+{
+    x as usize
+}
+
+// A byte as a count.
+fn wide(x: u8) -> u16
+    ensures { λ r. ⌜ (r ≡ x) × (r < 256) ⌝ }
+{
+    x as u16
+}
+
+// The number of two bytes from a place, little-endian.
+fn short(bytes: &[u8], at: usize) -> u16
+    requires { ⌜ at + 2 ≤ length (now bytes) ⌝ }
+    ensures { λ r. ⌜ r ≡ shortAt (now (bytes .entry)) at ⌝ }
+{
+    wide(bytes[at]) + 256 * wide(bytes[at + 1])
+}
+
+// A row's counts.
+fn counts(row: &[u8]) -> Profile
+    requires { ⌜ 12 ≤ length (now row) ⌝ }
+    ensures { λ r. ⌜ r .counts ≡ countsOf (now (row .entry)) ⌝ }
+{
+    let counts = [
+        short(row, 0),
+        short(row, 2),
+        short(row, 4),
+        short(row, 6),
+        short(row, 8),
+        short(row, 10),
+    ];
+    Profile { counts }
+}
+
+// Whether two profiles have the same counts.
+fn same_counts(first: Profile, second: Profile) -> bool
+    ensures { λ r. ⌜ r ≡ sameCounts (first .counts) (second .counts) ⌝ }
+{
+    (first.count(0) == second.count(0))
+        & (first.count(1) == second.count(1))
+        & (first.count(2) == second.count(2))
+        & (first.count(3) == second.count(3))
+        & (first.count(4) == second.count(4))
+        & (first.count(5) == second.count(5))
+}
+
+// Whether a candidate spells a word.
+fn spells(candidate: &[u8], word: &[u8]) -> bool
+    requires { ⌜ length (now candidate) % 2 ≡ 0 ⌝ }
+    ensures { λ r. ⌜ r ≡ sameWord (spelled (pairsOf (now (candidate .entry)))) (now (word .entry)) ⌝ }
+{
+    let mut at = 0;
+    let mut place = 0;
+    while at < candidate.len() {
+        let symbol = candidate[at];
+        if symbol != Pair::EMPTY {
+            if word.len() <= place {
+                return false;
+            }
+            if symbol != word[place] {
+                return false;
+            }
+            place += 1;
+        }
+        at += 2;
+    }
+    word.len() <= place
+}
+
+// Whether a row has at least 12 bytes and no count from `machines` on.
+fn is_sound_row(row: &[u8], machines: usize) -> bool
+    requires { ⌜ machines ≤ 6 ⌝ }
+    ensures { λ r. ⌜ r ≡ soundRow machines (now (row .entry)) ⌝ }
+{
+    if row.len() < 12 {
+        return false;
+    }
+    let profile = counts(row);
+    for machine in machines..6 {
+        if profile.count(machine) != 0 {
+            return false;
+        }
+    }
+    true
+}
+
+// Whether the rows follow one another to the tableau's end.
+fn is_laid_out(tableau: &[u8]) -> bool
+    requires { ⌜ (2 ≤ length (now tableau)) × (rowCount (now tableau) ≤ 32) ⌝ }
+    ensures { λ r. ⌜ r ≡ laidOut (now (tableau .entry)) ⌝ }
+{
+    let rows = index(tableau[0]);
+    let mut due = 2 + 4 * rows;
+    if tableau.len() < due {
+        return false;
+    }
+    for i in 0..rows {
+        if index_short(tableau, 2 + 4 * i) != due {
+            return false;
+        }
+        due += index_short(tableau, 4 + 4 * i);
+    }
+    due == tableau.len()
+}
+
+// The number of two bytes from a place, to index with.
+fn index_short(bytes: &[u8], at: usize) -> usize
+    requires { ⌜ at + 2 ≤ length (now bytes) ⌝ }
+    ensures { λ r. ⌜ (r ≡ shortAt (now (bytes .entry)) at) × (r < 65536) ⌝ }
+{
+    index(bytes[at]) + 256 * index(bytes[at + 1])
+}
+
+// A row's bytes.
+fn row(tableau: &[u8], i: usize) -> &[u8]
+    requires { ⌜ (laidOut (now tableau) ≡ true) × (i < rowCount (now tableau)) ⌝ }
+    ensures { λ r. ⌜ now r ≡ rowOf (now (tableau .entry)) i ⌝ }
+{
+    let offset = index_short(tableau, 2 + 4 * i);
+    let end = offset + index_short(tableau, 4 + 4 * i);
+    &tableau[offset..end]
+}
+
+// Refusal 19, of the rows: each has its counts, unused ones 0.
+fn check_rows(tableau: &[u8], machines: usize) -> Stage
+    requires { ⌜ (2 ≤ length (now tableau)) × (laidOut (now tableau) ≡ true) × (machines ≤ 6) ⌝ }
+    ensures { λ r. ⌜ stageNumber r ≡ refuse 19 (everyRow (soundRow machines) (now (tableau .entry))) ⌝ }
+{
+    let rows = index(tableau[0]);
+    for i in 0..rows {
+        if !is_sound_row(row(tableau, i), machines) {
+            return Stage::Refused(Refusal::Layout);
+        }
+    }
+    Stage::Passed
+}
+
+// Refusal 19: the layout, and the claimed row.
+fn check_tableau(tableau: &[u8], machines: usize) -> Stage
+    requires { ⌜ machines ≤ 6 ⌝ }
+    ensures { λ r. ⌜ stageNumber r ≡ refuse 19 (soundTableau machines (now (tableau .entry))) ⌝ }
+{
+    if tableau.len() < 2 {
+        return Stage::Refused(Refusal::Layout);
+    }
+    let rows = index(tableau[0]);
+    let claimed = index(tableau[1]);
+    if (rows < 1) | (32 < rows) | (rows <= claimed) {
+        return Stage::Refused(Refusal::Layout);
+    }
+    if !is_laid_out(tableau) {
+        return Stage::Refused(Refusal::Layout);
+    }
+    check_rows(tableau, machines)
+}
+
+// Whether a row's candidate meets neither 13 nor 14 and spells the word.
+fn is_for_word(card: &[u8], word: &[u8], row: &[u8]) -> bool
+    requires { ⌜ (cardRefusal (now card) ≡ 0) × (12 ≤ length (now row)) ⌝ }
+    ensures { λ r. ⌜ r ≡ isForWord (now (card .entry)) (now (word .entry)) (now (row .entry)) ⌝ }
+{
+    let bytes = &row[12..];
+    let answer = candidate::check_candidate(bytes, card::symbol_count(card));
+    let candidate::Stage::Passed = answer else {
+        return false;
+    };
+    let scored = candidate::score(card, bytes);
+    let answer = scored.stage;
+    let candidate::Stage::Passed = answer else {
+        return false;
+    };
+    spells(bytes, word)
+}
+
+// Refusal 20: each row's candidate.
+fn check_candidates(card: &[u8], word: &[u8], tableau: &[u8]) -> Stage
+    requires { ⌜ (cardRefusal (now card) ≡ 0) × Readable (now tableau) ⌝ }
+    ensures { λ r. ⌜ stageNumber r ≡ refuse 20 (everyRow (isForWord (now (card .entry)) (now (word .entry))) (now (tableau .entry))) ⌝ }
+{
+    let rows = index(tableau[0]);
+    for i in 0..rows {
+        if !is_for_word(card, word, row(tableau, i)) {
+            return Stage::Refused(Refusal::Candidate);
+        }
+    }
+    Stage::Passed
+}
+
+// Whether a row's counts are its candidate's profile.
+fn are_its_profile(card: &[u8], row: &[u8]) -> bool
+    requires { ⌜ (cardRefusal (now card) ≡ 0) × (12 ≤ length (now row)) × CompleteRow (now card) (now row) ⌝ }
+    ensures { λ r. ⌜ r ≡ countsAreProfile (now (card .entry)) (now (row .entry)) ⌝ }
+{
+    let scored = candidate::score(card, &row[12..]);
+    let profile = scored.profile;
+    same_counts(counts(row), profile)
+}
+
+// Refusal 21: each row's counts.
+fn check_profiles(card: &[u8], tableau: &[u8]) -> Stage
+    requires { ⌜ (cardRefusal (now card) ≡ 0) × Readable (now tableau) × ((i : ℕ) → i < rowCount (now tableau) → CompleteRow (now card) (rowOf (now tableau) i)) ⌝ }
+    ensures { λ r. ⌜ stageNumber r ≡ refuse 21 (everyRow (countsAreProfile (now (card .entry))) (now (tableau .entry))) ⌝ }
+{
+    let rows = index(tableau[0]);
+    for i in 0..rows {
+        if !are_its_profile(card, row(tableau, i)) {
+            return Stage::Refused(Refusal::Profile);
+        }
+    }
+    Stage::Passed
+}
+
+// Whether a row has the profile.
+fn has_profile(tableau: &[u8], i: usize, profile: Profile) -> bool
+    requires { ⌜ Readable (now tableau) × (i < rowCount (now tableau)) ⌝ }
+    ensures { λ r. ⌜ r ≡ sameCounts (countsOf (rowOf (now (tableau .entry)) i)) (profile .counts) ⌝ }
+{
+    same_counts(counts(row(tableau, i)), profile)
+}
+
+// The verdict, for the best candidate's profile.
+fn verdict_of(tableau: &[u8], best: Profile) -> Verdict
+    requires { ⌜ Readable (now tableau) ⌝ }
+    ensures { λ r. ⌜ r ≡ verdictOf (λ row. sameCounts (countsOf row) (best .counts)) (now (tableau .entry)) ⌝ }
+{
+    let claimed = index(tableau[1]);
+    if has_profile(tableau, claimed, best) {
+        return Verdict::Right;
+    }
+    let rows = index(tableau[0]);
+    for i in 0..rows {
+        if has_profile(tableau, i, best) {
+            return Verdict::AnotherRow(i as u8);
+        }
+    }
+    Verdict::NotInTable
 }
