@@ -24,14 +24,6 @@ pub all-none : {A : Type 0} (f : A → Bool) {xs : List A} → xs ≡ [] → all
 unfolding allOf
 all-none f e = rw e
 
-pub pairwise-none : {A : Type 0} (f : A → A → Bool) {xs : List A} → xs ≡ [] → pairwise f xs ≡ true
-unfolding pairwise
-pairwise-none f e = rw e
-
-pub first-none : {A : Type 0} (f : A → Bool) {xs : List A} → xs ≡ [] → firstThat f xs ≡ none
-unfolding firstThat
-first-none f e = rw e
-
 module _ {A : Type 0} (f : A → Bool) {xs : List A} {x : A} {rest : List A} (e : xs ≡ x ∷ rest) where
   pub all-next : f x ≡ true → allOf f rest ≡ allOf f xs
   unfolding allOf

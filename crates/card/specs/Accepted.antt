@@ -6,11 +6,12 @@ use native.Mathlib.Omega.{arith}
 use lib.Dec.{lit<}
 use lib.ListN.{length, drop, length-map, length-drop}
 use borrow.Author.Tests.{leb-true}
+use Rattle.basics.specs.Products.{product}
 use Rattle.basics.specs.Refusals.{refuse}
 use Rattle.basics.proofs.Refusals.{passed}
-use Rattle.machine.specs.Part.{partRefusal}
+use Rattle.machine.specs.Part.{stateCount, partRefusal}
 use Rattle.card.specs.Layout.{Bytes, machineCount, symbolCount, offsetOf, lengthOf, counted, laidOut, partOf, partsOf}
-use Rattle.card.specs.Card.{stateProduct, partsRefusal, fewStates, cardRefusal}
+use Rattle.card.specs.Card.{partsRefusal, fewStates, cardRefusal}
 use Rattle.card.specs.Laws.Search.{first-passed, rest-passed}
 use Rattle.card.specs.Laws.Bytes.{bytes-drop}
 use Rattle.card.specs.Laws.Layout.{Headed, head-told, LaidOut, layout-told, part-within, length-parts, part-at}
@@ -24,8 +25,8 @@ pub record Accepted (card : List ℕ) : Type 0 where
   pub all-parts : partsRefusal (symbolCount card) (partsOf card) ≡ 0
   pub part : (i : ℕ) → i < machineCount card → partRefusal (symbolCount card) (partOf card i) ≡ 0
   pub within : (i : ℕ) → i < machineCount card → offsetOf card i + lengthOf card i ≤ length card
-  pub some-state : 1 ≤ stateProduct (partsOf card)
-  pub states : stateProduct (partsOf card) ≤ 128
+  pub some-state : 1 ≤ product (map stateCount (partsOf card))
+  pub states : product (map stateCount (partsOf card)) ≤ 128
 
 pub accepted : (card : List ℕ) → cardRefusal card ≡ 0 → Accepted card
 unfolding cardRefusal
@@ -48,7 +49,7 @@ accepted card e =
       part = λ i h. rw (part-at card i h []) at (part-passed S (partsOf card) i (rw length-parts h) q []);
       within = λ i h. part-within card l i h;
       some-state = some-state S (partsOf card) q;
-      states = leb-true (stateProduct (partsOf card)) 128 (passed 6 d (lit< tt) (first-passed (refuse 6 d) [] ed));
+      states = leb-true (product (map stateCount (partsOf card))) 128 (passed 6 d (lit< tt) (first-passed (refuse 6 d) [] ed));
     }
 
 -- an accepted card has at most 2 + 4 × 6 + 6 × (2 + 32 + 20 × 255) bytes

@@ -7,9 +7,10 @@ use lib.ListN.{length, getD, take, drop, length-map}
 use lib.Seq.{take-at, drop-at}
 use borrow.Author.Tests.{lt-ltb, le-leb}
 use Rattle.basics.specs.Search.{joined}
-use Rattle.machine.specs.Part.{machineOf}
+use Rattle.basics.specs.Products.{product}
+use Rattle.machine.specs.Part.{machineOf, stateCount}
 use Rattle.card.specs.Layout.{Bytes, machineCount, symbolCount, offsetOf, lengthOf, counted, partsOf}
-use Rattle.card.specs.Card.{machinesOf, stateProduct, cardRefusal}
+use Rattle.card.specs.Card.{machinesOf, cardRefusal}
 use Rattle.card.specs.Reading.{reading}
 use Rattle.card.specs.Packing.{split, places, packed, packingRefusal, packedTarget}
 use Rattle.card.specs.Laws.Bytes.{bytes-cons, bytes-append}
@@ -101,7 +102,7 @@ accepted-packs-back card b e =
       counts = rw k (counts-hold (machineCount card) S (a .head .counts));
       sum = joined-total parts;
       parts = rw s (a .all-parts);
-      states = rw s (le-leb (stateProduct parts) 128 (a .states));
+      states = rw s (le-leb (product (map stateCount parts)) 128 (a .states));
       fits = rw p h;
     }) in
     record { packs = p; accepts = ok; writes = λ target h. rw (ok (length target) h, p) }

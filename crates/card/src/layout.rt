@@ -8,13 +8,7 @@ ghost use Rattle.card.specs.Refusals.{numberOf, stageNumber};
 ghost use Rattle.card.specs.Layout.{machineCount, shortAt, lengthOf, soundCounts, counted, laidOut};
 use crate::Refusal;
 use crate::Stage;
-
-// A byte as a number to index with.
-pub fn index(x: u8) -> usize
-    ensures { λ r. ⌜ (r ≡ x) × (r < 256) ⌝ }
-{
-    x as usize
-}
+use basics::index;
 
 // The number of two bytes from a place, little-endian.
 pub fn short(card: &[u8], at: usize) -> usize

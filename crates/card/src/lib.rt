@@ -11,6 +11,8 @@ mod layout; // layout.rt: K, S and the places of the parts
 mod packing; // packing.rt: the writing of a card
 mod parts; // parts.rt: the check of the machine parts
 
+use basics::index;
+
 // Why a card, a reading or a packing is refused.
 pub enum Refusal {
     // K or S.
@@ -101,7 +103,7 @@ pub fn machine_count(card: &[u8]) -> usize
     requires { ⌜ cardRefusal (now card) ≡ 0 ⌝ }
     ensures { λ r. ⌜ r ≡ machineCount (now (card .entry)) ⌝ }
 {
-    layout::index(card[0])
+    index(card[0])
 }
 
 // S, the number of symbols of an accepted card.
@@ -113,7 +115,7 @@ pub fn symbol_count(card: &[u8]) -> u8
 }
 
 // Where a part of an accepted card starts.
-pub fn part_offset(card: &[u8], machine: usize) -> usize
+fn part_offset(card: &[u8], machine: usize) -> usize
     requires { ⌜ (cardRefusal (now card) ≡ 0) × (machine < machineCount (now card)) ⌝ }
     ensures { λ r. ⌜ r ≡ offsetOf (now (card .entry)) machine ⌝ }
 {
@@ -121,7 +123,7 @@ pub fn part_offset(card: &[u8], machine: usize) -> usize
 }
 
 // How many bytes a part of an accepted card has.
-pub fn part_length(card: &[u8], machine: usize) -> usize
+fn part_length(card: &[u8], machine: usize) -> usize
     requires { ⌜ (cardRefusal (now card) ≡ 0) × (machine < machineCount (now card)) ⌝ }
     ensures { λ r. ⌜ (r ≡ lengthOf (now (card .entry)) machine) × (r < 65536) ⌝ }
 {
@@ -161,7 +163,7 @@ pub fn read_part(card: &[u8], machine: u8) -> PartPlace
             length: 0,
         };
     };
-    let machine = layout::index(machine);
+    let machine = index(machine);
     PartPlace {
         number: 0,
         offset: part_offset(card, machine),

@@ -10,9 +10,9 @@ ghost use Rattle.card.specs.Card.{machinesRefusal};
 ghost use Rattle.card.specs.Packing.{total, split};
 use crate::Refusal;
 use crate::Stage;
-use crate::layout::index;
 use crate::layout::read_lengths;
 use crate::layout::tested;
+use basics::index;
 
 // A part's length as a number to index with.
 pub fn wide(x: u16) -> usize

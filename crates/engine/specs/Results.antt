@@ -18,8 +18,8 @@ abbrev pub placeNumbers : PartPlace → List ℕ
 placeNumbers p = p .offset ∷ p .length ∷ []
 
 -- six counts as a profile
-abbrev pub profileOf : List ℕ → Profile
-profileOf counts = record { counts = counts }
+abbrev pub asProfile : List ℕ → Profile
+asProfile counts = record { counts = counts }
 
 -- better, equal, worse
 abbrev pub orderNumber : Order → ℕ

@@ -1,7 +1,6 @@
 // The static library: the public calls as functions that C can call. include/pastaspur.h says what each is lent and answers.
 ghost use mathlib.Core.Path.{_≡_};
 ghost use mathlib.Core.List.{[], _∷_};
-ghost use Prim.Native.Nat.{ℕ};
 ghost use lib.ListN.{length};
 ghost use Rattle.ranking.specs.Harmony.{comparing};
 ghost use Rattle.ranking.specs.Conditions.{derivedFrom};
@@ -9,9 +8,9 @@ ghost use Rattle.ranking.specs.Finder.{finding};
 ghost use Rattle.card.specs.Reading.{reading};
 ghost use Rattle.card.specs.Packing.{packing, packedTarget};
 ghost use Rattle.candidate.specs.Evaluating.{evaluating};
-ghost use Rattle.candidate.specs.Optimizing.{optimized};
+ghost use Rattle.product.specs.Optimizing.{optimized};
 ghost use Rattle.optimizer.specs.Optimizes.{Optimizes};
-ghost use Rattle.engine.specs.Results.{evaluationNumbers, placeNumbers, orderNumber, orderNumbers, conditionNumbers, profileOf};
+ghost use Rattle.engine.specs.Results.{evaluationNumbers, placeNumbers, orderNumber, orderNumbers, conditionNumbers, asProfile};
 use candidate::Evaluation;
 use ranking::Comparison;
 use ranking::Condition;
@@ -97,7 +96,7 @@ pub extern "C" fn pastaspur_pack(
 
 // The profile of six counts.
 fn profile_of(counts: &[u16; 6]) -> Profile
-    ensures { λ r. ⌜ r ≡ profileOf (now (counts .entry)) ⌝ }
+    ensures { λ r. ⌜ r ≡ asProfile (now (counts .entry)) ⌝ }
 {
     let counts = *counts;
     Profile { counts }
@@ -123,8 +122,8 @@ pub extern "C" fn pastaspur_compare(
     second: &[u16; 6],
     result: &mut [u8; 1],
 ) -> u32
-    ensures { λ r. ⌜ r ≡ comparing machines (now (ranking .entry)) (profileOf (now (first .entry))) (profileOf (now (second .entry))) .number ⌝ }
-    ensures { λ _. ⌜ now (result .exit) ≡ orderNumbers (comparing machines (now (ranking .entry)) (profileOf (now (first .entry))) (profileOf (now (second .entry))) .order) ⌝ }
+    ensures { λ r. ⌜ r ≡ comparing machines (now (ranking .entry)) (asProfile (now (first .entry))) (asProfile (now (second .entry))) .number ⌝ }
+    ensures { λ _. ⌜ now (result .exit) ≡ orderNumbers (comparing machines (now (ranking .entry)) (asProfile (now (first .entry))) (asProfile (now (second .entry))) .order) ⌝ }
 {
     let answer = ranking::harmony::compare(
         machines,
@@ -152,8 +151,8 @@ pub extern "C" fn pastaspur_condition(
     second: &[u16; 6],
     result: &mut [u8; 2],
 ) -> u32
-    ensures { λ r. ⌜ r ≡ derivedFrom machines (profileOf (now (first .entry))) (profileOf (now (second .entry))) .number ⌝ }
-    ensures { λ _. ⌜ now (result .exit) ≡ conditionNumbers (derivedFrom machines (profileOf (now (first .entry))) (profileOf (now (second .entry))) .condition) ⌝ }
+    ensures { λ r. ⌜ r ≡ derivedFrom machines (asProfile (now (first .entry))) (asProfile (now (second .entry))) .number ⌝ }
+    ensures { λ _. ⌜ now (result .exit) ≡ conditionNumbers (derivedFrom machines (asProfile (now (first .entry))) (asProfile (now (second .entry))) .condition) ⌝ }
 {
     let answer = ranking::conditions::derive(machines, profile_of(first), profile_of(second));
     match answer {

@@ -1,6 +1,6 @@
 -- Laws of the forms of a line's parts. Assumes nothing.
 use mathlib.Core.Path.{_≡_, refl, ap, sym, _∙_}
-use mathlib.Core.Bool.{Bool, true, false, _&&_}
+use mathlib.Core.Bool.{Bool, true, false, _&&_, and-false}
 use mathlib.Core.List.{List, [], _∷_, map}
 use mathlib.Core.Option.{some, none}
 use Prim.Native.Nat.{ℕ, _+_, _-_, _*_, _<_, _≤_, zero-le}
@@ -14,8 +14,9 @@ use Rattle.lines.specs.declared.Parsed.{Parsed}
 use Rattle.lines.specs.Text.{space, comma, before, after, segments}
 use Rattle.lines.specs.Decimal.{isDigit, digitValue, valueOf}
 use Rattle.lines.specs.Buffers.{atFront}
-use Rattle.lines.specs.Parsing.{isRankingText, isSymbolText, isWordText, requestOf, parsedParts, parsedLine, answerOf, rankingOf, wordOf}
-use Rattle.lines.proofs.Lists.{and-false, and-left, and-right, all-first, all-rest}
+use Rattle.lines.specs.Parsing.{isRankingText, isSymbolText, isWordText, requestOf, parsedParts, parsedLine, parsedAnswer, rankingOf, wordOf}
+use Rattle.basics.proofs.Bools.{left, right}
+use Rattle.lines.proofs.Lists.{all-first, all-rest}
 use Rattle.lines.proofs.Cutting.{take-before, after-none, after-some, part-rest, lengths, segments-lengths}
 
 -- 1 to so many digits
@@ -29,11 +30,11 @@ pub record SomeDigits (most : ℕ) (l : List ℕ) : Type 0 where
 
 pub some-digits : (most : ℕ) (l : List ℕ) → someDigits most l ≡ true → SomeDigits most l
 some-digits most l h =
-    let lengths : (leb 1 (length l) && leb (length l) most) ≡ true = and-left (leb 1 (length l) && leb (length l) most) (allOf isDigit l) h in
+    let lengths : (leb 1 (length l) && leb (length l) most) ≡ true = left (leb 1 (length l) && leb (length l) most) (allOf isDigit l) h in
     record {
-      one = leb-true 1 (length l) (and-left (leb 1 (length l)) (leb (length l) most) lengths);
-      no-more = leb-true (length l) most (and-right (leb 1 (length l)) (leb (length l) most) lengths);
-      digits = and-right (leb 1 (length l) && leb (length l) most) (allOf isDigit l) h;
+      one = leb-true 1 (length l) (left (leb 1 (length l)) (leb (length l) most) lengths);
+      no-more = leb-true (length l) most (right (leb 1 (length l)) (leb (length l) most) lengths);
+      digits = right (leb 1 (length l) && leb (length l) most) (allOf isDigit l) h;
     }
 
 module _ (l : List ℕ) where
@@ -51,11 +52,11 @@ module _ (l : List ℕ) where
 
   pub symbol-digits : isSymbolText l ≡ true → SomeDigits 3 l
   unfolding isSymbolText
-  symbol-digits h = some-digits 3 l (and-left (someDigits 3 l) (leb (valueOf l) 255) h)
+  symbol-digits h = some-digits 3 l (left (someDigits 3 l) (leb (valueOf l) 255) h)
 
   pub symbol-small : isSymbolText l ≡ true → valueOf l ≤ 255
   unfolding isSymbolText
-  symbol-small h = leb-true (valueOf l) 255 (and-right (someDigits 3 l) (leb (valueOf l) 255) h)
+  symbol-small h = leb-true (valueOf l) 255 (right (someDigits 3 l) (leb (valueOf l) 255) h)
 
 -- a word's symbols are at most half as many as its bytes and one
 symbols-lengths : (ps : List (List ℕ)) → allOf isSymbolText ps ≡ true → 2 * length ps ≤ lengths ps
@@ -98,7 +99,7 @@ module _ (digits symbols : List ℕ) where
 -- what parsing answers and what it writes: of a bad line nothing
 abbrev pub Parses : Parsed → List ℕ → List ℕ → List ℕ → List ℕ → List ℕ → Type 0
 Parses answer l ranking newRanking word newWord =
-    (answer ≡ answerOf (parsedLine l)) × ((newRanking ≡ atFront (rankingOf (parsedLine l)) ranking) × (newWord ≡ atFront (wordOf (parsedLine l)) word))
+    (answer ≡ parsedAnswer (parsedLine l)) × ((newRanking ≡ atFront (rankingOf (parsedLine l)) ranking) × (newWord ≡ atFront (wordOf (parsedLine l)) word))
 
 pub unparsed : (l ranking word : List ℕ) → parsedLine l ≡ none → Parses BadLine l ranking ranking word word
 unparsed l ranking word e = rw e (refl, (refl, refl))

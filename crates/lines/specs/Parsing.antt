@@ -45,9 +45,9 @@ unfoldable pub parsedLine : List ℕ → Option Request
 parsedLine line = elim (leb (length line) 200) [ true ↦ parsedParts (before space line) (after space line) | false ↦ none ]
 
 -- what parsing answers of a line, and what it writes: of a bad line nothing
-abbrev pub answerOf : Option Request → Parsed
-answerOf none = BadLine
-answerOf (some request) = Line (length (request .ranking)) (length (request .word))
+abbrev pub parsedAnswer : Option Request → Parsed
+parsedAnswer none = BadLine
+parsedAnswer (some request) = Line (length (request .ranking)) (length (request .word))
 
 abbrev pub rankingOf : Option Request → List ℕ
 rankingOf none = []

@@ -1,21 +1,20 @@
 -- What a label of the start says of the best candidate. Assumes nothing.
-use mathlib.Core.Path.{_≡_, refl, sym, _∙_, ap, subst}
+use mathlib.Core.Path.{_≡_, refl, sym, _∙_, ap}
 use mathlib.Core.Logic.{_⊎_, inl, inr, _≢_}
 use mathlib.Core.Bool.{true}
-use mathlib.Core.List.{List, [], _∷_, map}
+use mathlib.Core.List.{List}
 use mathlib.Core.Option.{Option, some, none, Option·none-ne-some}
 use Prim.Native.Nat.{ℕ, _≤_}
 use native.Mathlib.Omega.{arith}
 use lib.ListN.{length}
 use Rattle.machine.specs.declared.Pair.{Pair}
-use Rattle.machine.specs.Machine.{Machine, startState}
 use Rattle.ranking.specs.Rankings.{isRanking}
 use Rattle.ranking.specs.Lemmas.Rankings.{ranking-facts}
 use Rattle.card.specs.Layout.{machineCount}
 use Rattle.card.specs.Card.{machinesOf, cardRefusal}
 use Rattle.card.specs.Accepted.{accepted}
 use Rattle.candidate.specs.Candidates.{profileOf, IsCandidate}
-use Rattle.candidate.specs.Best.{Form, best}
+use Rattle.product.specs.Best.{Contender, best}
 use Rattle.paths.specs.Costs.{Labels, atmost-some}
 use Rattle.paths.specs.Total.{asym, upto-not-less, less-not-same}
 use Rattle.paths.specs.Ranked.{Ranked, Less, less-total, rankedCosts}
@@ -23,9 +22,8 @@ use Rattle.paths.specs.ByRanking.{ranked}
 use Rattle.paths.specs.Graph.{pathCost, run→cost}
 use Rattle.paths.specs.Labels.{Closed, Attained, lower-bound, unlabelled-none, held→run}
 use Rattle.paths.specs.Best.{IsBest, before-total, best-unique}
-use Rattle.product.specs.Nodes.{stateCounts, codeOf}
 use Rattle.product.specs.Prices.{byRanking}
-use Rattle.product.specs.ProductGraph.{pairs, startNode}
+use Rattle.product.specs.ProductGraph.{pairs, cardStart}
 use Rattle.product.specs.BestCandidate.{Beats, better-profile, fewer-pairs, smaller-bytes, IsBestCandidate}
 use Rattle.product.specs.BestTheorem.{BestOfAll, best-is-best-of-all}
 use Rattle.product.specs.Laws.Accepted.{accepted-machines}
@@ -35,22 +33,13 @@ use Rattle.tables.specs.Places.{sixPlaces}
 use Rattle.tables.specs.Laws.Harmony.{six-harmony}
 use Rattle.tables.specs.Laws.Edges.{sixGraph}
 
--- the start is the node 0
-start-code : (ms : List Machine) → codeOf (stateCounts ms) (map (λ m. startState) ms) ≡ 0
-unfolding codeOf
-start-code [] = refl
-start-code (m ∷ ms) = omega (arith, start-code ms)
-
-start-is-zero : (ms : List Machine) → startNode ms ≡ 0
-start-is-zero ms = omega (arith, start-code ms)
-
 -- the best candidate, and the cost x of its path
 pub record FoundAt (card ranking word : List ℕ) (x : Ranked 6) : Type 0 where
-  pub form : Form
+  pub form : Contender
   pub is : best card ranking word ≡ some form
   pub profile : form .profile ≡ profileOf (machinesOf card) (form .candidate)
   pub cost : x ≡ ranked (sixPlaces ranking) (form .profile) (length (form .candidate))
-  pub path : IsBest (sixGraph ranking word (machinesOf card)) 0 (form .candidate)
+  pub path : IsBest (sixGraph ranking word (machinesOf card)) (cardStart card) (form .candidate)
 
 module _ (card ranking word : List ℕ) (ok : cardRefusal card ≡ 0) (ranks : isRanking (machineCount card) ranking ≡ true) where
   all : BestOfAll card ranking word
@@ -69,44 +58,39 @@ module _ (card ranking word : List ℕ) (ok : cardRefusal card ≡ 0) (ranks : i
   beats-six c d (fewer-pairs e h) = fewer-pairs e h
   beats-six c d (smaller-bytes e h k) = smaller-bytes e h k
 
-  best-six : (c : List Pair) → IsBestCandidate ranking (machinesOf card) word c → IsBest (sixGraph ranking word (machinesOf card)) 0 c
+  best-six : (c : List Pair) → IsBestCandidate ranking (machinesOf card) word c → IsBest (sixGraph ranking word (machinesOf card)) (cardStart card) c
   best-six c b =
-      subst (λ (u : ℕ). IsBest (sixGraph ranking word (machinesOf card)) u c) (start-is-zero (machinesOf card))
-      (best-candidate-path (accepted-machines card ok .sound) (sixPlaces ranking) word c (record { candidate = b .candidate; rivals = λ d k n. beats-six c d (b .rivals d k n) }))
+      best-candidate-path (accepted-machines card ok .sound) (sixPlaces ranking) word c (record { candidate = b .candidate; rivals = λ d k n. beats-six c d (b .rivals d k n) })
 
-  -- ---- candidates are the paths from 0
+  -- ---- candidates are the paths from the start
 
-  its-cost : (c : List Pair) → IsCandidate (machinesOf card) word c → pathCost (sixGraph ranking word (machinesOf card)) 0 c ≡ some (ranked (sixPlaces ranking) (profileOf (machinesOf card) c) (length c))
-  its-cost c h =
-      subst (λ (u : ℕ). pathCost (sixGraph ranking word (machinesOf card)) u c ≡ some (ranked (sixPlaces ranking) (profileOf (machinesOf card) c) (length c))) (start-is-zero (machinesOf card))
-      (candidate-cost (byRanking (sixPlaces ranking)) word (accepted-machines card ok .sound) c h)
+  its-cost : (c : List Pair) → IsCandidate (machinesOf card) word c → pathCost (sixGraph ranking word (machinesOf card)) (cardStart card) c ≡ some (ranked (sixPlaces ranking) (profileOf (machinesOf card) c) (length c))
+  its-cost c h = candidate-cost (byRanking (sixPlaces ranking)) word (accepted-machines card ok .sound) c h
 
-  is-candidate : (c : List Pair) (x : Ranked 6) → pathCost (sixGraph ranking word (machinesOf card)) 0 c ≡ some x → IsCandidate (machinesOf card) word c
-  is-candidate c x h =
-      cost-candidate (byRanking (sixPlaces ranking)) word (accepted-machines card ok .sound) c x
-      (subst (λ (u : ℕ). pathCost (sixGraph ranking word (machinesOf card)) u c ≡ some x) (sym (start-is-zero (machinesOf card))) h) .is
+  is-candidate : (c : List Pair) (x : Ranked 6) → pathCost (sixGraph ranking word (machinesOf card)) (cardStart card) c ≡ some x → IsCandidate (machinesOf card) word c
+  is-candidate c x h = cost-candidate (byRanking (sixPlaces ranking)) word (accepted-machines card ok .sound) c x h .is
 
   module _ (L : Labels (rankedCosts 6)) (closed : Closed (sixGraph ranking word (machinesOf card)) L) where
     -- no label, no best
-    pub not-found : L 0 ≡ none → best card ranking word ≡ none
+    pub not-found : L (cardStart card) ≡ none → best card ranking word ≡ none
     not-found l =
-        all .none-exactly .1 (λ c h. Option·none-ne-some _ (sym (unlabelled-none (sixGraph ranking word (machinesOf card)) L closed 0 l c) ∙ its-cost c h))
+        all .none-exactly .1 (λ c h. Option·none-ne-some _ (sym (unlabelled-none (sixGraph ranking word (machinesOf card)) L closed (cardStart card) l c) ∙ its-cost c h))
 
     -- a label is the cost of the best
-    pub found : Attained (sixGraph ranking word (machinesOf card)) L → (x : Ranked 6) → L 0 ≡ some x → FoundAt card ranking word x
+    pub found : Attained (sixGraph ranking word (machinesOf card)) L → (x : Ranked 6) → L (cardStart card) ≡ some x → FoundAt card ranking word x
     found attained x l = go (best card ranking word) refl
       where
         d : List Pair
-        d = attained 0 x l .letters
+        d = attained (cardStart card) x l .letters
 
-        d-cost : pathCost (sixGraph ranking word (machinesOf card)) 0 d ≡ some x
-        d-cost = run→cost (sixGraph ranking word (machinesOf card)) (held→run (sixGraph ranking word (machinesOf card)) (attained 0 x l .held))
+        d-cost : pathCost (sixGraph ranking word (machinesOf card)) (cardStart card) d ≡ some x
+        d-cost = run→cost (sixGraph ranking word (machinesOf card)) (held→run (sixGraph ranking word (machinesOf card)) (attained (cardStart card) x l .held))
 
-        go : (o : Option Form) → best card ranking word ≡ o → FoundAt card ranking word x
+        go : (o : Option Contender) → best card ranking word ≡ o → FoundAt card ranking word x
         go none e = absurd (all .none-exactly .0 e d (is-candidate d x d-cost))
         go (some b) e = record { form = b; is = e; profile = all .its-profile b e; cost = same (less-total 6 .compare x (a .cost)) ∙ a-cost; path = a }
           where
-            a : IsBest (sixGraph ranking word (machinesOf card)) 0 (b .candidate)
+            a : IsBest (sixGraph ranking word (machinesOf card)) (cardStart card) (b .candidate)
             a = best-six (b .candidate) (all .is-best b e)
 
             a-cost : a .cost ≡ ranked (sixPlaces ranking) (b .profile) (length (b .candidate))
@@ -128,8 +112,8 @@ module _ (card ranking word : List ℕ) (ok : cardRefusal card ≡ 0) (ranks : i
             same (inl h) = absurd (not-less h)
             same (inr (inl q)) = q
             same (inr (inr h)) =
-                absurd (upto-not-less (less-total 6) (atmost-some l (lower-bound (sixGraph ranking word (machinesOf card)) L closed 0 (b .candidate) (a .cost) (a .is))) h)
+                absurd (upto-not-less (less-total 6) (atmost-some l (lower-bound (sixGraph ranking word (machinesOf card)) L closed (cardStart card) (b .candidate) (a .cost) (a .is))) h)
 
   -- the best path is the best candidate
-  pub path-found : {x : Ranked 6} (f : FoundAt card ranking word x) (c : List Pair) → IsBest (sixGraph ranking word (machinesOf card)) 0 c → c ≡ f .form .candidate
-  path-found f c a = best-unique (sixGraph ranking word (machinesOf card)) 0 c (f .form .candidate) a (f .path)
+  pub path-found : {x : Ranked 6} (f : FoundAt card ranking word x) (c : List Pair) → IsBest (sixGraph ranking word (machinesOf card)) (cardStart card) c → c ≡ f .form .candidate
+  path-found f c a = best-unique (sixGraph ranking word (machinesOf card)) (cardStart card) c (f .form .candidate) a (f .path)

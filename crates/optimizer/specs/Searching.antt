@@ -2,7 +2,7 @@
 use mathlib.Core.Path.{_≡_}
 use mathlib.Core.Bool.{Bool, true, _&&_}
 use mathlib.Core.List.{List, [], _∷_}
-use mathlib.Core.Option.{Option}
+use mathlib.Core.Option.{Option, some, none}
 use Prim.Native.Nat.{ℕ, _+_, _*_, _≤_}
 use lib.Dec.{leb}
 use lib.ListN.{length}
@@ -14,16 +14,15 @@ use Rattle.card.specs.Card.{cardRefusal, machinesOf}
 use Rattle.candidate.specs.declared.Evaluation.{Evaluation}
 use Rattle.candidate.specs.Candidates.{isSome}
 use Rattle.candidate.specs.Evaluating.{profileWith, refused}
-use Rattle.candidate.specs.Best.{Form, best}
-use Rattle.candidate.specs.Optimizing.{soundWord, countsFit, answerFits, evaluationOf, filled}
-use Rattle.paths.specs.Ranked.{Ranked}
+use Rattle.product.specs.Best.{Contender, best}
+use Rattle.product.specs.Optimizing.{soundWord, countsFit, answerFits, evaluationOf, filled}
+use Rattle.paths.specs.Ranked.{Ranked, letterCount}
 use Rattle.paths.specs.ByRanking.{ranked}
-use Rattle.labels.specs.declared.Label.{Label}
 use Rattle.product.specs.Nodes.{product, stateCounts}
 use Rattle.tables.specs.Places.{sixPlaces}
 
 -- the checks 10 to 12
-abbrev pub searchRefusal : Option Form → ℕ → ℕ
+abbrev pub searchRefusal : Option Contender → ℕ → ℕ
 searchRefusal b room = firstOf (refuse 10 (isSome b) ∷ refuse 11 (countsFit b) ∷ refuse 12 (answerFits b room) ∷ [])
 
 -- accepted input; size is the product of the state counts, and the work slice has just the room for the nodes
@@ -40,9 +39,14 @@ pub record Searched (card ranking word work workAfter answer answerAfter : List 
   pub answer-slice : answerAfter ≡ unlessRefused (searchRefusal (best card ranking word) (length answer)) (filled (best card ranking word) answer) (λ n. answer)
   pub work-length : length workAfter ≡ length work
 
--- no count of a label is over 60,000
-abbrev pub labelFits : Label → Bool
-labelFits l = leb (l .first) 60000 && (leb (l .second) 60000 && (leb (l .third) 60000 && (leb (l .fourth) 60000 && (leb (l .fifth) 60000 && leb (l .sixth) 60000))))
+-- no count of a cost is over 60,000
+abbrev pub costFits : Ranked 6 → Bool
+costFits c = leb (c .0) 60000 && (leb (c .1 .0) 60000 && (leb (c .1 .1 .0) 60000 && (leb (c .1 .1 .1 .0) 60000 && (leb (c .1 .1 .1 .1 .0) 60000 && leb (c .1 .1 .1 .1 .1 .0) 60000))))
+
+-- the checks 10 to 12 by the label of the start, which is what the best candidate costs
+abbrev pub labelRefusal : Option (Ranked 6) → ℕ → ℕ
+labelRefusal none room = 10
+labelRefusal (some c) room = firstOf (refuse 11 (costFits c) ∷ refuse 12 (leb (2 * letterCount 6 c) room) ∷ [])
 
 -- a ranking of at most six machines
 pub record RankingOfSome (ranking : List ℕ) : Type 0 where

@@ -9,7 +9,7 @@ use native.Mathlib.Nat.{mul-le-mul, mul-le-mul-right, suc-mul}
 use native.Mathlib.Omega.{arith}
 use lib.ListN.{length, getD}
 use lib.Dec.{leb}
-use borrow.Author.Tests.{leb-true, ne-eqb}
+use borrow.Author.Tests.{leb-true}
 use Rattle.basics.specs.Search.{allOf}
 use Rattle.basics.proofs.Bools.{left, right, clash}
 use Rattle.basics.proofs.Search.{all-at}
@@ -19,7 +19,7 @@ use Rattle.machine.specs.Machine.{Machine}
 use Rattle.card.specs.Layout.{machineCount, symbolCount}
 use Rattle.card.specs.Card.{machinesOf}
 use Rattle.card.specs.Accepted.{accepted}
-use Rattle.candidate.specs.Optimizing.{soundWord}
+use Rattle.product.specs.Optimizing.{soundWord}
 use Rattle.paths.specs.Ranked.{Ranked, letterCount, countAt}
 use Rattle.paths.specs.ByRanking.{ranked, ranked-letters}
 use Rattle.paths.specs.Graph.{Edge, Within}
@@ -34,14 +34,14 @@ use Rattle.product.specs.Codes.{codeStep}
 use Rattle.product.specs.Laws.JointStep.{AllSound, all-none, all-next, step-of-each, no-states-left}
 use Rattle.product.specs.Laws.Accepted.{accepted-machines}
 use Rattle.product.specs.Laws.Codes.{code-step-below}
-use Rattle.product.specs.Laws.Edges.{Advanced, stays, goes-on, advanced, Moved, moved, EdgeOf, edge-of, ending-of, ended, move-position, product-within, product-positioned, product-sized, step-marks-bound, ending-marks-bound}
+use Rattle.product.specs.Laws.Edges.{Advanced, stays, goes-on, advanced, Moved, moved, EdgeOf, edge-of, ending-of, word-ended, move-position, product-within, product-positioned, product-sized, step-marks-bound, ending-marks-bound}
 use Rattle.labels.proofs.Room.{SmallMarks}
 use Rattle.tables.specs.Places.{sixPlaces, markNumber}
 use Rattle.tables.specs.JointNumbers.{numbered, jointFrom}
 use Rattle.tables.specs.Places.{SixPlaces}
 use Rattle.tables.specs.Laws.Harmony.{six-places}
 use Rattle.tables.specs.Laws.Packing.{six-below}
-use Rattle.tables.specs.Laws.Edges.{edgeFrom, code-step-few, insertion-edge, symbol-edge}
+use Rattle.tables.specs.Laws.Edges.{edgeFrom, code-step-few, symbol-edge}
 use Rattle.positions.specs.Engine.{engineGraph, placeOf, Setting, Looked}
 
 -- a pair that is taken on one machine at least is over the card's symbols
@@ -91,10 +91,10 @@ module _ {card ranking word : List ℕ} {P : ℕ} (s : Setting card ranking word
   symbols-few = accepted card (s .accepted) .head .counts .symbols
 
   pub some-code : 0 < P
-  some-code = omega (arith, s .size, accepted-machines card (s .accepted) .states, accepted card (s .accepted) .some-state)
+  some-code = omega (arith, s .size, accepted-machines card (s .accepted) .some-state)
 
   pub few-codes : P ≤ 128
-  few-codes = omega (arith, s .size, accepted-machines card (s .accepted) .states, accepted-machines card (s .accepted) .few-states)
+  few-codes = omega (arith, s .size, accepted-machines card (s .accepted) .few-states)
 
   pub few-nodes : (length word + 1) * P ≤ 3200
   few-nodes = let n : length word + 1 ≤ 25 = omega (arith, word-sound .few) in mul-le-mul n few-codes
@@ -146,14 +146,10 @@ module _ {card ranking word : List ℕ} {P : ℕ} (s : Setting card ranking word
       end-mark : (u : ℕ) (c : Ranked 6) → engineGraph card ranking word .ending u ≡ some c → (i : ℕ) → countAt 6 i c ≤ 15
       end-mark u c h i =
           let k = ending-of (byRanking (sixPlaces ranking)) word (machinesOf card) u c h in
-          let l = ended word (machinesOf card) u (k .marks) (k .is) in
+          let l = word-ended word (machinesOf card) u (k .marks) (k .is) in
           rw (k .cost-is) (ranked-upto (sixPlaces ranking) (k .marks) 0 15 (ending-marks-bound machines-sound (statesAt (stateCounts (machinesOf card)) u) (k .marks) (l .ends)) i)
 
   -- ---- a joint step as an edge
-
-  pub insertion-at : (i z y : ℕ) → i ≤ length word → z < P → 0 < y
-      → engineGraph card ranking word .edge (i * P + z) (record { input = 0; output = y }) ≡ edgeFrom (i * P) (jointFrom (sixPlaces ranking) (machinesOf card) z (record { input = 0; output = y }))
-  insertion-at i z y h k n = rw (s .size) (insertion-edge ranking word machines-sound i z (omega (arith, s .size)) (record { input = 0; output = y }) h (rw (ne-eqb y 0 (omega arith))) refl)
 
   pub symbol-at : (i z y : ℕ) → i < length word → z < P
       → engineGraph card ranking word .edge (i * P + z) (record { input = getD word i 0; output = y }) ≡ edgeFrom ((i + 1) * P) (jointFrom (sixPlaces ranking) (machinesOf card) z (record { input = getD word i 0; output = y }))

@@ -2,7 +2,7 @@
 use mathlib.Core.Path.{_≡_, refl, sym, _∙_, ap}
 use mathlib.Core.Logic.{_⊎_, inl, inr, _≢_}
 use mathlib.Core.List.{List}
-use mathlib.Core.Option.{Option, some, none, Option·none-ne-some}
+use mathlib.Core.Option.{some, none, Option·none-ne-some}
 use Prim.Native.Nat.{ℕ, suc, _+_, _*_, _<_, _≤_}
 use native.Mathlib.Omega.{arith}
 use native.Mathlib.Decide.{ℕ-discrete}
@@ -16,7 +16,7 @@ use Rattle.labels.specs.Work.{labelOf}
 use Rattle.labels.specs.Lowering.{Lowered}
 use Rattle.labels.proofs.Lowering.{lowered-fresh}
 use Rattle.tables.specs.Places.{sixPlaces}
-use Rattle.tables.specs.JointNumbers.{endingFrom, ended}
+use Rattle.tables.specs.JointNumbers.{endingFrom, jointEnded}
 use Rattle.tables.specs.declared.JointEnding.{JointEnding}
 use Rattle.tables.specs.Endings.{endingCost, endingCosts}
 use Rattle.tables.specs.Laws.Endings.{ending-edge}
@@ -37,7 +37,7 @@ pub ends-whole : {card ranking word xs ys : List ℕ} {u k n : ℕ} → EndsTrie
 ends-whole {k = k} {n = n} T a b = let q : n ≡ k = omega arith in rw q T
 
 -- what the joint ending says, by the ranking
-pub ended-at : {card ranking rs cs ps : List ℕ} → Looked card ranking rs cs ps → (z : ℕ) (r : JointEnding) → ended r ≡ endingFrom ps (machinesOf card) z → endingFrom (sixPlaces ranking) (machinesOf card) z ≡ ended r
+pub ended-at : {card ranking rs cs ps : List ℕ} → Looked card ranking rs cs ps → (z : ℕ) (r : JointEnding) → jointEnded r ≡ endingFrom ps (machinesOf card) z → endingFrom (sixPlaces ranking) (machinesOf card) z ≡ jointEnded r
 ended-at L z r e = sym (rw (L .places) at e)
 
 module _ {card ranking word : List ℕ} {P : ℕ} (s : Setting card ranking word P) where

@@ -14,7 +14,7 @@ use Rattle.card.specs.Card.{machinesOf}
 use Rattle.paths.specs.Ranked.{Ranked}
 use Rattle.paths.specs.Graph.{Edge}
 use Rattle.paths.specs.Positions.{Done, Entered, MoreLeaving, entering-start, entering-skip, entering-letter, entering-no-edge, entering-unlabelled, entering-done}
-use Rattle.labels.specs.Marks.{marksOf}
+use Rattle.labels.specs.Marks.{marksCost}
 use Rattle.labels.specs.Work.{labelOf}
 use Rattle.labels.proofs.Work.{alike-trans, label-alike}
 use Rattle.labels.proofs.Lowering.{lowered-fresh}
@@ -89,7 +89,7 @@ module _ {card ranking word : List ℕ} {P : ℕ} (s : Setting card ranking word
     }
 
     -- an edge to v with the marks m
-    pub tried-edge : (ys : List ℕ) (v m : ℕ) → engineGraph card ranking word .edge (i * P + z) (record { input = getD word i 0; output = y }) ≡ some (record { target = v; cost = marksOf m })
+    pub tried-edge : (ys : List ℕ) (v m : ℕ) → engineGraph card ranking word .edge (i * P + z) (record { input = getD word i 0; output = y }) ≡ some (record { target = v; cost = marksCost m })
         → EdgeTried xs ys (i * P + z) v m → Tried card ranking word xs ys i (i * P + z) y (i * P + z) (y + 1)
     tried-edge ys v m e E = go (labelOf xs v) refl
       where
@@ -100,7 +100,7 @@ module _ {card ranking word : List ℕ} {P : ℕ} (s : Setting card ranking word
             also (inl t) = inl t
             also (inr t) =
                 let r : engineGraph card ranking word .edge (i * P + z) (record { input = getD word i 0; output = y }) ≡ some f = rw (← (t .0), ← (t .1)) g in
-                let q : record { target = v; cost = marksOf m } ≡ f = cc in
+                let q : record { target = v; cost = marksCost m } ≡ f = cc in
                 inr (sym (ap (λ (x : Edge (Ranked 6)). x .target) q))
 
         go : (o : Option (Ranked 6)) → labelOf xs v ≡ o → Tried card ranking word xs ys i (i * P + z) y (i * P + z) (y + 1)
@@ -116,7 +116,7 @@ module _ {card ranking word : List ℕ} {P : ℕ} (s : Setting card ranking word
               size = L .size;
               others = λ w n. L .others w (λ q. n (ap (placeOf card) q ∙ node-place s i z k));
               fresh = lowered-fresh L;
-              enters = λ K S. entering-letter (engineGraph card ranking word) (placeOf card) S (TriedBefore (i * P + z) (y + 1)) (i * P + z) (record { input = getD word i 0; output = y }) (record { target = v; cost = marksOf m }) d (node-place s i z k) e l (L .label) more;
+              enters = λ K S. entering-letter (engineGraph card ranking word) (placeOf card) S (TriedBefore (i * P + z) (y + 1)) (i * P + z) (record { input = getD word i 0; output = y }) (record { target = v; cost = marksCost m }) d (node-place s i z k) e l (L .label) more;
             }
 
   -- every pair of the node was tried

@@ -51,7 +51,7 @@ module _ {card ranking word : List ℕ} {P : ℕ} (s : Setting card ranking word
 -- ---- filling the table
 
 pub few-insertions : {card ranking cs ps ks : List ℕ} {P : ℕ} → InsertionsPre card ranking cs ps ks P → P ≤ 128
-few-insertions {card} I = let a = accepted-machines card (I .accepted) in omega (arith, I .size, a .states, a .few-states)
+few-insertions {card} I = omega (arith, I .size, accepted-machines card (I .accepted) .few-states)
 
 module _ {card ranking cs ps ks : List ℕ} {P : ℕ} (I : InsertionsPre card ranking cs ps ks P) {js : List ℕ} (H : HoldsJoint (symbolCount card) (machinesOf card) 0 (sixPlaces ranking) js) where
   pub fill-ready : (k : ℕ) → k ≡ symbolCount card → FillPre js ks P k

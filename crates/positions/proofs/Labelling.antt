@@ -1,5 +1,5 @@
 -- Labelling a position, and all of them.
-use mathlib.Core.Path.{_≡_, refl, _∙_}
+use mathlib.Core.Path.{_≡_, refl, sym, _∙_, subst}
 use mathlib.Core.List.{List}
 use Prim.Native.Nat.{ℕ, suc, _+_, _*_, _-_, _<_, _≤_}
 use native.Mathlib.Nat.{mul-le-mul}
@@ -54,6 +54,17 @@ module _ {card ranking word rs cs ps xs : List ℕ} {P i : ℕ} (Q : PositionPre
     position-labelled {zs} F =
         let S = F (H .ks) (H .listed) in
         record { size = S .size ∙ E .size; done = position-settled (Q .setting) (H .ks) (H .holds) i (Q .within) ys zs S (E .entered) }
+
+    -- the same at the last position
+    module _ (h : length word ≤ i) where
+      last : i ≡ length word
+      last = omega (arith, Q .within)
+
+      pub last-ready : SettlePreListed ys ls (length word * P) P
+      last-ready = subst (λ (j : ℕ). SettlePreListed ys ls (j * P) P) last settle-ready
+
+      pub last-labelled : {zs : List ℕ} → SettledListed ys zs ls (length word * P) P → PositionsDone card ranking word xs zs i
+      last-labelled {zs} F = position-labelled (subst (λ (j : ℕ). SettledListed ys zs ls (j * P) P) (sym last) F)
 
 module _ {card ranking word xs : List ℕ} {P : ℕ} (Q : LabelPre card ranking word xs P) where
   -- no node has a label

@@ -11,7 +11,7 @@ use Rattle.card.specs.Card.{machinesOf}
 use Rattle.paths.specs.Costs.{Labels}
 use Rattle.paths.specs.Ranked.{Ranked, add, rankedCosts}
 use Rattle.paths.specs.Positions.{Entering}
-use Rattle.labels.specs.Marks.{marksOf}
+use Rattle.labels.specs.Marks.{marksCost}
 use Rattle.labels.specs.LabelCost.{RoomFor}
 use Rattle.labels.specs.Work.{HasNode, stateOf, labelOf, AlikeAt}
 use Rattle.labels.specs.Lowering.{Lowered}
@@ -47,7 +47,7 @@ pub record EdgePre (xs : List ℕ) (u v m : ℕ) : Type 0 where
 
 pub record EdgeTried (xs ys : List ℕ) (u v m : ℕ) : Type 0 where
   pub unlabelled : labelOf xs v ≡ none → ys ≡ xs
-  pub labelled : (d : Ranked 6) → labelOf xs v ≡ some d → Lowered xs ys u (add 6 (marksOf m) d)
+  pub labelled : (d : Ranked 6) → labelOf xs v ≡ some d → Lowered xs ys u (add 6 (marksCost m) d)
 
 -- the pairs that were tried: all of the nodes below u, and those of u with an output below y
 abbrev pub TriedBefore : ℕ → ℕ → ℕ → Pair → Type 0

@@ -244,43 +244,7 @@ fn enter_last(
     }
 }
 
-// Enters a position.
-fn enter(
-    work: &mut [u16],
-    card: &[u8],
-    ranking: &[u8],
-    word: &[u8],
-    rows: &[u16],
-    counts: &[u8],
-    places: &[u8; 6],
-    stretch: &mut [u16],
-    joint: &mut [u32],
-    size: usize,
-    position: usize,
-)
-    requires { ⌜ PositionPre (now card) (now ranking) (now word) (now rows) (now counts) (now places) (now work) size position × Lent (now stretch) (now joint) size ⌝ }
-    ensures { λ _. ⌜ PositionEntered (now (card .entry)) (now (ranking .entry)) (now (word .entry)) (now (work .entry)) (now (work .exit)) position ⌝ }
-{
-    if position < word.len() {
-        enter_symbol(
-            work,
-            card,
-            ranking,
-            word,
-            rows,
-            counts,
-            places,
-            stretch,
-            joint,
-            size,
-            position,
-        );
-    } else {
-        enter_last(work, card, ranking, word, rows, counts, places, size);
-    }
-}
-
-// Labels the nodes of a position.
+// Labels the nodes of a position: enters it, by the pairs of its symbol or, at the last one, by the endings, and settles it, by insertions.
 fn label_position(
     work: &mut [u16],
     card: &[u8],
@@ -298,20 +262,25 @@ fn label_position(
     requires { ⌜ PositionPre (now card) (now ranking) (now word) (now rows) (now counts) (now places) (now work) size position × Lent (now stretch) (now joint) size × Insertions (now card) (now ranking) (now insertions) size ⌝ }
     ensures { λ _. ⌜ PositionsDone (now (card .entry)) (now (ranking .entry)) (now (word .entry)) (now (work .entry)) (now (work .exit)) position ⌝ }
 {
-    enter(
-        work,
-        card,
-        ranking,
-        word,
-        rows,
-        counts,
-        places,
-        stretch,
-        joint,
-        size,
-        position,
-    );
-    labels::settle(work, insertions, position * size, size);
+    if position < word.len() {
+        enter_symbol(
+            work,
+            card,
+            ranking,
+            word,
+            rows,
+            counts,
+            places,
+            stretch,
+            joint,
+            size,
+            position,
+        );
+        labels::settle(work, insertions, position * size, size);
+    } else {
+        enter_last(work, card, ranking, word, rows, counts, places, size);
+        labels::settle(work, insertions, word.len() * size, size);
+    }
 }
 
 // The cheapest insertions between the codes, as lists of pairs.

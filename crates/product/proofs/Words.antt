@@ -12,7 +12,7 @@ use borrow.Author.Tests.{ltb-true, ltb-false, le-leb, lt-leb}
 use Rattle.basics.specs.Search.{allOf}
 use Rattle.basics.proofs.Bools.{either, left-fails, right-fails}
 use Rattle.basics.proofs.Search.{all-next, all-fails, all-none}
-use Rattle.candidate.specs.Optimizing.{soundWord}
+use Rattle.product.specs.Optimizing.{soundWord}
 
 abbrev pub symbol : ℕ → ℕ → Bool
 symbol S x = leb 1 x && leb x S

@@ -5,6 +5,8 @@ pub mod JointStep
 pub mod Prices
 pub mod ProductGraph
 pub mod Codes
+pub mod Best
+pub mod Optimizing
 pub mod BestCandidate
 -- lemmas
 pub mod Laws

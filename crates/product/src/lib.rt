@@ -4,7 +4,7 @@ ghost use mathlib.Core.Path.{_≡_};
 ghost use mathlib.Core.Bool.{_&&_};
 ghost use lib.Dec.{leb};
 ghost use Rattle.basics.specs.Refusals.{refuse};
-ghost use Rattle.candidate.specs.Optimizing.{soundWord};
+ghost use Rattle.product.specs.Optimizing.{soundWord};
 ghost use Rattle.product.specs.Refusals.{stageNumber};
 use machine::Pair;
 

@@ -13,7 +13,7 @@ use Rattle.basics.specs.Sets.{member}
 use Rattle.basics.proofs.Bools.{same, clash}
 use Rattle.basics.proofs.Below.{every-at, each-below}
 use Rattle.basics.proofs.Sets.{no-member, its-member, member-beyond, member-and, member-or}
-use Rattle.ranking.specs.Finder.{apart}
+use Rattle.ranking.specs.Finder.{disjoint}
 use Rattle.ranking.specs.Lemmas.Searches.{split}
 
 shifted : (k n : ℕ) → 2 ^ (k + n) / 2 ^ n ≡ 2 ^ k
@@ -37,20 +37,20 @@ member-one m n =
 
 -- sets that do not meet, machine by machine
 module _ (a b : ℕ) where
-  pub apart-at : apart a b ≡ true → (i : ℕ) → i < 8 → member a i ≡ true → member b i ≡ false
-  unfolding apart
-  apart-at t i h m = let e = not-true (member a i && member b i) (every-at (λ i. not (member a i && member b i)) 8 t i h) in rw m at e
+  pub disjoint-at : disjoint a b ≡ true → (i : ℕ) → i < 8 → member a i ≡ true → member b i ≡ false
+  unfolding disjoint
+  disjoint-at t i h m = let e = not-true (member a i && member b i) (every-at (λ i. not (member a i && member b i)) 8 t i h) in rw m at e
 
-  pub at-apart : ((i : ℕ) → i < 8 → member a i ≡ true → member b i ≡ false) → apart a b ≡ true
-  unfolding apart
-  at-apart f =
+  pub at-disjoint : ((i : ℕ) → i < 8 → member a i ≡ true → member b i ≡ false) → disjoint a b ≡ true
+  unfolding disjoint
+  at-disjoint f =
       each-below (λ i. not (member a i && member b i)) 8
       (λ i h. split (member a i) (λ m. rw (m, f i h m)) (λ m. rw m))
 
 -- two bytes whose intersection is empty do not meet
-pub apart-and : (a b : ℕ) → a < 2 ^ 8 → b < 2 ^ 8 → eqb (bitAnd a b) 0 ≡ apart a b
-unfolding apart
-apart-and a b ha hb =
+pub disjoint-and : (a b : ℕ) → a < 2 ^ 8 → b < 2 ^ 8 → eqb (bitAnd a b) 0 ≡ disjoint a b
+unfolding disjoint
+disjoint-and a b ha hb =
     same (eqb (bitAnd a b) 0) (everyBelow (λ i. not (member a i && member b i)) 8)
     (λ t.
     each-below (λ i. not (member a i && member b i)) 8

@@ -11,7 +11,7 @@ use Rattle.ranking.specs.declared.Order.the-variants.{Better, Equal, Wor
 use Rattle.ranking.specs.declared.Comparison.{Comparison}
 use Rattle.ranking.specs.declared.Comparison.the-variants as answers
 use Rattle.ranking.specs.declared.Profile.{Profile}
-use Rattle.ranking.specs.Refusals.{numberOf, machineCount}
+use Rattle.ranking.specs.Refusals.{numberOf, isMachineCount}
 use Rattle.ranking.specs.Rankings.{isRanking}
 
 -- down the ranking: the smaller count at the highest ranked machine where the two differ
@@ -43,6 +43,6 @@ compared (answers.Refused r) = refusedComparison (numberOf r)
 
 abbrev pub comparing : ℕ → List ℕ → Profile → Profile → Compared
 comparing K r v w =
-    unlessRefused (firstOf (refuse 1 (machineCount K) ∷ refuse 7 (isRanking K r) ∷ []))
+    unlessRefused (firstOf (refuse 1 (isMachineCount K) ∷ refuse 7 (isRanking K r) ∷ []))
     (record { number = 0; order = some (harmony r (v .counts) (w .counts)) })
     refusedComparison

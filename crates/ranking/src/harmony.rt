@@ -12,7 +12,7 @@ ghost use Rattle.ranking.specs.Rankings.{isRanking};
 ghost use Rattle.ranking.specs.Harmony.{harmony, compared, comparing};
 
 // How the first profile stands to the second: goes down the ranking to the highest ranked machine where they differ.
-pub fn harmony(ranking: &[u8], first: Profile, second: Profile) -> Order
+fn harmony(ranking: &[u8], first: Profile, second: Profile) -> Order
     requires { ⌜ (isRanking (length (now ranking)) (now ranking) ≡ true) × (length (now ranking) ≤ 6) ⌝ }
     ensures { λ r. ⌜ r ≡ harmony (now (ranking .entry)) (first .counts) (second .counts) ⌝ }
 {

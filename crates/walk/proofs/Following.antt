@@ -13,25 +13,29 @@ use Rattle.basics.proofs.Bools.{right}
 use Rattle.basics.proofs.Search.{all-at}
 use Rattle.machine.specs.declared.Pair.{Pair}
 use Rattle.machine.specs.Symbols.{emptySymbol}
+use Rattle.machine.specs.Machine.{Machine}
 use Rattle.card.specs.Layout.{symbolCount}
 use Rattle.card.specs.Card.{machinesOf, cardRefusal}
 use Rattle.card.specs.Accepted.{accepted}
 use Rattle.candidate.specs.Candidates.{bytesOf}
-use Rattle.candidate.specs.Optimizing.{soundWord}
+use Rattle.product.specs.Optimizing.{soundWord}
 use Rattle.paths.specs.Ranked.{Ranked, letterCount}
 use Rattle.paths.specs.Bounds.{Sized}
 use Rattle.paths.specs.Walk.{Walk, Walking, walking-start, walking-next, walking-end, walk-best, walk-cost, tight-size}
+use Rattle.product.specs.Nodes.{stateCounts}
+use Rattle.product.specs.ProductGraph.{startNode, cardStart}
 use Rattle.product.specs.Laws.Words.{accepted-word}
 use Rattle.product.specs.Laws.CardGraph.{card-sized}
 use Rattle.labels.specs.Work.{costAt, labelOf}
 use Rattle.labels.proofs.Work.{holds}
 use Rattle.steps.specs.StepTable.{HoldsSteps}
 use Rattle.tables.specs.Places.{sixPlaces}
+use Rattle.tables.specs.Laws.Cards.{start-below}
 use Rattle.walk.specs.Pairs.{nthPair, IsNumber, positionAfter}
 use Rattle.walk.specs.Setting.{graphOf, Labelled, TablesAt}
 use Rattle.walk.specs.Keeping.{TryPre, TightTo}
 use Rattle.walk.specs.Walked.{Walked, FollowPre, PassPre, Passed}
-use Rattle.walk.proofs.Moves.{some-state, node-within, label-room}
+use Rattle.walk.proofs.Moves.{node-within, label-room}
 use Rattle.walk.proofs.Writing.{pair-more}
 use Rattle.walk.proofs.Trying.{Trying, trying-start, trying-least}
 
@@ -64,23 +68,24 @@ pub record Following (places card word xs insertions rows counts before : List �
   pub position : i ≤ length word
   pub state : code < size
   pub cost : Ranked 6
-  pub cost-is : labelOf xs 0 ≡ some cost
+  pub cost-is : labelOf xs (cardStart card) ≡ some cost
   pub fits : 2 * letterCount 6 cost ≤ length before
   pub written : List Pair
   pub count : n ≡ length written
   pub bytes : answer ≡ bytesOf written ++ drop (2 * length written) before
   pub answer-size : length answer ≡ length before
   pub rest : Ranked 6
-  pub walking : Walking (graphOf places card word) (labelOf xs) (letterCount 6) 0 cost written (i * size + code) rest
+  pub walking : Walking (graphOf places card word) (labelOf xs) (letterCount 6) (cardStart card) cost written (i * size + code) rest
 
 module _ {places card word xs insertions rows counts before : List ℕ} {size : ℕ} where
-  pub following-start : {steps : List ℕ} → FollowPre places card word xs insertions steps rows counts size (length before) → Following places card word xs insertions rows counts before size steps before 0 0 0
+  pub following-start : {steps : List ℕ} → FollowPre places card word xs insertions steps rows counts size (length before) → (start : ℕ) → ((ms : List Machine) → counts ≡ stateCounts ms → start ≡ startNode ms)
+      → Following places card word xs insertions rows counts before size steps before 0 start 0
   unfolding bytesOf
-  following-start pre = record {
+  following-start pre start is = record {
     labels = pre .labels;
     tables = pre .tables;
     position = omega arith;
-    state = some-state (pre .labels);
+    state = omega (arith, first, start-below card (pre .labels .accepted), pre .labels .states);
     cost = pre .start .cost;
     cost-is = pre .start .label-is;
     fits = pre .start .fits;
@@ -89,11 +94,14 @@ module _ {places card word xs insertions rows counts before : List ℕ} {size : 
     bytes = refl;
     answer-size = refl;
     rest = pre .start .cost;
-    walking = subst (λ (u : ℕ). Walking (graphOf places card word) (labelOf xs) (letterCount 6) 0 (pre .start .cost) [] u (pre .start .cost)) zero-node (walking-start (graphOf places card word) (labelOf xs) (letterCount 6) 0 (pre .start .cost) (pre .start .label-is));
+    walking = subst (λ (u : ℕ). Walking (graphOf places card word) (labelOf xs) (letterCount 6) (cardStart card) (pre .start .cost) [] u (pre .start .cost)) node (walking-start (graphOf places card word) (labelOf xs) (letterCount 6) (cardStart card) (pre .start .cost) (pre .start .label-is));
   }
     where
-      zero-node : 0 ≡ 0 * size + 0
-      zero-node = omega arith
+      first : start ≡ cardStart card
+      first = is (machinesOf card) (pre .tables .for-insertions .holds-counts)
+
+      node : cardStart card ≡ 0 * size + start
+      node = omega (arith, first)
 
   module _ {steps answer : List ℕ} {i code n : ℕ} (F : Following places card word xs insertions rows counts before size steps answer i code n) where
     -- the label of the node reached
@@ -109,17 +117,18 @@ module _ {places card word xs insertions rows counts before : List ℕ} {size : 
       best = F .written;
       count = F .count;
       written = F .bytes;
-      is-best = walk-best (graphOf places card word) (labelOf xs) sized (F .labels .closed) (F .labels .attained) 0 (F .cost) (F .written) (F .cost-is) walk;
-      costs = walk-cost (graphOf places card word) (labelOf xs) sized (F .labels .attained) 0 (F .cost) (F .written) (F .cost-is) walk ∙ ap {B = Option (Ranked 6)} some (sym (holds xs 0 (F .cost) (F .cost-is) .cost));
+      is-best = walk-best (graphOf places card word) (labelOf xs) sized (F .labels .closed) (F .labels .attained) (cardStart card) (F .cost) (F .written) (F .cost-is) walk;
+      costs = walk-cost (graphOf places card word) (labelOf xs) sized (F .labels .attained) (cardStart card) (F .cost) (F .written) (F .cost-is) walk ∙ ap {B = Option (Ranked 6)} some (sym (holds xs (cardStart card) (F .cost) (F .cost-is) .cost));
     }
       where
-        walk : Walk (graphOf places card word) (labelOf xs) (letterCount 6 (F .cost)) 0 (F .written)
+        walk : Walk (graphOf places card word) (labelOf xs) (letterCount 6 (F .cost)) (cardStart card) (F .written)
         walk = walking-end (graphOf places card word) (labelOf xs) (F .walking) (ap (letterCount 6) (sym here) ∙ z)
 
     -- few pairs are written
     pub following-few : n < 65536
     following-few =
-        let r = label-room (F .labels) 0 (omega (arith, node-within (F .labels) 0 0 (omega arith) (some-state (F .labels)))) (F .cost) (F .cost-is) in
+        let at = node-within (F .labels) 0 (cardStart card) (omega arith) (omega (arith, start-below card (F .labels .accepted), F .labels .states)) in
+        let r = label-room (F .labels) (cardStart card) (omega (arith, at)) (F .cost) (F .cost-is) in
         omega (arith, F .walking .written, F .count, r .1 .1 .1 .1 .1 .1)
 
     -- otherwise one keeps to the labels
@@ -167,10 +176,10 @@ module _ {places card word xs insertions rows counts before : List ℕ} {size : 
           walking = walking;
         }
           where
-            next : Walking (graphOf places card word) (labelOf xs) (letterCount 6) 0 (F .cost) (F .written ++ nthPair (symbolCount card) word i k ∷ []) (t .tight .to .target) (t .tight .rest)
-            next = walking-next (graphOf places card word) (labelOf xs) sized 0 (F .cost) (F .written) (i * size + code) (F .rest) (nthPair (symbolCount card) word i k) (F .walking) (record { tight = t .tight; least = trying-least (F .labels) (F .state) T })
+            next : Walking (graphOf places card word) (labelOf xs) (letterCount 6) (cardStart card) (F .cost) (F .written ++ nthPair (symbolCount card) word i k ∷ []) (t .tight .to .target) (t .tight .rest)
+            next = walking-next (graphOf places card word) (labelOf xs) sized (cardStart card) (F .cost) (F .written) (i * size + code) (F .rest) (nthPair (symbolCount card) word i k) (F .walking) (record { tight = t .tight; least = trying-least (F .labels) (F .state) T })
 
-            walking : Walking (graphOf places card word) (labelOf xs) (letterCount 6) 0 (F .cost) (F .written ++ q ∷ []) (r * size + c) (t .tight .rest)
+            walking : Walking (graphOf places card word) (labelOf xs) (letterCount 6) (cardStart card) (F .cost) (F .written ++ q ∷ []) (r * size + c) (t .tight .rest)
             walking =
-                subst (λ (p : Pair). Walking (graphOf places card word) (labelOf xs) (letterCount 6) 0 (F .cost) (F .written ++ p ∷ []) (r * size + c) (t .tight .rest)) (sym is)
-                (subst (λ (u : ℕ). Walking (graphOf places card word) (labelOf xs) (letterCount 6) 0 (F .cost) (F .written ++ nthPair (symbolCount card) word i k ∷ []) u (t .tight .rest)) node next)
+                subst (λ (p : Pair). Walking (graphOf places card word) (labelOf xs) (letterCount 6) (cardStart card) (F .cost) (F .written ++ p ∷ []) (r * size + c) (t .tight .rest)) (sym is)
+                (subst (λ (u : ℕ). Walking (graphOf places card word) (labelOf xs) (letterCount 6) (cardStart card) (F .cost) (F .written ++ nthPair (symbolCount card) word i k ∷ []) u (t .tight .rest)) node next)

@@ -16,7 +16,6 @@ use Rattle.machine.specs.Symbols.{emptySymbol}
 use Rattle.machine.specs.Machine.{Machine}
 use Rattle.card.specs.Layout.{symbolCount}
 use Rattle.card.specs.Card.{machinesOf}
-use Rattle.card.specs.Accepted.{accepted}
 use Rattle.paths.specs.Ranked.{Ranked, letterCount}
 use Rattle.paths.specs.Graph.{Edge, Within}
 use Rattle.paths.specs.Bounds.{Sized, attained-size, attained-count-size}
@@ -28,7 +27,7 @@ use Rattle.product.specs.Laws.Edges.{product-within}
 use Rattle.product.specs.Laws.Accepted.{AcceptedMachines, accepted-machines}
 use Rattle.product.specs.Laws.Words.{accepted-word}
 use Rattle.product.specs.Laws.CardGraph.{card-sized, card-counts}
-use Rattle.labels.specs.Marks.{marksOf}
+use Rattle.labels.specs.Marks.{marksCost}
 use Rattle.labels.specs.LabelCost.{RoomFor}
 use Rattle.labels.specs.Work.{costAt, labelOf}
 use Rattle.labels.proofs.Work.{holds}
@@ -65,10 +64,7 @@ module _ {places card word xs : List ℕ} {size : ℕ} (K : Labelled places card
   machines = accepted-machines card (K .accepted)
 
   pub small-size : size ≤ 128
-  small-size = omega (arith, K .states, machines .states, machines .few-states)
-
-  pub some-state : 0 < size
-  some-state = omega (arith, K .states, machines .states, accepted card (K .accepted) .some-state)
+  small-size = omega (arith, K .states, machines .few-states)
 
   pub short-word : length word ≤ 24
   short-word = accepted-word (symbolCount card) word (K .sound-word) .short
@@ -112,7 +108,7 @@ module _ {places card word xs : List ℕ} {size : ℕ} (K : Labelled places card
 -- ---- an edge that the tables tell
 
 module _ (places card word xs : List ℕ) (u base : ℕ) (p : Pair) (found : joint.Joint) (e : graphOf places card word .edge u p ≡ edgeFrom base (joined found)) {d : Ranked 6} (l : labelOf xs u ≡ some d) where
-  to-edge : (c m : ℕ) → found ≡ joints.To c m → graphOf places card word .edge u p ≡ some (record { target = base + c; cost = marksOf m })
+  to-edge : (c m : ℕ) → found ≡ joints.To c m → graphOf places card word .edge u p ≡ some (record { target = base + c; cost = marksCost m })
   to-edge c m q = e ∙ ap (λ (f : joint.Joint). edgeFrom base (joined f)) q
 
   cost-is : d ≡ costAt xs u
@@ -121,7 +117,7 @@ module _ (places card word xs : List ℕ) (u base : ℕ) (p : Pair) (found : joi
   pub keeps-tight : (c : ℕ) → KeepsTo xs u base found c → (t : Tight (graphOf places card word) (labelOf xs) u p) × (t .to .target ≡ base + c)
   keeps-tight c k = (
     record {
-      to = record { target = base + c; cost = marksOf (k .marks) };
+      to = record { target = base + c; cost = marksCost (k .marks) };
       rest = k .rest;
       edge-is = to-edge c (k .marks) (k .leads);
       rest-is = k .rest-is;
@@ -137,7 +133,7 @@ module _ (places card word xs : List ℕ) (u base : ℕ) (p : Pair) (found : joi
       go joints.Nothing q = absurd (no-edge-not-tight (graphOf places card word) (labelOf xs) (e ∙ ap (λ (f : joint.Joint). edgeFrom base (joined f)) q) t)
       go (joints.To c m) q =
           let h = to-edge c m q in
-          let z : t .to ≡ record { target = base + c; cost = marksOf m } = cc (t .edge-is, h) in
+          let z : t .to ≡ record { target = base + c; cost = marksCost m } = cc (t .edge-is, h) in
           let r : labelOf xs (base + c) ≡ some (t .rest) = ap (λ (f : Edge (Ranked 6)). labelOf xs (f .target)) (sym z) ∙ t .rest-is in
           (c, record { marks = m; leads = q; rest = t .rest; rest-is = r; sum = sym cost-is ∙ tight-sum (graphOf places card word) (labelOf xs) h r l t })
 

@@ -1,7 +1,7 @@
--- What the walk starts from: its tables, and the node of the start. Assumes nothing.
+-- What the walk starts from: its tables. Assumes nothing.
 use mathlib.Core.Path.{_≡_, refl, sym, _∙_, ap, subst}
 use mathlib.Core.Bool.{true, _&&_}
-use mathlib.Core.List.{List, [], _∷_, map}
+use mathlib.Core.List.{List, [], _∷_}
 use Prim.Native.Nat.{ℕ, zero, suc, _*_, _≤_, _<_}
 use native.Mathlib.Omega.{arith}
 use lib.Dec.{leb}
@@ -10,13 +10,11 @@ use borrow.Author.Tests.{leb-true}
 use Rattle.basics.specs.Search.{allOf}
 use Rattle.basics.proofs.Bools.{left}
 use Rattle.machine.specs.Symbols.{emptySymbol}
-use Rattle.machine.specs.Machine.{Machine, startState}
 use Rattle.card.specs.Layout.{machineCount}
 use Rattle.card.specs.Card.{machinesOf}
 use Rattle.card.specs.Accepted.{accepted}
-use Rattle.candidate.specs.Optimizing.{soundWord}
-use Rattle.product.specs.Nodes.{stateCountOf, stateCounts, product, codeOf}
-use Rattle.product.specs.ProductGraph.{startNode}
+use Rattle.product.specs.Optimizing.{soundWord}
+use Rattle.product.specs.Nodes.{stateCountOf, stateCounts, product}
 use Rattle.steps.specs.StepTable.{HoldsSteps}
 use Rattle.card.specs.Laws.Machines.{length-machines}
 use Rattle.tables.specs.Places.{sixPlaces, SixPlaces}
@@ -26,15 +24,6 @@ use Rattle.tables.specs.Laws.Harmony.{six-places}
 use Rattle.tables.specs.Laws.Cards.{card-counts, card-tables}
 use Rattle.walk.specs.Setting.{Labelled}
 use Rattle.walk.specs.Walked.{WalkPre, TablesLent, FollowPre, Walked}
-
--- the start is the node 0: the position is 0, and each machine's start state is 0
-start-code : (ms : List Machine) → codeOf (stateCounts ms) (map (λ m. startState) ms) ≡ 0
-unfolding codeOf
-start-code [] = refl
-start-code (m ∷ ms) = omega (arith, start-code ms)
-
-pub start-is-zero : (ms : List Machine) → startNode ms ≡ 0
-start-is-zero ms = omega (arith, start-code ms)
 
 -- an accepted word has a symbol
 pub some-word : (S : ℕ) (word : List ℕ) → soundWord S word ≡ true → 0 < length word

@@ -9,7 +9,7 @@ use Rattle.card.specs.Layout.{symbolCount}
 use Rattle.paths.specs.Ranked.{Ranked, add}
 use Rattle.paths.specs.Walk.{Tight}
 use Rattle.product.specs.Nodes.{product}
-use Rattle.labels.specs.Marks.{marksOf}
+use Rattle.labels.specs.Marks.{marksCost}
 use Rattle.labels.specs.LabelCost.{RoomFor}
 use Rattle.labels.specs.Work.{HasNode, costAt, labelOf}
 use Rattle.tables.specs.declared.Joint as joint
@@ -28,7 +28,7 @@ pub record KeepsTo (xs : List ℕ) (u base : ℕ) (found : joint.Joint) (c : ℕ
   pub leads : found ≡ joints.To c marks
   pub rest : Ranked 6
   pub rest-is : labelOf xs (base + c) ≡ some rest
-  pub sum : costAt xs u ≡ add 6 (marksOf marks) rest
+  pub sum : costAt xs u ≡ add 6 (marksCost marks) rest
 
 pub record KeepsPre (xs : List ℕ) (u base : ℕ) (found : joint.Joint) : Type 0 where
   pub from : HasNode xs u

@@ -7,7 +7,7 @@ use lib.ListN.{length, getD}
 use Rattle.machine.specs.Symbols.{emptySymbol}
 use Rattle.card.specs.Layout.{symbolCount}
 use Rattle.card.specs.Card.{machinesOf, cardRefusal}
-use Rattle.candidate.specs.Optimizing.{soundWord}
+use Rattle.product.specs.Optimizing.{soundWord}
 use Rattle.paths.specs.Ranked.{rankedCosts}
 use Rattle.paths.specs.Graph.{Graph}
 use Rattle.paths.specs.Labels.{Closed, Attained}

@@ -3,31 +3,32 @@ use mathlib.Core.Path.{_≡_}
 use mathlib.Core.Bool.{true}
 use mathlib.Core.Option.{some}
 use mathlib.Core.List.{List, _++_}
-use Prim.Native.Nat.{ℕ, _+_, _*_, _≤_}
+use Prim.Native.Nat.{ℕ, _*_, _≤_}
 use lib.ListN.{length, drop}
 use Rattle.machine.specs.declared.Pair.{Pair}
 use Rattle.ranking.specs.Rankings.{isRanking}
 use Rattle.card.specs.Layout.{machineCount, symbolCount}
 use Rattle.card.specs.Card.{cardRefusal}
 use Rattle.candidate.specs.Candidates.{bytesOf}
-use Rattle.candidate.specs.Optimizing.{soundWord}
+use Rattle.product.specs.Optimizing.{soundWord}
 use Rattle.paths.specs.Ranked.{Ranked, letterCount}
 use Rattle.paths.specs.Graph.{pathCost}
 use Rattle.paths.specs.Best.{IsBest}
+use Rattle.product.specs.ProductGraph.{cardStart}
 use Rattle.labels.specs.Work.{costAt, labelOf}
 use Rattle.walk.specs.Pairs.{positionAfter}
 use Rattle.walk.specs.Setting.{graphOf, Labelled, StepsAt, TablesAt}
 
 -- the start has a label, and the answer slice has room for as many pairs as it says
-pub record StartsAt (work : List ℕ) (room : ℕ) : Type 0 where
+pub record StartsAt (card work : List ℕ) (room : ℕ) : Type 0 where
   pub cost : Ranked 6
-  pub label-is : labelOf work 0 ≡ some cost
+  pub label-is : labelOf work (cardStart card) ≡ some cost
   pub fits : 2 * letterCount 6 cost ≤ room
 
 pub record WalkPre (ranking card word work : List ℕ) (size room : ℕ) : Type 0 where
   pub labels : Labelled ranking card word work size
   pub is-ranking : isRanking (machineCount card) ranking ≡ true
-  pub start : StartsAt work room
+  pub start : StartsAt card work room
 
 -- the bytes of a list of pairs fill the front of the answer, and its other bytes keep their values; r is the number of pairs. The list is
 -- the best path from the start, and it costs what the label there says
@@ -35,8 +36,8 @@ pub record Walked (ranking card word work before after : List ℕ) (r : ℕ) : T
   pub best : List Pair
   pub count : r ≡ length best
   pub written : after ≡ bytesOf best ++ drop (2 * length best) before
-  pub is-best : IsBest (graphOf ranking card word) 0 best
-  pub costs : pathCost (graphOf ranking card word) 0 best ≡ some (costAt work 0)
+  pub is-best : IsBest (graphOf ranking card word) (cardStart card) best
+  pub costs : pathCost (graphOf ranking card word) (cardStart card) best ≡ some (costAt work (cardStart card))
 
 -- two tables of steps to fill, of the same length, with a stretch for each machine
 pub record TablesLent (card insertions steps : List ℕ) : Type 0 where
@@ -47,7 +48,7 @@ pub record TablesLent (card insertions steps : List ℕ) : Type 0 where
 pub record FollowPre (places card word work insertions steps rows counts : List ℕ) (size room : ℕ) : Type 0 where
   pub labels : Labelled places card word work size
   pub tables : TablesAt places card word insertions steps rows counts 0
-  pub start : StartsAt work room
+  pub start : StartsAt card work room
 
 -- moving on by a pair: the position after it, with the steps of the symbol there
 pub record PassPre (card word steps : List ℕ) (i : ℕ) : Type 0 where

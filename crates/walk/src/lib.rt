@@ -166,7 +166,7 @@ fn follow(
     ensures { λ r. ⌜ Walked (now (places .entry)) (now (card .entry)) (now (word .entry)) (now (work .entry)) (now (answer .entry)) (now (answer .exit)) r ⌝ }
 {
     let mut position = 0;
-    let mut code = 0;
+    let mut code = tables::start_node(counts);
     let mut pairs = 0;
     loop {
         let label = labels::load(work, position * size + code);

@@ -1,102 +1,106 @@
 use mathlib.Core.Path.{sym, _∙_, ap}
-use mathlib.Core.Bool.{true, false}
-use mathlib.Core.Option.{some}
 use native.Mathlib.Omega.{arith}
 use borrow.Author.Needs.{needs}
-use borrow.Author.Tests.{not-true, not-false}
 use lib.ListN.{length}
 use Rattle.card.specs.Layout.{symbolCount}
-use Rattle.candidate.specs.Evaluating.{refused}
-use Rattle.optimizer.specs.AcceptedInput.{short-word}
-use Rattle.optimizer.proofs.Stages.{start-there, some-ranking, none-answered, not-large, room-answered, walk-pre, best-answered}
+use Rattle.input.specs.AcceptedInput.{short-word}
+use Rattle.optimizer.specs.Refusals.{stageNumber}
+use Rattle.optimizer.proofs.Refusals.{number-positive}
+use Rattle.optimizer.proofs.Labels.{above-zero}
+use Rattle.optimizer.proofs.Stages.{some-ranking, start-there, at-start, loaded-at, refused-answered, walk-pre, walked-few, best-answered}
 use Rattle.optimizer.proofs.search.Statement.{statement}
 use Rattle.optimizer.proofs.search.Tie as tie
 
-reached-requires : tie.Need-reached-requires
-reached-requires c κs =
-    let k = c .before .before .before in
-    start-there (k .before .before .before .before .before .before .before .pre) (k .label .ensures)
+-- the start has its numbers in the work slice
+check-best-requires : tie.Need-check-best-requires
+check-best-requires c κs =
+    let n = c .before in
+    let l = n .before .before .before in
+    omega (arith, start-there (l .before .before .before .before .before .before .before .pre) (l .label .ensures), n .start-node .ensures)
 
 returns : tie.Need-returns
 returns c =
-    let r = c .before .before .before in
-    let k = r .before .before .before .before in
-    let s = k .before .before .before .before .before .before .before in
-    none-answered (s .pre) (k .label .ensures) (s .args .answer .now) (c .refused .result) (r .reached .ensures .unlabelled (not-true (r .reached .result) (c .before .before .if1 .taken))) (c .refused .ensures ∙ ap refused (c .before .number .ensures))
+    let t = c .before .before .enum-told2 .given in
+    let k = c .before .before .before .before in
+    let n = k .before .before in
+    let l = n .before .before .before in
+    let s = l .before .before .before .before .before .before .before in
+    let m = c .before .number in
+    refused-answered (s .pre) (l .label .ensures) (s .args .answer .now) (m .result) (c .refused .result)
+    (at-start (s .pre) (l .label .ensures) _ _ (n .start-node .ensures) (m .ensures ∙ k .check-best .ensures))
+    (omega (arith, m .ensures, above-zero stageNumber (t .1) (number-positive (t .0 .0)))) (c .refused .ensures)
 
 load-requires : tie.Need-load-requires
 load-requires c κs =
-    let k = c .before .before .before .before .before .before in
-    start-there (k .before .before .before .before .before .before .before .pre) (k .label .ensures)
-
-returns-2 : tie.Need-returns-2
-returns-2 c =
-    let f = c .before .before .before in
-    let l = f .before in
-    let r = l .before .before .before in
-    let k = r .before .before .before .before in
-    let s = k .before .before .before .before .before .before .before in
-    let t = not-true (f .counts-fit .result) (c .before .before .if2 .taken) in
-    absurd (not-large (s .pre) (k .label .ensures) (l .load .result) (r .reached .ensures .label (not-false (r .reached .result) (l .before .before .if1 .left))) (l .load .ensures) (sym (f .counts-fit .ensures) ∙ t))
-
-returns-3 : tie.Need-returns-3
-returns-3 c =
-    let l = c .before .before .before .before .before .before in
-    let r = l .before .before .before in
-    let k = r .before .before .before .before in
-    let s = k .before .before .before .before .before .before .before in
-    room-answered (s .pre) (k .label .ensures) (l .load .result) (r .reached .ensures .label (not-false (r .reached .result) (l .before .before .if1 .left))) (l .load .ensures) (s .args .answer .now) (c .refused3 .result) (omega arith) (c .refused3 .ensures ∙ ap refused (c .before .number3 .ensures))
+    let n = c .before .before .before .before .before in
+    let l = n .before .before .before in
+    omega (arith, start-there (l .before .before .before .before .before .before .before .pre) (l .label .ensures), n .start-node .ensures)
 
 profile-of-requires : tie.Need-profile-of-requires
-profile-of-requires c κs = some-ranking (c .before .before .before .before .before .before .before .before .before .before .before .before .before .before .before .before .before .before .pre)
+profile-of-requires c κs =
+    let l = c .before .before .before .before .before .before .before .before .before in
+    some-ranking (l .before .before .before .before .before .before .before .pre)
 
 walk-requires : tie.Need-walk-requires
 walk-requires c κs =
-    let l = c .before .before .before .before .before .before .before in
-    let r = l .before .before .before in
-    let k = r .before .before .before .before in
-    let s = k .before .before .before .before .before .before .before in
-    walk-pre (s .pre) (k .label .ensures) (l .load .result) (r .reached .ensures .label (not-false (r .reached .result) (l .before .before .if1 .left))) (l .load .ensures) (length (s .args .answer .now)) (λ h. (omega arith))
+    let t = c .before .before .before .before .before in
+    let k = t .before .before in
+    let n = k .before .before in
+    let l = n .before .before .before in
+    let s = l .before .before .before .before .before .before .before in
+    walk-pre (s .pre) (l .label .ensures) (length (s .args .answer .now)) (sym (at-start (s .pre) (l .label .ensures) _ _ (n .start-node .ensures) (k .check-best .ensures)) ∙ ap stageNumber (t .enum-told .given .1))
 
-cast-t31 : tie.Need-cast-t31
-cast-t31 c =
-    let s = c .before .before .before .before .before .before .before .before .before .before .before .before .before .before .before .before .before .before .before .before .before .before .before .before in
+cast-pairs : tie.Need-cast-pairs
+cast-pairs c =
+    let w = c .before .before in
+    let t = w .before .before .before .before .before .before in
+    let k = t .before .before in
+    let n = k .before .before in
+    let l = n .before .before .before in
+    let s = l .before .before .before .before .before .before .before in
+    let few =
+    walked-few (s .pre) (l .label .ensures) (length (s .args .answer .now)) (sym (at-start (s .pre) (l .label .ensures) _ _ (n .start-node .ensures) (k .check-best .ensures)) ∙ ap stageNumber (t .enum-told .given .1)) (w .walk .ensures)
+    in
+    omega (arith, few)
+
+cast-length : tie.Need-cast-length
+cast-length c =
+    let n = c .before .before .before .before .before .before .before .before .before .before .before .before in
+    let s = n .before .before .before .before .before .before .before .before .before .before in
     omega (arith, short-word (symbolCount (s .args .card .now)) (s .args .word .now) (s .pre .sound))
 
-returns-4 : tie.Need-returns-4
-returns-4 c =
+returns-2 : tie.Need-returns-2
+returns-2 c =
     let w = c .before .before in
     let p = w .before .before .before in
-    let l = p .before .before .before .before .before in
-    let r = l .before .before .before in
-    let k = r .before .before .before .before in
-    let s = k .before .before .before .before .before .before .before in
-    best-answered (s .pre) (k .label .ensures) (l .load .result) (r .reached .ensures .label (not-false (r .reached .result) (l .before .before .if1 .left))) (l .load .ensures) (p .profile-of .result) (λ h. (omega arith)) (p .profile-of .ensures) (w .walk .ensures)
+    let d = p .before in
+    let t = d .before .before in
+    let k = t .before .before in
+    let n = k .before .before in
+    let l = n .before .before .before in
+    let s = l .before .before .before .before .before .before .before in
+    best-answered (s .pre) (l .label .ensures) (d .load .result) (p .profile-of .result)
+    (sym (at-start (s .pre) (l .label .ensures) _ _ (n .start-node .ensures) (k .check-best .ensures)) ∙ ap stageNumber (t .enum-told .given .1))
+    (loaded-at (s .pre) (l .label .ensures) _ (n .start-node .ensures) (d .load .ensures)) (p .profile-of .ensures) (w .walk .ensures)
 
 pub search-spec : {M : Type 1} → statement M
 search-spec =
     tie.close
     (tie.spec
     (λ c κs. search needs)
-    reached-requires
+    (λ c κs. search needs)
+    check-best-requires
+    (λ c. search needs)
+    (λ c. search needs)
     (λ c κs. search needs)
     (λ c κs. search needs)
     (λ c. search needs)
     returns
     load-requires
-    (λ c κs. search needs)
-    (λ c κs. search needs)
-    (λ c κs. search needs)
-    (λ c. search needs)
-    returns-2
-    (λ c. search needs)
-    (λ c κs. search needs)
-    (λ c κs. search needs)
-    (λ c. search needs)
-    returns-3
     profile-of-requires
     walk-requires
-    cast-t31
+    cast-pairs
+    cast-length
     (λ c. search needs)
     (λ c. search needs)
-    returns-4)
+    returns-2)

@@ -19,7 +19,7 @@ use Rattle.ranking.specs.Harmony.{harmony}
 use Rattle.ranking.specs.HarmonicInequality.{better-worse, equal-means, itself}
 use Rattle.candidate.specs.Candidates.{bytesOf, marksOf, countOf, profileOf, IsCandidate}
 use Rattle.ranking.specs.ByteStrings.{smaller}
-use Rattle.candidate.specs.Best.{shorter, preferred}
+use Rattle.product.specs.Best.{winsTie, preferred}
 use Rattle.paths.specs.Ranked.{Ranked, rankedCosts}
 use Rattle.paths.specs.ByRanking.{ranked}
 use Rattle.paths.specs.Graph.{pathCost}
@@ -30,7 +30,7 @@ use Rattle.product.specs.BestCandidate.{Beats, better-profile, fewer-pai
 use Rattle.product.specs.Laws.JointStep.{AllSound}
 use Rattle.product.specs.Laws.Candidates.{candidate-cost, CostOfCandidate, cost-candidate}
 use Rattle.product.specs.Laws.Preference.{or-right, preferred-earlier, earlier-preferred}
-use Rattle.product.specs.Laws.Listing.{formOf}
+use Rattle.product.specs.Laws.Listing.{contenderOf}
 
 -- a profile has one count per machine
 pub profile-length : (ms : List Machine) (c : List Pair) → length (profileOf ms c) ≡ length ms
@@ -40,18 +40,18 @@ profile-length ms c = length-map ms (λ m. countOf (marksOf c m))
 -- ---- beating is being preferred
 
 module _ (r : List ℕ) (ms : List Machine) (c d : List Pair) where
-  shorter-preferred : profileOf ms d ≡ profileOf ms c → shorter c d ≡ true → preferred r (formOf ms c) (formOf ms d) ≡ true
+  tie-preferred : profileOf ms d ≡ profileOf ms c → winsTie c d ≡ true → preferred r (contenderOf ms c) (contenderOf ms d) ≡ true
   unfolding preferred
-  shorter-preferred e h = rw (e, itself r (profileOf ms c)) h
+  tie-preferred e h = rw (e, itself r (profileOf ms c)) h
 
-  pub beats-preferred : Beats r ms c d → preferred r (formOf ms c) (formOf ms d) ≡ true
-  unfolding preferred shorter
+  pub beats-preferred : Beats r ms c d → preferred r (contenderOf ms c) (contenderOf ms d) ≡ true
+  unfolding preferred winsTie
   beats-preferred (better-profile h) = rw (better-worse r (profileOf ms c) (profileOf ms d) .1 h)
-  beats-preferred (fewer-pairs e h) = shorter-preferred e (rw (lt-ltb (length c) (length d) h))
-  beats-preferred (smaller-bytes e h k) = shorter-preferred e (or-right (ltb (length c) (length d)) (both (eq-eqb (length c) (length d) (sym h)) k))
+  beats-preferred (fewer-pairs e h) = tie-preferred e (rw (lt-ltb (length c) (length d) h))
+  beats-preferred (smaller-bytes e h k) = tie-preferred e (or-right (ltb (length c) (length d)) (both (eq-eqb (length c) (length d) (sym h)) k))
 
-  pub preferred-beats : isRanking (length ms) r ≡ true → preferred r (formOf ms c) (formOf ms d) ≡ true → Beats r ms c d
-  unfolding preferred shorter
+  pub preferred-beats : isRanking (length ms) r ≡ true → preferred r (contenderOf ms c) (contenderOf ms d) ≡ true → Beats r ms c d
+  unfolding preferred winsTie
   preferred-beats is h = go (harmony r (profileOf ms c) (profileOf ms d)) refl
     where
       same : harmony r (profileOf ms c) (profileOf ms d) ≡ Equal → profileOf ms d ≡ profileOf ms c
@@ -82,7 +82,7 @@ module _ {S : ℕ} {ms : List Machine} (sound : AllSound S ms) (r word : List �
       rivals : (d : List Pair) → IsCandidate ms word d → d ≢ c → Beats r ms c d
       rivals d h n =
           preferred-beats r ms c d is
-          (earlier-preferred r (formOf ms c) (formOf ms d) (rw (k .cost) at (a .first d (ranked r (profileOf ms d) (length d)) n (candidate-cost (byRanking r) word sound d h))))
+          (earlier-preferred r (contenderOf ms c) (contenderOf ms d) (rw (k .cost) at (a .first d (ranked r (profileOf ms d) (length d)) n (candidate-cost (byRanking r) word sound d h))))
 
   pub best-candidate-path : (c : List Pair) → IsBestCandidate r ms word c → IsBest (productGraph (byRanking r) word ms) (startNode ms) c
   best-candidate-path c a = record { cost = ranked r (profileOf ms c) (length c); is = candidate-cost (byRanking r) word sound c (a .candidate); first = first }
@@ -91,4 +91,4 @@ module _ {S : ℕ} {ms : List Machine} (sound : AllSound S ms) (r word : List �
           → Before (rankedCosts (length r)) pairs (ranked r (profileOf ms c) (length c), c) (x, d)
       first d x n h =
           let k = cost-candidate (byRanking r) word sound d x h in
-          rw (k .cost) (preferred-earlier r (formOf ms c) (formOf ms d) (beats-preferred r ms c d (a .rivals d (k .is) n)))
+          rw (k .cost) (preferred-earlier r (contenderOf ms c) (contenderOf ms d) (beats-preferred r ms c d (a .rivals d (k .is) n)))

@@ -14,7 +14,7 @@ use Rattle.machine.specs.declared.Pair.{Pair}
 use Rattle.machine.specs.Symbols.{isPair}
 use Rattle.machine.specs.Machine.{Machine, startState}
 use Rattle.candidate.specs.Candidates.{spelled, marksOf, isSome, countOf, isComplete, profileOf, IsCandidate}
-use Rattle.candidate.specs.Best.{sameWord}
+use Rattle.product.specs.Best.{sameWord}
 use Rattle.paths.specs.Costs.{Costs}
 use Rattle.paths.specs.Graph.{pathCost}
 use Rattle.product.specs.JointStep.{andThose, ofEach}

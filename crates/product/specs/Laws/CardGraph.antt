@@ -1,21 +1,20 @@
 -- The graph of an accepted card, as the theory of paths and an engine ask for it.
-use mathlib.Core.Path.{_≡_, ap}
+use mathlib.Core.Path.{_≡_}
 use mathlib.Core.Bool.{true}
 use mathlib.Core.List.{List}
 use mathlib.Core.Option.{some}
-use Prim.Native.Nat.{ℕ, _+_, _*_, _<_, _≤_}
+use Prim.Native.Nat.{ℕ, _<_, _≤_}
 use native.Mathlib.Omega.{arith}
 use lib.ListN.{length}
 use Rattle.machine.specs.declared.Pair.{Pair}
 use Rattle.machine.specs.Symbols.{withinSymbols}
 use Rattle.card.specs.Layout.{symbolCount}
 use Rattle.card.specs.Card.{machinesOf, cardRefusal}
-use Rattle.candidate.specs.Best.{nodeCount}
 use Rattle.paths.specs.Ranked.{Ranked, letterCount, countAt}
 use Rattle.paths.specs.Graph.{Edge, Within}
 use Rattle.paths.specs.Bounds.{Sized, BoundedCount}
 use Rattle.paths.specs.Positions.{Positioned}
-use Rattle.product.specs.Nodes.{stateCounts, product, positionAt}
+use Rattle.product.specs.Nodes.{stateCounts, nodeCount, positionAt}
 use Rattle.product.specs.Prices.{byRanking}
 use Rattle.product.specs.ProductGraph.{cardGraph, cardStart}
 use Rattle.product.specs.Laws.Nodes.{node-below}
@@ -27,18 +26,14 @@ use Rattle.product.specs.Laws.Accepted.{accepted-machines}
 pub some-machine : (card : List ℕ) → cardRefusal card ≡ 0 → 1 ≤ length (machinesOf card)
 some-machine card ok = let a = accepted-machines card ok in omega (arith, a .count, a .some-machine)
 
-module _ (card word : List ℕ) (ok : cardRefusal card ≡ 0) where
-  -- it has (n + 1) × P nodes, and the start node is one of them
-  pub card-nodes : (length word + 1) * product (stateCounts (machinesOf card)) ≡ nodeCount card word
-  card-nodes = ap (λ P. (length word + 1) * P) (accepted-machines card ok .states)
-
-  pub start-within : cardStart card < nodeCount card word
-  start-within = rw (← card-nodes) (node-below (stateCounts (machinesOf card)) 0 (starts (machinesOf card)) (starts-below (accepted-machines card ok .sound)) (length word) (omega arith))
+-- the start node is one of its (n + 1) × P nodes
+pub start-within : (card word : List ℕ) → cardRefusal card ≡ 0 → cardStart card < nodeCount (machinesOf card) (length word)
+start-within card word ok = node-below (stateCounts (machinesOf card)) 0 (starts (machinesOf card)) (starts-below (accepted-machines card ok .sound)) (length word) (omega arith)
 
 module _ (card r word : List ℕ) (ok : cardRefusal card ≡ 0) where
   -- edges lead to its nodes, at the same position or at the next one, by pairs of the card's symbols
-  pub card-within : Within (cardGraph card r word) (nodeCount card word)
-  card-within = rw (← card-nodes card word ok) (product-within (byRanking r) word (machinesOf card) (accepted-machines card ok .sound))
+  pub card-within : Within (cardGraph card r word) (nodeCount (machinesOf card) (length word))
+  card-within = product-within (byRanking r) word (machinesOf card) (accepted-machines card ok .sound)
 
   pub card-positioned : Positioned (cardGraph card r word) (positionAt (stateCounts (machinesOf card))) (length word)
   card-positioned = product-positioned (byRanking r) word (machinesOf card) (accepted-machines card ok .sound)

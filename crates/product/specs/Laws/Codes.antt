@@ -1,6 +1,6 @@
 -- Laws for an engine: a node's moves and ending by its position and its code, and the step by codes machine by machine.
 use mathlib.Core.Path.{_≡_, refl, _∙_}
-use mathlib.Core.Bool.{true, false}
+use mathlib.Core.Bool.{true}
 use mathlib.Core.List.{List, [], _∷_, map}
 use mathlib.Core.Option.{Option, some, none, Option·none-ne-some}
 use Prim.Native.Nat.{ℕ, _+_, _*_, _/_, _%_, _<_, _≤_}
@@ -8,14 +8,14 @@ use lib.ListN.{length, getD}
 use borrow.Author.Tests.{eq-eqb, ne-eqb}
 use Rattle.machine.specs.declared.Pair.{Pair}
 use Rattle.machine.specs.Symbols.{emptySymbol, isPair}
-use Rattle.machine.specs.Machine.{Machine, stepOf, endingOf}
+use Rattle.machine.specs.Machine.{Machine, stepOf}
 use Rattle.product.specs.Nodes.{product, stateCounts, codeOf, statesOf}
 use Rattle.product.specs.JointStep.{andThose, ofEach, jointStep}
 use Rattle.product.specs.ProductGraph.{advance, Move, moveBy, move, ending}
 use Rattle.product.specs.Codes.{coded, codeStep, codeEnding, movedBy}
 use Rattle.product.specs.Laws.Nodes.{position-at, states-at, code-below}
 use Rattle.product.specs.Laws.JointStep.{AllSound, joint-below}
-use Rattle.product.specs.Laws.PathCost.{advance-insertion, advance-symbol, advance-other}
+use Rattle.product.specs.Laws.PathCost.{advance-insertion, advance-symbol}
 
 -- a pair with an in is a pair
 pub symbol-pair : (p : Pair) → (p .input ≡ emptySymbol → ⊥) → isPair p ≡ true
@@ -40,13 +40,6 @@ module _ (word : List ℕ) (ms : List Machine) where
     -- any other pair reads the symbol at the position
     pub symbol-move : i < length word → (p .input ≡ emptySymbol → ⊥) → getD word i emptySymbol ≡ p .input → move word ms (i * product (stateCounts ms) + c) p ≡ movedBy ((i + 1) * product (stateCounts ms)) (codeStep ms c p)
     symbol-move k n e = at-node i c h p (symbol-pair p n) ∙ (rw (advance-symbol word i p n k e) (by-code (i + 1) (jointStep ms (statesOf (stateCounts ms) c) p)))
-
-    pub other-move : (p .input ≡ emptySymbol → ⊥) → (getD word i emptySymbol ≡ p .input → ⊥) → move word ms (i * product (stateCounts ms) + c) p ≡ none
-    other-move n e = at-node i c h p (symbol-pair p n) ∙ (rw (advance-other word i p n e))
-
-    pub no-pair-move : isPair p ≡ false → move word ms (i * product (stateCounts ms) + c) p ≡ none
-    unfolding move
-    no-pair-move t = rw (t, move)
 
   -- an ending is at the end of the word
   pub ending-at : (c : ℕ) → c < product (stateCounts ms) → ending word ms (length word * product (stateCounts ms) + c) ≡ codeEnding ms c
@@ -77,15 +70,6 @@ step-next-machine m ms c p = go (stepOf m (c / product (stateCounts ms)) p) (joi
     go none j = refl
     go (some r) none = refl
     go (some r) (some steps) = refl
-
-pub ending-no-machine : (c : ℕ) → codeEnding [] c ≡ some []
-unfolding ofEach statesOf
-ending-no-machine c = refl
-
-pub ending-next-machine : (m : Machine) (ms : List Machine) (c : ℕ)
-    → codeEnding (m ∷ ms) c ≡ andThose (endingOf m (c / product (stateCounts ms))) (codeEnding ms (c % product (stateCounts ms)))
-unfolding ofEach statesOf
-ending-next-machine m ms c = refl
 
 -- it leads to a code
 pub code-step-below : {S : ℕ} {ms : List Machine} → AllSound S ms → (c : ℕ) (p : Pair) (m : Move) → codeStep ms c p ≡ some m → m .target < product (stateCounts ms)

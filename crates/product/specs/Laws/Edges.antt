@@ -79,15 +79,15 @@ moved word ms u p m h = pair (isPair p) refl
     pair false t = let z : _≡_ {A = Option Move} none (some m) = rw (t, move) at h in absurd (Option·none-ne-some m z)
 
 -- an ending is at the end of the word
-pub record Ended (word : List ℕ) (ms : List Machine) (u : ℕ) (xs : List ℕ) : Type 0 where
+pub record WordEnded (word : List ℕ) (ms : List Machine) (u : ℕ) (xs : List ℕ) : Type 0 where
   pub at-end : positionAt (stateCounts ms) u ≡ length word
   pub ends : jointEnding ms (statesAt (stateCounts ms) u) ≡ some xs
 
-pub ended : (word : List ℕ) (ms : List Machine) (u : ℕ) (xs : List ℕ) → ending word ms u ≡ some xs → Ended word ms u xs
+pub word-ended : (word : List ℕ) (ms : List Machine) (u : ℕ) (xs : List ℕ) → ending word ms u ≡ some xs → WordEnded word ms u xs
 unfolding ending
-ended word ms u xs h = go (eqb (positionAt (stateCounts ms) u) (length word)) refl
+word-ended word ms u xs h = go (eqb (positionAt (stateCounts ms) u) (length word)) refl
   where
-    go : (t : Bool) → eqb (positionAt (stateCounts ms) u) (length word) ≡ t → Ended word ms u xs
+    go : (t : Bool) → eqb (positionAt (stateCounts ms) u) (length word) ≡ t → WordEnded word ms u xs
     go true t = record { at-end = eqb-true (positionAt (stateCounts ms) u) (length word) t; ends = rw (t, ending) at h }
     go false t = let z : _≡_ {A = Option (List ℕ)} none (some xs) = rw (t, ending) at h in absurd (Option·none-ne-some xs z)
 
@@ -141,14 +141,7 @@ module _ {costs : Costs} (price : Price costs) (word : List ℕ) (ms : List Mach
     pub product-within : Within (productGraph price word ms) ((length word + 1) * product (stateCounts ms))
     product-within u p e h = let k = edge-of u p e h in rw (k .target-is) (move-within u p (k .by) (k .is))
 
-    -- a move stays at its position if it is an insertion, and leads to the next one if not
-    pub insertion-stays : (u : ℕ) (p : Pair) (m : Move) → move word ms u p ≡ some m → p .input ≡ emptySymbol → positionAt (stateCounts ms) (m .target) ≡ positionAt (stateCounts ms) u
-    insertion-stays u p m h z = let k = moved word ms u p m h in move-position u p m k ∙ go (advanced word (positionAt (stateCounts ms) u) p (k .position) (k .advances))
-      where
-        go : {j : ℕ} → Advanced word (positionAt (stateCounts ms) u) p j → j ≡ positionAt (stateCounts ms) u
-        go (stays e q h) = q
-        go (goes-on e q h k) = absurd (e z)
-
+    -- a pair that is no insertion leads to the next position
     pub symbol-moves-on : (u : ℕ) (p : Pair) (m : Move) → move word ms u p ≡ some m → (p .input ≡ emptySymbol → ⊥) → positionAt (stateCounts ms) (m .target) ≡ positionAt (stateCounts ms) u + 1
     symbol-moves-on u p m h z = let k = moved word ms u p m h in move-position u p m k ∙ go (advanced word (positionAt (stateCounts ms) u) p (k .position) (k .advances))
       where
@@ -157,7 +150,7 @@ module _ {costs : Costs} (price : Price costs) (word : List ℕ) (ms : List Mach
         go (goes-on e q h k) = q
 
     pub product-positioned : Positioned (productGraph price word ms) (positionAt (stateCounts ms)) (length word)
-    product-positioned = record { next = next; ends = λ u c h. let k = ending-of u c h in ended word ms u (k .marks) (k .is) .at-end }
+    product-positioned = record { next = next; ends = λ u c h. let k = ending-of u c h in word-ended word ms u (k .marks) (k .is) .at-end }
       where
         go : (u : ℕ) (p : Pair) (j : ℕ) → Advanced word (positionAt (stateCounts ms) u) p j → (j ≡ positionAt (stateCounts ms) u) ⊎ (j ≡ suc (positionAt (stateCounts ms) u))
         go u p j (stays e q h) = inl q
@@ -227,5 +220,5 @@ module _ (r word : List ℕ) (ms : List Machine) where
       ends : (u : ℕ) (c : Ranked (length r)) → productGraph (byRanking r) word ms .ending u ≡ some c → countAt (length r) i c ≤ 15
       ends u c h =
           let k = ending-of (byRanking r) word ms u c h in
-          let l = ended word ms u (k .marks) (k .is) in
+          let l = word-ended word ms u (k .marks) (k .is) in
           rw (k .cost-is) (ranked-upto r (k .marks) 0 15 (ending-marks-bound sound (statesAt (stateCounts ms) u) (k .marks) (l .ends)) i)

@@ -18,7 +18,7 @@ use Rattle.machine.specs.declared.Pair.{Pair}
 use Rattle.machine.specs.Symbols.{isPair, withinSymbols}
 use Rattle.machine.specs.Machine.{Machine}
 use Rattle.candidate.specs.Candidates.{spelled, isComplete, profileOf}
-use Rattle.candidate.specs.Best.{Form, preferred, sameWord, pairsOver, listsBelow, formsAmong, leastOf}
+use Rattle.product.specs.Best.{Contender, preferred, sameWord, pairsOver, listsBelow, contendersAmong, leastOf}
 use Rattle.paths.specs.Total.{Upto, upto-trans, not-less-upto}
 use Rattle.paths.specs.Ranked.{rankedCosts}
 use Rattle.paths.specs.Best.{Before, before-total}
@@ -102,68 +102,68 @@ from-pairs S (from-next m k) = both (pairs-over S m) (from-pairs S k)
 
 -- ---- those of them that are complete candidates for the word
 
-abbrev pub formOf : List Machine → List Pair → Form
-formOf ms c = record { candidate = c; profile = profileOf ms c }
+abbrev pub contenderOf : List Machine → List Pair → Contender
+contenderOf ms c = record { candidate = c; profile = profileOf ms c }
 
 module _ (ms : List Machine) (word : List ℕ) where
   -- the test on a list
   abbrev pub fitting : List Pair → Bool
   fitting c = sameWord (spelled c) word && isComplete ms c
 
-  forms-none : formsAmong ms word [] ≡ []
-  unfolding formsAmong
-  forms-none = refl
+  contenders-none : contendersAmong ms word [] ≡ []
+  unfolding contendersAmong
+  contenders-none = refl
 
-  forms-next : (c : List Pair) (cs : List (List Pair)) → fitting c ≡ true → formsAmong ms word (c ∷ cs) ≡ formOf ms c ∷ formsAmong ms word cs
-  unfolding formsAmong
-  forms-next c cs e = rw (e, formsAmong)
+  contenders-next : (c : List Pair) (cs : List (List Pair)) → fitting c ≡ true → contendersAmong ms word (c ∷ cs) ≡ contenderOf ms c ∷ contendersAmong ms word cs
+  unfolding contendersAmong
+  contenders-next c cs e = rw (e, contendersAmong)
 
-  forms-skip : (c : List Pair) (cs : List (List Pair)) → fitting c ≡ false → formsAmong ms word (c ∷ cs) ≡ formsAmong ms word cs
-  unfolding formsAmong
-  forms-skip c cs e = rw (e, formsAmong)
+  contenders-skip : (c : List Pair) (cs : List (List Pair)) → fitting c ≡ false → contendersAmong ms word (c ∷ cs) ≡ contendersAmong ms word cs
+  unfolding contendersAmong
+  contenders-skip c cs e = rw (e, contendersAmong)
 
-  pub record Listed (cs : List (List Pair)) (a : Form) : Type 0 where
+  pub record ListedContender (cs : List (List Pair)) (a : Contender) : Type 0 where
     pub listed : List·Memᴰ (a .candidate) cs
     pub fits : fitting (a .candidate) ≡ true
-    pub is : a ≡ formOf ms (a .candidate)
+    pub is : a ≡ contenderOf ms (a .candidate)
 
-  pub forms-listed : (cs : List (List Pair)) (a : Form) → List·Memᴰ a (formsAmong ms word cs) → Listed cs a
-  forms-listed [] a m = absurd (List·Memᴰ·not-nil (rw forms-none at m))
-  forms-listed (c ∷ cs) a m = go (fitting c) refl (forms-listed cs a)
+  pub contenders-listed : (cs : List (List Pair)) (a : Contender) → List·Memᴰ a (contendersAmong ms word cs) → ListedContender cs a
+  contenders-listed [] a m = absurd (List·Memᴰ·not-nil (rw contenders-none at m))
+  contenders-listed (c ∷ cs) a m = go (fitting c) refl (contenders-listed cs a)
     where
-      more : Listed cs a → Listed (c ∷ cs) a
+      more : ListedContender cs a → ListedContender (c ∷ cs) a
       more l = record { listed = List·Memᴰ·tail (l .listed); fits = l .fits; is = l .is }
 
-      here : fitting c ≡ true → (List·Memᴰ a (formsAmong ms word cs) → Listed cs a) → (a ≡ formOf ms c) ⊎ List·Memᴰ a (formsAmong ms word cs) → Listed (c ∷ cs) a
+      here : fitting c ≡ true → (List·Memᴰ a (contendersAmong ms word cs) → ListedContender cs a) → (a ≡ contenderOf ms c) ⊎ List·Memᴰ a (contendersAmong ms word cs) → ListedContender (c ∷ cs) a
       here t rec (inl e) = rw e (record { listed = List·Memᴰ·head refl; fits = t; is = refl })
       here t rec (inr k) = more (rec k)
 
-      go : (b : Bool) → fitting c ≡ b → (List·Memᴰ a (formsAmong ms word cs) → Listed cs a) → Listed (c ∷ cs) a
-      go true t rec = here t rec (List·Memᴰ·cases-cons (rw (forms-next c cs t) at m))
-      go false t rec = more (rec (rw (forms-skip c cs t) at m))
+      go : (b : Bool) → fitting c ≡ b → (List·Memᴰ a (contendersAmong ms word cs) → ListedContender cs a) → ListedContender (c ∷ cs) a
+      go true t rec = here t rec (List·Memᴰ·cases-cons (rw (contenders-next c cs t) at m))
+      go false t rec = more (rec (rw (contenders-skip c cs t) at m))
 
-  pub listed-forms : {c : List Pair} {cs : List (List Pair)} → List·Memᴰ c cs → fitting c ≡ true → List·Memᴰ (formOf ms c) (formsAmong ms word cs)
-  listed-forms {c} (List·Memᴰ·head {x = d} {xs = cs} e) t =
+  pub listed-contenders : {c : List Pair} {cs : List (List Pair)} → List·Memᴰ c cs → fitting c ≡ true → List·Memᴰ (contenderOf ms c) (contendersAmong ms word cs)
+  listed-contenders {c} (List·Memᴰ·head {x = d} {xs = cs} e) t =
       let q : fitting d ≡ true = rw e at t in
-      rw (forms-next d cs q) (List·Memᴰ·head (ap (formOf ms) e))
-  listed-forms {c} (List·Memᴰ·tail {x = d} {xs = cs} m) t = go (fitting d) refl (listed-forms m t)
+      rw (contenders-next d cs q) (List·Memᴰ·head (ap (contenderOf ms) e))
+  listed-contenders {c} (List·Memᴰ·tail {x = d} {xs = cs} m) t = go (fitting d) refl (listed-contenders m t)
     where
-      go : (b : Bool) → fitting d ≡ b → List·Memᴰ (formOf ms c) (formsAmong ms word cs) → List·Memᴰ (formOf ms c) (formsAmong ms word (d ∷ cs))
-      go true u k = rw (forms-next d cs u) (List·Memᴰ·tail k)
-      go false u k = rw (forms-skip d cs u) k
+      go : (b : Bool) → fitting d ≡ b → List·Memᴰ (contenderOf ms c) (contendersAmong ms word cs) → List·Memᴰ (contenderOf ms c) (contendersAmong ms word (d ∷ cs))
+      go true u k = rw (contenders-next d cs u) (List·Memᴰ·tail k)
+      go false u k = rw (contenders-skip d cs u) k
 
 -- ---- the least of them
 
 module _ (r : List ℕ) where
-  least-alone : (a : Form) (rest : List Form) → leastOf r rest ≡ none → leastOf r (a ∷ rest) ≡ some a
+  least-alone : (a : Contender) (rest : List Contender) → leastOf r rest ≡ none → leastOf r (a ∷ rest) ≡ some a
   unfolding leastOf
   least-alone a rest e = rw (e, leastOf)
 
-  least-stays : (a b : Form) (rest : List Form) → leastOf r rest ≡ some b → preferred r b a ≡ true → leastOf r (a ∷ rest) ≡ some b
+  least-stays : (a b : Contender) (rest : List Contender) → leastOf r rest ≡ some b → preferred r b a ≡ true → leastOf r (a ∷ rest) ≡ some b
   unfolding leastOf
   least-stays a b rest e t = rw (e, t, leastOf)
 
-  least-falls : (a b : Form) (rest : List Form) → leastOf r rest ≡ some b → preferred r b a ≡ false → leastOf r (a ∷ rest) ≡ some a
+  least-falls : (a b : Contender) (rest : List Contender) → leastOf r rest ≡ some b → preferred r b a ≡ false → leastOf r (a ∷ rest) ≡ some a
   unfolding leastOf
   least-falls a b rest e t = rw (e, t, leastOf)
 
@@ -172,38 +172,38 @@ module _ (r : List ℕ) where
   least-none = refl
 
   -- it is one of them
-  pub least-member : (fs : List Form) (b : Form) → leastOf r fs ≡ some b → List·Memᴰ b fs
+  pub least-member : (fs : List Contender) (b : Contender) → leastOf r fs ≡ some b → List·Memᴰ b fs
   least-member [] b e = absurd (Option·none-ne-some b (sym least-none ∙ e))
   least-member (a ∷ rest) b e = go (leastOf r rest) refl (λ d. least-member rest d)
     where
       Rest : Type 0
-      Rest = (d : Form) → leastOf r rest ≡ some d → List·Memᴰ d rest
+      Rest = (d : Contender) → leastOf r rest ≡ some d → List·Memᴰ d rest
 
-      two : (d : Form) → leastOf r rest ≡ some d → (t : Bool) → preferred r d a ≡ t → Rest → List·Memᴰ b (a ∷ rest)
+      two : (d : Contender) → leastOf r rest ≡ some d → (t : Bool) → preferred r d a ≡ t → Rest → List·Memᴰ b (a ∷ rest)
       two d k true t rec = let q : b ≡ d = cc (e, least-stays a d rest k t) in List·Memᴰ·tail (Memᴰ·cast q (rec d k))
       two d k false t rec = let q : b ≡ a = cc (e, least-falls a d rest k t) in List·Memᴰ·head q
 
-      go : (o : Option Form) → leastOf r rest ≡ o → Rest → List·Memᴰ b (a ∷ rest)
+      go : (o : Option Contender) → leastOf r rest ≡ o → Rest → List·Memᴰ b (a ∷ rest)
       go none k rec = let q : b ≡ a = cc (e, least-alone a rest k) in List·Memᴰ·head q
       go (some d) k rec = two d k (preferred r d a) refl rec
 
   -- and none of them comes before it
-  pub record LeastUpto (fs : List Form) (a : Form) : Type 0 where
-    pub least : Form
+  pub record LeastUpto (fs : List Contender) (a : Contender) : Type 0 where
+    pub least : Contender
     pub is : leastOf r fs ≡ some least
     pub upto : Upto (Before (rankedCosts (length r)) pairs) (keyOf r least) (keyOf r a)
 
-  not-preferred : (a b : Form) → preferred r a b ≡ false → Upto (Before (rankedCosts (length r)) pairs) (keyOf r b) (keyOf r a)
+  not-preferred : (a b : Contender) → preferred r a b ≡ false → Upto (Before (rankedCosts (length r)) pairs) (keyOf r b) (keyOf r a)
   not-preferred a b t = not-less-upto (before-total (rankedCosts (length r)) pairs) (keyOf r b) (keyOf r a) (λ h. clash (earlier-preferred r a b h) t)
 
-  pub least-upto : {fs : List Form} {a : Form} → List·Memᴰ a fs → LeastUpto fs a
+  pub least-upto : {fs : List Contender} {a : Contender} → List·Memᴰ a fs → LeastUpto fs a
   least-upto {a = a} (List·Memᴰ·head {x = b} {xs = rest} e) = go (leastOf r rest) refl
     where
-      two : (d : Form) → leastOf r rest ≡ some d → (t : Bool) → preferred r d b ≡ t → LeastUpto (b ∷ rest) a
+      two : (d : Contender) → leastOf r rest ≡ some d → (t : Bool) → preferred r d b ≡ t → LeastUpto (b ∷ rest) a
       two d k true t = record { least = d; is = least-stays b d rest k t; upto = rw e (inl (preferred-earlier r d b t)) }
       two d k false t = record { least = b; is = least-falls b d rest k t; upto = inr (ap (keyOf r) (sym e)) }
 
-      go : (o : Option Form) → leastOf r rest ≡ o → LeastUpto (b ∷ rest) a
+      go : (o : Option Contender) → leastOf r rest ≡ o → LeastUpto (b ∷ rest) a
       go none k = record { least = b; is = least-alone b rest k; upto = inr (ap (keyOf r) (sym e)) }
       go (some d) k = two d k (preferred r d b) refl
   least-upto {a = a} (List·Memᴰ·tail {x = b} {xs = rest} m) = go (least-upto m)

@@ -17,7 +17,7 @@ use Rattle.machine.specs.Symbols.{emptySymbol, isPair}
 use Rattle.machine.specs.Machine.{Machine}
 use Rattle.ranking.specs.Profiles.{merge}
 use Rattle.candidate.specs.Candidates.{spelled}
-use Rattle.candidate.specs.Best.{sameWord}
+use Rattle.product.specs.Best.{sameWord}
 use Rattle.paths.specs.Costs.{Costs}
 use Rattle.paths.specs.Graph.{pathCost, addTo, follow}
 use Rattle.product.specs.Nodes.{stateCounts, nodeOf}

@@ -16,7 +16,7 @@ use Rattle.ranking.specs.HarmonicInequality.{better-worse}
 use Rattle.ranking.specs.Lemmas.Harmony.{Standing, fewer, same, more, standing, harmony-end, at-fewer, at-same}
 use Rattle.candidate.specs.Candidates.{bytesOf}
 use Rattle.ranking.specs.ByteStrings.{smaller}
-use Rattle.candidate.specs.Best.{Form, shorter, preferred}
+use Rattle.product.specs.Best.{Contender, winsTie, preferred}
 use Rattle.paths.specs.Total.{Lex}
 use Rattle.paths.specs.Strings.{string, lex-string}
 use Rattle.paths.specs.Ranked.{Ranked, rankedCosts}
@@ -108,14 +108,14 @@ stands (i ∷ r) xs ys = go (standing (getD xs i 0) (getD ys i 0)) (stands r xs 
 
 module _ (r : List ℕ) where
   -- the ranked cost, and the letters
-  abbrev pub keyOf : Form → Ranked (length r) × List Pair
+  abbrev pub keyOf : Contender → Ranked (length r) × List Pair
   keyOf a = (ranked r (a .profile) (length (a .candidate)), a .candidate)
 
-  abbrev pub Earlier : Form → Form → Type 0
+  abbrev pub Earlier : Contender → Contender → Type 0
   Earlier a b = Before (rankedCosts (length r)) pairs (keyOf a) (keyOf b)
 
-  pub preferred-earlier : (a b : Form) → preferred r a b ≡ true → Earlier a b
-  unfolding preferred shorter
+  pub preferred-earlier : (a b : Contender) → preferred r a b ≡ true → Earlier a b
+  unfolding preferred winsTie
   preferred-earlier a b h = go (stands r (a .profile) (b .profile))
     where
       n : ℕ
@@ -135,8 +135,8 @@ module _ (r : List ℕ) where
       go (alike k) = next k (either (ltb n m) (eqb n m && smaller (bytesOf (a .candidate)) (bytesOf (b .candidate))) (rw (equal-harmony r (a .profile) (b .profile) k) at h))
       go (higher k) = absurd (false≢true (rw (worse-harmony r (b .profile) (a .profile) k) at h))
 
-  pub earlier-preferred : (a b : Form) → Earlier a b → preferred r a b ≡ true
-  unfolding preferred shorter
+  pub earlier-preferred : (a b : Contender) → Earlier a b → preferred r a b ≡ true
+  unfolding preferred winsTie
   earlier-preferred a b (inl h) = go (ranked-less r (a .profile) (length (a .candidate)) (b .profile) (length (b .candidate)) .0 h)
     where
       go : Lower r (a .profile) (b .profile) ⊎ (Alike r (a .profile) (b .profile) × (length (a .candidate) < length (b .candidate))) → preferred r a b ≡ true

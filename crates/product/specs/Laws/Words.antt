@@ -8,7 +8,7 @@ use lib.ListN.{length}
 use borrow.Author.Tests.{leb-true}
 use Rattle.basics.specs.Search.{allOf}
 use Rattle.basics.proofs.Bools.{left, right}
-use Rattle.candidate.specs.Optimizing.{soundWord}
+use Rattle.product.specs.Optimizing.{soundWord}
 
 pub record AcceptedWord (S : ℕ) (word : List ℕ) : Type 0 where
   pub short : length word ≤ 24

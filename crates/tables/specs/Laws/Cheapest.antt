@@ -1,8 +1,8 @@
 -- The table of the cheapest insertions has the cheapest edges within each position.
 use mathlib.Core.Path.{_≡_, refl, sym, _∙_, ap, subst}
 use mathlib.Core.Logic.{_⊎_, inl, inr}
-use mathlib.Core.Bool.{Bool, true, false, _&&_, cond}
-use mathlib.Core.List.{List, [], _∷_}
+use mathlib.Core.Bool.{true, false, _&&_, cond}
+use mathlib.Core.List.{List}
 use mathlib.Core.Option.{Option, some, none, Option·none-ne-some}
 use Prim.Native.Nat.{ℕ, zero, suc, _+_, _*_, _^_, _<_, _≤_}
 use native.Mathlib.Decide.{decLt, ℕ-discrete}
@@ -10,15 +10,15 @@ use native.Mathlib.Omega.{arith}
 use lib.Dec.{eqb, ltb, leb, lit≤}
 use lib.ListN.{length, getD}
 use borrow.Author.Tests.{eq-eqb, ne-eqb, lt-ltb, le-ltb, leb-true}
-use Rattle.basics.proofs.Bools.{left, right, clash}
+use Rattle.basics.proofs.Bools.{right, clash}
 use Rattle.machine.specs.declared.Pair.{Pair}
-use Rattle.machine.specs.Symbols.{emptySymbol, isPair, withinSymbols}
+use Rattle.machine.specs.Symbols.{emptySymbol, isPair}
 use Rattle.machine.specs.Machine.{Machine}
 use Rattle.paths.specs.Costs.{Lowers}
 use Rattle.paths.specs.Ranked.{Ranked, Less}
 use Rattle.paths.specs.Graph.{Edge, Graph}
 use Rattle.paths.specs.Cheapest.{CheapestAmong, Cheapest, cheapest-start, cheapest-skip, cheapest-step, cheapest-end}
-use Rattle.labels.specs.Marks.{marksOf, pairCost, noPair}
+use Rattle.labels.specs.Marks.{marksCost, pairCost, noPair}
 use Rattle.labels.specs.MarksLaws.{pair-none, pair-taken, pair-left}
 use Rattle.product.specs.Nodes.{stateCounts, product, positionAt}
 use Rattle.product.specs.Prices.{byRanking}
@@ -71,10 +71,10 @@ module _ (ranking word : List ℕ) {S : ℕ} {ms : List Machine} (sound : AllSou
           go p f x h t (no q) = (x .0, omega (arith, x .1))
 
       -- one that leads to b, with the number k
-      taken : (k e′ : ℕ) → jointFrom (sixPlaces ranking) ms a (record { input = emptySymbol; output = suc n }) ≡ some (b, k) → Lowers (Less 6) (pairCost e) (marksOf k) (pairCost e′)
+      taken : (k e′ : ℕ) → jointFrom (sixPlaces ranking) ms a (record { input = emptySymbol; output = suc n }) ≡ some (b, k) → Lowers (Less 6) (pairCost e) (marksCost k) (pairCost e′)
           → CheapestAmong (sixGraph ranking word ms) (InsertionUpto (suc n)) (nodeAt ms i a) (nodeAt ms i b) (pairCost e′)
       taken k e′ h w =
-          cheapest-step (sixGraph ranking word ms) (InsertionUpto (suc n)) rec (record { input = emptySymbol; output = suc n }) (record { target = nodeAt ms i b; cost = marksOf k })
+          cheapest-step (sixGraph ranking word ms) (InsertionUpto (suc n)) rec (record { input = emptySymbol; output = suc n }) (record { target = nodeAt ms i b; cost = marksCost k })
           (next-edge (record { input = emptySymbol; output = suc n }) refl refl ∙ ap (edgeFrom (i * product (stateCounts ms))) h)
           refl w
           (λ p x. go p x (ℕ-discrete (p .output) (suc n)))

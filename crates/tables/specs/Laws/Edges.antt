@@ -1,43 +1,32 @@
 -- The joint step by numbers is an edge of the product, and the table of the cheapest insertions has its cheapest edges within a position.
 use mathlib.Core.Path.{_≡_, refl, sym, _∙_, ap}
-use mathlib.Core.Logic.{_⊎_, inl, inr}
-use mathlib.Core.Bool.{Bool, true, false, _&&_, cond}
-use mathlib.Core.List.{List, [], _∷_, map}
+use mathlib.Core.Bool.{true}
+use mathlib.Core.List.{List, map}
 use mathlib.Core.Option.{Option, some, none, Option·none-ne-some}
-use Prim.Native.Nat.{ℕ, zero, suc, _+_, _*_, _^_, _<_, _≤_}
-use native.Mathlib.Decide.{decLt, ℕ-discrete}
-use native.Mathlib.Omega.{arith}
-use lib.Dec.{eqb, ltb, leb}
+use Prim.Native.Nat.{ℕ, _+_, _*_, _<_, _≤_}
 use lib.ListN.{length, getD}
-use borrow.Author.Tests.{eq-eqb, ne-eqb, lt-ltb, le-ltb, leb-true}
-use Rattle.basics.proofs.Bools.{left, right}
 use Rattle.machine.specs.declared.Pair.{Pair}
-use Rattle.machine.specs.Symbols.{emptySymbol, isPair, withinSymbols}
-use Rattle.machine.specs.Machine.{Machine, stepOf}
-use Rattle.paths.specs.Costs.{Lowers}
-use Rattle.paths.specs.Ranked.{Ranked, Less, rankedCosts}
-use Rattle.paths.specs.ByRanking.{ranked}
+use Rattle.machine.specs.Symbols.{emptySymbol, isPair}
+use Rattle.machine.specs.Machine.{Machine}
+use Rattle.paths.specs.Ranked.{Ranked, rankedCosts}
 use Rattle.paths.specs.Graph.{Edge, Graph}
-use Rattle.paths.specs.Cheapest.{CheapestAmong, Cheapest, cheapest-start, cheapest-skip, cheapest-step, cheapest-end}
-use Rattle.labels.specs.Marks.{marksOf, pairCost, noPair}
-use Rattle.labels.specs.MarksLaws.{pair-none, pair-taken, pair-left}
+use Rattle.labels.specs.Marks.{marksCost}
 use Rattle.product.specs.Nodes.{stateCounts, product, statesOf}
 use Rattle.product.specs.JointStep.{jointStep}
 use Rattle.product.specs.Prices.{byRanking}
-use Rattle.product.specs.ProductGraph.{Move, move, pairs, pricedMove, productGraph}
+use Rattle.product.specs.ProductGraph.{Move, pairs, pricedMove, productGraph}
 use Rattle.product.specs.Codes.{coded, codeStep, movedBy}
 use Rattle.product.specs.Laws.JointStep.{AllSound}
 use Rattle.product.specs.Laws.Edges.{step-marks-bound}
-use Rattle.product.specs.Laws.Codes.{insertion-move, symbol-move, code-step-below}
-use Rattle.tables.specs.Places.{sixPlaces, markNumber}
+use Rattle.product.specs.Laws.Codes.{insertion-move, symbol-move}
+use Rattle.tables.specs.Places.{sixPlaces}
 use Rattle.tables.specs.JointNumbers.{numbered, jointFrom}
-use Rattle.tables.specs.Insertions.{cheaper, cheapestInsertion}
-use Rattle.tables.specs.Laws.Packing.{six-cost, six-below}
+use Rattle.tables.specs.Laws.Packing.{six-cost}
 
 -- a step by numbers as an edge to the nodes from a number on
 abbrev pub edgeFrom : ℕ → Option (ℕ × ℕ) → Option (Edge (Ranked 6))
 edgeFrom base none = none
-edgeFrom base (some r) = some (record { target = base + r .0; cost = marksOf (r .1) })
+edgeFrom base (some r) = some (record { target = base + r .0; cost = marksCost (r .1) })
 
 -- the marks of a step by codes are at most 15 a machine
 pub code-step-few : {S : ℕ} {ms : List Machine} → AllSound S ms → (c : ℕ) (p : Pair) (m : Move) → codeStep ms c p ≡ some m → (i : ℕ) → getD (m .marks) i 0 ≤ 15

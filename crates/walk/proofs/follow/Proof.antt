@@ -29,10 +29,10 @@ abbrev μ-loop : tie.MeasureT-loop
 μ-loop work card word insertions rows counts places size steps₀ answer₀ position₀ code₀ pairs₀ steps answer position code pairs = letterCount 6 (costAt work (position * size + code))
 
 loop-holds : tie.Need-loop-holds Inv-least μ-least Inv-loop μ-loop
-loop-holds c = following-start (c .before .before .before .before .before .before .before .before .pre)
+loop-holds c = following-start (c .before .before .before .before .before .before .before .before .before .pre) (c .start-node .result) (c .start-node .ensures)
 
 -- the node's number is small
-small : (c : tie.At-loop Inv-least μ-least Inv-loop μ-loop) → c .loop .position * c .before .before .before .before .before .before .before .before .before .args .size + c .loop .code < 3200
+small : (c : tie.At-loop Inv-least μ-least Inv-loop μ-loop) → c .loop .position * c .before .before .before .before .before .before .before .before .before .before .args .size + c .loop .code < 3200
 small c = let F = c .loop .inv in omega (arith, few-nodes (F .labels), node-within (F .labels) (c .loop .position) (c .loop .code) (F .position) (F .state))
 
 mul-load : tie.Need-mul-load Inv-least μ-least Inv-loop μ-loop
@@ -48,7 +48,7 @@ least-holds : tie.Need-least-holds Inv-least μ-least Inv-loop μ-loop
 least-holds c = following-tries (c .before .before .before .loop .inv) (λ z. c .if1 .left (ap (letterCount 6) (c .before .before .load .ensures) ∙ z))
 
 -- the number tried is that of a pair
-number : (c : tie.At-least Inv-least μ-least Inv-loop μ-loop) → let s = c .before .before .before .before .before .before .before .before .before .before .before .before .before in IsNumber (symbolCount (s .args .card .now)) (s .args .word .now) (c .before .before .before .before .loop .position) (c .least .number)
+number : (c : tie.At-least Inv-least μ-least Inv-loop μ-loop) → let s = c .before .before .before .before .before .before .before .before .before .before .before .before .before .before in IsNumber (symbolCount (s .args .card .now)) (s .args .word .now) (c .before .before .before .before .loop .position) (c .least .number)
 number c = let F = c .before .before .before .before .loop .inv in trying-number (F .labels) (F .state) (c .least .inv)
 
 low : (c : tie.At-least Inv-least μ-least Inv-loop μ-loop) → c .least .number < 128
@@ -67,7 +67,7 @@ least-again : tie.Need-least-again Inv-least μ-least Inv-loop μ-loop
 least-again c = let F = c .before .before .before .before .before .before .before .before .loop .inv in trying-next (F .labels) (F .state) (c .before .before .before .before .least .inv) (c .before .before .try-pair .ensures .no (c .enum-told .given .1))
 
 -- the pair found keeps to the labels
-tight : (c : tie.After-known-told Inv-least μ-least Inv-loop μ-loop) → let s = c .before .before .before .before .before .before .before .before .before .before .before .before .before .before .before .before .before .before in let l = c .before .before .before .before .before .before .before .before .before .loop in
+tight : (c : tie.After-known-told Inv-least μ-least Inv-loop μ-loop) → let s = c .before .before .before .before .before .before .before .before .before .before .before .before .before .before .before .before .before .before .before in let l = c .before .before .before .before .before .before .before .before .before .loop in
     TightTo (s .args .work .now) (s .args .card .now) (s .args .word .now) (s .args .places .now) (s .args .size) (l .position) (l .code) (nthPair (symbolCount (s .args .card .now)) (s .args .word .now) (l .position) (c .before .before .before .before .before .least .number)) (c .before .kept .given .0 .0)
 tight c = c .before .before .before .try-pair .ensures .to _ (c .before .kept .given .1)
 
@@ -78,7 +78,7 @@ write-pair-requires : tie.Need-write-pair-requires Inv-least μ-least Inv-loop �
 write-pair-requires c κs = let k = c .before .before in following-room (k .before .before .before .before .before .before .before .before .before .loop .inv) (k .before .before .before .before .before .least .inv) _ (c .before .nth-pair .ensures) _ (tight k)
 
 pass-requires : tie.Need-pass-requires Inv-least μ-least Inv-loop μ-loop
-pass-requires c κs = let F = c .before .before .before .before .before .before .before .before .before .before .before .before .before .before .before .loop .inv in record { accepted = F .labels .accepted; sound-word = F .labels .sound-word; size = omega (arith, F .tables .steps-size, F .tables .for-insertions .holds-steps .size, length-machines (c .before .before .before .before .before .before .before .before .before .before .before .before .before .before .before .before .before .before .before .before .before .before .before .before .args .card .now)); position = F .position }
+pass-requires c κs = let F = c .before .before .before .before .before .before .before .before .before .before .before .before .before .before .before .loop .inv in record { accepted = F .labels .accepted; sound-word = F .labels .sound-word; size = omega (arith, F .tables .steps-size, F .tables .for-insertions .holds-steps .size, length-machines (c .before .before .before .before .before .before .before .before .before .before .before .before .before .before .before .before .before .before .before .before .before .before .before .before .before .args .card .now)); position = F .position }
 
 add-pairs : tie.Need-add-pairs Inv-least μ-least Inv-loop μ-loop
 add-pairs c = omega (arith, following-few (c .before .before .before .before .before .before .before .before .before .before .before .before .before .before .before .before .before .before .loop .inv))
@@ -90,7 +90,7 @@ loop-again : tie.Need-loop-again Inv-least μ-least Inv-loop μ-loop
 loop-again c = let k = c .before .before .before .before .before .before .before .before .before in following-next (k .before .before .before .before .before .before .before .before .before .loop .inv) (k .before .before .before .before .before .least .inv) _ (c .before .before .before .before .before .before .before .before .nth-pair .ensures) _ (tight k) _ _ (c .before .before .pass .ensures) _ (c .before .before .before .before .before .before .write-pair .ensures)
 
 same-length : tie.Need-same-length Inv-least μ-least Inv-loop μ-loop
-same-length c = c .before .before .before .loop .inv .tables .steps-size ∙ sym (c .before .before .before .before .before .before .before .before .before .before .before .before .pre .tables .steps-size)
+same-length c = c .before .before .before .loop .inv .tables .steps-size ∙ sym (c .before .before .before .before .before .before .before .before .before .before .before .before .before .pre .tables .steps-size)
 
 same-length-2 : tie.Need-same-length-2 Inv-least μ-least Inv-loop μ-loop
 same-length-2 c = c .before .before .before .loop .inv .answer-size
@@ -106,6 +106,7 @@ follow-spec =
     μ-least
     Inv-loop
     μ-loop
+    (λ c κs. search needs)
     loop-holds
     mul-load
     add-load
