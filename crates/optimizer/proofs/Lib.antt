@@ -4,3 +4,4 @@ pub mod Found
 pub mod Answers
 pub mod Labels
 pub mod Stages
+pub mod Telling

@@ -4,10 +4,12 @@ ghost use Prim.Native.Nat.{_+_, _*_, _<_};
 ghost use lib.ListN.{length};
 ghost use Rattle.card.specs.Card.{cardRefusal};
 ghost use Rattle.product.specs.ProductGraph.{cardStart};
+ghost use Rattle.product.specs.Optimizing.{inputRefusal};
 ghost use Rattle.labels.specs.LabelCost.{costOf};
 ghost use Rattle.optimizer.specs.Refusals.{numberOf, stageNumber};
 ghost use Rattle.optimizer.specs.Optimizes.{Optimizes};
 ghost use Rattle.optimizer.specs.Searching.{SearchPre, Searched, RankingOfSome, CardOrder};
+ghost use Rattle.optimizer.specs.Telling.{TellsBest};
 use basics::index;
 use candidate::Evaluation;
 use candidate::refused;
@@ -118,6 +120,36 @@ fn search(
         pairs,
         word_length: length,
     }
+}
+
+// What the search says of the best candidate.
+pub enum Best {
+    Profile(Profile),
+    Nothing,
+}
+
+// The search for accepted input, without an answer slice: labels the nodes, and reads the best profile off the start's label.
+fn label_best(card: &[u8], ranking: &[u8], word: &[u8], size: usize, work: &mut [u16]) -> Best
+    requires { ⌜ SearchPre (now card) (now ranking) (now word) (now work) size ⌝ }
+    ensures { λ r. ⌜ TellsBest (now (card .entry)) (now (ranking .entry)) (now (word .entry)) (now (work .entry)) (now (work .exit)) r ⌝ }
+{
+    positions::label(work, card, ranking, word, size);
+    let start = start_node(card);
+    if !labels::reached(work, start) {
+        return Best::Nothing;
+    }
+    let label = labels::load(work, start);
+    Best::Profile(profile_of(label, ranking))
+}
+
+// The best candidate's profile, for input that passed the checks 1 to 9.
+pub fn best_profile(card: &[u8], ranking: &[u8], word: &[u8], work: &mut [u16]) -> Best
+    requires { ⌜ inputRefusal (now card) (now ranking) (now word) (length (now work)) ≡ 0 ⌝ }
+    ensures { λ r. ⌜ TellsBest (now (card .entry)) (now (ranking .entry)) (now (word .entry)) (now (work .entry)) (now (work .exit)) r ⌝ }
+{
+    let size = input::joint_states(card);
+    let nodes = (word.len() + 1) * size;
+    label_best(card, ranking, word, size, &mut work[..nodes * 8])
 }
 
 // Answers the best candidate for a word under a ranking: 1 to 12.

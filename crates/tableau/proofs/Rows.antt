@@ -14,7 +14,7 @@ use Rattle.card.specs.Layout.{symbolCount}
 use Rattle.card.specs.Card.{machinesOf}
 use Rattle.candidate.specs.Candidates.{pairsOf, spelled, isComplete}
 use Rattle.candidate.specs.Evaluating.{soundCandidate}
-use Rattle.candidate.specs.Best.{sameWord}
+use Rattle.product.specs.Best.{sameWord}
 use Rattle.tableau.specs.Tableau.{countsOf, candidateOf, soundRow}
 use Rattle.tableau.specs.Judging.{isForWord}
 

@@ -11,7 +11,7 @@ use borrow.Author.Tests.{eq-eqb, ne-eqb, le-leb, lt-leb}
 use Rattle.basics.proofs.Search.{left-next, left-none}
 use Rattle.machine.specs.Symbols.{emptySymbol}
 use Rattle.candidate.specs.Candidates.{pairAt, pairsOf, spelled}
-use Rattle.candidate.specs.Best.{sameWord}
+use Rattle.product.specs.Best.{sameWord}
 use Rattle.candidate.proofs.Pairs.{pairs-next, pairs-end}
 
 -- what is left of the word that the candidate spells, and of the word

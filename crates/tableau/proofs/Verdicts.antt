@@ -12,15 +12,15 @@ use Rattle.tableau.specs.Tableau.{rowCount, claimedRow, rowOf}
 use Rattle.tableau.specs.Judging.{firstRow, otherwise, verdictOf}
 
 -- the first of the rows before row n that wins
-abbrev pub noneBelow : (List ℕ → Bool) → List ℕ → ℕ → Option ℕ
-noneBelow wins tableau n = firstThat (λ i. wins (rowOf tableau i)) (numbersBelow n)
+abbrev pub firstBefore : (List ℕ → Bool) → List ℕ → ℕ → Option ℕ
+firstBefore wins tableau n = firstThat (λ i. wins (rowOf tableau i)) (numbersBelow n)
 
 module _ (wins : List ℕ → Bool) (tableau : List ℕ) where
-  pub none-start : noneBelow wins tableau 0 ≡ none
+  pub none-start : firstBefore wins tableau 0 ≡ none
   unfolding numbersBelow firstThat
   none-start = refl
 
-  pub none-next : (n : ℕ) → noneBelow wins tableau n ≡ none → wins (rowOf tableau n) ≡ false → noneBelow wins tableau (n + 1) ≡ none
+  pub none-next : (n : ℕ) → firstBefore wins tableau n ≡ none → wins (rowOf tableau n) ≡ false → firstBefore wins tableau (n + 1) ≡ none
   none-next n h f = count-on (λ i. wins (rowOf tableau i)) n h f
 
   pub claim-wins : wins (rowOf tableau (claimedRow tableau)) ≡ true → verdictOf wins tableau ≡ Right
@@ -28,10 +28,10 @@ module _ (wins : List ℕ → Bool) (tableau : List ℕ) where
   claim-wins t = rw t
 
   module _ (f : wins (rowOf tableau (claimedRow tableau)) ≡ false) where
-    pub later-wins : (n : ℕ) → n < rowCount tableau → noneBelow wins tableau n ≡ none → wins (rowOf tableau n) ≡ true → verdictOf wins tableau ≡ AnotherRow n
+    pub later-wins : (n : ℕ) → n < rowCount tableau → firstBefore wins tableau n ≡ none → wins (rowOf tableau n) ≡ true → verdictOf wins tableau ≡ AnotherRow n
     unfolding verdictOf firstRow
     later-wins n h z t = rw (f, count-found (λ i. wins (rowOf tableau i)) (rowCount tableau) n h z t)
 
-    pub no-row-wins : noneBelow wins tableau (rowCount tableau) ≡ none → verdictOf wins tableau ≡ NotInTable
+    pub no-row-wins : firstBefore wins tableau (rowCount tableau) ≡ none → verdictOf wins tableau ≡ NotInTable
     unfolding verdictOf firstRow
     no-row-wins z = rw (f, z)

@@ -11,8 +11,9 @@ use Rattle.card.specs.Layout.{machineCount, symbolCount}
 use Rattle.card.specs.Card.{machinesOf}
 use Rattle.candidate.specs.Candidates.{pairsOf, spelled, isComplete, profileOf}
 use Rattle.candidate.specs.Evaluating.{soundCandidate, profileWith}
-use Rattle.candidate.specs.Best.{Form, sameWord, best}
-use Rattle.candidate.specs.Optimizing.{inputRefusal, countsFit}
+use Rattle.product.specs.Best.{Contender, sameWord, best}
+use Rattle.product.specs.Optimizing.{inputRefusal, countsFit}
+use Rattle.tableau.specs.declared.Judged.{Judged}
 use Rattle.tableau.specs.declared.Verdict.{Verdict}
 use Rattle.tableau.specs.declared.Verdict.the-variants.{Right, AnotherRow, NotInTable}
 use Rattle.tableau.specs.Tableau.{rowCount, claimedRow, rowOf, countsOf, candidateOf, everyRow, soundTableau}
@@ -33,7 +34,7 @@ abbrev pub countsAreProfile : List ℕ → List ℕ → Bool
 countsAreProfile card row = sameCounts (countsOf row) (profileWith (profileOf (machinesOf card) (pairsOf (candidateOf row))) .counts)
 
 -- a row has the best candidate's profile. That these are the rows that win is the theorem
-abbrev pub hasProfileOf : Option Form → List ℕ → Bool
+abbrev pub hasProfileOf : Option Contender → List ℕ → Bool
 hasProfileOf none row = false
 hasProfileOf (some b) row = sameCounts (countsOf row) (profileWith (b .profile) .counts)
 
@@ -65,12 +66,7 @@ judgingRefusal card ranking word room tableau =
     ∷ refuse 11 (countsFit (best card ranking word))
     ∷ [])
 
--- the answer in numbers: the refusal's; 1 right, 2 another row, 3 not in the table; the row that wins, for another row. Other fields are 0
-pub record Judged : Type 0 where
-  pub number : ℕ
-  pub verdict : ℕ
-  pub row : ℕ
-
+-- the answer in numbers: 1 right, 2 another row, with the row that wins, 3 not in the table
 abbrev pub verdictNumbers : Verdict → Judged
 verdictNumbers Right = record { number = 0; verdict = 1; row = 0 }
 verdictNumbers (AnotherRow i) = record { number = 0; verdict = 2; row = i }

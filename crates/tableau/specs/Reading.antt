@@ -4,18 +4,19 @@ use mathlib.Core.Bool.{true}
 use mathlib.Core.List.{List}
 use Prim.Native.Nat.{ℕ, _<_, _≤_}
 use lib.ListN.{length}
-use Rattle.card.specs.Layout.{symbolCount, laidOut}
+use Rattle.layout.specs.LaidOut.{LaidOut}
+use Rattle.card.specs.Layout.{symbolCount}
 use Rattle.card.specs.Card.{machinesOf}
 use Rattle.candidate.specs.Candidates.{pairsOf, isComplete}
 use Rattle.candidate.specs.Evaluating.{soundCandidate}
 use Rattle.tableau.specs.Tableau.{rowCount, claimedRow, rowOf, candidateOf}
 
--- 1 to 32 rows that are laid out, each with its counts; the claimed one is among them
+-- at most 32 rows that are laid out, each with its counts; the claimed one is among them
 pub record Readable (tableau : List ℕ) : Type 0 where
   pub two : 2 ≤ length tableau
   pub few-rows : rowCount tableau ≤ 32
   pub claimed : claimedRow tableau < rowCount tableau
-  pub layout : laidOut tableau ≡ true
+  pub layout : LaidOut (rowCount tableau) tableau
   pub counts : (i : ℕ) → i < rowCount tableau → 12 ≤ length (rowOf tableau i)
 
 -- a row's candidate meets neither 13 nor 14

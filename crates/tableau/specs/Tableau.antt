@@ -5,7 +5,7 @@ use Prim.Native.Nat.{ℕ}
 use lib.ListN.{length, getD, drop}
 use lib.Dec.{eqb, leb, ltb}
 use Rattle.basics.specs.Search.{allOf, everyBelow}
-use Rattle.card.specs.Layout.{shortAt, laidOut, partOf}
+use Rattle.layout.specs.Layout.{shortAt, laidOut, partOf}
 
 -- R, rows, and the claimed winner's row, from 0
 abbrev pub rowCount : List ℕ → ℕ
@@ -34,12 +34,11 @@ everyRow f tableau = everyBelow (λ i. f (rowOf tableau i)) (rowCount tableau)
 unfoldable pub soundRow : ℕ → List ℕ → Bool
 soundRow K row = leb 12 (length row) && allOf (λ n. eqb n 0) (drop K (countsOf row))
 
+-- 1 to 32 rows, the claimed one among them
+abbrev pub soundHead : List ℕ → Bool
+soundHead tableau = leb 1 (rowCount tableau) && leb (rowCount tableau) 32 && ltb (claimedRow tableau) (rowCount tableau)
+
 -- not refusal 19, for a card of K machines
 unfoldable pub soundTableau : ℕ → List ℕ → Bool
 soundTableau K tableau =
-    leb 2 (length tableau)
-    && leb 1 (rowCount tableau)
-    && leb (rowCount tableau) 32
-    && ltb (claimedRow tableau) (rowCount tableau)
-    && laidOut tableau
-    && everyRow (soundRow K) tableau
+    leb 2 (length tableau) && soundHead tableau && laidOut (rowCount tableau) tableau && everyRow (soundRow K) tableau

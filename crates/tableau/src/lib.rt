@@ -1,22 +1,34 @@
 // Tableaux from the textbooks: whether one is right for a card, a ranking and a word.
 ghost use mathlib.Core.Path.{_≡_};
-ghost use mathlib.Core.Bool.{true};
+ghost use mathlib.Core.List.{[], _∷_};
 ghost use Prim.Native.Nat.{ℕ, _+_, _%_, _<_, _≤_};
 ghost use lib.ListN.{length};
-ghost use Rattle.basics.specs.Refusals.{refuse};
-ghost use Rattle.card.specs.Layout.{shortAt, laidOut};
+ghost use Rattle.basics.specs.Refusals.{refuse, firstOf};
+ghost use Rattle.layout.specs.Layout.{shortAt};
+ghost use Rattle.layout.specs.LaidOut.{LaidOut};
+ghost use Rattle.card.specs.Layout.{machineCount};
 ghost use Rattle.card.specs.Card.{cardRefusal};
 ghost use Rattle.candidate.specs.Candidates.{pairsOf, spelled};
-ghost use Rattle.candidate.specs.Best.{sameWord};
-ghost use Rattle.tableau.specs.Refusals.{stageNumber};
+ghost use Rattle.product.specs.Best.{sameWord};
+ghost use Rattle.tableau.specs.Refusals.{numberOf, stageNumber};
 ghost use Rattle.tableau.specs.Tableau.{rowCount, rowOf, countsOf, everyRow, soundRow, soundTableau};
 ghost use Rattle.tableau.specs.Reading.{Readable, CompleteRow};
-ghost use Rattle.tableau.specs.Judging.{isForWord, sameCounts, countsAreProfile, verdictOf};
+ghost use Rattle.tableau.specs.Judging.{isForWord, sameCounts, countsAreProfile, verdictOf, verdictNumbers, refusedJudging};
+ghost use Rattle.tableau.specs.Judges.{Judges};
+use basics::index;
 use machine::Pair;
 use ranking::Profile;
 
+// What judging answers: the refusal's number, 0 where there is none; the verdict, 1 right, 2 another row, 3 not in the table; the
+// first row that wins, for another row. What is not there is 0.
+pub struct Judged {
+    pub number: u8,
+    pub verdict: u8,
+    pub row: u8,
+}
+
 // What a tableau is said to be.
-pub enum Verdict {
+enum Verdict {
     // The claimed row wins.
     Right,
     // Another row wins: the first that does.
@@ -25,31 +37,81 @@ pub enum Verdict {
     NotInTable,
 }
 
+impl Verdict {
+    // The answer that it gives.
+    fn answer(self) -> Judged
+        ensures { λ r. ⌜ r ≡ verdictNumbers self ⌝ }
+    {
+        match self {
+            Verdict::Right => Judged {
+                number: 0,
+                verdict: 1,
+                row: 0,
+            },
+            Verdict::AnotherRow(row) => Judged {
+                number: 0,
+                verdict: 2,
+                row,
+            },
+            Verdict::NotInTable => Judged {
+                number: 0,
+                verdict: 3,
+                row: 0,
+            },
+        }
+    }
+}
+
 // Why a tableau is refused.
-pub enum Refusal {
-    // Card, ranking, word or work slice.
-    Input(optimizer::Refusal),
+enum Refusal {
     // The layout, or the claimed row.
     Layout,
     // A row's candidate.
     Candidate,
     // A row's counts.
     Profile,
-    // The best profile has a count over 60,000.
-    Counts,
+}
+
+impl Refusal {
+    // Its number in the refusal table.
+    fn number(self) -> u8
+        ensures { λ r. ⌜ r ≡ numberOf self ⌝ }
+    {
+        match self {
+            Refusal::Layout => 19,
+            Refusal::Candidate => 20,
+            Refusal::Profile => 21,
+        }
+    }
 }
 
 // What a checking stage answers.
-pub enum Stage {
+enum Stage {
     Passed,
     Refused(Refusal),
 }
 
-// A byte as a number to index with.
-fn index(x: u8) -> usize
-    ensures { λ r. ⌜ (r ≡ x) × (r < 256) ⌝ }
+impl Stage {
+    // Its number: 0 where it passed.
+    fn number(self) -> u8
+        ensures { λ r. ⌜ r ≡ stageNumber self ⌝ }
+    {
+        match self {
+            Stage::Passed => 0,
+            Stage::Refused(refusal) => refusal.number(),
+        }
+    }
+}
+
+// The answer of a refusal.
+fn refused(number: u8) -> Judged
+    ensures { λ r. ⌜ r ≡ refusedJudging number ⌝ }
 {
-    x as usize
+    Judged {
+        number,
+        verdict: 0,
+        row: 0,
+    }
 }
 
 // A byte as a count.
@@ -135,51 +197,14 @@ fn is_sound_row(row: &[u8], machines: usize) -> bool
     true
 }
 
-// Whether the rows follow one another to the tableau's end.
-fn is_laid_out(tableau: &[u8]) -> bool
-    requires { ⌜ (2 ≤ length (now tableau)) × (rowCount (now tableau) ≤ 32) ⌝ }
-    ensures { λ r. ⌜ r ≡ laidOut (now (tableau .entry)) ⌝ }
-{
-    let rows = index(tableau[0]);
-    let mut due = 2 + 4 * rows;
-    if tableau.len() < due {
-        return false;
-    }
-    for i in 0..rows {
-        if index_short(tableau, 2 + 4 * i) != due {
-            return false;
-        }
-        due += index_short(tableau, 4 + 4 * i);
-    }
-    due == tableau.len()
-}
-
-// The number of two bytes from a place, to index with.
-fn index_short(bytes: &[u8], at: usize) -> usize
-    requires { ⌜ at + 2 ≤ length (now bytes) ⌝ }
-    ensures { λ r. ⌜ (r ≡ shortAt (now (bytes .entry)) at) × (r < 65536) ⌝ }
-{
-    index(bytes[at]) + 256 * index(bytes[at + 1])
-}
-
-// A row's bytes.
-fn row(tableau: &[u8], i: usize) -> &[u8]
-    requires { ⌜ (laidOut (now tableau) ≡ true) × (i < rowCount (now tableau)) ⌝ }
-    ensures { λ r. ⌜ now r ≡ rowOf (now (tableau .entry)) i ⌝ }
-{
-    let offset = index_short(tableau, 2 + 4 * i);
-    let end = offset + index_short(tableau, 4 + 4 * i);
-    &tableau[offset..end]
-}
-
 // Refusal 19, of the rows: each has its counts, unused ones 0.
 fn check_rows(tableau: &[u8], machines: usize) -> Stage
-    requires { ⌜ (2 ≤ length (now tableau)) × (laidOut (now tableau) ≡ true) × (machines ≤ 6) ⌝ }
+    requires { ⌜ (2 ≤ length (now tableau)) × LaidOut (rowCount (now tableau)) (now tableau) × (machines ≤ 6) ⌝ }
     ensures { λ r. ⌜ stageNumber r ≡ refuse 19 (everyRow (soundRow machines) (now (tableau .entry))) ⌝ }
 {
     let rows = index(tableau[0]);
     for i in 0..rows {
-        if !is_sound_row(row(tableau, i), machines) {
+        if !is_sound_row(layout::part(tableau, i), machines) {
             return Stage::Refused(Refusal::Layout);
         }
     }
@@ -187,19 +212,19 @@ fn check_rows(tableau: &[u8], machines: usize) -> Stage
 }
 
 // Refusal 19: the layout, and the claimed row.
-fn check_tableau(tableau: &[u8], machines: usize) -> Stage
+fn check_layout(tableau: &[u8], machines: usize) -> Stage
     requires { ⌜ machines ≤ 6 ⌝ }
     ensures { λ r. ⌜ stageNumber r ≡ refuse 19 (soundTableau machines (now (tableau .entry))) ⌝ }
 {
     if tableau.len() < 2 {
         return Stage::Refused(Refusal::Layout);
     }
-    let rows = index(tableau[0]);
-    let claimed = index(tableau[1]);
-    if (rows < 1) | (32 < rows) | (rows <= claimed) {
+    let count = tableau[0];
+    let claimed = tableau[1];
+    if !((1 <= count) & (count <= 32) & (claimed < count)) {
         return Stage::Refused(Refusal::Layout);
     }
-    if !is_laid_out(tableau) {
+    if !layout::is_laid_out(tableau, count) {
         return Stage::Refused(Refusal::Layout);
     }
     check_rows(tableau, machines)
@@ -230,7 +255,7 @@ fn check_candidates(card: &[u8], word: &[u8], tableau: &[u8]) -> Stage
 {
     let rows = index(tableau[0]);
     for i in 0..rows {
-        if !is_for_word(card, word, row(tableau, i)) {
+        if !is_for_word(card, word, layout::part(tableau, i)) {
             return Stage::Refused(Refusal::Candidate);
         }
     }
@@ -254,7 +279,7 @@ fn check_profiles(card: &[u8], tableau: &[u8]) -> Stage
 {
     let rows = index(tableau[0]);
     for i in 0..rows {
-        if !are_its_profile(card, row(tableau, i)) {
+        if !are_its_profile(card, layout::part(tableau, i)) {
             return Stage::Refused(Refusal::Profile);
         }
     }
@@ -266,7 +291,7 @@ fn has_profile(tableau: &[u8], i: usize, profile: Profile) -> bool
     requires { ⌜ Readable (now tableau) × (i < rowCount (now tableau)) ⌝ }
     ensures { λ r. ⌜ r ≡ sameCounts (countsOf (rowOf (now (tableau .entry)) i)) (profile .counts) ⌝ }
 {
-    same_counts(counts(row(tableau, i)), profile)
+    same_counts(counts(layout::part(tableau, i)), profile)
 }
 
 // The verdict, for the best candidate's profile.
@@ -285,4 +310,46 @@ fn verdict_of(tableau: &[u8], best: Profile) -> Verdict
         }
     }
     Verdict::NotInTable
+}
+
+// The first of refusals 19, 20 and 21 that a tableau meets, each for all rows before the next, for an accepted card.
+fn check_tableau(card: &[u8], word: &[u8], tableau: &[u8]) -> Stage
+    requires { ⌜ cardRefusal (now card) ≡ 0 ⌝ }
+    ensures { λ r. ⌜ stageNumber r ≡ firstOf (refuse 19 (soundTableau (machineCount (now (card .entry))) (now (tableau .entry))) ∷ refuse 20 (everyRow (isForWord (now (card .entry)) (now (word .entry))) (now (tableau .entry))) ∷ refuse 21 (everyRow (countsAreProfile (now (card .entry))) (now (tableau .entry))) ∷ []) ⌝ }
+{
+    let answer = check_layout(tableau, card::machine_count(card));
+    let Stage::Passed = answer else {
+        return answer;
+    };
+    let answer = check_candidates(card, word, tableau);
+    let Stage::Passed = answer else {
+        return answer;
+    };
+    check_profiles(card, tableau)
+}
+
+// Judges a tableau for a card, a ranking and a word: 1 to 9, 19, 20, 21. No best profile has a count over 60,000, so 11 is never met;
+// each row's candidate is one for the word, so there is a best.
+pub fn judge(
+    card: &[u8],
+    ranking: &[u8],
+    word: &[u8],
+    work: &mut [u16],
+    tableau: &[u8],
+) -> Judged
+    ensures { λ r. ⌜ Judges (now (card .entry)) (now (ranking .entry)) (now (word .entry)) (now (work .entry)) (now (work .exit)) (now (tableau .entry)) r ⌝ }
+{
+    let checked = input::check_input(card, ranking, word, work.len());
+    let input::Stage::Passed = checked else {
+        return refused(checked.number());
+    };
+    let answer = check_tableau(card, word, tableau);
+    let Stage::Passed = answer else {
+        return refused(answer.number());
+    };
+    let found = optimizer::best_profile(card, ranking, word, work);
+    let optimizer::Best::Profile(best) = found else {
+        return Verdict::NotInTable.answer();
+    };
+    verdict_of(tableau, best).answer()
 }

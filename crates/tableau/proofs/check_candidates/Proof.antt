@@ -7,6 +7,7 @@ use native.Mathlib.Omega.{arith}
 use Rattle.basics.specs.Search.{everyBelow}
 use Rattle.basics.proofs.Below.{every-start, every-next, one-below-fails}
 use Rattle.basics.proofs.Refusals.{passes-with, refuses-with}
+use Rattle.layout.specs.LaidOut.{part-within}
 use Rattle.tableau.specs.Tableau.{rowCount, rowOf}
 use Rattle.tableau.specs.Judging.{isForWord}
 use Rattle.tableau.proofs.check_candidates.Statement.{statement}
@@ -21,17 +22,17 @@ abbrev μ-loop : tie.MeasureT-loop
 loop-holds : tie.Need-loop-holds Inv-loop μ-loop
 loop-holds c = let a = c .before .before .before .before .before .args in (search needs, every-start (λ j. isForWord (a .card .now) (a .word .now) (rowOf (a .tableau .now) j)))
 
-row-requires : tie.Need-row-requires Inv-loop μ-loop
-row-requires c κs = (c .before .before .before .before .before .before .before .pre .1 .layout, omega (arith, c .before .before .index .ensures))
+part-requires : tie.Need-part-requires Inv-loop μ-loop
+part-requires c κs = let s = c .before .before .before .before .before .before .before in part-within (rowCount (s .args .tableau .now)) (s .args .tableau .now) (s .pre .1 .layout) (c .before .loop .i) (omega (arith, c .before .before .index .ensures))
 
 is-for-word-requires : tie.Need-is-for-word-requires Inv-loop μ-loop
 is-for-word-requires c κs =
     let s = c .before .before .before .before .before .before .before .before in
-    (s .pre .0, rw (c .row .ensures) (s .pre .1 .counts (c .before .before .loop .i) (omega (arith, c .before .before .before .index .ensures))))
+    (s .pre .0, rw (c .part .ensures) (s .pre .1 .counts (c .before .before .loop .i) (omega (arith, c .before .before .before .index .ensures))))
 
 -- the test of a row
 its-test : (c : tie.After-is-for-word Inv-loop μ-loop) → let a = c .before .before .before .before .before .before .before .before .before .args in c .is-for-word .result ≡ isForWord (a .card .now) (a .word .now) (rowOf (a .tableau .now) (c .before .before .before .loop .i))
-its-test c = let a = c .before .before .before .before .before .before .before .before .before .args in c .is-for-word .ensures ∙ ap (isForWord (a .card .now) (a .word .now)) (c .before .row .ensures)
+its-test c = let a = c .before .before .before .before .before .before .before .before .before .args in c .is-for-word .ensures ∙ ap (isForWord (a .card .now) (a .word .now)) (c .before .part .ensures)
 
 returns : tie.Need-returns Inv-loop μ-loop
 returns c =
@@ -61,7 +62,7 @@ check-candidates-spec =
     (λ c. search needs)
     (λ c κs. search needs)
     loop-holds
-    row-requires
+    part-requires
     is-for-word-requires
     returns
     (λ c. search needs)

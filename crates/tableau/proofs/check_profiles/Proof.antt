@@ -7,6 +7,7 @@ use native.Mathlib.Omega.{arith}
 use Rattle.basics.specs.Search.{everyBelow}
 use Rattle.basics.proofs.Below.{every-start, every-next, one-below-fails}
 use Rattle.basics.proofs.Refusals.{passes-with, refuses-with}
+use Rattle.layout.specs.LaidOut.{part-within}
 use Rattle.tableau.specs.Tableau.{rowCount, rowOf}
 use Rattle.tableau.specs.Judging.{countsAreProfile}
 use Rattle.tableau.proofs.check_profiles.Statement.{statement}
@@ -21,19 +22,19 @@ abbrev μ-loop : tie.MeasureT-loop
 loop-holds : tie.Need-loop-holds Inv-loop μ-loop
 loop-holds c = let a = c .before .before .before .before .args in (search needs, every-start (λ j. countsAreProfile (a .card .now) (rowOf (a .tableau .now) j)))
 
-row-requires : tie.Need-row-requires Inv-loop μ-loop
-row-requires c κs = (c .before .before .before .before .before .before .pre .1 .layout, omega (arith, c .before .before .index .ensures))
+part-requires : tie.Need-part-requires Inv-loop μ-loop
+part-requires c κs = let s = c .before .before .before .before .before .before in part-within (rowCount (s .args .tableau .now)) (s .args .tableau .now) (s .pre .1 .layout) (c .before .loop .i) (omega (arith, c .before .before .index .ensures))
 
 are-its-profile-requires : tie.Need-are-its-profile-requires Inv-loop μ-loop
 are-its-profile-requires c κs =
     let s = c .before .before .before .before .before .before .before in
     let i = c .before .before .loop .i in
     let h : i < rowCount (s .args .tableau .now) = omega (arith, c .before .before .before .index .ensures) in
-    (s .pre .0, rw (c .row .ensures) (s .pre .1 .counts i h), rw (c .row .ensures) (s .pre .2 i h))
+    (s .pre .0, rw (c .part .ensures) (s .pre .1 .counts i h), rw (c .part .ensures) (s .pre .2 i h))
 
 -- the test of a row
 its-test : (c : tie.After-are-its-profile Inv-loop μ-loop) → let a = c .before .before .before .before .before .before .before .before .args in c .are-its-profile .result ≡ countsAreProfile (a .card .now) (rowOf (a .tableau .now) (c .before .before .before .loop .i))
-its-test c = let a = c .before .before .before .before .before .before .before .before .args in c .are-its-profile .ensures ∙ ap (countsAreProfile (a .card .now)) (c .before .row .ensures)
+its-test c = let a = c .before .before .before .before .before .before .before .before .args in c .are-its-profile .ensures ∙ ap (countsAreProfile (a .card .now)) (c .before .part .ensures)
 
 returns : tie.Need-returns Inv-loop μ-loop
 returns c =
@@ -63,7 +64,7 @@ check-profiles-spec =
     (λ c. search needs)
     (λ c κs. search needs)
     loop-holds
-    row-requires
+    part-requires
     are-its-profile-requires
     returns
     (λ c. search needs)

@@ -7,6 +7,7 @@ use native.Mathlib.Omega.{arith}
 use Rattle.basics.specs.Search.{everyBelow}
 use Rattle.basics.proofs.Below.{every-start, every-next, one-below-fails}
 use Rattle.basics.proofs.Refusals.{passes-with, refuses-with}
+use Rattle.layout.specs.LaidOut.{part-within}
 use Rattle.tableau.specs.Tableau.{rowCount, rowOf, soundRow}
 use Rattle.tableau.proofs.check_rows.Statement.{statement}
 use Rattle.tableau.proofs.check_rows.Tie as tie
@@ -20,15 +21,15 @@ abbrev μ-loop : tie.MeasureT-loop
 loop-holds : tie.Need-loop-holds Inv-loop μ-loop
 loop-holds c = let a = c .before .before .before .args in (search needs, every-start (λ j. soundRow (a .machines) (rowOf (a .tableau .now) j)))
 
-row-requires : tie.Need-row-requires Inv-loop μ-loop
-row-requires c κs = (c .before .before .before .before .before .pre .1, omega (arith, c .before .before .index .ensures))
+part-requires : tie.Need-part-requires Inv-loop μ-loop
+part-requires c κs = let s = c .before .before .before .before .before in part-within (rowCount (s .args .tableau .now)) (s .args .tableau .now) (s .pre .1) (c .before .loop .i) (omega (arith, c .before .before .index .ensures))
 
 is-sound-row-requires : tie.Need-is-sound-row-requires Inv-loop μ-loop
 is-sound-row-requires c κs = omega arith
 
 -- the test of a row
 its-test : (c : tie.After-is-sound-row Inv-loop μ-loop) → let a = c .before .before .before .before .before .before .before .args in c .is-sound-row .result ≡ soundRow (a .machines) (rowOf (a .tableau .now) (c .before .before .before .loop .i))
-its-test c = let a = c .before .before .before .before .before .before .before .args in c .is-sound-row .ensures ∙ ap (soundRow (a .machines)) (c .before .row .ensures)
+its-test c = let a = c .before .before .before .before .before .before .before .args in c .is-sound-row .ensures ∙ ap (soundRow (a .machines)) (c .before .part .ensures)
 
 returns : tie.Need-returns Inv-loop μ-loop
 returns c =
@@ -58,7 +59,7 @@ check-rows-spec =
     (λ c. search needs)
     (λ c κs. search needs)
     loop-holds
-    row-requires
+    part-requires
     is-sound-row-requires
     returns
     (λ c. search needs)

@@ -11,7 +11,7 @@ use Rattle.card.specs.Card.{machinesOf}
 use Rattle.candidate.specs.Refusals.{stageNumber}
 use Rattle.candidate.specs.Candidates.{pairsOf, spelled, isComplete}
 use Rattle.candidate.specs.Evaluating.{soundCandidate}
-use Rattle.candidate.specs.Best.{sameWord}
+use Rattle.product.specs.Best.{sameWord}
 use Rattle.candidate.proofs.Answers.{number-pos}
 use Rattle.candidate.proofs.Pairs.{sound-shape}
 use Rattle.tableau.specs.Tableau.{candidateOf}

@@ -7,7 +7,7 @@ use mathlib.Core.Option.{Option, some, none}
 use Prim.Native.Nat.{ℕ, _*_, _%_, _<_, _≤_}
 use native.Mathlib.Omega.{arith}
 use lib.Dec.{eqb, leb, ltb, lit<}
-use lib.ListN.{length}
+use lib.ListN.{length, drop}
 use borrow.Author.Tests.{leb-true, ltb-true}
 use Rattle.basics.specs.Search.{allOf}
 use Rattle.basics.specs.Refusals.{refuse}
@@ -17,34 +17,37 @@ use Rattle.basics.proofs.Below.{every-at}
 use Rattle.machine.specs.declared.Pair.{Pair}
 use Rattle.machine.specs.Symbols.{isPair, withinSymbols}
 use Rattle.ranking.specs.Rankings.{isRanking}
-use Rattle.card.specs.Layout.{machineCount, symbolCount, laidOut}
+use Rattle.layout.specs.Layout.{laidOut}
+use Rattle.layout.specs.LaidOut.{layout-told}
+use Rattle.card.specs.Layout.{machineCount, symbolCount}
 use Rattle.card.specs.Card.{cardRefusal, machinesOf}
 use Rattle.card.specs.Accepted.{accepted}
 use Rattle.candidate.specs.Candidates.{pairsOf, spelled, isComplete, profileOf, IsCandidate}
 use Rattle.candidate.specs.Evaluating.{soundPair, soundCandidate, profileWith}
-use Rattle.candidate.specs.Best.{Form, sameWord, best}
-use Rattle.candidate.specs.Optimizing.{inputRefusal, countsFit}
+use Rattle.product.specs.Best.{Contender, sameWord, best}
+use Rattle.product.specs.Optimizing.{inputRefusal, countsFit}
 use Rattle.product.specs.BestTheorem.{BestOfAll, best-is-best-of-all}
 use Rattle.product.specs.Laws.Accepted.{accepted-machines}
 use Rattle.product.specs.Laws.BestCandidate.{profile-length}
 use Rattle.product.specs.Laws.Candidates.{same-word}
-use Rattle.optimizer.specs.AcceptedInput.{AcceptedInput, accepted-input}
+use Rattle.input.specs.AcceptedInput.{AcceptedInput, accepted-input}
 use Rattle.tableau.specs.Tableau.{rowCount, claimedRow, rowOf, countsOf, candidateOf, everyRow, soundRow, soundTableau}
-use Rattle.tableau.specs.Winning.{NoneBetter}
+use Rattle.tableau.specs.Reading.{Readable, CompleteRow}
 use Rattle.tableau.specs.Judging.{isForWord, sameCounts, countsAreProfile, hasProfileOf, judgingRefusal}
-use Rattle.tableau.specs.WinningTheorem.{wins-by-best}
+use Rattle.tableau.specs.Laws.Winning.{NoneBetter, wins-by-best}
 use Rattle.tableau.specs.Laws.Counts.{equal-counts}
 
--- refusal 19 was not met
-pub record SoundTableau (K : ℕ) (tableau : List ℕ) : Type 0 where
-  pub two : 2 ≤ length tableau
+-- where refusal 19 is not met the rows can be read, and there is one
+pub record SoundTableau (tableau : List ℕ) : Type 0 where
+  pub readable : Readable tableau
   pub some-row : 1 ≤ rowCount tableau
-  pub few-rows : rowCount tableau ≤ 32
-  pub claimed : claimedRow tableau < rowCount tableau
-  pub layout : laidOut tableau ≡ true
-  pub rows : everyRow (soundRow K) tableau ≡ true
 
-pub tableau-told : (K : ℕ) (tableau : List ℕ) → soundTableau K tableau ≡ true → SoundTableau K tableau
+-- a row that is sound has its counts
+row-counts : (K : ℕ) (row : List ℕ) → soundRow K row ≡ true → 12 ≤ length row
+unfolding soundRow
+row-counts K row t = leb-true 12 (length row) (left (leb 12 (length row)) (allOf (λ n. eqb n 0) (drop K (countsOf row))) t)
+
+pub tableau-told : (K : ℕ) (tableau : List ℕ) → soundTableau K tableau ≡ true → SoundTableau tableau
 unfolding soundTableau
 tableau-told K tableau t =
     let R = rowCount tableau in
@@ -52,19 +55,21 @@ tableau-told K tableau t =
     let b = leb 1 R in
     let c = leb R 32 in
     let d = ltb (claimedRow tableau) R in
-    let e = laidOut tableau in
+    let e = laidOut R tableau in
     let f = everyRow (soundRow K) tableau in
-    let abcde = left (a && b && c && d && e) f t in
-    let abcd = left (a && b && c && d) e abcde in
-    let abc = left (a && b && c) d abcd in
-    let ab = left (a && b) c abc in
+    let ade = left (a && (b && c && d) && e) f t in
+    let ad = left (a && (b && c && d)) e ade in
+    let bd = right a (b && c && d) ad in
+    let bc = left (b && c) d bd in
     record {
-      two = leb-true 2 (length tableau) (left a b ab);
-      some-row = leb-true 1 R (right a b ab);
-      few-rows = leb-true R 32 (right (a && b) c abc);
-      claimed = ltb-true (claimedRow tableau) R (right (a && b && c) d abcd);
-      layout = right (a && b && c && d) e abcde;
-      rows = right (a && b && c && d && e) f t;
+      readable = record {
+        two = leb-true 2 (length tableau) (left a (b && c && d) ad);
+        few-rows = leb-true R 32 (right b c bc);
+        claimed = ltb-true (claimedRow tableau) R (right (b && c) d bd);
+        layout = layout-told R tableau (right (a && (b && c && d)) e ade);
+        counts = λ i h. row-counts K (rowOf tableau i) (every-at (λ j. soundRow K (rowOf tableau j)) R (right (a && (b && c && d) && e) f t) i h);
+      };
+      some-row = leb-true 1 R (left b c bc);
     }
 
 -- a sound candidate is a list of pairs
@@ -94,10 +99,19 @@ row-candidate card word row t =
       complete = right (even && short && sound) complete ab;
     }
 
+-- and can be scored
+pub row-complete : (card word row : List ℕ) → isForWord card word row ≡ true → CompleteRow card row
+unfolding isForWord
+row-complete card word row t =
+    let a = soundCandidate (symbolCount card) (candidateOf row) in
+    let b = isComplete (machinesOf card) (pairsOf (candidateOf row)) in
+    let ab = left (a && b) (sameWord (spelled (pairsOf (candidateOf row))) word) t in
+    record { sound = left a b ab; complete = right a b ab }
+
 -- nothing is refused
 pub record AcceptedTableau (card ranking word : List ℕ) (room : ℕ) (tableau : List ℕ) : Type 0 where
   pub input : AcceptedInput card ranking word room
-  pub sound : SoundTableau (machineCount card) tableau
+  pub sound : SoundTableau tableau
   pub candidates : (i : ℕ) → i < rowCount tableau → IsCandidate (machinesOf card) word (pairsOf (candidateOf (rowOf tableau i)))
   pub profiles : (i : ℕ) → i < rowCount tableau → countsAreProfile card (rowOf tableau i) ≡ true
 
@@ -134,7 +148,7 @@ row-wins card ranking word row ok ranks k t = go (best card ranking word) refl
     long : (d : List Pair) → length (profileOf (machinesOf card) d) ≡ machineCount card
     long d = profile-length (machinesOf card) d ∙ accepted-machines card ok .count
 
-    go : (o : Option Form) → best card ranking word ≡ o → (hasProfileOf o row ≡ true) ↔ NoneBetter ranking (machinesOf card) word (pairsOf (candidateOf row))
+    go : (o : Option Contender) → best card ranking word ≡ o → (hasProfileOf o row ≡ true) ↔ NoneBetter ranking (machinesOf card) word (pairsOf (candidateOf row))
     go none e = absurd (all .none-exactly .0 e c k)
     go (some b) e =
         let p : b .profile ≡ profileOf (machinesOf card) (b .candidate) = all .its-profile b e in

@@ -12,7 +12,10 @@ use Rattle.ranking.specs.Harmony.{harmony}
 use Rattle.ranking.specs.HarmonicInequality.{better-worse, itself, equals-alike}
 use Rattle.candidate.specs.Candidates.{profileOf, IsCandidate}
 use Rattle.product.specs.BestCandidate.{Beats, better-profile, fewer-pairs, smaller-bytes, IsBestCandidate}
-use Rattle.tableau.specs.Winning.{NoneBetter}
+
+-- no complete candidate for the word, however long, has a better profile than c
+abbrev pub NoneBetter : List ℕ → List Machine → List ℕ → List Pair → Type 0
+NoneBetter ranking ms word c = (d : List Pair) → IsCandidate ms word d → ¬ (harmony ranking (profileOf ms d) (profileOf ms c) ≡ Better)
 
 module _ (r : List ℕ) (ms : List Machine) (word : List ℕ) (b : List Pair) (is : IsBestCandidate r ms word b) where
   -- no candidate's profile is better than the best's
