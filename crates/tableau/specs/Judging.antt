@@ -61,8 +61,7 @@ judgingRefusal card ranking word room tableau =
     firstOf
     (inputRefusal card ranking word room
     ∷ refuse 19 (soundTableau (machineCount card) tableau)
-    ∷ refuse 20 (everyRow (isForWord card word) tableau)
-    ∷ refuse 21 (everyRow (countsAreProfile card) tableau)
+    ∷ refuse 20 (everyRow (isForWord card word) tableau) ∷ refuse 21 (everyRow (countsAreProfile card) tableau)
     ∷ refuse 11 (countsFit (best card ranking word))
     ∷ [])
 

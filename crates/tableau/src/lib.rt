@@ -253,8 +253,8 @@ fn check_candidates(card: &[u8], word: &[u8], tableau: &[u8]) -> Stage
     requires { ⌜ (cardRefusal (now card) ≡ 0) × Readable (now tableau) ⌝ }
     ensures { λ r. ⌜ stageNumber r ≡ refuse 20 (everyRow (isForWord (now (card .entry)) (now (word .entry))) (now (tableau .entry))) ⌝ }
 {
-    let rows = index(tableau[0]);
-    for i in 0..rows {
+    let candidates = index(tableau[0]);
+    for i in 0..candidates {
         if !is_for_word(card, word, layout::part(tableau, i)) {
             return Stage::Refused(Refusal::Candidate);
         }
@@ -277,8 +277,8 @@ fn check_profiles(card: &[u8], tableau: &[u8]) -> Stage
     requires { ⌜ (cardRefusal (now card) ≡ 0) × Readable (now tableau) × ((i : ℕ) → i < rowCount (now tableau) → CompleteRow (now card) (rowOf (now tableau) i)) ⌝ }
     ensures { λ r. ⌜ stageNumber r ≡ refuse 21 (everyRow (countsAreProfile (now (card .entry))) (now (tableau .entry))) ⌝ }
 {
-    let rows = index(tableau[0]);
-    for i in 0..rows {
+    let profiles = index(tableau[0]);
+    for i in 0..profiles {
         if !are_its_profile(card, layout::part(tableau, i)) {
             return Stage::Refused(Refusal::Profile);
         }
@@ -304,9 +304,9 @@ fn verdict_of(tableau: &[u8], best: Profile) -> Verdict
         return Verdict::Right;
     }
     let rows = index(tableau[0]);
-    for i in 0..rows {
-        if has_profile(tableau, i, best) {
-            return Verdict::AnotherRow(i as u8);
+    for row in 0..rows {
+        if has_profile(tableau, row, best) {
+            return Verdict::AnotherRow(row as u8);
         }
     }
     Verdict::NotInTable

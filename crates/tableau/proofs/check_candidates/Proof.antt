@@ -14,10 +14,10 @@ use Rattle.tableau.proofs.check_candidates.Statement.{statement}
 use Rattle.tableau.proofs.check_candidates.Tie as tie
 
 abbrev Inv-loop : tie.InvT-loop
-Inv-loop card word tableau rows i₀ i = (i ≤ rows) × (everyBelow (λ j. isForWord card word (rowOf tableau j)) i ≡ true)
+Inv-loop card word tableau candidates i₀ i = (i ≤ candidates) × (everyBelow (λ j. isForWord card word (rowOf tableau j)) i ≡ true)
 
 abbrev μ-loop : tie.MeasureT-loop
-μ-loop card word tableau rows i₀ i = rows - i
+μ-loop card word tableau candidates i₀ i = candidates - i
 
 loop-holds : tie.Need-loop-holds Inv-loop μ-loop
 loop-holds c = let a = c .before .before .before .before .before .args in (search needs, every-start (λ j. isForWord (a .card .now) (a .word .now) (rowOf (a .tableau .now) j)))

@@ -14,10 +14,10 @@ use Rattle.tableau.proofs.check_profiles.Statement.{statement}
 use Rattle.tableau.proofs.check_profiles.Tie as tie
 
 abbrev Inv-loop : tie.InvT-loop
-Inv-loop card tableau rows i₀ i = (i ≤ rows) × (everyBelow (λ j. countsAreProfile card (rowOf tableau j)) i ≡ true)
+Inv-loop card tableau profiles i₀ i = (i ≤ profiles) × (everyBelow (λ j. countsAreProfile card (rowOf tableau j)) i ≡ true)
 
 abbrev μ-loop : tie.MeasureT-loop
-μ-loop card tableau rows i₀ i = rows - i
+μ-loop card tableau profiles i₀ i = profiles - i
 
 loop-holds : tie.Need-loop-holds Inv-loop μ-loop
 loop-holds c = let a = c .before .before .before .before .args in (search needs, every-start (λ j. countsAreProfile (a .card .now) (rowOf (a .tableau .now) j)))
