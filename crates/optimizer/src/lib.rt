@@ -1,9 +1,12 @@
 // The optimizer: from card, ranking and word to the best candidate.
 ghost use mathlib.Core.Path.{_≡_};
+ghost use mathlib.Core.Bool.{true};
 ghost use Prim.Native.Nat.{_+_, _*_, _<_};
 ghost use lib.ListN.{length};
 ghost use Rattle.card.specs.Card.{cardRefusal};
 ghost use Rattle.product.specs.ProductGraph.{cardStart};
+ghost use Rattle.candidate.specs.Candidates.{isSome};
+ghost use Rattle.product.specs.Best.{best};
 ghost use Rattle.product.specs.Optimizing.{inputRefusal};
 ghost use Rattle.labels.specs.LabelCost.{costOf};
 ghost use Rattle.optimizer.specs.Refusals.{numberOf, stageNumber};
@@ -122,29 +125,19 @@ fn search(
     }
 }
 
-// What the search says of the best candidate.
-pub enum Best {
-    Profile(Profile),
-    Nothing,
-}
-
 // The search for accepted input, without an answer slice: labels the nodes, and reads the best profile off the start's label.
-fn label_best(card: &[u8], ranking: &[u8], word: &[u8], size: usize, work: &mut [u16]) -> Best
-    requires { ⌜ SearchPre (now card) (now ranking) (now word) (now work) size ⌝ }
+fn label_best(card: &[u8], ranking: &[u8], word: &[u8], size: usize, work: &mut [u16]) -> Profile
+    requires { ⌜ SearchPre (now card) (now ranking) (now word) (now work) size × (isSome (best (now card) (now ranking) (now word)) ≡ true) ⌝ }
     ensures { λ r. ⌜ TellsBest (now (card .entry)) (now (ranking .entry)) (now (word .entry)) (now (work .entry)) (now (work .exit)) r ⌝ }
 {
     positions::label(work, card, ranking, word, size);
-    let start = start_node(card);
-    if !labels::reached(work, start) {
-        return Best::Nothing;
-    }
-    let label = labels::load(work, start);
-    Best::Profile(profile_of(label, ranking))
+    let label = labels::load(work, start_node(card));
+    profile_of(label, ranking)
 }
 
-// The best candidate's profile, for input that passed the checks 1 to 9.
-pub fn best_profile(card: &[u8], ranking: &[u8], word: &[u8], work: &mut [u16]) -> Best
-    requires { ⌜ inputRefusal (now card) (now ranking) (now word) (length (now work)) ≡ 0 ⌝ }
+// The best candidate's profile, for input that passed the checks 1 to 9 and a word that has a candidate.
+pub fn best_profile(card: &[u8], ranking: &[u8], word: &[u8], work: &mut [u16]) -> Profile
+    requires { ⌜ (inputRefusal (now card) (now ranking) (now word) (length (now work)) ≡ 0) × (isSome (best (now card) (now ranking) (now word)) ≡ true) ⌝ }
     ensures { λ r. ⌜ TellsBest (now (card .entry)) (now (ranking .entry)) (now (word .entry)) (now (work .entry)) (now (work .exit)) r ⌝ }
 {
     let size = input::joint_states(card);

@@ -52,20 +52,20 @@ returns-2 : tie.Need-returns-2 Inv-loop μ-loop
 returns-2 c =
     let k = c .before .before .before in
     let a = k .before .before .before .before .before .before .before .before .args in
-    sym (later-wins (wins (a .best .counts)) (a .tableau .now) (not-claim k) (k .loop .row) (omega (arith, k .before .index2 .ensures)) (k .loop .rownv .1) (sym (c .before .has-profile2 .ensures) ∙ c .if2 .taken))
+    sym (later-wins (wins (a .best .counts)) (a .tableau .now) (not-claim k) (k .loop .row) (omega (arith, k .before .index2 .ensures)) (k .loop .inv .1) (sym (c .before .has-profile2 .ensures) ∙ c .if2 .taken))
 
 loop-again : tie.Need-loop-again Inv-loop μ-loop
 loop-again c =
     let k = c .before .before .before in
     let a = k .before .before .before .before .before .before .before .before .args in
-    (search needs, none-next (wins (a .best .counts)) (a .tableau .now) (k .loop .row) (k .loop .rownv .1) (sym (c .before .has-profile2 .ensures) ∙ c .if2 .left))
+    (search needs, none-next (wins (a .best .counts)) (a .tableau .now) (k .loop .row) (k .loop .inv .1) (sym (c .before .has-profile2 .ensures) ∙ c .if2 .left))
 
 returns-3 : tie.Need-returns-3 Inv-loop μ-loop
 returns-3 c =
     let k = c .before in
     let a = k .before .before .before .before .before .before .before .before .args in
     let e : k .loop .row ≡ rowCount (a .tableau .now) = omega (arith, k .before .index2 .ensures) in
-    sym (no-row-wins (wins (a .best .counts)) (a .tableau .now) (not-claim k) (ap (firstBefore (wins (a .best .counts)) (a .tableau .now)) (sym e) ∙ k .loop .rownv .1))
+    sym (no-row-wins (wins (a .best .counts)) (a .tableau .now) (not-claim k) (ap (firstBefore (wins (a .best .counts)) (a .tableau .now)) (sym e) ∙ k .loop .inv .1))
 
 pub verdict-of-spec : {M : Type 1} → statement M
 verdict-of-spec =
