@@ -63,12 +63,19 @@ fn on_tag(tableau: &[u8]) {
 // The first tableau with three bytes changed.
 fn changed(at: usize, byte: u8, second: usize, other: u8, third: usize, last: u8) {
     let mut tableau = TAG;
-    if (at < 132) & (second < 132) & (third < 132) {
-        tableau[at] = byte;
-        tableau[second] = other;
-        tableau[third] = last;
-        on_tag(&tableau);
+    if at >= 132 {
+        return;
     }
+    if second >= 132 {
+        return;
+    }
+    if third >= 132 {
+        return;
+    }
+    tableau[at] = byte;
+    tableau[second] = other;
+    tableau[third] = last;
+    on_tag(&tableau);
 }
 
 fn change(at: usize, byte: u8) {
@@ -101,24 +108,47 @@ fn put(tableau: &mut [u8; 794], at: usize, byte: u8) {
     }
 }
 
+// A row's offset, and its length, 20.
+fn put_place(tableau: &mut [u8; 794], at: usize, offset: usize) {
+    if at > 700 {
+        return;
+    }
+    if offset > 794 {
+        return;
+    }
+    put(tableau, at, (offset % 256) as u8);
+    put(tableau, at + 1, (offset / 256) as u8);
+    put(tableau, at + 2, 20);
+}
+
+// A row: that many marks for PARSE, then t as said, a, the dot, and the g gone.
+fn put_bytes(tableau: &mut [u8; 794], at: usize, marks: u8, first: u8) {
+    if at > 794 {
+        return;
+    }
+    put(tableau, at + 4, marks);
+    put(tableau, at + 12, 1);
+    put(tableau, at + 13, first);
+    put(tableau, at + 14, 2);
+    put(tableau, at + 15, 2);
+    put(tableau, at + 17, 5);
+    put(tableau, at + 18, 3);
+}
+
 // Row i of that many: .a., or .ta. for the last.
 fn put_row(tableau: &mut [u8; 794], i: usize, rows: usize) {
-    if (i < rows) & (rows <= 33) {
-        let start = 2 + 4 * rows + 20 * i;
-        put(tableau, 2 + 4 * i, (start % 256) as u8);
-        put(tableau, 3 + 4 * i, (start / 256) as u8);
-        put(tableau, 4 + 4 * i, 20);
-        put(tableau, start + 14, 2);
-        put(tableau, start + 15, 2);
-        put(tableau, start + 17, 5);
-        put(tableau, start + 18, 3);
-        put(tableau, start + 12, 1);
-        if i + 1 < rows {
-            put(tableau, start + 4, 2);
-        } else {
-            put(tableau, start + 4, 1);
-            put(tableau, start + 13, 1);
-        }
+    if rows > 33 {
+        return;
+    }
+    if i >= rows {
+        return;
+    }
+    let start = 2 + 4 * rows + 20 * i;
+    put_place(tableau, 2 + 4 * i, start);
+    if i + 1 < rows {
+        put_bytes(tableau, start, 2, 0);
+    } else {
+        put_bytes(tableau, start, 1, 1);
     }
 }
 
@@ -130,11 +160,13 @@ fn many(rows: usize, claimed: u8) {
         put_row(&mut tableau, i, rows);
         i += 1;
     }
-    if rows <= 33 {
-        tableau[0] = rows as u8;
-        tableau[1] = claimed;
-        on_tag(&tableau[0..2 + 24 * rows]);
+    if rows > 33 {
+        return;
     }
+    tableau[0] = rows as u8;
+    tableau[1] = claimed;
+    let end = 2 + 24 * rows;
+    on_tag(&tableau[0..end]);
 }
 
 fn verdicts() {
