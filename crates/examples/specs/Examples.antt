@@ -18,7 +18,7 @@ use Rattle.candidate.specs.declared.Evaluation.{Evaluation}
 use Rattle.candidate.specs.Candidates.{pairsOf, bytesOf, spelled, marksFrom, isComplete, profileOf}
 use Rattle.candidate.specs.Evaluating.{refused, soundCandidate, evaluating}
 use Rattle.ranking.specs.ByteStrings.{smaller}
-use Rattle.product.specs.Best.{winsTie, preferred, sameWord, pairsOver, listsBelow, contendersAmong, leastOf, bestBelow, bestIn, best}
+use Rattle.product.specs.Best.{winsTie, preferred, sameWord, pairsOver, listsBelow, contendersAmong, leastOf, bestBelow, bestOf, bestIn, best}
 use Rattle.product.specs.Optimizing.{soundWord, inputRefusal, optimizerRefusal, optimized, optimizedAnswer}
 use Rattle.examples.specs.Cards.{cardA, cardAWithInsertion, cardB}
 
