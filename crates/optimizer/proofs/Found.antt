@@ -38,7 +38,7 @@ pub record FoundAt (card ranking sets : List ℕ) (x : Ranked 6) : Type 0 where
   pub is : bestOfSets card ranking sets ≡ some form
   pub profile : form .profile ≡ profileOf (machinesOf card) (form .candidate)
   pub cost : x ≡ ranked (sixPlaces ranking) (form .profile) (length (form .candidate))
-  pub path : IsBest (engineGraph card ranking sets) (cardStart card) (form .candidate)
+  pub path : IsBest (engineGraph (machinesOf card) ranking sets) (cardStart card) (form .candidate)
 
 module _ (card ranking sets : List ℕ) (ok : cardRefusal card ≡ 0) (ranks : isRanking (machineCount card) ranking ≡ true) (bits : are64Bits sets ≡ true) where
   few : length ranking ≤ 6
@@ -54,17 +54,17 @@ module _ (card ranking sets : List ℕ) (ok : cardRefusal card ≡ 0) (ranks : i
       same-order (ranking-agrees (sixPlaces ranking)) (ranking-agrees ranking) card sets ok bits
       (λ c d. ap isBetter (six-harmony (profileOf (machinesOf card) c) (profileOf (machinesOf card) d) (few-counts c) (few-counts d) ranking few))
 
-  module _ (L : Labels (rankedCosts 6)) (closed : Closed (engineGraph card ranking sets) L) where
+  module _ (L : Labels (rankedCosts 6)) (closed : Closed (engineGraph (machinesOf card) ranking sets) L) where
     -- no label, no best
     pub not-found : L (cardStart card) ≡ none → bestOfSets card ranking sets ≡ none
     not-found l = sym six-best ∙ no-label-no-best (ranking-agrees (sixPlaces ranking)) card sets ok bits L closed l
 
     -- a label is the cost of the best
-    pub found : Attained (engineGraph card ranking sets) L → (x : Ranked 6) → L (cardStart card) ≡ some x → FoundAt card ranking sets x
+    pub found : Attained (engineGraph (machinesOf card) ranking sets) L → (x : Ranked 6) → L (cardStart card) ≡ some x → FoundAt card ranking sets x
     found attained x l =
         let b = label-best (ranking-agrees (sixPlaces ranking)) card sets ok bits L closed attained x l in
         record { form = b .contender; is = sym six-best ∙ b .is; profile = b .its-profile; cost = b .cost; path = b .path }
 
   -- the best path is the best candidate
-  pub path-found : {x : Ranked 6} (f : FoundAt card ranking sets x) (c : List Pair) → IsBest (engineGraph card ranking sets) (cardStart card) c → c ≡ f .form .candidate
-  path-found f c a = best-unique (engineGraph card ranking sets) (cardStart card) c (f .form .candidate) a (f .path)
+  pub path-found : {x : Ranked 6} (f : FoundAt card ranking sets x) (c : List Pair) → IsBest (engineGraph (machinesOf card) ranking sets) (cardStart card) c → c ≡ f .form .candidate
+  path-found f c a = best-unique (engineGraph (machinesOf card) ranking sets) (cardStart card) c (f .form .candidate) a (f .path)

@@ -53,10 +53,10 @@ module _ {card ranking sets work : List ℕ} {size : ℕ} (pre : SetsPre card ra
   fitting = counts-of-sets-fit card ranking sets (pre .setting .accepted) (pre .setting .few)
 
   module _ {after : List ℕ} (done : PositionsDone card ranking sets work after 0) where
-    closed : Closed (engineGraph card ranking sets) (labelOf after)
+    closed : Closed (engineGraph (machinesOf card) ranking sets) (labelOf after)
     closed u = done .done .closed u (omega arith)
 
-    attained : Attained (engineGraph card ranking sets) (labelOf after)
+    attained : Attained (engineGraph (machinesOf card) ranking sets) (labelOf after)
     attained = done .done .attained
 
     pub start-there : HasNode after (cardStart card)

@@ -29,13 +29,13 @@ use Rattle.tables.specs.Laws.Edges.{edgeFrom, code-step-few, symbol-edge}
 module _ {card sets : List ℕ} {P : ℕ} (s : Setting card sets P) (ranking : List ℕ) where
   -- ---- what the theory of paths asks
 
-  pub over : OverSets (engineGraph card ranking sets) card sets
+  pub over : OverSets (engineGraph (machinesOf card) ranking sets) card sets
   over = priced-over (byRanking (sixPlaces ranking)) card sets (s .accepted)
 
-  pub within : Within (engineGraph card ranking sets) ((length sets + 1) * P)
+  pub within : Within (engineGraph (machinesOf card) ranking sets) ((length sets + 1) * P)
   within = rw (s .states) (product-within (byRanking (sixPlaces ranking)) sets (machinesOf card) (machines-sound s))
 
-  pub small-marks : SmallMarks (engineGraph card ranking sets) 15
+  pub small-marks : SmallMarks (engineGraph (machinesOf card) ranking sets) 15
   small-marks = record {
     mark = edge-counts (sixPlaces ranking) sets (machinesOf card) (machines-sound s);
     pair = λ u p e h. let k = edge-of (byRanking (sixPlaces ranking)) sets (machinesOf card) u p e h in rw (k .cost-is) (ranked-letters (sixPlaces ranking) (k .by .marks) 1);
@@ -46,7 +46,7 @@ module _ {card sets : List ℕ} {P : ℕ} (s : Setting card sets P) (ranking : L
   -- ---- a joint step as an edge
 
   pub symbol-at : (i x z y : ℕ) → member (getD sets i 0) x ≡ true → z < P
-      → engineGraph card ranking sets .edge (i * P + z) (record { input = x; output = y }) ≡ edgeFrom ((i + 1) * P) (jointFrom (sixPlaces ranking) (machinesOf card) z (record { input = x; output = y }))
+      → engineGraph (machinesOf card) ranking sets .edge (i * P + z) (record { input = x; output = y }) ≡ edgeFrom ((i + 1) * P) (jointFrom (sixPlaces ranking) (machinesOf card) z (record { input = x; output = y }))
   symbol-at i x z y h k = rw (s .states) (symbol-edge ranking sets (machines-sound s) i z (omega (arith, s .states)) (record { input = x; output = y }) (omega (arith, s .symbols i x h)) h)
 
   -- it leads to a code, and its marks are six

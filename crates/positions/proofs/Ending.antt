@@ -39,7 +39,7 @@ ends-whole {k = k} {n = n} T a b = let q : n ≡ k = omega arith in rw q T
 pub ended-at : {card ranking rs cs ps : List ℕ} → Looked card ranking rs cs ps → (z : ℕ) (r : JointEnding) → jointEnded r ≡ endingFrom ps (machinesOf card) z → endingFrom (sixPlaces ranking) (machinesOf card) z ≡ jointEnded r
 ended-at L z r e = sym (rw (L .places) at e)
 
-ends-at : {card sets : List ℕ} {P : ℕ} (s : Setting card sets P) (ranking : List ℕ) (z : ℕ) → z < P → engineGraph card ranking sets .ending (length sets * P + z) ≡ endingCosts (endingFrom (sixPlaces ranking) (machinesOf card) z)
+ends-at : {card sets : List ℕ} {P : ℕ} (s : Setting card sets P) (ranking : List ℕ) (z : ℕ) → z < P → engineGraph (machinesOf card) ranking sets .ending (length sets * P + z) ≡ endingCosts (endingFrom (sixPlaces ranking) (machinesOf card) z)
 ends-at {sets = sets} s ranking z h = rw (s .states) (ending-edge ranking sets (machines-sound s) z (omega (arith, s .states)))
 
 module _ {card ranking sets : List ℕ} {P : ℕ} (s : Setting card sets P) where
@@ -50,6 +50,6 @@ module _ {card ranking sets : List ℕ} {P : ℕ} (s : Setting card sets P) wher
     pub ending-some : (e : ℕ) (ys : List ℕ) → endingFrom (sixPlaces ranking) (machinesOf card) z ≡ some e → Lowered xs ys (length sets * P + z) (endingCost e) → EndsTried card ranking sets xs ys (length sets * P + z) (length sets * P + (z + 1))
     ending-some e ys t L = record { size = L .size; fresh = lowered-fresh L; enters = λ K S. ending-tried s (over s ranking) k S (endingCost e) (ends-at s ranking z k ∙ ap endingCosts t) (L .label) }
 
-  pub ends-entered : (xs ys : List ℕ) → Done (engineGraph card ranking sets) (placeOf card) (labelOf xs) (suc (length sets))
-      → EndsTried card ranking sets xs ys (length sets * P) (length sets * P + P) → Entered (engineGraph card ranking sets) (placeOf card) (labelOf ys) (length sets)
+  pub ends-entered : (xs ys : List ℕ) → Done (engineGraph (machinesOf card) ranking sets) (placeOf card) (labelOf xs) (suc (length sets))
+      → EndsTried card ranking sets xs ys (length sets * P) (length sets * P + P) → Entered (engineGraph (machinesOf card) ranking sets) (placeOf card) (labelOf ys) (length sets)
   ends-entered xs ys d T = endings-entered s (over s ranking) d (T .enters (labelOf xs) (endings-begun s (over s ranking) d))

@@ -73,27 +73,27 @@ node-next {card} {P = P} {i = i} N T = record {
 module _ {card ranking sets : List ℕ} {P : ℕ} (s : Setting card sets P) where
   module _ (xs : List ℕ) (i x z y : ℕ) (k : z < P) where
     -- no edge
-    pub tried-none : engineGraph card ranking sets .edge (i * P + z) (record { input = x; output = y }) ≡ none
+    pub tried-none : engineGraph (machinesOf card) ranking sets .edge (i * P + z) (record { input = x; output = y }) ≡ none
         → Tried card ranking sets xs xs i x (i * P + z) y (i * P + z) (y + 1)
     tried-none n = record {
       size = refl;
       others = λ w m. record { state = refl; cost = refl };
       fresh = λ w f. f;
-      enters = λ K left S. entering-no-edge (engineGraph card ranking sets) (placeOf card) S (TriedBefore left x (i * P + z) (y + 1)) (i * P + z) (record { input = x; output = y }) n (one-more s (over s ranking) i left x z y);
+      enters = λ K left S. entering-no-edge (engineGraph (machinesOf card) ranking sets) (placeOf card) S (TriedBefore left x (i * P + z) (y + 1)) (i * P + z) (record { input = x; output = y }) n (one-more s (over s ranking) i left x z y);
     }
 
     -- an edge to v with the marks m
-    pub tried-edge : (ys : List ℕ) (v m : ℕ) → engineGraph card ranking sets .edge (i * P + z) (record { input = x; output = y }) ≡ some (record { target = v; cost = marksCost m })
+    pub tried-edge : (ys : List ℕ) (v m : ℕ) → engineGraph (machinesOf card) ranking sets .edge (i * P + z) (record { input = x; output = y }) ≡ some (record { target = v; cost = marksCost m })
         → EdgeTried xs ys (i * P + z) v m → Tried card ranking sets xs ys i x (i * P + z) y (i * P + z) (y + 1)
     tried-edge ys v m e E = go (labelOf xs v) refl
       where
-        to-v : (left : ℕ) → MoreLeaving (engineGraph card ranking sets) (placeOf card) i (TriedBefore left x (i * P + z) y) (TriedBefore left x (i * P + z) (y + 1)) (λ w q f. f .target ≡ v)
+        to-v : (left : ℕ) → MoreLeaving (engineGraph (machinesOf card) ranking sets) (placeOf card) i (TriedBefore left x (i * P + z) y) (TriedBefore left x (i * P + z) (y + 1)) (λ w q f. f .target ≡ v)
         to-v left w q f a b t g = also (one-more s (over s ranking) i left x z y w q f a b t g)
           where
             also : TriedBefore left x (i * P + z) y w q ⊎ ((w ≡ i * P + z) × (q ≡ record { input = x; output = y })) → TriedBefore left x (i * P + z) y w q ⊎ (f .target ≡ v)
             also (inl t) = inl t
             also (inr t) =
-                let r : engineGraph card ranking sets .edge (i * P + z) (record { input = x; output = y }) ≡ some f = rw (← (t .0), ← (t .1)) g in
+                let r : engineGraph (machinesOf card) ranking sets .edge (i * P + z) (record { input = x; output = y }) ≡ some f = rw (← (t .0), ← (t .1)) g in
                 let q : record { target = v; cost = marksCost m } ≡ f = cc in
                 inr (sym (ap (λ (x : Edge (Ranked 6)). x .target) q))
 
@@ -102,7 +102,7 @@ module _ {card ranking sets : List ℕ} {P : ℕ} (s : Setting card sets P) wher
           size = refl;
           others = λ w m. record { state = refl; cost = refl };
           fresh = λ w f. f;
-          enters = λ K left S. entering-unlabelled (engineGraph card ranking sets) (placeOf card) S (TriedBefore left x (i * P + z) (y + 1)) v l (to-v left);
+          enters = λ K left S. entering-unlabelled (engineGraph (machinesOf card) ranking sets) (placeOf card) S (TriedBefore left x (i * P + z) (y + 1)) v l (to-v left);
         })
         go (some d) l =
             let L = E .labelled d l in
@@ -111,7 +111,7 @@ module _ {card ranking sets : List ℕ} {P : ℕ} (s : Setting card sets P) wher
               others = λ w n. L .others w (λ q. n (ap (placeOf card) q ∙ node-place s i z k));
               fresh = lowered-fresh L;
               enters = λ K left S.
-                  entering-letter (engineGraph card ranking sets) (placeOf card) S (TriedBefore left x (i * P + z) (y + 1)) (i * P + z) (record { input = x; output = y }) (record { target = v; cost = marksCost m }) d (node-place s i z k) e l (L .label)
+                  entering-letter (engineGraph (machinesOf card) ranking sets) (placeOf card) S (TriedBefore left x (i * P + z) (y + 1)) (i * P + z) (record { input = x; output = y }) (record { target = v; cost = marksCost m }) d (node-place s i z k) e l (L .label)
                   (one-more s (over s ranking) i left x z y);
             }
 
@@ -127,8 +127,8 @@ pub record SymbolsTried (card ranking sets xs ys : List ℕ) (i left : ℕ) : Ty
   pub others : (w : ℕ) → placeOf card w ≢ i → AlikeAt xs ys w
   pub fresh : (w : ℕ) → stateOf xs w ≤ 1 → stateOf ys w ≤ 1
   pub inside : (x : ℕ) → member left x ≡ true → member (getD sets i 0) x ≡ true
-  pub enters : (K : Labels (rankedCosts 6)) → Entering (engineGraph card ranking sets) (placeOf card) K (labelOf xs) i (λ _. ⊥) (NotLeft (getD sets i 0))
-      → Entering (engineGraph card ranking sets) (placeOf card) K (labelOf ys) i (λ _. ⊥) (NotLeft left)
+  pub enters : (K : Labels (rankedCosts 6)) → Entering (engineGraph (machinesOf card) ranking sets) (placeOf card) K (labelOf xs) i (λ _. ⊥) (NotLeft (getD sets i 0))
+      → Entering (engineGraph (machinesOf card) ranking sets) (placeOf card) K (labelOf ys) i (λ _. ⊥) (NotLeft left)
 
 pub symbols-start : {card ranking sets xs : List ℕ} {i : ℕ} → SymbolsTried card ranking sets xs xs i (getD sets i 0)
 symbols-start = record { size = refl; others = λ w n. record { state = refl; cost = refl }; fresh = λ w h. h; inside = λ x t. t; enters = λ K S. S }
@@ -144,8 +144,8 @@ module _ {card ranking sets : List ℕ} {P : ℕ} (s : Setting card sets P) wher
     enters = λ K S. symbol-tried s (over s ranking) i left x after f (T .enters K left (symbol-begun s (over s ranking) i left x (A .enters K S)));
   }
 
-  pub all-entered : (xs ys : List ℕ) (i : ℕ) → i < length sets → Done (engineGraph card ranking sets) (placeOf card) (labelOf xs) (suc i)
-      → SymbolsTried card ranking sets xs ys i 0 → Entered (engineGraph card ranking sets) (placeOf card) (labelOf ys) i
+  pub all-entered : (xs ys : List ℕ) (i : ℕ) → i < length sets → Done (engineGraph (machinesOf card) ranking sets) (placeOf card) (labelOf xs) (suc i)
+      → SymbolsTried card ranking sets xs ys i 0 → Entered (engineGraph (machinesOf card) ranking sets) (placeOf card) (labelOf ys) i
   all-entered xs ys i h d T = symbols-entered s (over s ranking) h d (T .enters (labelOf xs) (symbols-begun s (over s ranking) d))
 
 -- ---- what the joint step of a pair says
@@ -169,7 +169,7 @@ module _ {card ranking sets js xs : List ℕ} {P i x : ℕ} (E : EnterPre card r
   joint-is : joined r ≡ jointFrom (sixPlaces ranking) (machinesOf card) z (record { input = x; output = y })
   joint-is = J _ (E .joint .entry z y (omega (arith, E .setting .states)) few)
 
-  edge-is : engineGraph card ranking sets .edge (i * P + z) (record { input = x; output = y }) ≡ edgeFrom ((i + 1) * P) (joined r)
+  edge-is : engineGraph (machinesOf card) ranking sets .edge (i * P + z) (record { input = x; output = y }) ≡ edgeFrom ((i + 1) * P) (joined r)
   edge-is = symbol-at (E .setting) ranking i x z y (E .reads) k ∙ ap (edgeFrom ((i + 1) * P)) (sym joint-is)
 
   pub joint-nothing : r ≡ Nothing → Tried card ranking sets xs xs i x (i * P + z) y (i * P + z) (y + 1)

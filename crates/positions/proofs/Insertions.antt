@@ -30,7 +30,7 @@ use Rattle.positions.specs.Engine.{InsertionsPre}
 use Rattle.positions.proofs.Edges.{over, within, small-marks}
 
 module _ {card sets : List ℕ} {P : ℕ} (s : Setting card sets P) (ranking ks : List ℕ) (H : HoldsCheapest (symbolCount card) (machinesOf card) (sixPlaces ranking) ks) (i : ℕ) (h : i ≤ length sets) where
-  cheapest : (j z : ℕ) → j < P → z < P → Cheapest (engineGraph card ranking sets) (i * P + j) (i * P + z) (pairCost (getD ks (z * P + j) 0))
+  cheapest : (j z : ℕ) → j < P → z < P → Cheapest (engineGraph (machinesOf card) ranking sets) (i * P + j) (i * P + z) (pairCost (getD ks (z * P + j) 0))
   cheapest j z a b =
       let c = accepted-machines card (s .accepted) in
       rw (s .states) (insertions-cheapest ranking sets machines (omega (arith, c .count, c .some-machine)) H i h j z (omega (arith, s .states)) (omega (arith, s .states)))
@@ -38,19 +38,19 @@ module _ {card sets : List ℕ} {P : ℕ} (s : Setting card sets P) (ranking ks 
       machines : AllSound (symbolCount card) (machinesOf card)
       machines = machines-sound s
 
-  pub tabled : Tabled (engineGraph card ranking sets) (placeOf card) i ks (i * P) P
+  pub tabled : Tabled (engineGraph (machinesOf card) ranking sets) (placeOf card) i ks (i * P) P
   tabled = record { here = λ u e. record { low = place-low s u i e; high = place-high s u i e }; inside = λ u x. place-inside s u i (x .low) (x .high); cheapest = cheapest }
 
   last-fits : i * P + P ≤ (length sets + 1) * P
   last-fits = let m : suc i * P ≤ (length sets + 1) * P = mul-le-mul-right P (omega arith) in omega (arith, suc-mul i P)
 
-  pub position-pre : (xs : List ℕ) → length xs ≡ (length sets + 1) * P * 8 → ((w : ℕ) → placeOf card w ≡ i → stateOf xs w ≤ 1) → Entered (engineGraph card ranking sets) (placeOf card) (labelOf xs) i → SettlePre xs ks (i * P) P
+  pub position-pre : (xs : List ℕ) → length xs ≡ (length sets + 1) * P * 8 → ((w : ℕ) → placeOf card w ≡ i → stateOf xs w ≤ 1) → Entered (engineGraph (machinesOf card) ranking sets) (placeOf card) (labelOf xs) i → SettlePre xs ks (i * P) P
   position-pre xs r f E =
-      settle-pre (engineGraph card ranking sets) (small-marks s ranking) (within s ranking) xs ks (i * P) P (rw (s .states) (H .size)) (omega (arith, last-fits)) last-fits (omega (arith, few-nodes s, few-codes s))
+      settle-pre (engineGraph (machinesOf card) ranking sets) (small-marks s ranking) (within s ranking) xs ks (i * P) P (rw (s .states) (H .size)) (omega (arith, last-fits)) last-fits (omega (arith, few-nodes s, few-codes s))
       (λ u x. f u (place-inside s u i (x .low) (x .high))) (E .attained)
 
-  pub position-settled : (xs ys : List ℕ) → Settled xs ys ks (i * P) P → Entered (engineGraph card ranking sets) (placeOf card) (labelOf xs) i → Done (engineGraph card ranking sets) (placeOf card) (labelOf ys) i
-  position-settled xs ys S E = settled-done (engineGraph card ranking sets) (placeOf card) tabled S (over-positioned (over s ranking)) E
+  pub position-settled : (xs ys : List ℕ) → Settled xs ys ks (i * P) P → Entered (engineGraph (machinesOf card) ranking sets) (placeOf card) (labelOf xs) i → Done (engineGraph (machinesOf card) ranking sets) (placeOf card) (labelOf ys) i
+  position-settled xs ys S E = settled-done (engineGraph (machinesOf card) ranking sets) (placeOf card) tabled S (over-positioned (over s ranking)) E
 
 -- ---- filling the table
 

@@ -38,7 +38,7 @@ module _ {card ranking sets rs cs ps xs : List ℕ} {P i : ℕ} (Q : PositionPre
     reads = T .inside _ m;
     joint = H;
     room = T .size ∙ Q .room;
-    fits = λ u c a l. attained-room (engineGraph card ranking sets) (small-marks (Q .setting) ranking) (within (Q .setting) ranking) (Q .done .attained) 1 (omega (arith, few-nodes (Q .setting))) u c (node-below (Q .setting) (suc i) u h (place-high (Q .setting) u (suc i) a)) (sym (label-alike (T .others u (omega arith))) ∙ l);
+    fits = λ u c a l. attained-room (engineGraph (machinesOf card) ranking sets) (small-marks (Q .setting) ranking) (within (Q .setting) ranking) (Q .done .attained) 1 (omega (arith, few-nodes (Q .setting))) u c (node-below (Q .setting) (suc i) u h (place-high (Q .setting) u (suc i) a)) (sym (label-alike (T .others u (omega arith))) ∙ l);
   }
 
   blank : (w : ℕ) → placeOf card w ≡ i → stateOf xs w ≤ 1
@@ -52,7 +52,7 @@ module _ {card ranking sets rs cs ps xs : List ℕ} {P i : ℕ} (Q : PositionPre
   pub entered-last : {ys : List ℕ} → length sets ≤ i → EndsTried card ranking sets xs ys (length sets * P) (length sets * P + P) → PositionEntered card ranking sets xs ys i
   entered-last {ys} h T =
       let q : i ≡ length sets = omega (arith, Q .within) in
-      let d : Done (engineGraph card ranking sets) (placeOf card) (labelOf xs) (suc (length sets)) = rw q at (Q .done) in
+      let d : Done (engineGraph (machinesOf card) ranking sets) (placeOf card) (labelOf xs) (suc (length sets)) = rw q at (Q .done) in
       record { size = T .size; fresh = λ w a. T .fresh w (blank w a); entered = rw q (ends-entered (Q .setting) xs ys d T) }
 
   module _ {ys ls : List ℕ} (H : Insertions card ranking ls P) (E : PositionEntered card ranking sets xs ys i) where
@@ -80,7 +80,7 @@ module _ {card ranking sets xs : List ℕ} {P : ℕ} (Q : LabelPre card ranking 
   pub labels-cleared : {ys : List ℕ} → Cleared xs ys ((length sets + 1) * P) → PositionsDone card ranking sets xs ys (length sets + 1)
   labels-cleared {ys} C =
       let q : length sets + 1 ≡ suc (length sets) = omega arith in
-      record { size = C .size; done = rw q (done-start (engineGraph card ranking sets) (placeOf card) (over-positioned (over (Q .setting) ranking)) (labelOf ys) (cleared-blank C (omega (arith, Q .room)))) }
+      record { size = C .size; done = rw q (done-start (engineGraph (machinesOf card) ranking sets) (placeOf card) (over-positioned (over (Q .setting) ranking)) (labelOf ys) (cleared-blank C (omega (arith, Q .room)))) }
 
   -- one position more
   pub position-ready : {rs cs ps ys : List ℕ} (left : ℕ) → 0 < left → left ≤ length sets + 1 → Looked card ranking rs cs ps → PositionsDone card ranking sets xs ys left → PositionPre card ranking sets rs cs ps ys P (left - 1)

@@ -72,8 +72,8 @@ pub record Tried (card ranking sets xs ys : List ℕ) (i x u y u′ y′ : ℕ) 
   pub size : length ys ≡ length xs
   pub others : (w : ℕ) → placeOf card w ≢ i → AlikeAt xs ys w
   pub fresh : (w : ℕ) → stateOf xs w ≤ 1 → stateOf ys w ≤ 1
-  pub enters : (K : Labels (rankedCosts 6)) (left : ℕ) → Entering (engineGraph card ranking sets) (placeOf card) K (labelOf xs) i (λ _. ⊥) (TriedBefore left x u y)
-      → Entering (engineGraph card ranking sets) (placeOf card) K (labelOf ys) i (λ _. ⊥) (TriedBefore left x u′ y′)
+  pub enters : (K : Labels (rankedCosts 6)) (left : ℕ) → Entering (engineGraph (machinesOf card) ranking sets) (placeOf card) K (labelOf xs) i (λ _. ⊥) (TriedBefore left x u y)
+      → Entering (engineGraph (machinesOf card) ranking sets) (placeOf card) K (labelOf ys) i (λ _. ⊥) (TriedBefore left x u′ y′)
 
 -- what trying the endings of the last position needs
 pub record EndPre (card ranking sets rs cs ps xs : List ℕ) (P : ℕ) : Type 0 where
@@ -85,5 +85,5 @@ pub record EndPre (card ranking sets rs cs ps xs : List ℕ) (P : ℕ) : Type 0 
 pub record EndsTried (card ranking sets xs ys : List ℕ) (u u′ : ℕ) : Type 0 where
   pub size : length ys ≡ length xs
   pub fresh : (w : ℕ) → stateOf xs w ≤ 1 → stateOf ys w ≤ 1
-  pub enters : (K : Labels (rankedCosts 6)) → Entering (engineGraph card ranking sets) (placeOf card) K (labelOf xs) (length sets) (λ w. w < u) (λ _ _. ⊥)
-      → Entering (engineGraph card ranking sets) (placeOf card) K (labelOf ys) (length sets) (λ w. w < u′) (λ _ _. ⊥)
+  pub enters : (K : Labels (rankedCosts 6)) → Entering (engineGraph (machinesOf card) ranking sets) (placeOf card) K (labelOf xs) (length sets) (λ w. w < u) (λ _ _. ⊥)
+      → Entering (engineGraph (machinesOf card) ranking sets) (placeOf card) K (labelOf ys) (length sets) (λ w. w < u′) (λ _ _. ⊥)

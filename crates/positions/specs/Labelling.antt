@@ -6,6 +6,7 @@ use Prim.Native.Nat.{ℕ, suc, _+_, _*_, _≤_}
 use lib.ListN.{length}
 use Rattle.ranking.specs.Rankings.{isRanking}
 use Rattle.card.specs.Layout.{machineCount}
+use Rattle.card.specs.Card.{machinesOf}
 use Rattle.paths.specs.Positions.{Done, Entered}
 use Rattle.product.specs.Setting.{placeOf, Setting}
 use Rattle.labels.specs.Work.{stateOf, labelOf}
@@ -19,18 +20,18 @@ pub record PositionPre (card ranking sets rs cs ps xs : List ℕ) (P i : ℕ) : 
   pub within : i ≤ length sets
   pub looked : Looked card ranking rs cs ps
   pub room : length xs ≡ (length sets + 1) * P * 8
-  pub done : Done (engineGraph card ranking sets) (placeOf card) (labelOf xs) (suc i)
+  pub done : Done (engineGraph (machinesOf card) ranking sets) (placeOf card) (labelOf xs) (suc i)
 
 -- the position i was entered, and none of its nodes is settled
 pub record PositionEntered (card ranking sets xs ys : List ℕ) (i : ℕ) : Type 0 where
   pub size : length ys ≡ length xs
   pub fresh : (w : ℕ) → placeOf card w ≡ i → stateOf ys w ≤ 1
-  pub entered : Entered (engineGraph card ranking sets) (placeOf card) (labelOf ys) i
+  pub entered : Entered (engineGraph (machinesOf card) ranking sets) (placeOf card) (labelOf ys) i
 
 -- the positions from i on are done
 pub record PositionsDone (card ranking sets xs ys : List ℕ) (i : ℕ) : Type 0 where
   pub size : length ys ≡ length xs
-  pub done : Done (engineGraph card ranking sets) (placeOf card) (labelOf ys) i
+  pub done : Done (engineGraph (machinesOf card) ranking sets) (placeOf card) (labelOf ys) i
 
 -- what labelling needs
 pub record LabelPre (card ranking sets xs : List ℕ) (P : ℕ) : Type 0 where

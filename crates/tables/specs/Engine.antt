@@ -1,11 +1,13 @@
 -- The graph that the engine searches.
 use mathlib.Core.List.{List}
 use Prim.Native.Nat.{ℕ}
+use Rattle.machine.specs.Machine.{Machine}
 use Rattle.paths.specs.Ranked.{rankedCosts}
 use Rattle.paths.specs.Graph.{Graph}
-use Rattle.product.specs.ProductGraph.{pairs, setGraph}
+use Rattle.product.specs.Prices.{byRanking}
+use Rattle.product.specs.ProductGraph.{pairs, productGraph}
 use Rattle.tables.specs.Places.{sixPlaces}
 
--- the product of the card's machines over sets of symbols, whose costs are six counts in ranked order and the number of pairs
-abbrev pub engineGraph : (card ranking sets : List ℕ) → Graph (rankedCosts 6) pairs
-engineGraph card ranking sets = setGraph card (sixPlaces ranking) sets
+-- the product of machines over sets of symbols, whose costs are six counts in ranked order and the number of pairs
+abbrev pub engineGraph : (ms : List Machine) (ranking sets : List ℕ) → Graph (rankedCosts 6) pairs
+engineGraph ms ranking sets = productGraph (byRanking (sixPlaces ranking)) sets ms

@@ -41,7 +41,7 @@ pub record WalkedTo (places card sets xs insertions rows counts before : List �
   pub tables : TablesFor places card insertions rows counts
   pub position : i ≤ length sets
   pub state : code < size
-  pub follows : Following (engineGraph card places sets) (labelOf xs) (letterCount 6) (cardStart card) before answer (i * size + code) n
+  pub follows : Following (engineGraph (machinesOf card) places sets) (labelOf xs) (letterCount 6) (cardStart card) before answer (i * size + code) n
 
 module _ {places card sets xs insertions rows counts before : List ℕ} {size : ℕ} where
   pub walked-start : {steps : List ℕ} → FollowPre places card sets xs insertions steps rows counts size (length before) → (start : ℕ) → ((ms : List Machine) → counts ≡ stateCounts ms → start ≡ startNode ms)
@@ -51,8 +51,8 @@ module _ {places card sets xs insertions rows counts before : List ℕ} {size : 
     tables = pre .tables;
     position = omega arith;
     state = omega (arith, first, start-below card (pre .labels .setting .accepted), pre .labels .setting .states);
-    follows = subst (λ (u : ℕ). Following (engineGraph card places sets) (labelOf xs) (letterCount 6) (cardStart card) before before u 0) node
-        (following-start (engineGraph card places sets) (labelOf xs) (cardStart card) before (pre .start .cost) (pre .start .label-is) (pre .start .fits));
+    follows = subst (λ (u : ℕ). Following (engineGraph (machinesOf card) places sets) (labelOf xs) (letterCount 6) (cardStart card) before before u 0) node
+        (following-start (engineGraph (machinesOf card) places sets) (labelOf xs) (cardStart card) before (pre .start .cost) (pre .start .label-is) (pre .start .fits));
   }
     where
       first : start ≡ cardStart card
@@ -66,13 +66,13 @@ module _ {places card sets xs insertions rows counts before : List ℕ} {size : 
     here : costAt xs (i * size + code) ≡ F .follows .rest
     here = holds xs (i * size + code) (F .follows .rest) (F .follows .walking .label) .cost
 
-    sized : Sized (engineGraph card places sets) (letterCount 6)
+    sized : Sized (engineGraph (machinesOf card) places sets) (letterCount 6)
     sized = set-sized card (sixPlaces places) sets (F .labels .setting .accepted)
 
     -- where no pair is left, the walk is the best path
     pub walked-end : letterCount 6 (costAt xs (i * size + code)) ≡ 0 → Walked places card sets xs before answer n
     walked-end z =
-        let E = following-end (engineGraph card places sets) (labelOf xs) (cardStart card) before sized (F .follows) (F .labels .closed) (F .labels .attained) (ap (letterCount 6) (sym here) ∙ z) in
+        let E = following-end (engineGraph (machinesOf card) places sets) (labelOf xs) (cardStart card) before sized (F .follows) (F .labels .closed) (F .labels .attained) (ap (letterCount 6) (sym here) ∙ z) in
         record {
           best = E .best;
           count = E .count;
@@ -91,7 +91,7 @@ module _ {places card sets xs insertions rows counts before : List ℕ} {size : 
     -- otherwise a pair keeps to the labels
     pub walked-finding : letterCount 6 (costAt xs (i * size + code)) ≢ 0 → (left : ℕ) → ((x : ℕ) → member left x ≡ (eqb x emptySymbol || member (getD sets i 0) x)) → Finding sets (KeepsAt xs card sets places size i code) i left
     walked-finding z =
-        let s = some-tight (engineGraph card places sets) (labelOf xs) sized (F .labels .closed) (F .labels .attained) (i * size + code) (F .follows .rest) (F .follows .walking .label) (λ e. z (ap (letterCount 6) here ∙ e)) in
+        let s = some-tight (engineGraph (machinesOf card) places sets) (labelOf xs) sized (F .labels .closed) (F .labels .attained) (i * size + code) (F .follows .rest) (F .follows .walking .label) (λ e. z (ap (letterCount 6) here ∙ e)) in
         finding-start (tight-pair (F .labels) i code (F .state)) (s .0) (s .1)
 
     pub walked-try : (steps : List ℕ) → machineCount card * 2048 ≤ length steps → {left : ℕ} → Finding sets (KeepsAt xs card sets places size i code) i left → (x : ℕ) → x < 64 → member left x ≡ true → TryPre xs card sets insertions steps rows counts places size i x code
@@ -115,12 +115,12 @@ module _ {places card sets xs insertions rows counts before : List ℕ} {size : 
       abbrev t : TightTo xs card sets places size i code (step .pair) (step .code)
       t = T .to
 
-      abbrev least : LeastTight (engineGraph card places sets) (labelOf xs) (i * size + code) (step .pair)
+      abbrev least : LeastTight (engineGraph (machinesOf card) places sets) (labelOf xs) (i * size + code) (step .pair)
       least = record { tight = t .tight; least = T .least }
 
       -- there is room for its bytes
       pub walked-room : 2 * n + 1 < length answer
-      walked-room = following-room (engineGraph card places sets) (labelOf xs) (cardStart card) before sized (F .follows) least
+      walked-room = following-room (engineGraph (machinesOf card) places sets) (labelOf xs) (cardStart card) before sized (F .follows) least
 
       module _ (r : ℕ) (is : r ≡ positionAfter i (step .pair .input)) where
         node : t .tight .to .target ≡ r * size + step .code
@@ -130,7 +130,7 @@ module _ {places card sets xs insertions rows counts before : List ℕ} {size : 
         pub walked-falls : letterCount 6 (costAt xs (r * size + step .code)) < letterCount 6 (costAt xs (i * size + code))
         walked-falls =
             let l : labelOf xs (r * size + step .code) ≡ some (t .tight .rest) = ap (labelOf xs) (sym node) ∙ t .tight .rest-is in
-            let f = following-falls (engineGraph card places sets) (labelOf xs) (cardStart card) before sized (F .follows) least in
+            let f = following-falls (engineGraph (machinesOf card) places sets) (labelOf xs) (cardStart card) before sized (F .follows) least in
             omega (arith, f, ap (letterCount 6) here, ap (letterCount 6) (holds xs (r * size + step .code) (t .tight .rest) l .cost))
 
         pub walked-next : (answer′ : List ℕ) → answer′ ≡ set (set answer (2 * n) (step .pair .input)) (2 * n + 1) (step .pair .output) → WalkedTo places card sets xs insertions rows counts before size answer′ r (step .code) (n + 1)
@@ -139,6 +139,6 @@ module _ {places card sets xs insertions rows counts before : List ℕ} {size : 
           tables = F .tables;
           position = rw is (t .position);
           state = t .state;
-          follows = subst (λ (u : ℕ). Following (engineGraph card places sets) (labelOf xs) (letterCount 6) (cardStart card) before answer′ u (n + 1)) node
-              (following-next (engineGraph card places sets) (labelOf xs) (cardStart card) before sized (F .follows) least answer′ w);
+          follows = subst (λ (u : ℕ). Following (engineGraph (machinesOf card) places sets) (labelOf xs) (letterCount 6) (cardStart card) before answer′ u (n + 1)) node
+              (following-next (engineGraph (machinesOf card) places sets) (labelOf xs) (cardStart card) before sized (F .follows) least answer′ w);
         }

@@ -70,31 +70,31 @@ module _ {places card sets xs : List ℕ} {size : ℕ} (K : Labelled places card
   pub label-room : (u : ℕ) → u < (length sets + 1) * size → (d : Ranked 6) → labelOf xs u ≡ some d → RoomFor 1 6 d
   label-room u h d l =
       room-of 1 6 (15 * letterCount 6 d + 15) d
-      (λ j. attained-count-size (engineGraph card places sets) within (K .attained) u d below l sized (set-counts card (sixPlaces places) sets (K .setting .accepted) j))
+      (λ j. attained-count-size (engineGraph (machinesOf card) places sets) within (K .attained) u d below l sized (set-counts card (sixPlaces places) sets (K .setting .accepted) j))
       (omega (arith, few, few-nodes (K .setting))) (omega (arith, few, few-nodes (K .setting)))
     where
-      within : Within (engineGraph card places sets) ((length sets + 1) * product (stateCounts (machinesOf card)))
+      within : Within (engineGraph (machinesOf card) places sets) ((length sets + 1) * product (stateCounts (machinesOf card)))
       within = product-within (byRanking (sixPlaces places)) sets (machinesOf card) (machines-sound (K .setting))
 
-      sized : Sized (engineGraph card places sets) (letterCount 6)
+      sized : Sized (engineGraph (machinesOf card) places sets) (letterCount 6)
       sized = set-sized card (sixPlaces places) sets (K .setting .accepted)
 
       below : u < (length sets + 1) * product (stateCounts (machinesOf card))
       below = rw (← (K .setting .states)) h
 
       few : letterCount 6 d < (length sets + 1) * size
-      few = rw (K .setting .states) (attained-size (engineGraph card places sets) within (K .attained) u d below l sized)
+      few = rw (K .setting .states) (attained-size (engineGraph (machinesOf card) places sets) within (K .attained) u d below l sized)
 
 -- ---- an edge that the tables tell
 
-module _ (places card sets xs : List ℕ) (u base : ℕ) (p : Pair) (found : joint.Joint) (e : engineGraph card places sets .edge u p ≡ edgeFrom base (joined found)) {d : Ranked 6} (l : labelOf xs u ≡ some d) where
-  to-edge : (c m : ℕ) → found ≡ joints.To c m → engineGraph card places sets .edge u p ≡ some (record { target = base + c; cost = marksCost m })
+module _ (places card sets xs : List ℕ) (u base : ℕ) (p : Pair) (found : joint.Joint) (e : engineGraph (machinesOf card) places sets .edge u p ≡ edgeFrom base (joined found)) {d : Ranked 6} (l : labelOf xs u ≡ some d) where
+  to-edge : (c m : ℕ) → found ≡ joints.To c m → engineGraph (machinesOf card) places sets .edge u p ≡ some (record { target = base + c; cost = marksCost m })
   to-edge c m q = e ∙ ap (λ (f : joint.Joint). edgeFrom base (joined f)) q
 
   cost-is : d ≡ costAt xs u
   cost-is = sym (holds xs u d l .cost)
 
-  pub keeps-tight : (c : ℕ) → KeepsTo xs u base found c → (t : Tight (engineGraph card places sets) (labelOf xs) u p) × (t .to .target ≡ base + c)
+  pub keeps-tight : (c : ℕ) → KeepsTo xs u base found c → (t : Tight (engineGraph (machinesOf card) places sets) (labelOf xs) u p) × (t .to .target ≡ base + c)
   keeps-tight c k = (
     record {
       to = record { target = base + c; cost = marksCost (k .marks) };
@@ -106,16 +106,16 @@ module _ (places card sets xs : List ℕ) (u base : ℕ) (p : Pair) (found : joi
     refl,
   )
 
-  pub tight-keeps : Tight (engineGraph card places sets) (labelOf xs) u p → (c : ℕ) × KeepsTo xs u base found c
+  pub tight-keeps : Tight (engineGraph (machinesOf card) places sets) (labelOf xs) u p → (c : ℕ) × KeepsTo xs u base found c
   tight-keeps t = go found refl
     where
       go : (f : joint.Joint) → found ≡ f → (c : ℕ) × KeepsTo xs u base found c
-      go joints.Nothing q = absurd (no-edge-not-tight (engineGraph card places sets) (labelOf xs) (e ∙ ap (λ (f : joint.Joint). edgeFrom base (joined f)) q) t)
+      go joints.Nothing q = absurd (no-edge-not-tight (engineGraph (machinesOf card) places sets) (labelOf xs) (e ∙ ap (λ (f : joint.Joint). edgeFrom base (joined f)) q) t)
       go (joints.To c m) q =
           let h = to-edge c m q in
           let z : t .to ≡ record { target = base + c; cost = marksCost m } = cc (t .edge-is, h) in
           let r : labelOf xs (base + c) ≡ some (t .rest) = ap (λ (f : Edge (Ranked 6)). labelOf xs (f .target)) (sym z) ∙ t .rest-is in
-          (c, record { marks = m; leads = q; rest = t .rest; rest-is = r; sum = sym cost-is ∙ tight-sum (engineGraph card places sets) (labelOf xs) h r l t })
+          (c, record { marks = m; leads = q; rest = t .rest; rest-is = r; sum = sym cost-is ∙ tight-sum (engineGraph (machinesOf card) places sets) (labelOf xs) h r l t })
 
 -- ---- the pairs with the in x at a node
 
@@ -162,12 +162,12 @@ module _ {xs card sets table rows counts places : List ℕ} {size i x code : ℕ
     }
 
     -- the step is an edge of the graph
-    edge-here : (x ≡ emptySymbol → 1 ≤ y) → engineGraph card places sets .edge (i * size + code) p ≡ edgeFrom (positionAfter i x * size) (jointFrom (sixPlaces places) ms code p)
+    edge-here : (x ≡ emptySymbol → 1 ≤ y) → engineGraph (machinesOf card) places sets .edge (i * size + code) p ≡ edgeFrom (positionAfter i x * size) (jointFrom (sixPlaces places) ms code p)
     edge-here o =
-        subst (λ (s : ℕ). engineGraph card places sets .edge (i * s + code) p ≡ edgeFrom (positionAfter i x * s) (jointFrom (sixPlaces places) ms code p)) (sym (pre .labels .setting .states))
+        subst (λ (s : ℕ). engineGraph (machinesOf card) places sets .edge (i * s + code) p ≡ edgeFrom (positionAfter i x * s) (jointFrom (sixPlaces places) ms code p)) (sym (pre .labels .setting .states))
         (go (ℕ-discrete x emptySymbol))
       where
-        go : Dec (x ≡ emptySymbol) → engineGraph card places sets .edge (i * product (stateCounts ms) + code) p ≡ edgeFrom (positionAfter i x * product (stateCounts ms)) (jointFrom (sixPlaces places) ms code p)
+        go : Dec (x ≡ emptySymbol) → engineGraph (machinesOf card) places sets .edge (i * product (stateCounts ms) + code) p ≡ edgeFrom (positionAfter i x * product (stateCounts ms)) (jointFrom (sixPlaces places) ms code p)
         go (yes e) = rw (eq-eqb x 0 e) (insertion-edge places sets sound i code code-below p (pre .position) (rw (ne-eqb y 0 (omega (arith, o e)), and-false)) e)
         go (no n) = rw (ne-eqb x 0 n) (symbol-edge places sets sound i code code-below p n (pre .reads n))
 
@@ -180,7 +180,7 @@ module _ {xs card sets table rows counts places : List ℕ} {size i x code : ℕ
         joins : joined (K .found) ≡ jointFrom places ms code p
         joins = K .joins (symbolCount card) ms x (pre .tables)
 
-        edge : engineGraph card places sets .edge (i * size + code) p ≡ edgeFrom (n * size) (joined (K .found))
+        edge : engineGraph (machinesOf card) places sets .edge (i * size + code) p ≡ edgeFrom (n * size) (joined (K .found))
         edge = rw at (edge-here o ∙ ap (λ (l : List ℕ). edgeFrom (positionAfter i x * size) (jointFrom l ms code p)) (six-same places (pre .six .size)) ∙ ap (edgeFrom (positionAfter i x * size)) (sym joins))
 
         -- by the step found it is known whether the pair keeps to the labels
@@ -190,5 +190,5 @@ module _ {xs card sets table rows counts places : List ℕ} {size i x code : ℕ
             let t = keeps-tight places card sets xs (i * size + code) (n * size) p (K .found) edge (pre .label-is) c b in
             record { tight = t .0; target = t .1 ∙ ap (λ (n : ℕ). n * size + c) at; state = rw (pre .labels .setting .states) (joint-below sound places code p c (b .marks) (sym joins ∙ ap joined (b .leads))); position = next-within }
 
-        pub kept-not : r ≡ No → ¬ (Tight (engineGraph card places sets) (labelOf xs) (i * size + code) p)
+        pub kept-not : r ≡ No → ¬ (Tight (engineGraph (machinesOf card) places sets) (labelOf xs) (i * size + code) p)
         kept-not q t = let b = tight-keeps places card sets xs (i * size + code) (n * size) p (K .found) edge (pre .label-is) t in K .keeps .no q (b .0) (b .1)

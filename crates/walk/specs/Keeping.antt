@@ -68,7 +68,7 @@ pub record StepKeeps (xs steps rows counts places : List ℕ) (u base code y : �
 
 -- it keeps to the labels
 abbrev pub KeepsAt : (xs card sets places : List ℕ) (size i code : ℕ) → Pair → Type 0
-KeepsAt xs card sets places size i code p = Tight (engineGraph card places sets) (labelOf xs) (i * size + code) p
+KeepsAt xs card sets places size i code p = Tight (engineGraph (machinesOf card) places sets) (labelOf xs) (i * size + code) p
 
 -- and leads to the code c
 pub record TightTo (xs card sets places : List ℕ) (size i code : ℕ) (p : Pair) (c : ℕ) : Type 0 where

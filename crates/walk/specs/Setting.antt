@@ -16,8 +16,8 @@ use Rattle.tables.specs.Tables.{Tables}
 pub record Labelled (ranking card sets work : List ℕ) (size : ℕ) : Type 0 where
   pub setting : Setting card sets size
   pub room : HasNodes work ((length sets + 1) * size)
-  pub closed : Closed (engineGraph card ranking sets) (labelOf work)
-  pub attained : Attained (engineGraph card ranking sets) (labelOf work)
+  pub closed : Closed (engineGraph (machinesOf card) ranking sets) (labelOf work)
+  pub attained : Attained (engineGraph (machinesOf card) ranking sets) (labelOf work)
 
 -- the tables of a card's machines for insertions
 pub record TablesFor (places card insertions rows counts : List ℕ) : Type 0 where

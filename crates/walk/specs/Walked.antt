@@ -9,6 +9,7 @@ use Rattle.machine.specs.declared.Pair.{Pair}
 use Rattle.ranking.specs.Rankings.{isRanking}
 use Rattle.card.specs.Layout.{machineCount}
 use Rattle.candidate.specs.Candidates.{bytesOf}
+use Rattle.card.specs.Card.{machinesOf}
 use Rattle.paths.specs.Ranked.{Ranked, letterCount}
 use Rattle.paths.specs.Graph.{pathCost}
 use Rattle.paths.specs.Best.{IsBest}
@@ -34,8 +35,8 @@ pub record Walked (ranking card sets work before after : List ℕ) (r : ℕ) : T
   pub best : List Pair
   pub count : r ≡ length best
   pub written : after ≡ bytesOf best ++ drop (2 * length best) before
-  pub is-best : IsBest (engineGraph card ranking sets) (cardStart card) best
-  pub costs : pathCost (engineGraph card ranking sets) (cardStart card) best ≡ some (costAt work (cardStart card))
+  pub is-best : IsBest (engineGraph (machinesOf card) ranking sets) (cardStart card) best
+  pub costs : pathCost (engineGraph (machinesOf card) ranking sets) (cardStart card) best ≡ some (costAt work (cardStart card))
 
 -- two tables of steps to fill, of the same length, with a stretch for each machine
 pub record TablesLent (card insertions steps : List ℕ) : Type 0 where

@@ -1,5 +1,5 @@
 -- The joint step by numbers is an edge of the product, and the table of the cheapest insertions has its cheapest edges within a position.
-use mathlib.Core.Path.{_≡_, refl, sym, _∙_, ap}
+use mathlib.Core.Path.{_≡_, refl, sym, _∙_}
 use mathlib.Core.Bool.{true}
 use mathlib.Core.List.{List, map}
 use mathlib.Core.Option.{Option, some, none, Option·none-ne-some}
@@ -9,17 +9,19 @@ use Rattle.basics.specs.Sets.{member}
 use Rattle.machine.specs.declared.Pair.{Pair}
 use Rattle.machine.specs.Symbols.{emptySymbol, isPair}
 use Rattle.machine.specs.Machine.{Machine}
-use Rattle.paths.specs.Ranked.{Ranked, rankedCosts}
-use Rattle.paths.specs.Graph.{Edge, Graph}
+use Rattle.paths.specs.Ranked.{Ranked}
+use Rattle.paths.specs.Graph.{Edge}
 use Rattle.labels.specs.Marks.{marksCost}
 use Rattle.product.specs.Nodes.{stateCounts, product, statesOf}
 use Rattle.product.specs.JointStep.{jointStep}
 use Rattle.product.specs.Prices.{byRanking}
-use Rattle.product.specs.ProductGraph.{Move, pairs, pricedMove, productGraph}
-use Rattle.product.specs.Codes.{coded, codeStep, movedBy}
+use Rattle.product.specs.ProductGraph.{Move}
+use Rattle.product.specs.Codes.{coded, codeStep}
 use Rattle.product.specs.Laws.JointStep.{AllSound}
 use Rattle.product.specs.Laws.Edges.{step-marks-bound}
-use Rattle.product.specs.Laws.Codes.{insertion-move, symbol-move}
+use Rattle.product.specs.Laws.Codes.{pricedStep}
+use Rattle.product.specs.Laws.Codes as codes
+use Rattle.tables.specs.Engine.{engineGraph}
 use Rattle.tables.specs.Places.{sixPlaces}
 use Rattle.tables.specs.JointNumbers.{numbered, jointFrom}
 use Rattle.tables.specs.Laws.Packing.{six-cost}
@@ -39,31 +41,27 @@ code-step-few {ms = ms} sound c p m h = go (jointStep ms (statesOf (stateCounts 
         let z : map (λ r. r .1) steps ≡ m .marks = cc in
         rw (← z) (step-marks-bound sound (statesOf (stateCounts ms) c) p steps k i)
 
--- the product under a ranking of six places
-abbrev pub sixGraph : (ranking sets : List ℕ) (ms : List Machine) → Graph (rankedCosts 6) pairs
-sixGraph ranking sets ms = productGraph (byRanking (sixPlaces ranking)) sets ms
-
 -- the node of a position and a code
 abbrev pub nodeAt : List Machine → ℕ → ℕ → ℕ
 nodeAt ms i c = i * product (stateCounts ms) + c
 
 module _ (ranking sets : List ℕ) {S : ℕ} {ms : List Machine} (sound : AllSound S ms) where
   priced : (base : ℕ) (o : Option Move) → ((m : Move) → o ≡ some m → (i : ℕ) → getD (m .marks) i 0 ≤ 15)
-      → pricedMove (byRanking (sixPlaces ranking)) sets ms (movedBy base o) ≡ edgeFrom base (numbered (sixPlaces ranking) o)
+      → pricedStep (byRanking (sixPlaces ranking)) base o ≡ edgeFrom base (numbered (sixPlaces ranking) o)
   priced base none f = refl
   priced base (some m) f = let e = six-cost (m .marks) (f m refl) ranking in λ i. some (record { target = base + m .target; cost = sym e i })
 
   module _ (i a : ℕ) (h : a < product (stateCounts ms)) (p : Pair) where
     -- an insertion, at every position
     pub insertion-edge : i ≤ length sets → isPair p ≡ true → p .input ≡ emptySymbol
-        → sixGraph ranking sets ms .edge (nodeAt ms i a) p ≡ edgeFrom (i * product (stateCounts ms)) (jointFrom (sixPlaces ranking) ms a p)
+        → engineGraph ms ranking sets .edge (nodeAt ms i a) p ≡ edgeFrom (i * product (stateCounts ms)) (jointFrom (sixPlaces ranking) ms a p)
     insertion-edge k t e =
-        ap (pricedMove (byRanking (sixPlaces ranking)) sets ms) (insertion-move sets ms i a h p k t e)
+        codes.insertion-edge (byRanking (sixPlaces ranking)) sets ms i a h p k t e
         ∙ priced (i * product (stateCounts ms)) (codeStep ms a p) (code-step-few sound a p)
 
     -- a pair that reads a symbol of the set at the position
     pub symbol-edge : (p .input ≡ emptySymbol → ⊥) → member (getD sets i 0) (p .input) ≡ true
-        → sixGraph ranking sets ms .edge (nodeAt ms i a) p ≡ edgeFrom ((i + 1) * product (stateCounts ms)) (jointFrom (sixPlaces ranking) ms a p)
+        → engineGraph ms ranking sets .edge (nodeAt ms i a) p ≡ edgeFrom ((i + 1) * product (stateCounts ms)) (jointFrom (sixPlaces ranking) ms a p)
     symbol-edge n e =
-        ap (pricedMove (byRanking (sixPlaces ranking)) sets ms) (symbol-move sets ms i a h p n e)
+        codes.symbol-edge (byRanking (sixPlaces ranking)) sets ms i a h p n e
         ∙ priced ((i + 1) * product (stateCounts ms)) (codeStep ms a p) (code-step-few sound a p)

@@ -14,12 +14,13 @@ use Rattle.product.specs.ProductGraph.{pricedEnding}
 use Rattle.product.specs.Codes.{codeEnding}
 use Rattle.product.specs.Laws.JointStep.{AllSound}
 use Rattle.product.specs.Laws.Edges.{ending-marks-bound}
-use Rattle.product.specs.Laws.Codes.{ending-at}
+use Rattle.product.specs.Laws.Codes as codes
+use Rattle.tables.specs.Engine.{engineGraph}
 use Rattle.tables.specs.Places.{sixPlaces, markNumber}
 use Rattle.tables.specs.JointNumbers.{endingNumber, endingFrom}
 use Rattle.tables.specs.Endings.{withoutPairs, endingCosts}
 use Rattle.tables.specs.Laws.Packing.{six-cost, six-below}
-use Rattle.tables.specs.Laws.Edges.{sixGraph, nodeAt}
+use Rattle.tables.specs.Laws.Edges.{nodeAt}
 
 -- added to nothing
 abbrev pub nothing : (k : ℕ) → Ranked k
@@ -39,8 +40,8 @@ ranked-without (m ∷ places) marks n = let r = ranked-without places marks n in
 
 module _ (ranking sets : List ℕ) {S : ℕ} {ms : List Machine} (sound : AllSound S ms) (a : ℕ) (h : a < product (stateCounts ms)) where
   -- past the last set
-  pub ending-edge : sixGraph ranking sets ms .ending (nodeAt ms (length sets) a) ≡ endingCosts (endingFrom (sixPlaces ranking) ms a)
-  ending-edge = ap (pricedEnding (byRanking (sixPlaces ranking)) sets ms) (ending-at sets ms a h) ∙ go (codeEnding ms a) (ending-marks-bound sound (statesOf (stateCounts ms) a))
+  pub ending-edge : engineGraph ms ranking sets .ending (nodeAt ms (length sets) a) ≡ endingCosts (endingFrom (sixPlaces ranking) ms a)
+  ending-edge = codes.ending-edge (byRanking (sixPlaces ranking)) sets ms a h ∙ go (codeEnding ms a) (ending-marks-bound sound (statesOf (stateCounts ms) a))
     where
       go : (o : Option (List ℕ)) → ((xs : List ℕ) → o ≡ some xs → (i : ℕ) → getD xs i 0 ≤ 15)
           → pricedEnding (byRanking (sixPlaces ranking)) sets ms o ≡ endingCosts (endingNumber (sixPlaces ranking) o)
