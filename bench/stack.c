@@ -23,13 +23,14 @@ static uint8_t answer[PASTASPUR_ANSWER_BYTES];
 static uint16_t result[8];
 static uint32_t number;
 
-// What the other calls are lent: the answer as a candidate, the card's parts, a target, sixty-four conditions.
+// What the other calls are lent: the answer as a candidate and as a tableau, the card's parts, a target, sixty-four conditions.
 static uint16_t lengths[6];
 static uint8_t target[65536];
 static size_t places[2];
 static const uint16_t counts[2][6] = {{1, 2, 3, 4, 5, 6}, {6, 5, 4, 3, 2, 1}};
 static uint8_t conditions[128];
 static uint8_t bytes[6];
+static uint8_t tableau[18 + PASTASPUR_ANSWER_BYTES];
 
 static void call_nothing(void) { number = 0; }
 
@@ -41,6 +42,16 @@ static void call_optimize(void) {
 
 static void call_evaluate(void) {
   number = pastaspur_evaluate(asked.card.start, asked.card.length, answer, 2 * (size_t)result[6], result);
+}
+
+// A tableau whose one row is the answer.
+static void call_judge(void) {
+  size_t bytes_of_pairs = 2 * (size_t)result[6], length = 12 + bytes_of_pairs;
+  tableau[0] = 1, tableau[1] = 0, tableau[2] = 6, tableau[3] = 0, tableau[4] = length % 256, tableau[5] = length / 256;
+  for (size_t i = 0; i < 6; i++) tableau[6 + 2 * i] = result[i] % 256, tableau[7 + 2 * i] = result[i] / 256;
+  memcpy(tableau + 18, answer, bytes_of_pairs);
+  number = pastaspur_judge(asked.card.start, asked.card.length, asked.ranking.start, asked.ranking.length, asked.word.start,
+                           asked.word.length, work, PASTASPUR_WORK_NUMBERS, tableau, 6 + length, bytes);
 }
 
 static void call_read_part(void) {
@@ -69,7 +80,7 @@ static void call_find_ranking(void) {
 static const struct {
   const char *name;
   void (*call)(void);
-} calls[] = {{"optimize", call_optimize},   {"evaluate", call_evaluate},   {"read_part", call_read_part},
+} calls[] = {{"optimize", call_optimize},   {"evaluate", call_evaluate},   {"judge", call_judge},   {"read_part", call_read_part},
              {"pack", call_pack},           {"compare", call_compare},     {"condition", call_condition},
              {"find_ranking", call_find_ranking}};
 enum { CALLS = sizeof calls / sizeof *calls };

@@ -1,7 +1,7 @@
 #!/usr/bin/env python3
-"""The demo cards: each directory's card.txt says one in names; this makes card.bin and stdin from it.
+"""The demo cards: each directory's card.txt says one in names; this makes card.bin, stdin and the tableaux' bytes from it.
 
-    make_cards.py                write card.bin and stdin of every card
+    make_cards.py                write card.bin, stdin and tableaux/ of every card
     make_cards.py check          whether they are as written, the tableaux' rows have their counts, stdout has the winners
     make_cards.py show NAME ..   stdin and stdout of some cards, in names
 
@@ -16,6 +16,8 @@ What card.txt may say, one thing to a line (# starts a comment):
     line MACHINE .. / SYMBOL ..        a ranking and a word: a line of stdin
     tableau MACHINE .. / SYMBOL ..     a line of stdin, and candidates for it, the best one marked with >:
     > IN:OUT .. = COUNT ..  FORM       with its counts in card order, and its form as the paper has it
+    claim MACHINE .. / SYMBOL ..       a tableau that is sent to be judged and is not right; its rows, the claimed one with >
+      verdict WORD ..                  and what is said of it: another row N, not in the table, refused N
     winners SYMBOL ..                  lines of stdin, the word under every ranking, and the best forms that come out:
       FORM MACHINE COUNT ..            the output (- where empty), and the counts that are not 0
 """
@@ -26,10 +28,19 @@ import sys
 HERE = pathlib.Path(__file__).parent
 
 
+def laid_out(head, parts):
+    """Two bytes, a table with each part's offset and length, and the parts: a card, or a tableau."""
+    table, offset = b"", 2 + 4 * len(parts)
+    for part in parts:
+        table += offset.to_bytes(2, "little") + len(part).to_bytes(2, "little")
+        offset += len(part)
+    return head + table + b"".join(parts)
+
+
 class Card:
     def __init__(self, path):
         self.symbols, self.sets, self.machines = {"0": 0}, {}, {}
-        self.lines, self.tableaux, self.winners = [], [], []
+        self.lines, self.tableaux, self.claims, self.winners = [], [], [], []
         for text in path.read_text().splitlines():
             words = text.split("#")[0].split()
             if words:
@@ -49,12 +60,17 @@ class Card:
             start, _, end, inputs, _, outputs = rest[:6]
             marks = int(rest[6]) if len(rest) > 6 else 0
             self.machine["arcs"].append((start, end, self.set_of(inputs), self.set_of(outputs), marks))
-        elif key in ("line", "tableau"):
+        elif key in ("line", "tableau", "claim"):
             at = rest.index("/")
-            self.lines.append((rest[:at], rest[at + 1:]))
+            line, self.rows = (rest[:at], rest[at + 1:]), []
+            if key != "claim":
+                self.lines.append(line)
             if key == "tableau":
-                self.rows = []
-                self.tableaux.append((self.lines[-1], self.rows))
+                self.tableaux.append((line, self.rows))
+            if key != "line":
+                self.claims.append([line, self.rows, "right"])
+        elif key == "verdict":
+            self.claims[-1][2] = " ".join(rest)
         elif key == "winners":
             self.lines += [(ranking, rest) for ranking in itertools.permutations(self.machines)]
             self.rows = []
@@ -83,11 +99,7 @@ class Card:
 
     def card_bin(self):
         parts = [self.part(machine) for machine in self.machines.values()]
-        table, offset = b"", 2 + 4 * len(parts)
-        for part in parts:
-            table += offset.to_bytes(2, "little") + len(part).to_bytes(2, "little")
-            offset += len(part)
-        return bytes([len(parts), len(self.symbols) - 1]) + table + b"".join(parts)
+        return laid_out(bytes([len(parts), len(self.symbols) - 1]), parts)
 
     def line(self, ranking, word):
         names = list(self.machines)
@@ -95,6 +107,27 @@ class Card:
 
     def stdin(self):
         return "".join(self.line(*line) + "\n" for line in self.lines)
+
+    def tableau_bin(self, rows):
+        """A tableau's bytes: row count, claimed row, offsets and lengths, then counts and candidate of each row."""
+        parts = []
+        for _, pairs, counts in rows:
+            counts = counts + [0] * (6 - len(counts))
+            symbols = [self.symbols[symbol] for pair in pairs for symbol in pair.split(":")]
+            parts.append(b"".join(count.to_bytes(2, "little") for count in counts) + bytes(symbols))
+        claimed = [best for best, _, _ in rows].index(True)
+        return laid_out(bytes([len(rows), claimed]), parts)
+
+    def files(self):
+        """What is made from card.txt: each file's name and bytes."""
+        files = {"card.bin": self.card_bin(), "stdin": self.stdin().encode()}
+        verdicts = ""
+        for number, (line, rows, verdict) in enumerate(self.claims, 1):
+            files[f"tableaux/{number}.bin"] = self.tableau_bin(rows)
+            verdicts += f"{number}.bin {self.line(*line)} {verdict}\n"
+        if verdicts:
+            files["tableaux/verdicts"] = verdicts.encode()
+        return files
 
     def counts(self, pairs):
         """The counts of a candidate, or None where a machine does not take it to a final state."""
@@ -122,8 +155,9 @@ class Card:
 
 def check(directory, card):
     wrong = []
-    if (directory / "card.bin").read_bytes() != card.card_bin() or (directory / "stdin").read_text() != card.stdin():
-        wrong.append("card.bin or stdin is not what card.txt says")
+    for name, contents in card.files().items():
+        if (directory / name).read_bytes() != contents:
+            wrong.append(f"{name} is not what card.txt says")
     printed = dict(zip(card.stdin().splitlines(), (directory / "stdout").read_text().splitlines(), strict=True))
     for line, rows in card.tableaux:
         for best, pairs, counts in rows:
@@ -161,8 +195,9 @@ def main():
     for path in sorted(HERE.glob("*/card.txt")):
         directory, card = path.parent, Card(path)
         if task == "":
-            (directory / "card.bin").write_bytes(card.card_bin())
-            (directory / "stdin").write_text(card.stdin())
+            for name, contents in card.files().items():
+                (directory / name).parent.mkdir(exist_ok=True)
+                (directory / name).write_bytes(contents)
         elif task == "check":
             wrong = check(directory, card)
             failed = failed or bool(wrong)

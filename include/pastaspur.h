@@ -34,6 +34,10 @@
  *   16  no ranking fits
  *   17  sum of the lengths is not the length of the joined parts, or machine number not below K
  *   18  target too short
+ *   19  tableau under 2 bytes; row count R not 1 to 32; offsets or end not as laid down; a row under 12 bytes; an unused count
+ *       not 0; claimed row not below R
+ *   20  a row's candidate meets 13 or 14, or spells another word
+ *   21  a row's counts are not its profile
  */
 #ifndef PASTASPUR_H
 #define PASTASPUR_H
@@ -56,6 +60,22 @@ extern "C" {
 uint32_t pastaspur_optimize(const uint8_t *card, size_t card_len, const uint8_t *ranking, size_t ranking_len,
                             const uint8_t *word, size_t word_len, uint16_t *work, size_t work_len,
                             uint8_t *answer, size_t answer_len, uint16_t result[8]);
+
+/* What pastaspur_judge says of a tableau; 0 on a refusal. */
+#define PASTASPUR_RIGHT 1
+#define PASTASPUR_ANOTHER_ROW 2
+#define PASTASPUR_NOT_IN_TABLE 3
+
+/* Says whether a tableau is right for a card, a ranking and a word: refusals 1 to 9, 19, 20, 21.
+ * A tableau: byte R, rows; byte with the claimed winner's row, from 0; R pairs of 16-bit offset and length, the first offset 2 + 4R,
+ * each next one where the row before it ends, the last row to the end; each row six 16-bit counts in card order, unused ones 0,
+ * then its candidate. Numbers are little-endian.
+ * result: the verdict, right exactly when the claimed row wins (no complete candidate for the word has a better profile); for
+ * another row the first row that wins, else 0.
+ * work: kept on refusals 1 to 9; otherwise its contents are left open. */
+uint32_t pastaspur_judge(const uint8_t *card, size_t card_len, const uint8_t *ranking, size_t ranking_len, const uint8_t *word,
+                         size_t word_len, uint16_t *work, size_t work_len, const uint8_t *tableau, size_t tableau_len,
+                         uint8_t result[2]);
 
 /* Evaluates a candidate, pairs of bytes in and out: refusals 1 to 6, 13, 14.
  * result: six counts in card order (unused places 0), the pair count, the length of the word spelled. */

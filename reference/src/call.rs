@@ -4,10 +4,11 @@ use crate::candidate::{evaluate, Evaluation};
 use crate::card::{pack, read_part};
 use crate::optimizer::optimize;
 use crate::ranking::{compare, condition, find_ranking};
+use crate::tableau::{judge, Verdict};
 use crate::{Profile, Refusal};
 use std::cmp::Ordering;
 
-/// One of the seven public calls with all that it is lent, as include/pastaspur.h has them.
+/// One of the public calls with all that it is lent, as include/pastaspur.h has them.
 #[derive(Clone, Debug, PartialEq, Eq, Hash)]
 pub enum Call {
     Optimize { card: Vec<u8>, ranking: Vec<u8>, word: Vec<u8>, work: Vec<u16>, answer: Vec<u8> },
@@ -17,11 +18,12 @@ pub enum Call {
     Compare { machines: u8, ranking: Vec<u8>, first: Profile, second: Profile },
     Condition { machines: u8, first: Profile, second: Profile },
     FindRanking { machines: u8, conditions: Vec<u8> },
+    Judge { card: Vec<u8>, ranking: Vec<u8>, word: Vec<u8>, work: Vec<u16>, tableau: Vec<u8> },
 }
 
 /// A call's kind, its name, and the refusals that it can answer. Of 11 no example is known: 3,199 pairs of at most 15
 /// marks make 47,985.
-pub const KINDS: [(&str, &[u32]); 7] = [
+pub const KINDS: [(&str, &[u32]); 8] = [
     ("optimize", &[1, 2, 3, 4, 5, 6, 7, 8, 9, 10, 12]),
     ("evaluate", &[1, 2, 3, 4, 5, 6, 13, 14]),
     ("read part", &[1, 2, 3, 4, 5, 6, 17]),
@@ -29,6 +31,7 @@ pub const KINDS: [(&str, &[u32]); 7] = [
     ("compare", &[1, 7]),
     ("condition", &[1]),
     ("find ranking", &[1, 15, 16]),
+    ("judge", &[1, 2, 3, 4, 5, 6, 7, 8, 9, 19, 20, 21]),
 ];
 
 impl Call {
@@ -42,6 +45,18 @@ impl Call {
             Call::Compare { .. } => 4,
             Call::Condition { .. } => 5,
             Call::FindRanking { .. } => 6,
+            Call::Judge { .. } => 7,
+        }
+    }
+
+    /// The card that it is lent, if any.
+    pub fn card(&self) -> Option<&[u8]> {
+        match self {
+            Call::Optimize { card, .. }
+            | Call::Evaluate { card, .. }
+            | Call::ReadPart { card, .. }
+            | Call::Judge { card, .. } => Some(card),
+            _ => None,
         }
     }
 
@@ -127,6 +142,14 @@ pub fn reference(call: &Call) -> Outcome {
         }
         Call::FindRanking { machines, conditions } => {
             outcome(find_ranking(*machines, conditions).map(numbers), 6, vec![])
+        }
+        Call::Judge { card, ranking, word, work, tableau } => {
+            let said = |verdict| match verdict {
+                Verdict::Right => numbers([1, 0]),
+                Verdict::AnotherRow(row) => numbers([2, row]),
+                Verdict::NotInTheTable => numbers([3, 0]),
+            };
+            outcome(judge(card, ranking, word, work.len(), tableau).map(said), 2, vec![])
         }
     }
 }

@@ -33,15 +33,21 @@ pub fn profile(machines: &[Machine], candidate: &[Pair]) -> Option<Profile> {
     Some(profile)
 }
 
-pub fn evaluate(card: &[u8], bytes: &[u8]) -> Result<Evaluation, Refusal> {
-    let card = read_card(card)?;
+/// A candidate's pairs: refusal 13.
+pub fn read_candidate(symbols: u8, bytes: &[u8]) -> Result<Vec<Pair>, Refusal> {
     if bytes.len() % 2 == 1 || bytes.len() / 2 > 3199 {
         return Err(13);
     }
     let candidate: Vec<Pair> = bytes.chunks(2).map(|pair| (pair[0], pair[1])).collect();
-    if candidate.iter().any(|&(i, o)| i > card.symbols || o > card.symbols || (i, o) == (0, 0)) {
+    if candidate.iter().any(|&(i, o)| i > symbols || o > symbols || (i, o) == (0, 0)) {
         return Err(13);
     }
+    Ok(candidate)
+}
+
+pub fn evaluate(card: &[u8], bytes: &[u8]) -> Result<Evaluation, Refusal> {
+    let card = read_card(card)?;
+    let candidate = read_candidate(card.symbols, bytes)?;
     let profile = profile(&card.machines, &candidate).ok_or(14)?;
     let word_length = candidate.iter().filter(|&&(input, _)| input != 0).count();
     Ok(Evaluation { profile, pairs: candidate.len(), word_length })

@@ -6,6 +6,7 @@ use crate::coverage::Coverage;
 use crate::generators::Generator;
 use crate::random::Random;
 use crate::shrinking::smallest;
+use crate::tableau::read_tableau;
 use std::fmt::Write;
 
 /// What of an engine's outcome is not as it should be. The work slice is kept by refusals 1 to 9; afterwards its contents
@@ -100,6 +101,17 @@ fn describe_card(card: &[u8]) -> String {
     text
 }
 
+/// The rows of a tableau that is laid out as it should.
+fn describe_tableau(tableau: &[u8]) -> String {
+    let Ok(tableau) = read_tableau(tableau, 6) else { return String::new() };
+    let mut text = format!("  the tableau: row {} claimed\n", tableau.claimed);
+    for (place, row) in tableau.rows.iter().enumerate() {
+        writeln!(text, "    row {place}: counts {}, candidate {}", numbers(&row.counts), hexadecimal(&row.candidate))
+            .unwrap();
+    }
+    text
+}
+
 /// A call whole: its slices in hexadecimal, and an accepted card in words as well.
 pub fn describe(call: &Call) -> String {
     let mut text = format!("{}\n", call.name());
@@ -141,9 +153,19 @@ pub fn describe(call: &Call) -> String {
             field("machines", machines.to_string());
             field("conditions", hexadecimal(conditions));
         }
+        Call::Judge { card, ranking, word, work, tableau } => {
+            field("card", hexadecimal(card));
+            field("ranking", hexadecimal(ranking));
+            field("word", hexadecimal(word));
+            field("work", numbers(work));
+            field("tableau", hexadecimal(tableau));
+        }
     }
-    if let Call::Optimize { card, .. } | Call::Evaluate { card, .. } | Call::ReadPart { card, .. } = call {
+    if let Some(card) = call.card() {
         text += &describe_card(card);
+    }
+    if let Call::Judge { tableau, .. } = call {
+        text += &describe_tableau(tableau);
     }
     text
 }

@@ -1,6 +1,6 @@
 //! A corpus of calls for a test program of the gate: a file with the calls, and the lines that have to be printed.
 //!
-//! The file is one call after another: a byte for its kind, 1 to 7 in the order of `KINDS`, and its fields. Numbers have 16
+//! The file is one call after another: a byte for its kind, from 1 in the order of `KINDS`, and its fields. Numbers have 16
 //! bits, the lower byte first. A list is its length and its elements. Of the work slice only the length is given, of the
 //! answer and target slices their length and the byte that they are filled with.
 
@@ -20,8 +20,8 @@ const SEED: u64 = 1998;
 
 /// The most bytes of a file, and of the calls in it that take more than `LARGE`.
 const MOST: usize = 400_000;
-const MOST_OF_LARGE: usize = 100_000;
-const LARGE: usize = 1_200;
+const MOST_OF_LARGE: usize = 60_000;
+const LARGE: usize = 900;
 
 /// How many calls of a kind that answer a number are in it.
 fn wanted(kind: usize, number: u32) -> usize {
@@ -29,6 +29,9 @@ fn wanted(kind: usize, number: u32) -> usize {
         ("optimize", 0) => 110,
         ("evaluate", 0) => 40,
         ("compare" | "find ranking", 0) => 24,
+        ("judge", 0) => 40,
+        ("judge", 19..=21) => 12,
+        ("judge", _) => 3,
         ("optimize", 12) => 20,
         (_, 0 | 13..=16) => 14,
         ("optimize", _) => 8,
@@ -54,6 +57,13 @@ fn fits(call: &Call) -> bool {
         Call::Compare { ranking, .. } => ranking.len() <= 255,
         Call::Condition { .. } => true,
         Call::FindRanking { conditions, .. } => conditions.len() <= 255,
+        Call::Judge { card, ranking, word, work, tableau } => {
+            card.len() <= 32_000
+                && ranking.len() <= 255
+                && word.len() <= 255
+                && work.len() <= 25_600
+                && tableau.len() <= 32_000
+        }
     }
 }
 
@@ -139,6 +149,13 @@ fn fields(call: &Call) -> Vec<u8> {
             fields.byte(*machines);
             fields.bytes(conditions);
         }
+        Call::Judge { card, ranking, word, work, tableau } => {
+            fields.bytes(card);
+            fields.bytes(ranking);
+            fields.bytes(word);
+            fields.number(work.len());
+            fields.bytes(tableau);
+        }
     }
     fields.0
 }
@@ -167,6 +184,7 @@ fn line(call: &Call, outcome: &Outcome) -> String {
         Call::Compare { .. } => format!("compare {number} {}", joined(result, " ")),
         Call::Condition { .. } => format!("condition {number} {}", joined(result, " ")),
         Call::FindRanking { .. } => format!("ranking {number} {}", joined(result, ",")),
+        Call::Judge { .. } => format!("judge {number} {}", joined(result, " ")),
     }
 }
 

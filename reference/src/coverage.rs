@@ -10,6 +10,9 @@ type Counts = BTreeMap<i64, u64>;
 /// How often a call has to answer each of its refusals, and slices to have each of the lengths around a limit.
 const OFTEN: u64 = 100;
 
+/// What is said of a tableau.
+const VERDICTS: [(i64, &str); 3] = [(1, "right"), (2, "another row"), (3, "not in the table")];
+
 /// What an answer of the optimizer can have.
 const TRAITS: [&str; 7] = [
     "no pair",
@@ -40,7 +43,7 @@ fn traits(pairs: &[u8], counts: &[usize]) -> [bool; 7] {
 #[derive(Default)]
 pub struct Coverage {
     /// For each call in the order of `KINDS`, how often it answered each number.
-    numbers: [Counts; 7],
+    numbers: [Counts; KINDS.len()],
     /// Of the optimizer's calls that got past check 9: K, P, S, n, and the pairs of those that are answered.
     machines: Counts,
     states: Counts,
@@ -58,6 +61,9 @@ pub struct Coverage {
     /// Pairs of candidates that are evaluated, and of lists of conditions, less the most that are taken.
     candidates: Counts,
     conditions: Counts,
+    /// Of the tableaux that are judged: verdicts, and row counts.
+    verdicts: Counts,
+    rows: Counts,
 }
 
 fn count(counts: &mut Counts, value: usize) {
@@ -128,6 +134,10 @@ impl Coverage {
             Call::FindRanking { conditions, .. } if outcome.number != 1 => {
                 count_around(&mut self.conditions, conditions.len() / 2, 64);
             }
+            Call::Judge { tableau, .. } if outcome.number == 0 => {
+                count(&mut self.verdicts, outcome.result[0]);
+                count(&mut self.rows, tableau[0] as usize);
+            }
             _ => (),
         }
     }
@@ -163,6 +173,12 @@ impl Coverage {
         }
         for number in [0, 9, 10, 12] {
             ask(format!("the empty word answered {number}"), &self.empty_words, number, OFTEN / 2);
+        }
+        for (number, name) in VERDICTS {
+            ask(format!("the verdict '{name}'"), &self.verdicts, number, OFTEN);
+        }
+        for value in 1..=32 {
+            ask(format!("{value} rows"), &self.rows, value, 1);
         }
         ask("3199 pairs answered".to_string(), &self.pairs, 3_199, 1);
         for (name, counts, values) in [
@@ -212,6 +228,11 @@ impl fmt::Display for Coverage {
         for (name, times) in TRAITS.iter().zip(&self.traits) {
             writeln!(text, "  answers with {name:<25} {times}")?;
         }
+        writeln!(text, "of the tableaux that are judged")?;
+        for (number, name) in VERDICTS {
+            writeln!(text, "  {name:<20} {}", self.verdicts.get(&number).unwrap_or(&0))?;
+        }
+        writeln!(text, "  rows                 {}", range(&self.rows))?;
         writeln!(text, "lengths around their limits")?;
         writeln!(text, "  work slice           {}", each(&self.work, true))?;
         writeln!(text, "  answer slice         {}", each(&self.answer, true))?;

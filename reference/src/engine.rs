@@ -47,6 +47,19 @@ extern "C" {
     ) -> u32;
     fn pastaspur_condition(machines: u8, first: *const u16, second: *const u16, result: *mut u8) -> u32;
     fn pastaspur_find_ranking(machines: u8, conditions: *const u8, conditions_len: usize, result: *mut u8) -> u32;
+    fn pastaspur_judge(
+        card: *const u8,
+        card_len: usize,
+        ranking: *const u8,
+        ranking_len: usize,
+        word: *const u8,
+        word_len: usize,
+        work: *mut u16,
+        work_len: usize,
+        tableau: *const u8,
+        tableau_len: usize,
+        result: *mut u8,
+    ) -> u32;
 }
 
 /// The memory of one call, lent between guards, and what was written that may not be.
@@ -229,6 +242,34 @@ impl Engine for Library {
                 };
                 lender.read_only("conditions", &conditions);
                 lender.outcome(number, result, usize::from, &[], true)
+            }
+            Call::Judge { card, ranking, word, work, tableau } => {
+                let (mut card, mut ranking) = (lender.bytes(card), lender.bytes(ranking));
+                let (mut word, mut work) = (lender.bytes(word), lender.shorts(work));
+                let mut tableau = lender.bytes(tableau);
+                let mut result = lender.result(2, |number| number as u8);
+                // SAFETY: as above
+                let number = unsafe {
+                    pastaspur_judge(
+                        card.pointer(),
+                        card.length(),
+                        ranking.pointer(),
+                        ranking.length(),
+                        word.pointer(),
+                        word.length(),
+                        work.pointer(),
+                        work.length(),
+                        tableau.pointer(),
+                        tableau.length(),
+                        result.pointer(),
+                    )
+                };
+                lender.read_only("card", &card);
+                lender.read_only("ranking", &ranking);
+                lender.read_only("word", &word);
+                lender.around("work", &work);
+                lender.read_only("tableau", &tableau);
+                lender.outcome(number, result, usize::from, &[], work.contents_kept())
             }
         }
     }

@@ -4,5 +4,6 @@ mod calls;
 mod candidates;
 mod cards;
 mod damage;
+mod tableaux;
 
 pub use calls::Generator;

@@ -18,6 +18,7 @@ pub mod random;
 pub mod ranking;
 pub mod samples;
 pub mod shrinking;
+pub mod tableau;
 
 /// The number of a refusal in the refusal table. An accepted call is an `Ok`.
 pub type Refusal = u8;

@@ -165,15 +165,8 @@ pub fn best_by_listing(card: &Card, ranking: &[u8], word: &[u8], most: usize) ->
     best.map(|(candidate, _)| candidate)
 }
 
-/// The whole call: refusals 1 to 12, the result, the pairs in the front of the answer slice. Of the work slice only the
-/// length is used.
-pub fn optimize(
-    card: &[u8],
-    ranking: &[u8],
-    word: &[u8],
-    work: usize,
-    answer: &mut [u8],
-) -> Result<Evaluation, Refusal> {
+/// What every search is given: refusals 1 to 9. Of the work slice only the length is used.
+pub fn checked(card: &[u8], ranking: &[u8], word: &[u8], work: usize) -> Result<Card, Refusal> {
     let card = read_card(card)?;
     if !is_ranking(card.machines.len(), ranking) {
         return Err(7);
@@ -184,6 +177,18 @@ pub fn optimize(
     if work < 8 * (word.len() + 1) * card.states() {
         return Err(9);
     }
+    Ok(card)
+}
+
+/// The whole call: refusals 1 to 12, the result, the pairs in the front of the answer slice.
+pub fn optimize(
+    card: &[u8],
+    ranking: &[u8],
+    word: &[u8],
+    work: usize,
+    answer: &mut [u8],
+) -> Result<Evaluation, Refusal> {
+    let card = checked(card, ranking, word, work)?;
     let candidate = best(&card, ranking, word).ok_or(10)?;
     let profile = profile(&card.machines, &candidate).expect("the best is complete");
     if profile.iter().any(|&count| count > 60_000) {

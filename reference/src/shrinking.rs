@@ -4,6 +4,8 @@ use crate::call::Call;
 use crate::card::{lay_out, read_card};
 use crate::optimizer::best;
 use crate::ranking::is_ranking;
+use crate::tableau::{read_tableau, Tableau};
+use crate::Profile;
 use std::ops::Range;
 
 /// Makes a call smaller as long as it fails.
@@ -18,6 +20,7 @@ pub fn smallest(call: &Call, fails: &dyn Fn(&Call) -> bool) -> Call {
         search.merge_states();
         search.shorten_parts();
         search.drop_symbols();
+        search.shorten_tableaux();
         search.clear_lists();
         search.shorten_lists();
         search.lower_bytes();
@@ -57,13 +60,25 @@ fn size(call: &mut Call) -> [u64; 5] {
 /// K and S as the call has them, 0 where it has none.
 fn counts(call: &Call) -> (u8, u8) {
     match call {
-        Call::Optimize { card, .. } | Call::Evaluate { card, .. } | Call::ReadPart { card, .. } => {
-            (card.first().copied().unwrap_or(0), card.get(1).copied().unwrap_or(0))
-        }
         Call::Pack { symbols, .. } => (0, *symbols),
         Call::Compare { machines, .. } | Call::Condition { machines, .. } | Call::FindRanking { machines, .. } => {
             (*machines, 0)
         }
+        _ => {
+            let byte = |place: usize| call.card().and_then(|card| card.get(place)).copied().unwrap_or(0);
+            (byte(0), byte(1))
+        }
+    }
+}
+
+/// The card that a call is lent.
+fn card(call: &mut Call) -> Option<&mut Vec<u8>> {
+    match call {
+        Call::Optimize { card, .. }
+        | Call::Evaluate { card, .. }
+        | Call::ReadPart { card, .. }
+        | Call::Judge { card, .. } => Some(card),
+        _ => None,
     }
 }
 
@@ -76,18 +91,19 @@ fn byte_lists(call: &mut Call) -> Vec<&mut Vec<u8>> {
         Call::Compare { ranking, .. } => vec![ranking],
         Call::Condition { .. } => vec![],
         Call::FindRanking { conditions, .. } => vec![conditions],
+        Call::Judge { card, ranking, word, tableau, .. } => vec![word, tableau, ranking, card],
     }
 }
 
 fn number_lists(call: &mut Call) -> Vec<&mut Vec<u16>> {
     match call {
-        Call::Optimize { work, .. } => vec![work],
+        Call::Optimize { work, .. } | Call::Judge { work, .. } => vec![work],
         Call::Pack { lengths, .. } => vec![lengths],
         _ => vec![],
     }
 }
 
-fn profiles(call: &mut Call) -> Vec<&mut [u16; 6]> {
+fn profiles(call: &mut Call) -> Vec<&mut Profile> {
     match call {
         Call::Compare { first, second, .. } | Call::Condition { first, second, .. } => vec![first, second],
         _ => vec![],
@@ -96,7 +112,7 @@ fn profiles(call: &mut Call) -> Vec<&mut [u16; 6]> {
 
 fn ranking(call: &mut Call) -> Option<&mut Vec<u8>> {
     match call {
-        Call::Optimize { ranking, .. } | Call::Compare { ranking, .. } => Some(ranking),
+        Call::Optimize { ranking, .. } | Call::Compare { ranking, .. } | Call::Judge { ranking, .. } => Some(ranking),
         _ => None,
     }
 }
@@ -111,15 +127,15 @@ struct Grammar {
 /// A call's parts, if they lie where table or lengths say.
 fn grammar(call: &Call) -> Option<Grammar> {
     let (symbols, mut rest, lengths): (u8, &[u8], Vec<usize>) = match call {
-        Call::Optimize { card, .. } | Call::Evaluate { card, .. } | Call::ReadPart { card, .. } => {
+        Call::Pack { symbols, lengths, parts, .. } => {
+            (*symbols, parts, lengths.iter().map(|&length| length as usize).collect())
+        }
+        _ => {
+            let card = call.card()?;
             let table = card.get(2..2 + 4 * *card.first()? as usize)?;
             let lengths = table.chunks(4).map(|row| row[2] as usize | (row[3] as usize) << 8).collect();
             (card[1], &card[2 + table.len()..], lengths)
         }
-        Call::Pack { symbols, lengths, parts, .. } => {
-            (*symbols, parts, lengths.iter().map(|&length| length as usize).collect())
-        }
-        _ => return None,
     };
     let mut parts = Vec::new();
     for length in lengths {
@@ -135,17 +151,66 @@ fn with_grammar(call: &Call, grammar: &Grammar) -> Call {
     let mut call = call.clone();
     let list = &grammar.parts;
     match &mut call {
-        Call::Optimize { card, .. } | Call::Evaluate { card, .. } | Call::ReadPart { card, .. } => {
-            *card = lay_out(grammar.symbols, list);
-        }
         Call::Pack { symbols, lengths, parts, .. } => {
             *symbols = grammar.symbols;
             *lengths = list.iter().map(|part| part.len() as u16).collect();
             *parts = list.concat();
         }
-        _ => (),
+        other => {
+            if let Some(card) = card(other) {
+                *card = lay_out(grammar.symbols, list);
+            }
+        }
     }
     call
+}
+
+/// A call's tableau, if it is laid out as it should.
+fn tableau(call: &Call) -> Option<Tableau> {
+    let Call::Judge { tableau, .. } = call else { return None };
+    read_tableau(tableau, 6).ok()
+}
+
+/// The call with its tableau changed, if that can be taken apart.
+fn with_tableau(call: &Call, change: impl Fn(&mut Tableau)) -> Option<Call> {
+    let mut changed = tableau(call)?;
+    change(&mut changed);
+    let mut call = call.clone();
+    if let Call::Judge { tableau, .. } = &mut call {
+        *tableau = changed.bytes();
+    }
+    Some(call)
+}
+
+/// The call without some rows; a claimed row that goes is the first one then.
+fn without_rows(call: &Call, gone: &Range<usize>) -> Option<Call> {
+    with_tableau(call, |tableau| {
+        tableau.rows.drain(gone.clone());
+        tableau.claimed = renumbered(tableau.claimed, gone).unwrap_or(0);
+    })
+}
+
+/// The call without some symbols of the word to judge, and without the pairs of the rows that read them.
+fn without_word_places(call: &Call, gone: &Range<usize>) -> Option<Call> {
+    let mut call = with_tableau(call, |tableau| {
+        for row in &mut tableau.rows {
+            let mut read = 0;
+            let kept = row.candidate.chunks(2).filter(|pair| {
+                read += (pair[0] != 0) as usize;
+                pair[0] == 0 || !gone.contains(&(read - 1))
+            });
+            row.candidate = kept.collect::<Vec<_>>().concat();
+        }
+    })?;
+    if let Call::Judge { word, .. } = &mut call {
+        word.drain(gone.clone());
+    }
+    Some(call)
+}
+
+/// The call without some of the pairs of a row.
+fn without_pairs(call: &Call, row: usize, gone: &Range<usize>) -> Option<Call> {
+    with_tableau(call, |tableau| drop(tableau.rows[row].candidate.drain(2 * gone.start..2 * gone.end)))
 }
 
 /// A part whose length is what its counts say, with whatever its fields hold.
@@ -188,6 +253,7 @@ fn with_part(call: &Call, machine: usize, change: impl Fn(&mut Part)) -> Option<
 /// What the call needs of the slices whose length can be too short: numbers of work, bytes of answer or target.
 fn needs(call: &Call) -> Option<(usize, usize)> {
     match call {
+        Call::Judge { card, word, .. } => Some((8 * (word.len() + 1) * read_card(card).ok()?.states(), 0)),
         Call::Optimize { card, ranking, word, .. } => {
             let card = read_card(card).ok()?;
             let right = is_ranking(card.machines.len(), ranking) && word.len() <= 24;
@@ -211,6 +277,7 @@ fn refitted(earlier: &Call, later: &Call) -> Option<Call> {
             answer.resize(moved(answer.len(), slice_before, slice_after), 0);
         }
         Call::Pack { target, .. } => target.resize(moved(target.len(), slice_before, slice_after), 0),
+        Call::Judge { work, .. } => work.resize(moved(work.len(), work_before, work_after), 0),
         _ => (),
     }
     Some(call)
@@ -243,9 +310,15 @@ fn without_machines(call: &Call, gone: &Range<usize>) -> Option<Call> {
     if let Some(list) = ranking(&mut call) {
         *list = list.iter().filter_map(|&number| renumbered(number, gone)).collect();
     }
-    for profile in profiles(&mut call) {
+    let without_counts = |profile: &mut Profile| {
         profile.copy_within(gone.end.min(6).., gone.start.min(6));
         profile[6 - gone.len()..].fill(0);
+    };
+    profiles(&mut call).into_iter().for_each(without_counts);
+    if let Some(changed) = with_tableau(&call, |tableau| {
+        tableau.rows.iter_mut().for_each(|row| without_counts(&mut row.counts));
+    }) {
+        call = changed;
     }
     match &mut call {
         Call::ReadPart { machine, .. } => *machine = renumbered(*machine, gone).unwrap_or(0),
@@ -320,10 +393,18 @@ fn without_symbols(call: &Call, gone: &Range<usize>) -> Option<Call> {
         *bytes = part.bytes();
     }
     let mut call = with_grammar(call, &grammar);
-    if let Call::Optimize { word: list, .. } | Call::Evaluate { candidate: list, .. } = &mut call {
-        *list = list.iter().filter_map(|&symbol| renumbered(symbol, &symbols)).collect();
+    let without = |list: &[u8]| list.iter().filter_map(|&symbol| renumbered(symbol, &symbols)).collect::<Vec<u8>>();
+    if let Call::Optimize { word: list, .. } | Call::Evaluate { candidate: list, .. } | Call::Judge { word: list, .. } =
+        &mut call
+    {
+        *list = without(list);
     }
-    Some(call)
+    let other_rows = with_tableau(&call, |tableau| {
+        for row in &mut tableau.rows {
+            row.candidate = without(&row.candidate);
+        }
+    });
+    Some(other_rows.unwrap_or(call))
 }
 
 /// What is to be packed, as much shorter at the end as one of its lengths.
@@ -483,9 +564,25 @@ impl Search<'_> {
                 answer.fill(0);
             }
             Call::Pack { target, .. } => target.fill(0),
+            Call::Judge { work, .. } => work.fill(0),
             _ => (),
         }
         self.attempt(Some(call));
+    }
+
+    /// Takes rows away from a tableau, symbols from its word, pairs from its rows.
+    fn shorten_tableaux(&mut self) {
+        let rows = |call: &mut Call| tableau(call).map_or(0, |tableau| tableau.rows.len());
+        self.shorten(&rows, &|call, gone| without_rows(call, &gone));
+        let places = |call: &mut Call| match call {
+            Call::Judge { word, .. } => word.len(),
+            _ => 0,
+        };
+        self.shorten(&places, &|call, gone| without_word_places(call, &gone));
+        for row in 0..rows(&mut self.call) {
+            let pairs = |call: &mut Call| tableau(call).map_or(0, |tableau| tableau.rows[row].candidate.len() / 2);
+            self.shorten(&pairs, &|call, gone| without_pairs(call, row, &gone));
+        }
     }
 
     /// Zeros in stretches of every list of bytes.

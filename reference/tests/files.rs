@@ -4,6 +4,7 @@ use reference::card::read_card;
 use reference::cases::cases;
 use reference::lines::run;
 use reference::optimizer::list;
+use reference::tableau::say;
 use std::fs::read;
 use std::path::{Path, PathBuf};
 
@@ -33,6 +34,23 @@ fn the_demo() {
         }
     }
     assert_eq!(cards, 7);
+}
+
+/// The demo's tableaux are judged as they are said to be.
+#[test]
+fn the_tableaux() {
+    let mut met = std::collections::BTreeMap::new();
+    for place in std::fs::read_dir(repository().join("demo")).unwrap().map(|entry| entry.unwrap().path()) {
+        let Ok(verdicts) = std::fs::read_to_string(place.join("tableaux/verdicts")) else { continue };
+        let card = read(place.join("card.bin")).unwrap();
+        for line in verdicts.lines() {
+            let [file, ranking, word, verdict] = line.splitn(4, ' ').collect::<Vec<_>>()[..] else { panic!("{line}") };
+            let tableau = read(place.join("tableaux").join(file)).unwrap();
+            assert_eq!(say(&card, &format!("{ranking} {word}"), &tableau), verdict, "{} {file}", place.display());
+            *met.entry(verdict.to_string()).or_insert(0) += 1;
+        }
+    }
+    assert_eq!(met.into_values().collect::<Vec<_>>(), [1, 1, 1, 14]); // another row, not in the table, refused, right
 }
 
 /// Ellison's set has 64 syllabifications of alqalamu.

@@ -6,6 +6,7 @@ use reference::card::{read_card, read_machine, Card};
 use reference::comparison::{compare, describe};
 use reference::optimizer::best;
 use reference::samples::{arc, machine, set};
+use reference::tableau::{read_tableau, verdict, Tableau, Verdict};
 
 /// The smallest call on which the engine is found out, from a few thousand made by chance.
 fn found_out(engine: impl Fn(&Call) -> Outcome) -> Call {
@@ -362,6 +363,78 @@ fn comparing_and_finding() {
         _ => reference(call),
     });
     assert_eq!(call, Call::FindRanking { machines: 1, conditions: vec![0; 128] });
+}
+
+/// Tableaux judged in another way than they should.
+#[test]
+fn tableaux() {
+    let wrong = |change: fn(&Tableau, &[bool]) -> Verdict| {
+        move |call: &Call| {
+            let right = reference(call);
+            let Call::Judge { tableau, .. } = call else { return right };
+            if right.number != 0 {
+                return right;
+            }
+            // a row wins if it is right when it is claimed
+            let wins: Vec<bool> = (0..tableau[0])
+                .map(|row| {
+                    let mut claiming = call.clone();
+                    if let Call::Judge { tableau, .. } = &mut claiming {
+                        tableau[1] = row;
+                    }
+                    reference(&claiming).result[0] == 1
+                })
+                .collect();
+            let result = match change(&read_tableau(tableau, 6).unwrap(), &wins) {
+                Verdict::Right => vec![1, 0],
+                Verdict::AnotherRow(row) => vec![2, row as usize],
+                Verdict::NotInTheTable => vec![3, 0],
+            };
+            Outcome { result, ..right }
+        }
+    };
+    let rows = |call: &Call| match call {
+        Call::Judge { tableau, .. } => tableau[0],
+        _ => panic!("a call that judges"),
+    };
+    // the last row that wins
+    let call = found_out(wrong(|tableau, wins| match wins.iter().rposition(|&wins| wins) {
+        _ if wins[tableau.claimed as usize] => Verdict::Right,
+        Some(row) => Verdict::AnotherRow(row as u8),
+        None => Verdict::NotInTheTable,
+    }));
+    assert_eq!(rows(&call), 3);
+    // a row that ties with an earlier one called wrong
+    let call = found_out(wrong(|tableau, wins| match wins.iter().position(|&wins| wins) {
+        Some(row) if row == tableau.claimed as usize => Verdict::Right,
+        Some(row) => Verdict::AnotherRow(row as u8),
+        None => Verdict::NotInTheTable,
+    }));
+    assert_eq!(rows(&call), 2);
+    // the best of the rows taken for the best of all candidates
+    let call = found_out(wrong(|tableau, wins| match wins.iter().any(|&wins| wins) {
+        true => verdict(tableau.claimed, wins),
+        false => Verdict::Right,
+    }));
+    assert_eq!(rows(&call), 1);
+    // row by row instead of check by check
+    let call = found_out(|call| {
+        let right = reference(call);
+        let Call::Judge { tableau, .. } = call else { return right };
+        if right.number != 20 {
+            return right;
+        }
+        let rows = read_tableau(tableau, 6).unwrap().rows;
+        let first = (0..rows.len()).find_map(|row| {
+            let mut alone = call.clone();
+            if let Call::Judge { tableau, .. } = &mut alone {
+                *tableau = Tableau { claimed: 0, rows: vec![rows[row].clone()] }.bytes();
+            }
+            Some(reference(&alone).number).filter(|number| [20, 21].contains(number))
+        });
+        Outcome { number: first.unwrap(), ..right }
+    });
+    assert_eq!(rows(&call), 2);
 }
 
 /// Sixteen marks let through in cards of one machine.

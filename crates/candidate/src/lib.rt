@@ -117,7 +117,7 @@ fn inserts_at(candidate: &[u8], at: usize) -> bool
 }
 
 // Refusal 13: whether the bytes are at most 3,199 pairs of the card's symbols.
-fn check_candidate(candidate: &[u8], symbols: u8) -> Stage
+pub fn check_candidate(candidate: &[u8], symbols: u8) -> Stage
     ensures { λ r. ⌜ stageNumber r ≡ refuse 13 (soundCandidate symbols (now (candidate .entry))) ⌝ }
 {
     if candidate.len() % 2 != 0 {
@@ -153,13 +153,13 @@ fn spelled_length(candidate: &[u8]) -> u16
 }
 
 // Each machine's marks, in card order, or that some machine does not complete the candidate.
-struct Scored {
-    stage: Stage,
-    profile: Profile,
+pub struct Scored {
+    pub stage: Stage,
+    pub profile: Profile,
 }
 
 // Refusal 14, and the profile.
-fn score(card: &[u8], candidate: &[u8]) -> Scored
+pub fn score(card: &[u8], candidate: &[u8]) -> Scored
     requires { ⌜ (cardRefusal (now card) ≡ 0) × (soundCandidate (symbolCount (now card)) (now candidate) ≡ true) ⌝ }
     ensures { λ r. ⌜ Scores (machinesOf (now (card .entry))) (pairsOf (now (candidate .entry))) r ⌝ }
 {

@@ -52,6 +52,30 @@ pub fn lend_and_optimize(
     true
 }
 
+fn judge(card: &[u8], ranking: &[u8], word: &[u8], work: &mut [u16], tableau: &[u8]) {
+    let judged = tableau::judge(card, ranking, word, work, tableau);
+    write(b"judge");
+    write_byte(judged.number);
+    write_byte(judged.verdict);
+    write_byte(judged.row);
+}
+
+// With so many numbers of work. Answers whether there is as much to lend.
+pub fn lend_and_judge(
+    card: &[u8],
+    ranking: &[u8],
+    word: &[u8],
+    room: usize,
+    tableau: &[u8],
+) -> bool {
+    if room > WORK_NUMBERS {
+        return false;
+    }
+    let mut work = [0u16; WORK_NUMBERS];
+    judge(card, ranking, word, &mut work[0..room], tableau);
+    true
+}
+
 pub fn evaluate(card: &[u8], candidate: &[u8]) {
     write(b"evaluate");
     write_evaluation(candidate::evaluate(card, candidate));

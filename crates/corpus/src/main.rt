@@ -10,6 +10,7 @@
 //     5 compare     machines: a byte; ranking: bytes; two profiles
 //     6 derive      machines: a byte; two profiles
 //     7 find        machines: a byte; conditions: bytes
+//     8 judge       card, ranking, word: bytes; numbers of work: a number; tableau: bytes
 //
 // A case of another kind, one that the file ends in and one that asks to be lent more than there is are faulty. Each of the functions for a kind goes
 // from the place of the first field to the place after the last, which is nowhere for a faulty case.
@@ -21,6 +22,7 @@ use calls::compare;
 use calls::derive;
 use calls::evaluate;
 use calls::find;
+use calls::lend_and_judge;
 use calls::lend_and_optimize;
 use calls::lend_and_pack;
 use calls::read_part;
@@ -138,6 +140,25 @@ fn find_case(file: &[u8], machines: usize) -> usize {
     end
 }
 
+fn judge_case(file: &[u8], card: usize) -> usize {
+    let ranking = after_bytes(file, card);
+    let word = after_bytes(file, ranking);
+    let room = after_bytes(file, word);
+    let tableau = after(file, room, 2);
+    let end = after_bytes(file, tableau);
+    if end == NOWHERE {
+        return NOWHERE;
+    }
+    let lent = lend_and_judge(
+        bytes_at(file, card),
+        bytes_at(file, ranking),
+        bytes_at(file, word),
+        size_at(file, room),
+        bytes_at(file, tableau),
+    );
+    if lent { end } else { NOWHERE }
+}
+
 // The case at a place: its first byte is its kind.
 fn case(file: &[u8], at: usize) -> usize {
     let start = after(file, at, 1);
@@ -149,6 +170,7 @@ fn case(file: &[u8], at: usize) -> usize {
         5 => compare_case(file, start),
         6 => derive_case(file, start),
         7 => find_case(file, start),
+        8 => judge_case(file, start),
         _ => NOWHERE,
     }
 }

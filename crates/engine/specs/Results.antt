@@ -8,6 +8,7 @@ use Rattle.ranking.specs.declared.Order.{Order}
 use Rattle.ranking.specs.declared.Order.the-variants.{Better, Equal, Worse}
 use Rattle.card.specs.declared.PartPlace.{PartPlace}
 use Rattle.candidate.specs.declared.Evaluation.{Evaluation}
+use Rattle.tableau.specs.declared.Judged.{Judged}
 
 -- the six counts, the pair count, the word length
 abbrev pub evaluationNumbers : Evaluation → List ℕ
@@ -41,3 +42,7 @@ orderNumbers (some o) = orderNumber o ∷ decidingMachine o ∷ []
 -- W and L
 abbrev pub conditionNumbers : Condition → List ℕ
 conditionNumbers c = c .fewer ∷ c .more ∷ []
+
+-- the verdict and the row
+abbrev pub judgedNumbers : Judged → List ℕ
+judgedNumbers j = j .verdict ∷ j .row ∷ []

@@ -10,7 +10,9 @@ ghost use Rattle.card.specs.Packing.{packing, packedTarget};
 ghost use Rattle.candidate.specs.Evaluating.{evaluating};
 ghost use Rattle.product.specs.Optimizing.{optimized};
 ghost use Rattle.optimizer.specs.Optimizes.{Optimizes};
-ghost use Rattle.engine.specs.Results.{evaluationNumbers, placeNumbers, orderNumber, decidingMachine, orderNumbers, conditionNumbers, asProfile};
+ghost use Rattle.tableau.specs.Judging.{judging};
+ghost use Rattle.tableau.specs.Judges.{Judges};
+ghost use Rattle.engine.specs.Results.{evaluationNumbers, placeNumbers, orderNumber, decidingMachine, orderNumbers, conditionNumbers, judgedNumbers, asProfile};
 use candidate::Evaluation;
 use ranking::Comparison;
 use ranking::Condition;
@@ -54,6 +56,25 @@ pub extern "C" fn pastaspur_optimize(
         optimizer::optimize(card, ranking, word, work, answer),
         result,
     )
+}
+
+// Judges a tableau for a card, a ranking and a word: 1 to 9, 19 to 21, 11.
+#[no_mangle]
+pub extern "C" fn pastaspur_judge(
+    card: &[u8],
+    ranking: &[u8],
+    word: &[u8],
+    work: &mut [u16],
+    tableau: &[u8],
+    result: &mut [u8; 2],
+) -> u32
+    ensures { λ r. ⌜ r ≡ judging (now (card .entry)) (now (ranking .entry)) (now (word .entry)) (length (now (work .entry))) (now (tableau .entry)) .number ⌝ }
+    ensures { λ _. ⌜ now (result .exit) ≡ judgedNumbers (judging (now (card .entry)) (now (ranking .entry)) (now (word .entry)) (length (now (work .entry))) (now (tableau .entry))) ⌝ }
+    ensures { λ _. ⌜ Judges (now (card .entry)) (now (ranking .entry)) (now (word .entry)) (now (work .entry)) (now (work .exit)) (now (tableau .entry)) (judging (now (card .entry)) (now (ranking .entry)) (now (word .entry)) (length (now (work .entry))) (now (tableau .entry))) ⌝ }
+{
+    let judged = tableau::judge(card, ranking, word, work, tableau);
+    *result = [judged.verdict, judged.row];
+    judged.number as u32
 }
 
 // Evaluates a candidate on a card: 1 to 6, 13, 14.

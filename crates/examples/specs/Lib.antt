@@ -1,3 +1,4 @@
 pub mod Cards
 pub mod Examples
 pub mod Program
+pub mod Tableaux

@@ -5,3 +5,4 @@ pub mod Answers
 pub mod Labels
 pub mod Stages
 pub mod Words
+pub mod Telling

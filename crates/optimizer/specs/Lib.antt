@@ -2,5 +2,6 @@
 pub mod Refusals
 pub mod Optimizes
 pub mod Searching
+pub mod Telling
 -- the theorem that joins the call's contract with demand 3
 pub mod Demand3

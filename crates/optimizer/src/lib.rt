@@ -9,10 +9,14 @@ ghost use Rattle.product.specs.Best.{best};
 ghost use Rattle.product.specs.Sets.{singletons, bestOfSets};
 ghost use Rattle.card.specs.Card.{cardRefusal};
 ghost use Rattle.product.specs.ProductGraph.{cardStart};
+ghost use Rattle.candidate.specs.Candidates.{isSome};
+ghost use Rattle.product.specs.Best.{best};
+ghost use Rattle.product.specs.Optimizing.{inputRefusal};
 ghost use Rattle.labels.specs.LabelCost.{costOf};
 ghost use Rattle.optimizer.specs.Refusals.{numberOf, stageNumber};
 ghost use Rattle.optimizer.specs.Optimizes.{Optimizes};
 ghost use Rattle.optimizer.specs.Searching.{SetsPre, SearchPre, Searched, RankingOfSome, CardOrder};
+ghost use Rattle.optimizer.specs.Telling.{TellsBest};
 use basics::index;
 use candidate::Evaluation;
 use candidate::refused;
@@ -152,6 +156,37 @@ fn search(
     let mut sets = [0u64; 24];
     fill_sets(word, &mut sets);
     search_sets(card, ranking, &sets[..word.len()], size, work, answer)
+}
+
+// The search for accepted sets that have a candidate, without an answer slice: labels the nodes, and reads the best profile off the
+// start's label.
+fn label_sets(card: &[u8], ranking: &[u8], sets: &[u64], size: usize, work: &mut [u16]) -> Profile
+    requires { ⌜ SetsPre (now card) (now ranking) (now sets) (now work) size × (isSome (bestOfSets (now card) (now ranking) (now sets)) ≡ true) ⌝ }
+    ensures { λ r. ⌜ TellsBest (bestOfSets (now (card .entry)) (now (ranking .entry)) (now (sets .entry))) (now (work .entry)) (now (work .exit)) r ⌝ }
+{
+    positions::label(work, card, ranking, sets, size);
+    let label = labels::load(work, start_node(card));
+    profile_of(label, ranking)
+}
+
+// The same for an accepted word: by its sets of one symbol each.
+fn label_best(card: &[u8], ranking: &[u8], word: &[u8], size: usize, work: &mut [u16]) -> Profile
+    requires { ⌜ SearchPre (now card) (now ranking) (now word) (now work) size × (isSome (best (now card) (now ranking) (now word)) ≡ true) ⌝ }
+    ensures { λ r. ⌜ TellsBest (best (now (card .entry)) (now (ranking .entry)) (now (word .entry))) (now (work .entry)) (now (work .exit)) r ⌝ }
+{
+    let mut sets = [0u64; 24];
+    fill_sets(word, &mut sets);
+    label_sets(card, ranking, &sets[..word.len()], size, work)
+}
+
+// The best candidate's profile, for input that passed the checks 1 to 9 and a word that has a candidate.
+pub fn best_profile(card: &[u8], ranking: &[u8], word: &[u8], work: &mut [u16]) -> Profile
+    requires { ⌜ (inputRefusal (now card) (now ranking) (now word) (length (now work)) ≡ 0) × (isSome (best (now card) (now ranking) (now word)) ≡ true) ⌝ }
+    ensures { λ r. ⌜ TellsBest (best (now (card .entry)) (now (ranking .entry)) (now (word .entry))) (now (work .entry)) (now (work .exit)) r ⌝ }
+{
+    let size = input::joint_states(card);
+    let nodes = (word.len() + 1) * size;
+    label_best(card, ranking, word, size, &mut work[..nodes * 8])
 }
 
 // Answers the best candidate for a word under a ranking: 1 to 12.

@@ -31,11 +31,11 @@ use Rattle.ranking.proofs.FinderSets.{disjoint-at, at-disjoint}
 
 -- a search that counts up
 module _ (f : ℕ → Bool) where
-  count-on : (n : ℕ) → firstThat f (numbersBelow n) ≡ none → f n ≡ false → firstThat f (numbersBelow (n + 1)) ≡ none
+  pub count-on : (n : ℕ) → firstThat f (numbersBelow n) ≡ none → f n ≡ false → firstThat f (numbersBelow (n + 1)) ≡ none
   unfolding numbersBelow firstThat
   count-on n h t = rw add-one (first-append f (numbersBelow n) (n ∷ []) h ∙ first-on f [] t)
 
-  count-found : (K n : ℕ) → n < K → firstThat f (numbersBelow n) ≡ none → f n ≡ true → firstThat f (numbersBelow K) ≡ some n
+  pub count-found : (K n : ℕ) → n < K → firstThat f (numbersBelow n) ≡ none → f n ≡ true → firstThat f (numbersBelow K) ≡ some n
   unfolding numbersBelow
   count-found zero n l h t = absurd (omega arith)
   count-found (suc K) n l h t =

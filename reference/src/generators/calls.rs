@@ -1,10 +1,10 @@
 //! Whole calls by chance.
 
-use super::candidates::{damage_a_candidate, walk};
+use super::candidates::{bytes_of, damage_a_candidate, walk};
 use super::cards::{any_card, any_ranking, any_word, open_card};
 use super::damage::{add_states, damage_a_part, damage_a_ranking, damage_a_word, perhaps_damaged};
+use super::tableaux::any_tableau;
 use crate::call::Call;
-use crate::candidate::Pair;
 use crate::card::{read_card, Card, Machine};
 use crate::optimizer::best;
 use crate::random::Random;
@@ -38,12 +38,13 @@ impl Generator {
     /// A call of any kind.
     pub fn call(&self, random: &mut Random) -> Call {
         match random.below(100) {
-            0..=44 => self.optimize(random),
-            45..=64 => self.evaluate(random),
-            65..=72 => self.read_part(random),
-            73..=82 => self.pack(random),
-            83..=88 => compare(random),
-            89..=91 => condition(random),
+            0..=36 => self.optimize(random),
+            37..=52 => self.judge(random),
+            53..=67 => self.evaluate(random),
+            68..=74 => self.read_part(random),
+            75..=84 => self.pack(random),
+            85..=90 => compare(random),
+            91..=92 => condition(random),
             _ => find_ranking(random),
         }
     }
@@ -87,6 +88,27 @@ impl Generator {
         let answer = answer_length(random, found.map_or(word.len(), |candidate| candidate.len()));
         let work = (0..work).map(|_| random.number() as u16).collect();
         Call::Optimize { card, ranking, word, work, answer: random.bytes(answer) }
+    }
+
+    fn judge(&self, random: &mut Random) -> Call {
+        let read = self.card(random);
+        let mut ranking = any_ranking(random, read.machines.len());
+        let mut word = any_word(random, read.symbols);
+        if best(&read, &ranking, &word).is_none() && random.percent(90) {
+            // without a candidate there is nothing to judge
+            return self.judge(random);
+        }
+        let tableau = any_tableau(random, &read, &ranking, &word);
+        let card = perhaps_damaged(random, &read, 25);
+        if random.percent(4) {
+            damage_a_ranking(random, &mut ranking);
+        }
+        if random.percent(4) {
+            damage_a_word(random, &mut word, read.symbols);
+        }
+        let work = work_length(random, 8 * (word.len() + 1) * read.states());
+        let work = (0..work).map(|_| random.number() as u16).collect();
+        Call::Judge { card, ranking, word, work, tableau }
     }
 
     fn evaluate(&self, random: &mut Random) -> Call {
@@ -157,10 +179,6 @@ impl Generator {
         };
         Call::Pack { symbols, lengths, parts, target: random.bytes(target) }
     }
-}
-
-fn bytes_of(candidate: Vec<Pair>) -> Vec<u8> {
-    candidate.into_iter().flat_map(|(input, output)| [input, output]).collect()
 }
 
 /// What is needed, a little less or more, nothing, or what is enough for every card.

@@ -1,5 +1,6 @@
 //! Candidates by chance: ways through a card's machines, and faults in them.
 
+use crate::candidate::Pair;
 use crate::card::Card;
 use crate::random::Random;
 
@@ -50,6 +51,11 @@ pub fn walk(random: &mut Random, card: &Card, pairs: usize) -> Vec<u8> {
         candidate.extend([input, output]);
     }
     candidate
+}
+
+/// A candidate's bytes.
+pub fn bytes_of(candidate: Vec<Pair>) -> Vec<u8> {
+    candidate.into_iter().flat_map(|(input, output)| [input, output]).collect()
 }
 
 /// A fault: refusals 13 and 14, for most of them.

@@ -13,7 +13,7 @@ const INPUTS: usize = 4;
 const OUTPUTS: usize = 12;
 
 /// A byte somewhere in these bytes changed to another.
-fn change_a_byte(random: &mut Random, bytes: &mut [u8]) {
+pub fn change_a_byte(random: &mut Random, bytes: &mut [u8]) {
     if !bytes.is_empty() {
         let place = random.below(bytes.len());
         bytes[place] = match random.below(4) {

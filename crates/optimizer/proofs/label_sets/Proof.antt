@@ -1,0 +1,30 @@
+use native.Mathlib.Omega.{arith}
+use borrow.Author.Needs.{needs}
+use Rattle.labels.specs.LabelCost.{costOf}
+use Rattle.optimizer.proofs.Stages.{some-ranking, start-there}
+use Rattle.optimizer.proofs.Telling.{best-told}
+use Rattle.optimizer.proofs.label_sets.Statement.{statement}
+use Rattle.optimizer.proofs.label_sets.Tie as tie
+
+load-requires : tie.Need-load-requires
+load-requires c κs =
+    let l = c .before .before .before .before in
+    omega (arith, start-there (l .before .before .before .before .before .before .pre .0) (l .label .ensures), c .start-node .ensures)
+
+profile-of-requires : tie.Need-profile-of-requires
+profile-of-requires c κs = some-ranking (c .before .before .before .before .before .before .before .before .before .before .before .pre .0)
+
+returns : tie.Need-returns
+returns c =
+    let d = c .before in
+    let n = d .before in
+    let l = n .before .before .before .before in
+    let s = l .before .before .before .before .before .before in
+    record {
+      result = best-told (s .pre .0) (l .label .ensures) (s .pre .1) (n .start-node .result) (n .start-node .ensures) (costOf (d .load .result)) (d .load .ensures) (c .profile-of .result) (c .profile-of .ensures);
+      work-length = l .label .ensures .size;
+    }
+
+pub label-sets-spec : {M : Type 1} → statement M
+label-sets-spec =
+    tie.close (tie.spec (λ c κs. search needs) (λ c κs. search needs) load-requires profile-of-requires (λ c. search needs) returns)

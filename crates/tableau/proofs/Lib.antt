@@ -1,0 +1,5 @@
+pub mod Spelling
+pub mod Rows
+pub mod Layouts
+pub mod Verdicts
+pub mod Answers

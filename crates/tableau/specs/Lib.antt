@@ -1,0 +1,10 @@
+-- definitions
+pub mod Refusals
+pub mod Tableau
+pub mod Reading
+pub mod Judging
+pub mod Judges
+-- lemmas
+pub mod Laws
+-- theorems
+pub mod Verdicts
