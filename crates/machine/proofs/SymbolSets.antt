@@ -1,26 +1,18 @@
--- Sets of symbols: the table of powers, the set of one symbol, sets with no bit over S. Assumes nothing.
+-- Sets of symbols: the set of one symbol, sets with no bit over S. Assumes nothing.
 use mathlib.Core.Path.{_≡_, refl, sym, _∙_, ap}
 use mathlib.Core.Bool.{Bool, true, false, not, _&&_}
-use mathlib.Core.List.{List}
 use Prim.Native.Nat.{ℕ, zero, suc, _+_, _-_, _*_, _/_, _%_, _^_, _<_, _≤_}
 use native.Mathlib.Nat.{div-one, pow-suc}
 use native.Mathlib.Numerals.{add-one}
 use native.Mathlib.Omega.{arith}
 use lib.Dec.{eqb, ltb}
-use lib.ListN.{getD}
 use lib.Bits.{bitAnd, and-le-l}
 use lib.Count.{trailingZeros, under}
 use lib.Pow.{shr-shr}
 use borrow.Author.Tests.{ltb-true, ltb-false, lt-ltb, eqb-true, eqb-false, eq-eqb, ne-eqb, not-true}
-use Rattle.basics.specs.Search.{everyBelow}
 use Rattle.basics.specs.Sets.{member}
 use Rattle.basics.proofs.Bools.{same, clash, both, left, right}
-use Rattle.basics.proofs.Below.{every-at}
 use Rattle.basics.proofs.Sets.{has-member, its-member, member-one, member-and}
-
--- a table that passes one test has the power of two at each place
-pub power-at : (table : List ℕ) → everyBelow (λ k. eqb (getD table k 0) (2 ^ k)) 64 ≡ true → (k : ℕ) → k < 64 → getD table k 0 ≡ 2 ^ k
-power-at table t k h = eqb-true (getD table k 0) (2 ^ k) (every-at (λ k. eqb (getD table k 0) (2 ^ k)) 64 t k h)
 
 -- a set has a symbol where it meets the set of that symbol
 pub meets-one : (w n : ℕ) → w < 2 ^ 64 → not (eqb (bitAnd w (2 ^ n)) 0) ≡ member w n

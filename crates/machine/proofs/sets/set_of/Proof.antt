@@ -1,26 +1,15 @@
--- The table is the list of the powers of two, by computing, and the rule of that list is one test over all of it.
-use mathlib.Core.Path.{_≡_, refl}
-use mathlib.Core.Bool.{true}
-use mathlib.Core.List.{List, map}
-use Prim.Native.Nat.{ℕ, _^_}
-use lib.Dec.{eqb}
-use lib.ListN.{getD}
+use native.Mathlib.Omega.{arith}
+use native.Mathlib.Nat.{one-mul}
+use mathlib.Core.Path.{_∙_}
+use Prim.Native.Nat.{_^_}
+use lib.Pow.{shl-exact}
 use borrow.Author.Needs.{needs}
-use Rattle.basics.specs.Search.{everyBelow, numbersBelow}
-use Rattle.machine.proofs.SymbolSets.{power-at}
 use Rattle.machine.proofs.sets.set_of.Statement.{statement}
 use Rattle.machine.proofs.sets.set_of.Tie as tie
 
-table : List ℕ
-table = map (λ k. 2 ^ k) (numbersBelow 64)
-
-rule : everyBelow (λ k. eqb (getD table k 0) (2 ^ k)) 64 ≡ true
-unfolding everyBelow numbersBelow table
-rule = refl
-
+-- the shift does not wrap
 returns : tie.Need-returns
-unfolding numbersBelow table
-returns c = power-at table rule (c .args .symbol) (search needs)
+returns c = shl-exact 1 (c .args .symbol) 64 (omega arith) (omega arith) ∙ one-mul (2 ^ c .args .symbol)
 
 pub set-of-spec : {M : Type 1} → statement M
-set-of-spec = tie.close (tie.spec (λ c. search needs) (λ c. search needs) returns)
+set-of-spec = tie.close (tie.spec (λ c. search needs) returns)
