@@ -1,5 +1,6 @@
 //! A small generator of numbers that look random and depend on the seed alone.
 
+#[derive(Clone)]
 pub struct Random(u64);
 
 impl Random {

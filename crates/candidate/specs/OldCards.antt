@@ -51,11 +51,12 @@ module _ (m : Machine) (free : (s : ℕ) → endingOf m s ≡ freeEnding (ending
   same-marks : (s : ℕ) (c : List Pair) → marksFrom m s c ≡ arcMarksFrom m s c
   unfolding marksFrom arcMarksFrom
   same-marks s [] = free s
-  same-marks s (p ∷ ps) = go (stepOf m s p)
+  same-marks s (p ∷ ps) = go (stepOf m s p) (λ t. same-marks t ps)
     where
-      go : (o : Option (ℕ × ℕ)) → (elim o as (λ _. Option ℕ) [ none ↦ none | some r ↦ addMarks (r .1) (marksFrom m (r .0) ps) ]) ≡ (elim o as (λ _. Option ℕ) [ none ↦ none | some r ↦ addMarks (r .1) (arcMarksFrom m (r .0) ps) ])
-      go none = refl
-      go (some r) = ap (addMarks (r .1)) (same-marks (r .0) ps)
+      go : (o : Option (ℕ × ℕ)) → ((t : ℕ) → marksFrom m t ps ≡ arcMarksFrom m t ps)
+          → _≡_ {A = Option ℕ} (elim o as (λ _. Option ℕ) [ none ↦ none | some r ↦ addMarks (r .1) (marksFrom m (r .0) ps) ]) (elim o as (λ _. Option ℕ) [ none ↦ none | some r ↦ addMarks (r .1) (arcMarksFrom m (r .0) ps) ])
+      go none h = refl
+      go (some r) h = ap (addMarks (r .1)) (h (r .0))
 
 part-same : (part : List ℕ) → oldStates part ≡ true → (c : List Pair) → marksOf c (machineOf part) ≡ arcMarksOf c (machineOf part)
 unfolding machineOf endingOf
