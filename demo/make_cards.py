@@ -11,7 +11,7 @@ What card.txt may say, one thing to a line (# starts a comment):
     set NAME = NAME ..                 a name for several symbols
     machine NAME                       a constraint; then its lines:
       states NAME ..                   the first one is the start
-      final NAME[=MARKS] ..            the states that a candidate may end in; no MARKS for ending there are 0
+      final NAME ..                    the states that a candidate may end in
       arc FROM -> TO  IN : OUT  MARKS  IN and OUT are sets, names with commas; no MARKS are 0
     line MACHINE .. / SYMBOL ..        a ranking and a word: a line of stdin
     tableau MACHINE .. / SYMBOL ..     a line of stdin, and candidates for it, the best one marked with >:
@@ -54,10 +54,8 @@ class Card:
             self.sets[rest[0]] = [symbol for name in rest[2:] for symbol in self.set_of(name)]
         elif key == "machine":
             self.machine = self.machines[rest[0]] = {"arcs": []}
-        elif key == "states":
+        elif key in ("states", "final"):
             self.machine[key] = rest
-        elif key == "final":
-            self.machine[key] = {name: int(marks or 0) for name, _, marks in (word.partition("=") for word in rest)}
         elif key == "arc":
             start, _, end, inputs, _, outputs = rest[:6]
             marks = int(rest[6]) if len(rest) > 6 else 0
@@ -94,7 +92,7 @@ class Card:
 
     def part(self, machine):
         states = machine["states"]
-        part = bytes([len(states), len(machine["arcs"])]) + bytes(machine["final"].get(state, -1) + 1 for state in states)
+        part = bytes([len(states), len(machine["arcs"])]) + bytes(state in machine["final"] for state in states)
         for start, end, inputs, outputs, marks in machine["arcs"]:
             part += bytes([states.index(start), states.index(end), marks, 0]) + self.bits(inputs) + self.bits(outputs)
         return part
@@ -144,7 +142,7 @@ class Card:
                 state, count = taken[0][1], count + taken[0][4]
             if state not in machine["final"]:
                 return None
-            counts.append(count + machine["final"][state])
+            counts.append(count)
         return counts
 
     def answer(self, text):

@@ -19,8 +19,7 @@ impl Arc {
 
 #[derive(Clone, Debug, PartialEq, Eq)]
 pub struct Machine {
-    /// For each state the marks for ending there, none where it is not final.
-    pub endings: Vec<Option<u16>>,
+    pub finals: Vec<bool>,
     pub arcs: Vec<Arc>,
 }
 
@@ -33,8 +32,8 @@ impl Machine {
 
     /// The machine's part of a card.
     pub fn part(&self) -> Vec<u8> {
-        let mut part = vec![self.endings.len() as u8, self.arcs.len() as u8];
-        part.extend(self.endings.iter().map(|ending| ending.map_or(0, |marks| marks as u8 + 1)));
+        let mut part = vec![self.finals.len() as u8, self.arcs.len() as u8];
+        part.extend(self.finals.iter().map(|&is_final| is_final as u8));
         for arc in &self.arcs {
             part.extend([arc.from as u8, arc.to as u8, arc.marks as u8, 0]);
             part.extend(arc.inputs.to_le_bytes());
@@ -60,7 +59,7 @@ impl Card {
 }
 
 fn product(machines: &[Machine]) -> usize {
-    machines.iter().map(|m| m.endings.len()).product()
+    machines.iter().map(|m| m.finals.len()).product()
 }
 
 fn short(bytes: &[u8], at: usize) -> usize {
@@ -80,8 +79,8 @@ pub fn read_machine(part: &[u8], symbols: u8) -> Result<Machine, Refusal> {
     if !(1..=32).contains(&states) || part.len() != 2 + states + 20 * arcs {
         return Err(3);
     }
-    let bytes = &part[2..2 + states];
-    if bytes.iter().any(|&byte| byte > 16) {
+    let flags = &part[2..2 + states];
+    if flags.iter().any(|&byte| byte > 1) {
         return Err(4);
     }
     let mut list = Vec::new();
@@ -109,7 +108,7 @@ pub fn read_machine(part: &[u8], symbols: u8) -> Result<Machine, Refusal> {
             }
         }
     }
-    Ok(Machine { endings: bytes.iter().map(|&byte| byte.checked_sub(1).map(u16::from)).collect(), arcs: list })
+    Ok(Machine { finals: flags.iter().map(|&byte| byte == 1).collect(), arcs: list })
 }
 
 /// Whether both arcs take some pair, symbol after symbol; 0:0 is no pair.

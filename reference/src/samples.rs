@@ -12,9 +12,8 @@ pub fn arc(from: usize, to: usize, marks: u16, inputs: u64, outputs: u64) -> Arc
     Arc { from, to, marks, inputs, outputs }
 }
 
-/// A machine whose endings cost nothing.
 pub fn machine(finals: &[bool], arcs: Vec<Arc>) -> Machine {
-    Machine { endings: finals.iter().map(|is_final| is_final.then_some(0)).collect(), arcs }
+    Machine { finals: finals.to_vec(), arcs }
 }
 
 pub fn card(symbols: u8, machines: &[Machine]) -> Vec<u8> {
@@ -89,7 +88,7 @@ pub fn full() -> Vec<u8> {
 /// As `full`, but no candidate is complete: the first machine stays in state 0, which is not final.
 pub fn none() -> Vec<u8> {
     let mut machines = full_machines();
-    machines[0].endings = vec![None, Some(0)];
+    machines[0].finals = vec![false, true];
     for arc in &mut machines[0].arcs {
         arc.to = arc.from;
     }

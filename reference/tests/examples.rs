@@ -1,4 +1,4 @@
-//! The ten examples of the requirements, those of the change requests, and the cards they are about.
+//! The ten examples of the requirements, and the cards they are about.
 
 use reference::candidate::evaluate;
 use reference::card::{lay_out, read_card, read_part};
@@ -68,14 +68,4 @@ fn example_9() {
 #[test]
 fn example_10() {
     assert_eq!(find_ranking(3, &[0b100, 0b001]), Ok([1, 2, 0, 0, 0, 0]));
-}
-
-/// S-5: a mark for ending in state 1 of card B's first machine.
-#[test]
-fn ending_marks() {
-    let mut card = card_b();
-    card[17] = 2;
-    assert_eq!(answer(&card, b"012 1"), "0,0,1 1:0");
-    assert_eq!(answer(&card, b"201 1"), "0,1,0 1:1 0:2");
-    assert_eq!(answer(&card, b"210 1"), "1,0,0 1:1");
 }

@@ -233,7 +233,7 @@ fn clashes_of_no_pair() {
                 card.machines.iter().any(|machine| {
                     let doubtful =
                         |state| machine.arcs.iter().filter(|arc| arc.from == state && arc.takes(0, 0)).count();
-                    (0..machine.endings.len()).any(|state| doubtful(state) > 1)
+                    (0..machine.finals.len()).any(|state| doubtful(state) > 1)
                 })
             });
         if clash {

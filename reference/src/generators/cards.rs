@@ -231,25 +231,12 @@ fn most_states(random: &mut Random, machines: usize) -> Vec<usize> {
     counts
 }
 
-/// Marks for ending, by chance, in some of the machines. What is made next does not depend on them.
-fn mark_endings(random: &Random, machines: &mut [Machine]) {
-    let mut random = random.clone();
-    for machine in machines {
-        if random.percent(40) {
-            let most = random.one_of(&[1, 2, 15]);
-            for ending in machine.endings.iter_mut().flatten() {
-                *ending = random.between(0, most) as u16;
-            }
-        }
-    }
-}
-
 /// A card with these machines.
 pub fn card_of(symbols: u8, machines: Vec<Machine>) -> Card {
     let mut offset = 2 + 4 * machines.len();
     let mut places = Vec::new();
     for machine in &machines {
-        let length = 2 + machine.endings.len() + 20 * machine.arcs.len();
+        let length = 2 + machine.finals.len() + 20 * machine.arcs.len();
         places.push((offset, length));
         offset += length;
     }
@@ -287,9 +274,8 @@ pub fn any_card(random: &mut Random) -> Card {
     }
     if random.percent(2) {
         let place = random.below(machines);
-        list[place].endings.fill(None);
+        list[place].finals.fill(false);
     }
-    mark_endings(random, &mut list);
     card_of(symbols, list)
 }
 
@@ -307,7 +293,6 @@ pub fn open_card(random: &mut Random) -> Card {
         }
         list.push(made);
     }
-    mark_endings(random, &mut list);
     card_of(symbols, list)
 }
 
