@@ -13,7 +13,7 @@ pub struct Evaluation {
     pub word_length: usize,
 }
 
-/// The marks of one machine over a candidate, if it takes every pair and ends in a final state.
+/// The marks of one machine over a candidate, those of its ending too, if it takes every pair and ends in a final state.
 pub fn marks(machine: &Machine, candidate: &[Pair]) -> Option<u16> {
     let (mut state, mut sum) = (0, 0);
     for &(input, output) in candidate {
@@ -21,7 +21,7 @@ pub fn marks(machine: &Machine, candidate: &[Pair]) -> Option<u16> {
         state = next;
         sum += more;
     }
-    machine.finals[state].then_some(sum)
+    Some(sum + machine.endings[state]?)
 }
 
 /// The profile of a complete candidate of at most 3,199 pairs.

@@ -19,7 +19,8 @@ impl Arc {
 
 #[derive(Clone, Debug, PartialEq, Eq)]
 pub struct Machine {
-    pub finals: Vec<bool>,
+    /// For each state its ending marks, or nothing where it is not final.
+    pub endings: Vec<Option<u16>>,
     pub arcs: Vec<Arc>,
 }
 
@@ -32,8 +33,8 @@ impl Machine {
 
     /// The machine's part of a card.
     pub fn part(&self) -> Vec<u8> {
-        let mut part = vec![self.finals.len() as u8, self.arcs.len() as u8];
-        part.extend(self.finals.iter().map(|&is_final| is_final as u8));
+        let mut part = vec![self.endings.len() as u8, self.arcs.len() as u8];
+        part.extend(self.endings.iter().map(|ending| ending.map_or(0, |marks| marks as u8 + 1)));
         for arc in &self.arcs {
             part.extend([arc.from as u8, arc.to as u8, arc.marks as u8, 0]);
             part.extend(arc.inputs.to_le_bytes());
@@ -59,7 +60,7 @@ impl Card {
 }
 
 fn product(machines: &[Machine]) -> usize {
-    machines.iter().map(|m| m.finals.len()).product()
+    machines.iter().map(|m| m.endings.len()).product()
 }
 
 fn short(bytes: &[u8], at: usize) -> usize {
@@ -79,8 +80,8 @@ pub fn read_machine(part: &[u8], symbols: u8) -> Result<Machine, Refusal> {
     if !(1..=32).contains(&states) || part.len() != 2 + states + 20 * arcs {
         return Err(3);
     }
-    let flags = &part[2..2 + states];
-    if flags.iter().any(|&byte| byte > 1) {
+    let state_bytes = &part[2..2 + states];
+    if state_bytes.iter().any(|&byte| byte > 16) {
         return Err(4);
     }
     let mut list = Vec::new();
@@ -108,7 +109,8 @@ pub fn read_machine(part: &[u8], symbols: u8) -> Result<Machine, Refusal> {
             }
         }
     }
-    Ok(Machine { finals: flags.iter().map(|&byte| byte == 1).collect(), arcs: list })
+    let endings = state_bytes.iter().map(|&byte| (byte as u16).checked_sub(1)).collect();
+    Ok(Machine { endings, arcs: list })
 }
 
 /// Whether both arcs take some pair, symbol after symbol; 0:0 is no pair.

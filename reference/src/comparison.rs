@@ -88,10 +88,14 @@ fn describe_card(card: &[u8]) -> String {
     let Ok(card) = read_card(card) else { return String::new() };
     let mut text = format!("  the card: {} symbols\n", card.symbols);
     for (place, machine) in card.machines.iter().enumerate() {
-        let finals: Vec<String> =
-            (0..machine.finals.len()).filter(|&state| machine.finals[state]).map(|state| state.to_string()).collect();
-        let states = machine.finals.len();
-        writeln!(text, "    machine {place}: {states} states, final {{{}}}", finals.join(",")).unwrap();
+        let ending = |(state, ending): (usize, &Option<u16>)| match ending {
+            None => None,
+            Some(0) => Some(state.to_string()),
+            Some(marks) => Some(format!("{state} with {marks} marks")),
+        };
+        let endings: Vec<String> = machine.endings.iter().enumerate().filter_map(ending).collect();
+        let states = machine.endings.len();
+        writeln!(text, "    machine {place}: {states} states, final {{{}}}", endings.join(", ")).unwrap();
         for arc in &machine.arcs {
             let (inputs, outputs) = (symbols(arc.inputs), symbols(arc.outputs));
             writeln!(text, "      {} to {}, {} marks, in {inputs}, out {outputs}", arc.from, arc.to, arc.marks)

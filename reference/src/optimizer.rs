@@ -18,14 +18,14 @@ fn sum(a: &Cost, b: &Cost) -> Cost {
 
 /// The states of all machines as one number, and back.
 fn joined(card: &Card, states: &[usize]) -> usize {
-    card.machines.iter().zip(states).fold(0, |number, (machine, state)| number * machine.finals.len() + state)
+    card.machines.iter().zip(states).fold(0, |number, (machine, state)| number * machine.endings.len() + state)
 }
 
 fn apart(card: &Card, mut number: usize) -> Vec<usize> {
     let mut states = Vec::new();
     for machine in card.machines.iter().rev() {
-        states.insert(0, number % machine.finals.len());
-        number /= machine.finals.len();
+        states.insert(0, number % machine.endings.len());
+        number /= machine.endings.len();
     }
     states
 }
@@ -38,7 +38,7 @@ fn steps(card: &Card, ranking: &[u8], input: u8) -> Vec<Vec<Step>> {
         .iter()
         .map(|machine| {
             let row = |state| (0..=card.symbols).map(|output| machine.step(state, input, output)).collect();
-            (0..machine.finals.len()).map(row).collect()
+            (0..machine.endings.len()).map(row).collect()
         })
         .collect();
     let from = |number| {
@@ -60,12 +60,22 @@ fn steps(card: &Card, ranking: &[u8], input: u8) -> Vec<Vec<Step>> {
     (0..card.states()).map(from).collect()
 }
 
+/// What it costs to end in a joined state, if every machine may.
+fn ending(card: &Card, ranking: &[u8], number: usize) -> Option<Cost> {
+    let states = apart(card, number);
+    let mut cost = [0; 7];
+    for (place, &machine) in ranking.iter().enumerate() {
+        let machine = machine as usize;
+        cost[place] = card.machines[machine].endings[states[machine]]? as u32;
+    }
+    Some(cost)
+}
+
 /// The best candidate for a word on an accepted card.
 pub fn best(card: &Card, ranking: &[u8], word: &[u8]) -> Option<Vec<Pair>> {
     let insertions = steps(card, ranking, 0);
     let readings: Vec<_> = word.iter().map(|&symbol| steps(card, ranking, symbol)).collect();
-    let all_final = |number| card.machines.iter().zip(apart(card, number)).all(|(m, state)| m.finals[state]);
-    let endings: Vec<Option<Cost>> = (0..card.states()).map(|number| all_final(number).then_some([0; 7])).collect();
+    let endings: Vec<Option<Cost>> = (0..card.states()).map(|number| ending(card, ranking, number)).collect();
 
     // labels[position][state]: the least cost from there to an end
     let mut labels: Vec<Vec<Option<Cost>>> = vec![vec![]; word.len() + 1];

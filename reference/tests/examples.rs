@@ -4,7 +4,7 @@ use reference::candidate::evaluate;
 use reference::card::{lay_out, read_card, read_part};
 use reference::lines::answer;
 use reference::ranking::{condition, find_ranking};
-use reference::samples::{arc, card, card_b, machine, set, CARD_A};
+use reference::samples::{arc, card, card_b, card_b_ending, machine, set, CARD_A};
 
 #[test]
 fn card_a_is_as_described() {
@@ -40,6 +40,12 @@ fn examples_3_to_5() {
 #[test]
 fn the_empty_word() {
     assert_eq!(answer(&card_b(), b"012 "), "0,0,0");
+}
+
+/// Ending marks.
+#[test]
+fn a_final_consonant() {
+    assert_eq!(answer(&card_b_ending(), b"012 1"), "0,0,1 1:0");
 }
 
 #[test]

@@ -96,7 +96,7 @@ fn refusal_3() {
 #[test]
 fn refusal_4() {
     for (place, accepted, refused) in [
-        (8, 0, 2),    // state byte
+        (8, 16, 17),  // state byte
         (9, 0, 1),    // from
         (10, 0, 1),   // to
         (11, 15, 16), // marks

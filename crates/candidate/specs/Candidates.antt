@@ -35,7 +35,7 @@ abbrev pub addMarks : ℕ → Option ℕ → Option ℕ
 addMarks m none = none
 addMarks m (some n) = some (m + n)
 
--- a machine takes every pair in turn and ends in a final state: the marks of the arcs taken, added
+-- a machine takes every pair in turn and ends in a final state: the marks of the arcs taken and those for ending, added
 unfoldable pub marksFrom : Machine → ℕ → List Pair → Option ℕ
 marksFrom m s [] = endingOf m s
 marksFrom m s (p ∷ ps) = elim (stepOf m s p) [ none ↦ none | some r ↦ addMarks (r .1) (marksFrom m (r .0) ps) ]

@@ -3,3 +3,4 @@ pub mod Candidates
 pub mod ProfileMerge
 pub mod Evaluating
 pub mod Scoring
+pub mod OldCards

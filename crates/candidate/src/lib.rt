@@ -96,7 +96,8 @@ fn run(part: &[u8], candidate: &[u8], symbols: u8) -> Marks
     let Ending::Marks(more) = position.ending(part) else {
         return Marks::NotComplete;
     };
-    Marks::Complete(marks + wide(more))
+    let total = marks + wide(more);
+    Marks::Complete(total)
 }
 
 // Whether the bytes at a place are a pair of the card's symbols.

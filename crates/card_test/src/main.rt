@@ -130,10 +130,10 @@ const WRAPPED: [u8; 10] = *b"\x02\x02\
     \x0a\x00\xfa\xff\x04\x00\x06\x00";
 
 // Card A with another byte at a place: the place and the byte. A line for each row of the table from 1 to 4.
-const EDITS: [u8; 60] = *b"\x00\x00\x00\x02\x00\x07\x01\x00\x01\x01\x01\x3f\x01\x40\
+const EDITS: [u8; 62] = *b"\x00\x00\x00\x02\x00\x07\x01\x00\x01\x01\x01\x3f\x01\x40\
     \x02\x05\x02\x07\x04\x16\x04\x18\
     \x06\x00\x06\x02\x07\x00\x07\x02\
-    \x08\x00\x08\x02\x09\x01\x0a\x01\x0b\x0f\x0b\x10\x0c\x01\x0d\x07\x0d\x00\x0d\x0a\x14\x80\x15\x01\x15\x00\x15\x0e\x1c\x80";
+    \x08\x00\x08\x10\x08\x11\x09\x01\x0a\x01\x0b\x0f\x0b\x10\x0c\x01\x0d\x07\x0d\x00\x0d\x0a\x14\x80\x15\x01\x15\x00\x15\x0e\x1c\x80";
 
 fn write(text: &[u8]) {
     io::write_all(1, text);
@@ -182,7 +182,7 @@ fn edited(at: u8, byte: u8) {
 }
 
 fn edits() {
-    for i in 0..30 {
+    for i in 0..31 {
         edited(EDITS[2 * i], EDITS[2 * i + 1]);
     }
 }
@@ -363,8 +363,20 @@ fn states_5_and_32() {
 
 fn unsound_state() {
     let mut card = STATES_5_AND_32;
-    card[50] = 2;
-    both_ways(b"states 5 and 32, the last byte 2", &card, &[7, 34], 10);
+    card[50] = 17;
+    both_ways(b"states 5 and 32, the last byte 17", &card, &[7, 34], 10);
+}
+
+// State byte 16: 15 marks for ending there.
+fn ending_marks() {
+    let mut card = SIX_MACHINES;
+    card[28] = 16;
+    both_ways(
+        b"six machines, 15 marks for ending",
+        &card,
+        &[3, 3, 3, 3, 3, 3],
+        26,
+    );
 }
 
 fn arc_twice() {
@@ -437,6 +449,7 @@ fn main() {
     states_4_and_32();
     states_5_and_32();
     unsound_state();
+    ending_marks();
     arc_twice();
     two_states();
     only_0_0();

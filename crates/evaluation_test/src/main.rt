@@ -403,6 +403,34 @@ fn on_c(candidate: &[u8]) {
     write_evaluation(candidate::evaluate(&card, candidate));
 }
 
+// Card B with a mark for ending in state 1 of the first machine.
+fn on_b_ending(candidate: &[u8]) {
+    let mut card = CARD_B;
+    card[17] = 2;
+    write(b"B, ending ");
+    write_evaluation(candidate::evaluate(&card, candidate));
+}
+
+// Card C with a state byte for its last state.
+fn on_c_ending(byte: u8, candidate: &[u8]) {
+    let mut card = CARD_C;
+    card[9] = byte;
+    write(b"C, ending ");
+    write_evaluation(candidate::evaluate(&card, candidate));
+}
+
+// Ending marks are counted where a candidate ends, and not where it passes; state bytes 16 and 17.
+fn endings() {
+    on_b_ending(b"\x01\x01");
+    on_b_ending(b"\x01\x01\x02\x02");
+    on_b_ending(b"\x01\x00");
+    on_b_ending(b"");
+    on_c_ending(2, b"\x01\x01");
+    on_c_ending(16, b"\x01\x01");
+    on_c_ending(17, b"\x01\x01");
+    on_c_ending(16, b"");
+}
+
 // The example of the requirements, the candidate of no pairs, and both kinds of pair alone.
 fn accepted() {
     on_b(b"\x00\x01\x02\x00");
@@ -449,11 +477,12 @@ fn long_on_b() {
     on_b(&bytes[0..50]);
 }
 
-// The largest count that there is: 15 for each of 3,199 pairs.
+// The largest count that there is: 15 for each of 3,199 pairs, and 15 for ending.
 fn long_on_c() {
     let mut bytes = [0u8; 6400];
     fill(&mut bytes, 1);
     on_c(&bytes[0..6398]);
+    on_c_ending(16, &bytes[0..6398]);
     on_c(&bytes[0..6400]);
 }
 
@@ -472,6 +501,7 @@ fn refused_cards() {
 
 fn main() {
     accepted();
+    endings();
     not_sound();
     not_complete();
     long_on_b();

@@ -1,4 +1,4 @@
--- The ten examples, in one joint proof from the definitions alone.
+-- The ten examples, in one joint proof from the definitions alone; and those of the change requests.
 use mathlib.Core.Path.{_≡_, refl}
 use mathlib.Core.List.{List, [], _∷_}
 use Prim.Native.Nat.{ℕ}
@@ -20,7 +20,7 @@ use Rattle.candidate.specs.Evaluating.{refused, soundCandidate, evaluating}
 use Rattle.ranking.specs.ByteStrings.{smaller}
 use Rattle.product.specs.Best.{winsTie, preferred, sameWord, pairsOver, listsBelow, contendersAmong, leastOf, bestBelow, bestOf, bestIn, best}
 use Rattle.product.specs.Optimizing.{soundWord, inputRefusal, optimizerRefusal, optimized, optimizedAnswer}
-use Rattle.examples.specs.Cards.{cardA, cardAWithInsertion, cardB}
+use Rattle.examples.specs.Cards.{cardA, cardAWithInsertion, cardB, cardBWithEnding}
 
 -- an accepted result: the counts, the pairs, the length of the word
 abbrev pub accepted : List ℕ → ℕ → ℕ → Evaluation
@@ -67,3 +67,13 @@ the-ten-examples = record {
   nine = refl;
   ten = refl;
 }
+
+pub record RequestExamples : Type 0 where
+  -- S-5. B with state byte 2 for state 1 of machine 0, `012 1`: `0,0,1 1:0`
+  pub ending-marks : Gives cardBWithEnding (0 ∷ 1 ∷ 2 ∷ []) 1 (accepted (0 ∷ 0 ∷ 1 ∷ 0 ∷ 0 ∷ 0 ∷ []) 1 1) (1 ∷ 0 ∷ 9 ∷ 9 ∷ [])
+  -- and there 1:1 has a mark for ending: 1,0,0; one pair, word length 1
+  pub its-profile : evaluating cardBWithEnding (1 ∷ 1 ∷ []) ≡ accepted (1 ∷ 0 ∷ 0 ∷ 0 ∷ 0 ∷ 0 ∷ []) 1 1
+
+pub the-request-examples : RequestExamples
+unfolding allOf pairwise those firstThat joined everyBelow someBelow numbersBelow occurrences setOf takes stepAmong endingOf takeOnePair clash arcAt arcsAt machineOf soundArc shaped partRefusal dueOffset laidOut partsIn counted partsOf cardRefusal partsRefusal product machinesOf isRanking arrangements harmony highest fits conditionsOf disjoint soundCondition soundList smallest finding pairsOf bytesOf spelled marksFrom isComplete profileOf soundCandidate evaluating smaller winsTie preferred sameWord pairsOver listsBelow contendersAmong leastOf bestBelow bestOf bestIn best soundWord inputRefusal optimizerRefusal optimized optimizedAnswer
+the-request-examples = record { ending-marks = (refl, refl); its-profile = refl }

@@ -14,8 +14,8 @@ use Rattle.basics.proofs.Bools.{clash as never, left, right}
 use Rattle.basics.proofs.Sets.{member-beyond}
 use Rattle.machine.specs.declared.Arc.{Arc}
 use Rattle.machine.specs.declared.Pair.{Pair}
-use Rattle.machine.specs.Machine.{takes}
-use Rattle.machine.specs.Part.{stateCount, arcCount, stateBytes, machineOf, shaped, soundSet, soundArc, soundStates, soundArcs, noClash, partRefusal}
+use Rattle.machine.specs.Machine.{stateCountOf, takes}
+use Rattle.machine.specs.Part.{stateCount, arcCount, stateBytes, endingByte, machineOf, shaped, soundSet, soundArc, soundStates, soundArcs, noClash, partRefusal}
 
 -- a part that passes refusal 3
 pub record Shaped (part : List ℕ) : Type 0 where
@@ -41,10 +41,10 @@ shape-facts l t =
     }
 
 -- its machine has as many states as the part says
-pub finals-count : (part : List ℕ) → shaped part ≡ true → length (machineOf part .finals) ≡ stateCount part
+pub state-count : (part : List ℕ) → shaped part ≡ true → stateCountOf (machineOf part) ≡ stateCount part
 unfolding machineOf
-finals-count part t =
-    length-map (stateBytes part) (λ b. eqb b 1)
+state-count part t =
+    length-map (stateBytes part) endingByte
     ∙ length-slice 2 (2 + stateCount part) part (omega (arith, shape-facts part t))
     ∙ omega arith
 

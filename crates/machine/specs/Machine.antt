@@ -1,9 +1,9 @@
 -- Constraint machines: arcs, the pairs that they take, steps, endings.
-use mathlib.Core.Bool.{Bool, true, false, _&&_, cond}
+use mathlib.Core.Bool.{Bool, true, false, _&&_}
 use mathlib.Core.List.{List, [], _∷_}
 use mathlib.Core.Option.{Option, some, none}
 use Prim.Native.Nat.{ℕ}
-use lib.ListN.{getD}
+use lib.ListN.{length, getD}
 use lib.Dec.{eqb}
 use Rattle.basics.specs.Sets.{member}
 use Rattle.basics.specs.Search.{someBelow}
@@ -15,10 +15,18 @@ use Rattle.machine.specs.declared.Step.{Step}
 use Rattle.machine.specs.declared.Step.the-variants.{Moved, Stuck}
 use Rattle.machine.specs.Symbols.{isPair}
 
--- which states are final, and the arcs
+-- for each state the marks for ending there, none where it is not final; and the arcs
 pub record Machine : Type 0 where
-  pub finals : List Bool
+  pub endings : List (Option ℕ)
   pub arcs : List Arc
+
+-- a machine's states are the numbers below its state count
+abbrev pub stateCountOf : Machine → ℕ
+stateCountOf m = length (m .endings)
+
+-- a machine with no state
+abbrev pub noMachine : Machine
+noMachine = record { endings = []; arcs = [] }
 
 -- a machine starts in state 0
 abbrev pub startState : ℕ
@@ -41,9 +49,9 @@ stepAmong (a ∷ rest) s p = elim (takesFrom a s p) [ true ↦ some (a .to, a .m
 abbrev pub stepOf : Machine → ℕ → Pair → Option (ℕ × ℕ)
 stepOf m s p = stepAmong (m .arcs) s p
 
--- the marks for ending in a state, none where it is not final; ending costs nothing
+-- the marks for ending in a state, none where it is not final
 unfoldable pub endingOf : Machine → ℕ → Option ℕ
-endingOf m s = cond (getD (m .finals) s false) (some 0) none
+endingOf m s = getD (m .endings) s none
 
 -- both arcs take the pair
 abbrev pub bothTake : Arc → Arc → Pair → Bool

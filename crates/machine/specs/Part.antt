@@ -1,6 +1,7 @@
 -- A machine part of a card: the machine that its bytes are, and its refusal.
 use mathlib.Core.Bool.{Bool, _&&_, not}
 use mathlib.Core.List.{List, [], _∷_, map}
+use mathlib.Core.Option.{Option, some, none}
 use Prim.Native.Nat.{ℕ, zero, suc, _+_, _*_, _^_}
 use lib.ListN.{length, getD}
 use lib.Seq.{slice}
@@ -41,9 +42,14 @@ stateBytes part = slice 2 (2 + stateCount part) part
 abbrev pub arcsOf : List ℕ → List Arc
 arcsOf part = arcsAt part (2 + stateCount part) (arcCount part)
 
--- the machine that a part's bytes are: 1 is final
+-- what a state byte says of ending there: 0 is not final, 1 to 16 final with that many less one marks
+abbrev pub endingByte : ℕ → Option ℕ
+endingByte zero = none
+endingByte (suc marks) = some marks
+
+-- the machine that a part's bytes are
 unfoldable pub machineOf : List ℕ → Machine
-machineOf part = record { finals = map (λ b. eqb b 1) (stateBytes part); arcs = arcsOf part }
+machineOf part = record { endings = map endingByte (stateBytes part); arcs = arcsOf part }
 
 -- not refusal 3: at least 2 bytes, Q is 1 to 32, the length is 2 + Q + 20A
 unfoldable pub shaped : List ℕ → Bool
@@ -59,9 +65,9 @@ unfoldable pub soundArc : ℕ → ℕ → Arc → Bool
 soundArc S Q a =
     ltb (a .from) Q && ltb (a .to) Q && leb (a .marks) 15 && eqb (a .reserved) 0 && soundSet S (a .inputs) && soundSet S (a .outputs)
 
--- not refusal 4: no state byte over 1, and every arc sound
+-- not refusal 4: no state byte over 16, and every arc sound
 abbrev pub soundStates : List ℕ → Bool
-soundStates part = allOf (λ b. leb b 1) (stateBytes part)
+soundStates part = allOf (λ b. leb b 16) (stateBytes part)
 
 abbrev pub soundArcs : ℕ → List ℕ → Bool
 soundArcs S part = allOf (soundArc S (stateCount part)) (arcsOf part)

@@ -2,12 +2,12 @@
 use mathlib.Core.Path.{_≡_, refl, sym, ap, _∙_}
 use mathlib.Core.Bool.{Bool, true, false}
 use mathlib.Core.List.{List, [], _∷_, map}
-use mathlib.Core.Option.{Option, some, none}
+use mathlib.Core.Option.{Option, some, none, Option·none-ne-some}
 use Prim.Native.Nat.{ℕ, zero, suc, _<_, _≤_}
 use native.Mathlib.Omega.{arith}
-use lib.Dec.{eqb, ltb}
-use lib.ListN.{length, getD, List·getD-eq-default}
-use borrow.Author.Tests.{ltb-true, ltb-false, eqb-true, eq-eqb, not-true}
+use lib.Dec.{eqb, ltb, leb}
+use lib.ListN.{length, getD, length-map, List·getD-map, List·getD-eq-default}
+use borrow.Author.Tests.{ltb-true, ltb-false, leb-true, eqb-true, eq-eqb, not-true}
 use Rattle.basics.specs.Search.{someBelow}
 use Rattle.basics.proofs.Bools.{clash as never, both, left, right}
 use Rattle.basics.proofs.Search.{all-at, pairwise-at}
@@ -16,8 +16,8 @@ use Rattle.machine.specs.declared.Arc.{Arc}
 use Rattle.machine.specs.declared.Pair.{Pair}
 use Rattle.machine.specs.Symbols.{isPair}
 use Rattle.machine.specs.Machine.{takes, takesFrom, stepAmong, stepOf, endingOf, bothTake, takeOnePair, clash}
-use Rattle.machine.specs.Part.{stateCount, stateBytes, arcsOf, machineOf, soundArc, clashFree, partRefusal}
-use Rattle.machine.specs.Accepted.{finals-count, accepted, sound-facts, taken-within}
+use Rattle.machine.specs.Part.{stateCount, stateBytes, endingByte, arcsOf, machineOf, soundArc, clashFree, partRefusal}
+use Rattle.machine.specs.Accepted.{state-count, accepted, sound-facts, taken-within}
 
 -- two arcs that take a pair from a state clash
 pub clash-at : (a b : Arc) (s : ℕ) (p : Pair) → p .input < 64 → p .output < 64 → isPair p ≡ true → takesFrom a s p ≡ true → takesFrom b s p ≡ true → clash a b ≡ true
@@ -107,15 +107,21 @@ module _ (S : ℕ) (part : List ℕ) (ok : partRefusal S part ≡ 0) where
   -- a state that is ended in is one of the machine, with at most 15 marks
   pub ending-bounds : (s m : ℕ) → endingOf (machineOf part) s ≡ some m → (s < stateCount part) × (m ≤ 15)
   unfolding machineOf endingOf
-  ending-bounds s m e = go (ltb s (stateCount part)) refl (getD finals s false) refl
+  ending-bounds s m e = go (ltb s (stateCount part)) refl
     where
-      finals : List Bool
-      finals = map (λ b. eqb b 1) (stateBytes part)
+      bytes : List ℕ
+      bytes = stateBytes part
 
-      count : length finals ≡ stateCount part
-      count = finals-count part (accepted S part ok .shape)
+      count : length (map endingByte bytes) ≡ stateCount part
+      count = state-count part (accepted S part ok .shape)
 
-      go : (b : Bool) → ltb s (stateCount part) ≡ b → (f : Bool) → getD finals s false ≡ f → (s < stateCount part) × (m ≤ 15)
-      go b h false f = let z : _≡_ {A = Option ℕ} none (some m) = rw f at e in let z : _≡_ {A = ℕ} 0 1 = cc in absurd (omega arith)
-      go true h true f = let z : _≡_ {A = Option ℕ} (some 0) (some m) = rw f at e in let z : 0 ≡ m = cc in (ltb-true s (stateCount part) h, omega arith)
-      go false h true f = absurd (never f (List·getD-eq-default finals false (omega (arith, count, ltb-false s (stateCount part) h))))
+      few : (b : ℕ) → leb b 16 ≡ true → endingByte b ≡ some m → m ≤ 15
+      few zero t q = absurd (Option·none-ne-some m q)
+      few (suc b) t q = let z : b ≡ m = cc in omega (arith, leb-true (suc b) 16 t)
+
+      go : (b : Bool) → ltb s (stateCount part) ≡ b → (s < stateCount part) × (m ≤ 15)
+      go true h =
+          let l = ltb-true s (stateCount part) h in
+          let f = all-at (λ b. leb b 16) bytes 0 (accepted S part ok .states) s (omega (arith, count, length-map bytes endingByte, l)) in
+          (l, few (getD bytes s 0) f (sym (List·getD-map endingByte bytes s 0) ∙ e))
+      go false h = absurd (Option·none-ne-some m (sym (List·getD-eq-default (map endingByte bytes) none (omega (arith, count, ltb-false s (stateCount part) h))) ∙ e))

@@ -214,10 +214,11 @@ impl Position {
         if index(part[0]) <= state {
             return Ending::NotFinal;
         }
-        if part[2 + state] == 1 {
-            Ending::Marks(0)
-        } else {
+        let byte = part[2 + state];
+        if byte == 0 {
             Ending::NotFinal
+        } else {
+            Ending::Marks(byte - 1)
         }
     }
 }

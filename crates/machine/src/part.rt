@@ -92,14 +92,14 @@ pub fn check_length(part: &[u8]) -> Stage
     )
 }
 
-// Refusal 4, the states: each state byte is 0 or 1.
+// Refusal 4, the states: no state byte is over 16.
 pub fn check_states(part: &[u8]) -> Stage
     requires { ⌜ shaped (now part) ≡ true ⌝ }
     ensures { λ r. ⌜ stageNumber r ≡ refuse 4 (soundStates (now (part .entry))) ⌝ }
 {
     let end = 2 + index(part[0]);
     for at in 2..end {
-        if part[at] > 1 {
+        if part[at] > 16 {
             return Stage::Refused(Refusal::Field);
         }
     }

@@ -410,6 +410,13 @@ const CARD_AFFIX: [u8; 50] = [
     0,
 ];
 
+// Two symbols; 1:1 and 1:2 lead from state 0, which is not final, to a state each, at no cost.
+const CARD_D: [u8; 51] = *b"\x01\x02\
+    \x06\x00\x2d\x00\
+    \x03\x02\x00\x01\x01\
+    \x00\x01\x00\x00\x02\x00\x00\x00\x00\x00\x00\x00\x02\x00\x00\x00\x00\x00\x00\x00\
+    \x00\x02\x00\x00\x02\x00\x00\x00\x00\x00\x00\x00\x04\x00\x00\x00\x00\x00\x00\x00";
+
 fn write(text: &[u8]) {
     io::write_all(1, text);
 }
@@ -546,6 +553,35 @@ fn on_affix_of_one(word: &[u8], room: usize, bytes: usize) {
     try_on(&card, b"\x00", word, room, bytes);
 }
 
+// Card B with a mark for ending in state 1 of the first machine.
+fn on_b_ending(ranking: &[u8], word: &[u8]) {
+    let mut card = CARD_B;
+    card[17] = 2;
+    write(b"B, ending ");
+    try_on(&card, ranking, word, 400, 60);
+}
+
+// Card D with a state byte for the state that 1:1 leads to.
+fn on_d(byte: u8) {
+    let mut card = CARD_D;
+    card[9] = byte;
+    write(b"D, ending ");
+    try_on(&card, b"\x00", b"\x01", 400, 60);
+}
+
+// The best deletes, or inserts behind the last symbol, to avoid an ending, or takes it; an ending decides between two candidates of one cost
+// otherwise; state bytes 16 and 17.
+fn endings() {
+    on_b_ending(b"\x00\x01\x02", b"\x01");
+    on_b_ending(b"\x02\x00\x01", b"\x01");
+    on_b_ending(b"\x02\x01\x00", b"\x01");
+    on_d(1);
+    on_d(2);
+    on_d(0);
+    on_d(16);
+    on_d(17);
+}
+
 // Refusals of the card come first.
 fn cards() {
     let card = CARD_A;
@@ -626,4 +662,5 @@ fn main() {
     answers();
     empty_words();
     examples();
+    endings();
 }

@@ -114,13 +114,13 @@ module _ {costs costs′ : Costs} {price : Price costs} {price′ : Price costs�
           let ba : BeatsIn better′ b a = rw (one, other) (y .rivals (a .candidate) (x .candidate) n) in
           absurd (asym (before-total costs′ pairs) (keyOf price′ a) (keyOf price′ b) (beats-earlier agrees′ a b (beats-alike p q ab)) (beats-earlier agrees′ b a ba))
 
--- of a word of at most 24 symbols it has at most 3,199 pairs and no count above 47,985, which is 15 a pair
+-- of a word of at most 24 symbols it has at most 3,199 pairs and no count above 48,000, which is 15 a pair and 15 for ending
 pub record SmallBest (b : Contender) : Type 0 where
   pub pairs : length (b .candidate) ≤ 3199
-  pub counts : allOf (λ n. leb n 47985) (b .profile) ≡ true
+  pub counts : allOf (λ n. leb n 48000) (b .profile) ≡ true
 
 pub best-in-is-small : {costs : Costs} {price : Price costs} {better : ProfileOrder} → Agrees price better → (card word : List ℕ) → cardRefusal card ≡ 0 → length word ≤ 24 → (b : Contender) → bestIn better card word ≡ some b → SmallBest b
-best-in-is-small agrees card word ok h b e = record { pairs = short; counts = rw (best-contender agrees card word ok b e) (profile-bound (accepted-machines card ok .sound) (b .candidate) 47985 (omega (arith, short))) }
+best-in-is-small agrees card word ok h b e = record { pairs = short; counts = rw (best-contender agrees card word ok b e) (profile-bound (accepted-machines card ok .sound) (b .candidate) 48000 (omega (arith, short))) }
   where
     few : nodeCount (machinesOf card) (length word) ≤ 25 * 128
     few = let n : length word + 1 ≤ 25 = omega arith in mul-le-mul n (accepted-machines card ok .few-states)
@@ -172,4 +172,4 @@ counts-always-fit card r word ok h = go (best card r word) refl
   where
     go : (o : Option Contender) → best card r word ≡ o → countsFit o ≡ true
     go none e = refl
-    go (some b) e = all-below (b .profile) 47985 60000 (omega arith) (best-is-small card r word ok h b e .counts)
+    go (some b) e = all-below (b .profile) 48000 60000 (omega arith) (best-is-small card r word ok h b e .counts)

@@ -1,13 +1,9 @@
 -- Nodes of the product: an input position with one state per machine, as numbers.
 use mathlib.Core.List.{List, [], _∷_, map}
 use Prim.Native.Nat.{ℕ, _+_, _*_, _/_, _%_}
-use lib.ListN.{length}
 unfoldable pub use Rattle.basics.specs.Products.{product}
 use Rattle.machine.specs.Machine.{Machine}
-
--- a machine's states are the numbers below its state count
-abbrev pub stateCountOf : Machine → ℕ
-stateCountOf m = length (m .finals)
+pub use Rattle.machine.specs.Machine.{stateCountOf}
 
 abbrev pub stateCounts : List Machine → List ℕ
 stateCounts ms = map stateCountOf ms

@@ -164,7 +164,7 @@ counts-of-sets-fit card r sets ok h = go (bestOfSets card r sets) refl
   where
     go : (o : Option Contender) → bestOfSets card r sets ≡ o → countsFit o ≡ true
     go none e = refl
-    go (some b) e = all-below (b .profile) 47985 60000 (omega arith) (best-of-sets-is-small (ranking-agrees r) card sets ok h b e .counts)
+    go (some b) e = all-below (b .profile) 48000 60000 (omega arith) (best-of-sets-is-small (ranking-agrees r) card sets ok h b e .counts)
 
 pub best-of-one-word : (card ranking word : List ℕ) → cardRefusal card ≡ 0 → allOf (λ x. ltb x 64) word ≡ true → bestOfSets card ranking (singletons word) ≡ best card ranking word
 unfolding bestOfSets best

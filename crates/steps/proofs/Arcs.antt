@@ -15,7 +15,7 @@ use Rattle.basics.proofs.Search.{all-at}
 use Rattle.machine.specs.declared.Arc.{Arc}
 use Rattle.machine.specs.Machine.{takes, takesFrom, stepAmong}
 use Rattle.machine.specs.Part.{stateCount, arcCount, arcsOf, machineOf, shaped, soundArc}
-use Rattle.machine.specs.Accepted.{shape-facts, finals-count, accepted, sound-facts}
+use Rattle.machine.specs.Accepted.{shape-facts, state-count, accepted, sound-facts}
 use Rattle.machine.proofs.Arcs.{arcs-count}
 use Rattle.steps.specs.StepTable.{stepCode, HoldsMachine}
 use Rattle.steps.specs.Filling.{AcceptedPart, RowWritten, ArcEntered}
@@ -102,7 +102,7 @@ pub entered-all : (part : List ℕ) (x : ℕ) {zs : List ℕ} {i : ℕ} → shap
 unfolding machineOf
 entered-all part x {zs} {i} t size h p = record {
   size = size;
-  step = λ s y hs hy. p .entry s y (omega (arith, finals-count part t)) hy ∙ ap (λ (n : ℕ). stepCode (stepAmong (drop n (arcsOf part)) s (record { input = x; output = y }))) z;
+  step = λ s y hs hy. p .entry s y (omega (arith, state-count part t)) hy ∙ ap (λ (n : ℕ). stepCode (stepAmong (drop n (arcsOf part)) s (record { input = x; output = y }))) z;
 }
   where
     z : i ≡ 0

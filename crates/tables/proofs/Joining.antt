@@ -10,7 +10,7 @@ use native.Mathlib.Omega.{arith}
 use lib.ListN.{length, getD, take, drop, set, replicate, length-set, length-take, drop-of-length-le, List·getD-eq-default}
 use lib.Seq.{drop-cons, take-suc-set, append-snoc, getD-set-same, getD-set-other, getD-take}
 use Rattle.machine.specs.declared.Pair.{Pair}
-use Rattle.machine.specs.Machine.{Machine, stepOf}
+use Rattle.machine.specs.Machine.{Machine, noMachine, stepOf}
 use Rattle.product.specs.Nodes.{stateCounts, product, codeOf, statesOf}
 use Rattle.product.specs.Laws.JointStep.{counts-positive}
 use Rattle.product.specs.JointStep.{andThose, ofEach, jointStep}
@@ -28,7 +28,7 @@ use Rattle.tables.proofs.Machines.{sound-at, count-at, counts-length, b
 pub of-each-next : {A : Type 0} (f : Machine → ℕ → Option A) (ms : List Machine) (ss : List ℕ) (m : ℕ) → m < length ms → m < length ss
     → ofEach f (drop m ms) (drop m ss) ≡ andThose (f (machineAt ms m) (getD ss m 0)) (ofEach f (drop (suc m) ms) (drop (suc m) ss))
 unfolding ofEach
-of-each-next f ms ss m h k = rw (drop-cons ms m (record { finals = []; arcs = [] }) h, drop-cons ss m 0 k)
+of-each-next f ms ss m h k = rw (drop-cons ms m noMachine h, drop-cons ss m 0 k)
 
 pub of-each-end : {A : Type 0} (f : Machine → ℕ → Option A) (ms : List Machine) (ss : List ℕ) (m : ℕ) → length ms ≤ m → ofEach f (drop m ms) ss ≡ some []
 unfolding ofEach

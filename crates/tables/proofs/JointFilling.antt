@@ -8,7 +8,7 @@ use native.Mathlib.Omega.{arith}
 use lib.ListN.{length, getD, drop, replicate, drop-of-length-le}
 use lib.Seq.{drop-cons}
 use Rattle.machine.specs.declared.Pair.{Pair}
-use Rattle.machine.specs.Machine.{Machine, stepOf}
+use Rattle.machine.specs.Machine.{Machine, noMachine, stepOf}
 use Rattle.card.specs.Layout.{machineCount, symbolCount}
 use Rattle.card.specs.Card.{machinesOf}
 use Rattle.paths.specs.Numbering.{position-is}
@@ -133,7 +133,7 @@ module _ {card counts places stretch xs : List ℕ} {x S : ℕ} (pre : JointTabl
       -- the step of the machine m at a code, and the joint step of those behind it
       codes-next : (s c : ℕ) (p : Pair) → c < rest → codeStep (drop m (machinesOf card)) (s * rest + c) p ≡ withFirst rest (stepOf (machineAt (machinesOf card) m) s p) (codeStep (drop (suc m) (machinesOf card)) c p)
       codes-next s c p h =
-          let a : drop m (machinesOf card) ≡ machineAt (machinesOf card) m ∷ drop (suc m) (machinesOf card) = drop-cons (machinesOf card) m (record { finals = []; arcs = [] }) its-machine in
+          let a : drop m (machinesOf card) ≡ machineAt (machinesOf card) m ∷ drop (suc m) (machinesOf card) = drop-cons (machinesOf card) m noMachine its-machine in
           let d : (s * rest + c) / rest ≡ s = position-is rest (omega arith) s c h in
           let r : (s * rest + c) % rest ≡ c = mul-add-mod-self-right s rest c ∙ mod-eq-of-lt h in
           ap (λ (l : List Machine). codeStep l (s * rest + c) p) a

@@ -5,7 +5,7 @@ use Prim.Native.Nat.{ℕ, zero, suc, _+_, _*_, _<_}
 use native.Mathlib.Omega.{arith}
 use lib.ListN.{length, getD, length-map, List·getD-map}
 use Rattle.machine.specs.declared.Pair.{Pair}
-use Rattle.machine.specs.Machine.{Machine, stepOf}
+use Rattle.machine.specs.Machine.{Machine, noMachine, stepOf}
 use Rattle.product.specs.Nodes.{stateCountOf, stateCounts, product, statesOf}
 use Rattle.product.specs.Laws.Nodes.{Below, states-below}
 use Rattle.product.specs.Laws.JointStep.{Sound, AllSound, all-none, all-next, counts-positive}
@@ -19,7 +19,7 @@ sound-at (all-next a r) zero h = a
 sound-at (all-next a r) (suc m) h = sound-at r m (omega arith)
 
 pub count-at : (ms : List Machine) (m : ℕ) → getD (stateCounts ms) m 0 ≡ stateCountOf (machineAt ms m)
-count-at ms m = List·getD-map stateCountOf ms m (record { finals = []; arcs = [] })
+count-at ms m = List·getD-map stateCountOf ms m noMachine
 
 pub counts-length : (ms : List Machine) → length (stateCounts ms) ≡ length ms
 counts-length ms = length-map ms stateCountOf

@@ -64,7 +64,8 @@ fn damage_a_field(random: &mut Random, symbols: u8, part: &mut [u8]) {
     if kind == 0 {
         let place = 2 + random.below(states.max(1) as usize);
         if let Some(byte) = part.get_mut(place) {
-            *byte = random.between(2, 255) as u8;
+            let any = random.between(17, 255) as u8;
+            *byte = random.one_of(&[17, 17, 128, any]);
         }
         return;
     }
@@ -131,14 +132,14 @@ pub fn add_states(random: &mut Random, machines: &mut Vec<Machine>) {
     if machines.len() == 1 {
         machines.push(machines[0].clone());
     }
-    let counts = |machines: &[Machine]| machines.iter().map(|m| m.finals.len()).product::<usize>();
+    let counts = |machines: &[Machine]| machines.iter().map(|m| m.endings.len()).product::<usize>();
     // at times the most, otherwise as few as possible
     let huge = random.percent(20);
     while counts(machines) <= 128 {
         let place = random.below(machines.len());
-        let finals = &mut machines[place].finals;
-        let more = if huge { 32 } else { (finals.len() + 1).min(32) };
-        finals.resize(more, false);
+        let endings = &mut machines[place].endings;
+        let more = if huge { 32 } else { (endings.len() + 1).min(32) };
+        endings.resize(more, None);
     }
 }
 

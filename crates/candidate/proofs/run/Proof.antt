@@ -112,8 +112,8 @@ few-more c =
     let s = c .before .before .before .before .before .before .before .before .before .before in
     ending-bounds (s .args .symbols) (s .args .part .now) (s .pre .0 .0) _ _ (ending c) .1
 
-add-t17 : tie.Need-add-t17 Inv-loop μ-loop
-add-t17 c = omega (arith, few-more c)
+add-total : tie.Need-add-total Inv-loop μ-loop
+add-total c = omega (arith, few-more c)
 
 returns-3 : tie.Need-returns-3 Inv-loop μ-loop
 returns-3 c =
@@ -145,5 +145,5 @@ run-spec =
     (λ c. search needs)
     returns-2
     (λ c κs. search needs)
-    add-t17
+    add-total
     returns-3)

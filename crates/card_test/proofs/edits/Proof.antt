@@ -4,10 +4,10 @@ use Rattle.card_test.proofs.edits.Statement.{statement}
 use Rattle.card_test.proofs.edits.Tie as tie
 
 abbrev Inv-loop : tie.InvT-loop
-Inv-loop i₀ i = i ≤ 30
+Inv-loop i₀ i = i ≤ 31
 
 abbrev μ-loop : tie.MeasureT-loop
-μ-loop i₀ i = 30 - i
+μ-loop i₀ i = 31 - i
 
 pub edits-spec : {M : Type 1} → statement M
 edits-spec =

@@ -3,14 +3,12 @@ use mathlib.Core.Path.{_≡_, refl, _∙_, ap, ap₂}
 use mathlib.Core.List.{List, [], _∷_, map}
 use Prim.Native.Nat.{ℕ, _+_, _≤_}
 use native.Mathlib.Omega.{arith}
-use lib.Dec.{eqb}
 use lib.ListN.{length, length-map}
-use lib.Seq.{length-slice}
 use borrow.Author.Tests.{le-leb}
 use Rattle.basics.proofs.Bools.{both}
 use Rattle.basics.proofs.Refusals.{none-first}
-use Rattle.machine.specs.Part.{machineOf, stateCount, stateBytes, partRefusal}
-use Rattle.machine.specs.Accepted.{shape-facts, accepted}
+use Rattle.machine.specs.Part.{machineOf, stateCount, partRefusal}
+use Rattle.machine.specs.Accepted.{shape-facts, state-count, accepted}
 use Rattle.machine.specs.Steps.{step-bounds, ending-bounds}
 use Rattle.card.specs.Layout.{machineCount, symbolCount, partsOf}
 use Rattle.card.specs.Card.{machinesOf, partsRefusal, cardRefusal}
@@ -22,11 +20,7 @@ use Rattle.product.specs.Laws.JointStep.{Sound, AllSound, all-none, all-
 module _ (S : ℕ) (part : List ℕ) (ok : partRefusal S part ≡ 0) where
   -- a machine has as many states as its part says
   pub part-states : stateCountOf (machineOf part) ≡ stateCount part
-  unfolding machineOf
-  part-states =
-      length-map (stateBytes part) (λ b. eqb b 1)
-      ∙ length-slice 2 (2 + stateCount part) part (omega (arith, shape-facts part (accepted S part ok .shape)))
-      ∙ omega arith
+  part-states = state-count part (accepted S part ok .shape)
 
   pub part-sound : Sound S (machineOf part)
   part-sound = record {

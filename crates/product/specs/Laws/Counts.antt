@@ -1,11 +1,11 @@
--- How large the counts of a candidate are: at most 15 marks a pair.
+-- How large the counts of a candidate are: at most 15 marks a pair, and 15 for ending.
 use mathlib.Core.Path.{_≡_, refl, sym, _∙_}
-use mathlib.Core.Bool.{Bool, true, false, cond}
+use mathlib.Core.Bool.{true}
 use mathlib.Core.List.{List, [], _∷_}
 use mathlib.Core.Option.{Option, some, none, Option·none-ne-some}
 use Prim.Native.Nat.{ℕ, suc, _+_, _*_, _≤_}
 use native.Mathlib.Omega.{arith}
-use lib.ListN.{length, getD}
+use lib.ListN.{length}
 use lib.Dec.{leb}
 use borrow.Author.Tests.{le-leb, leb-true}
 use Rattle.basics.specs.Search.{allOf}
@@ -15,32 +15,23 @@ use Rattle.machine.specs.Machine.{Machine, startState, stepOf, endingOf}
 use Rattle.candidate.specs.Candidates.{addMarks, marksFrom, marksOf, countOf, profileOf}
 use Rattle.product.specs.Laws.JointStep.{Sound, AllSound, all-none, all-next, marks-next, marks-stuck}
 
--- ending costs nothing
-ending-costs-nothing : (m : Machine) (s n : ℕ) → endingOf m s ≡ some n → n ≡ 0
-unfolding endingOf
-ending-costs-nothing m s n h = go (getD (m .finals) s false) h
-  where
-    go : (b : Bool) → cond b (some 0) none ≡ some n → n ≡ 0
-    go true h = cc
-    go false h = absurd (Option·none-ne-some n h)
-
-marks-bound : {S : ℕ} {m : Machine} → Sound S m → (s : ℕ) (c : List Pair) (n : ℕ) → marksFrom m s c ≡ some n → n ≤ 15 * length c
+marks-bound : {S : ℕ} {m : Machine} → Sound S m → (s : ℕ) (c : List Pair) (n : ℕ) → marksFrom m s c ≡ some n → n ≤ 15 * length c + 15
 unfolding marksFrom
-marks-bound {m = m} a s [] n h = omega (arith, ending-costs-nothing m s n (sym (marks-end m s) ∙ h))
+marks-bound {m = m} a s [] n h = omega (arith, a .ends s n (sym (marks-end m s) ∙ h))
   where
     marks-end : (m : Machine) (s : ℕ) → marksFrom m s [] ≡ endingOf m s
     marks-end m s = refl
 marks-bound {S} {m} a s (p ∷ ps) n h = go (stepOf m s p) refl (λ u k l. marks-bound a u ps k l)
   where
-    rest : (r : ℕ × ℕ) → r .1 ≤ 15 → (o : Option ℕ) → marksFrom m (r .0) ps ≡ o → addMarks (r .1) o ≡ some n → ((u k : ℕ) → marksFrom m u ps ≡ some k → k ≤ 15 * length ps) → n ≤ 15 * suc (length ps)
+    rest : (r : ℕ × ℕ) → r .1 ≤ 15 → (o : Option ℕ) → marksFrom m (r .0) ps ≡ o → addMarks (r .1) o ≡ some n → ((u k : ℕ) → marksFrom m u ps ≡ some k → k ≤ 15 * length ps + 15) → n ≤ 15 * suc (length ps) + 15
     rest r b none e q rec = absurd (Option·none-ne-some n q)
     rest r b (some k) e q rec = let z : n ≡ r .1 + k = cc in omega (arith, rec (r .0) k e)
 
-    go : (o : Option (ℕ × ℕ)) → stepOf m s p ≡ o → ((u k : ℕ) → marksFrom m u ps ≡ some k → k ≤ 15 * length ps) → n ≤ 15 * suc (length ps)
+    go : (o : Option (ℕ × ℕ)) → stepOf m s p ≡ o → ((u k : ℕ) → marksFrom m u ps ≡ some k → k ≤ 15 * length ps + 15) → n ≤ 15 * suc (length ps) + 15
     go none e rec = absurd (Option·none-ne-some n (sym (marks-stuck m s p ps e) ∙ h))
     go (some r) e rec = rest r (a .marks s p r e) (marksFrom m (r .0) ps) refl (sym (marks-next m s p ps r e) ∙ h) rec
 
-pub profile-bound : {S : ℕ} {ms : List Machine} → AllSound S ms → (c : List Pair) (b : ℕ) → 15 * length c ≤ b → allOf (λ n. leb n b) (profileOf ms c) ≡ true
+pub profile-bound : {S : ℕ} {ms : List Machine} → AllSound S ms → (c : List Pair) (b : ℕ) → 15 * length c + 15 ≤ b → allOf (λ n. leb n b) (profileOf ms c) ≡ true
 unfolding allOf profileOf
 profile-bound all-none c b h = refl
 profile-bound (all-next {m} {ms} a k) c b h = both (le-leb (countOf (marksOf c m)) b (go (marksOf c m) refl)) (profile-bound k c b h)

@@ -5,7 +5,7 @@ use Prim.Native.Nat.{ℕ, _<_, _≤_}
 use native.Mathlib.Decide.{decLt}
 use native.Mathlib.Omega.{arith}
 use lib.ListN.{List·getD-eq-default}
-use Rattle.machine.specs.Machine.{Machine, startState}
+use Rattle.machine.specs.Machine.{startState}
 use Rattle.machine.specs.Part.{stateCount}
 use Rattle.machine.specs.Accepted.{shape-facts, accepted as part-accepted}
 use Rattle.card.specs.Layout.{machineCount, symbolCount, partOf}
@@ -29,8 +29,7 @@ module _ (card : List ℕ) (ok : cardRefusal card ≡ 0) where
   few-states m (yes h) =
       omega (arith, machine-states m h, shape-facts (partOf card m) (part-accepted (symbolCount card) (partOf card m) (accepted card ok .part m h) .shape) .states)
   few-states m (no h) =
-      let none : Machine = record { finals = []; arcs = [] } in
-      omega (arith, ap stateCountOf (List·getD-eq-default (machinesOf card) none {n = m} (omega (arith, length-machines card))))
+      omega (arith, ap stateCountOf (List·getD-eq-default (machinesOf card) noMachine {n = m} (omega (arith, length-machines card))))
 
   pub card-machines : CardMachines (symbolCount card) (machinesOf card)
   card-machines =

@@ -1,7 +1,7 @@
 use native.Mathlib.Omega.{arith}
 use borrow.Author.Needs.{needs}
 use Rattle.machine.specs.Accepted.{shape-facts}
-use Rattle.machine.proofs.States.{final-state, other-state, no-state}
+use Rattle.machine.proofs.States.{not-final, final, no-state}
 use Rattle.machine.proofs.Position.ending.Statement.{statement}
 use Rattle.machine.proofs.Position.ending.Tie as tie
 
@@ -13,18 +13,20 @@ returns c =
     let s = c .before .before .before .before .before in
     no-state (s .args .part .now) (s .args .self .state) (s .pre) (omega arith)
 
-shared-slice-read-if2 : tie.Need-shared-slice-read-if2
-shared-slice-read-if2 c = omega (arith, shape-facts _ (c .before .before .before .before .before .before .pre))
+shared-slice-read-byte : tie.Need-shared-slice-read-byte
+shared-slice-read-byte c = omega (arith, shape-facts _ (c .before .before .before .before .before .before .pre))
 
 returns-2 : tie.Need-returns-2
 returns-2 c =
     let s = c .before .before .before .before .before .before .before in
-    final-state (s .args .part .now) (s .args .self .state) (omega arith) (rw (← c .before .before .before .before .before .index .ensures .0) (c .if2 .taken))
+    let i = c .before .before .before .before .before .index in
+    not-final (s .args .part .now) (s .args .self .state) (i .result) (i .ensures .0) (omega arith) (c .if2 .taken)
 
 returns-3 : tie.Need-returns-3
 returns-3 c =
     let s = c .before .before .before .before .before .before .before in
-    other-state (s .args .part .now) (s .args .self .state) (omega arith) (rw (← c .before .before .before .before .before .index .ensures .0) (c .if2 .left))
+    let i = c .before .before .before .before .before .index in
+    final (s .args .part .now) (s .args .self .state) (i .result) (i .ensures .0) (omega arith) (c .if2 .left)
 
 pub ending-spec : {M : Type 1} → statement M
 ending-spec =
@@ -35,6 +37,7 @@ ending-spec =
     (λ c κs. search needs)
     returns
     (λ c. search needs)
-    shared-slice-read-if2
+    shared-slice-read-byte
+    (λ c. search needs)
     returns-2
     returns-3)

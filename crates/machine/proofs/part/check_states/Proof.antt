@@ -18,7 +18,7 @@ use Rattle.machine.proofs.part.check_states.Tie as tie
 
 abbrev Inv-loop : tie.InvT-loop
 Inv-loop part end at₀ at =
-    (at ≤ end) × (end ≤ length part) × (allOf (λ b. leb b 1) (slice at end part) ≡ soundStates part)
+    (at ≤ end) × (end ≤ length part) × (allOf (λ b. leb b 16) (slice at end part) ≡ soundStates part)
 
 abbrev μ-loop : tie.MeasureT-loop
 μ-loop part end at₀ at = end - at
@@ -33,7 +33,7 @@ returns : tie.Need-returns Inv-loop μ-loop
 returns c =
     let k = c .before .before .before in
     let l = k .before .before .before .before .args .part .now in
-    let e = all-fails (λ b. leb b 1) (bytes-cons l (k .loop .at) _ (omega arith) (k .loop .inv .1)) (lt-leb _ _ (c .if1 .taken)) in
+    let e = all-fails (λ b. leb b 16) (bytes-cons l (k .loop .at) _ (omega arith) (k .loop .inv .1)) (lt-leb _ _ (c .if1 .taken)) in
     ap (refuse 4) (sym e ∙ k .loop .inv .2)
 
 loop-again : tie.Need-loop-again Inv-loop μ-loop
@@ -42,7 +42,7 @@ loop-again c =
     let l = k .before .before .before .before .args .part .now in (
       search needs,
       k .loop .inv .1,
-      all-next (λ b. leb b 1) (bytes-cons l (k .loop .at) _ (omega arith) (k .loop .inv .1)) (le-leb _ _ (c .if1 .left)) ∙ k .loop .inv .2,
+      all-next (λ b. leb b 16) (bytes-cons l (k .loop .at) _ (omega arith) (k .loop .inv .1)) (le-leb _ _ (c .if1 .left)) ∙ k .loop .inv .2,
     )
 
 returns-2 : tie.Need-returns-2 Inv-loop μ-loop
@@ -52,7 +52,7 @@ returns-2 c =
     let end = 2 + k .before .index .result in
     let e : k .loop .at ≡ end = omega arith in
     let n : slice (k .loop .at) end l ≡ [] = rw e (slice-empty end l) in
-    ap (refuse 4) (sym (all-none (λ b. leb b 1) n) ∙ k .loop .inv .2)
+    ap (refuse 4) (sym (all-none (λ b. leb b 16) n) ∙ k .loop .inv .2)
 
 pub check-states-spec : {M : Type 1} → statement M
 check-states-spec =
