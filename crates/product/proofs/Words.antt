@@ -2,12 +2,12 @@
 use mathlib.Core.Path.{_≡_}
 use mathlib.Core.Bool.{Bool, true, false, _&&_}
 use mathlib.Core.List.{List}
-use Prim.Native.Nat.{ℕ, _+_, _<_}
+use Prim.Native.Nat.{ℕ, _+_, _<_, _≤_}
 use native.Mathlib.Numerals.{add-one}
-use lib.Dec.{leb, ltb}
+use lib.Dec.{leb}
 use lib.ListN.{length, getD, drop}
 use lib.Seq.{drop-cons, drop-length}
-use borrow.Author.Tests.{ltb-true, ltb-false, le-leb, lt-leb}
+use borrow.Author.Tests.{le-leb, lt-leb}
 use Rattle.basics.specs.Search.{allOf}
 use Rattle.basics.proofs.Search.{all-next, all-fails, all-none}
 use Rattle.product.specs.Optimizing.{soundWord}
@@ -17,13 +17,13 @@ symbol S x = leb 1 x && leb x S
 
 module _ (S : ℕ) (word : List ℕ) where
   -- by its length
-  pub wrong-length : ltb 24 (length word) ≡ true → soundWord S word ≡ false
+  pub wrong-length : 24 < length word → soundWord S word ≡ false
   unfolding soundWord
-  wrong-length t = rw (lt-leb (length word) 24 (ltb-true 24 (length word) t))
+  wrong-length h = rw (lt-leb (length word) 24 h)
 
-  pub right-length : ltb 24 (length word) ≡ false → allOf (symbol S) (drop 0 word) ≡ soundWord S word
+  pub right-length : length word ≤ 24 → allOf (symbol S) (drop 0 word) ≡ soundWord S word
   unfolding soundWord
-  right-length t = rw (le-leb (length word) 24 (ltb-false 24 (length word) t))
+  right-length h = rw (le-leb (length word) 24 h)
 
   -- by the rest of its symbols from a place on
   pub next-symbol : (at : ℕ) → at < length word → symbol S (getD word at 0) ≡ true → allOf (symbol S) (drop (at + 1) word) ≡ allOf (symbol S) (drop at word)
