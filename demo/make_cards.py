@@ -11,7 +11,7 @@ What card.txt may say, one thing to a line (# starts a comment):
     set NAME = NAME ..                 a name for several symbols
     machine NAME                       a constraint; then its lines:
       states NAME ..                   the first one is the start
-      final NAME[=MARKS] ..            the states that a candidate may end in; no MARKS for ending there are 0
+      final NAME ..                    the states that a candidate may end in; NAME=MARKS for one with ending marks
       arc FROM -> TO  IN : OUT  MARKS  IN and OUT are sets, names with commas; no MARKS are 0
     line MACHINE .. / SYMBOL ..        a ranking and a word: a line of stdin
     tableau MACHINE .. / SYMBOL ..     a line of stdin, and candidates for it, the best one marked with >:
@@ -57,7 +57,8 @@ class Card:
         elif key == "states":
             self.machine[key] = rest
         elif key == "final":
-            self.machine[key] = {name: int(marks or 0) for name, _, marks in (word.partition("=") for word in rest)}
+            names = [name.partition("=") for name in rest]
+            self.machine[key] = {name: int(marks or 0) for name, _, marks in names}
         elif key == "arc":
             start, _, end, inputs, _, outputs = rest[:6]
             marks = int(rest[6]) if len(rest) > 6 else 0
@@ -94,7 +95,8 @@ class Card:
 
     def part(self, machine):
         states = machine["states"]
-        part = bytes([len(states), len(machine["arcs"])]) + bytes(machine["final"].get(state, -1) + 1 for state in states)
+        endings = [machine["final"].get(state, -1) + 1 for state in states]
+        part = bytes([len(states), len(machine["arcs"]), *endings])
         for start, end, inputs, outputs, marks in machine["arcs"]:
             part += bytes([states.index(start), states.index(end), marks, 0]) + self.bits(inputs) + self.bits(outputs)
         return part

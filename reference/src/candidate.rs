@@ -13,7 +13,7 @@ pub struct Evaluation {
     pub word_length: usize,
 }
 
-/// The marks of one machine over a candidate, those for ending too, if it takes every pair and ends in a final state.
+/// The marks of one machine over a candidate, those of its ending too, if it takes every pair and ends in a final state.
 pub fn marks(machine: &Machine, candidate: &[Pair]) -> Option<u16> {
     let (mut state, mut sum) = (0, 0);
     for &(input, output) in candidate {

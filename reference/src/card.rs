@@ -19,7 +19,7 @@ impl Arc {
 
 #[derive(Clone, Debug, PartialEq, Eq)]
 pub struct Machine {
-    /// For each state the marks for ending there, none where it is not final.
+    /// For each state its ending marks, or nothing where it is not final.
     pub endings: Vec<Option<u16>>,
     pub arcs: Vec<Arc>,
 }
@@ -80,8 +80,8 @@ pub fn read_machine(part: &[u8], symbols: u8) -> Result<Machine, Refusal> {
     if !(1..=32).contains(&states) || part.len() != 2 + states + 20 * arcs {
         return Err(3);
     }
-    let bytes = &part[2..2 + states];
-    if bytes.iter().any(|&byte| byte > 16) {
+    let state_bytes = &part[2..2 + states];
+    if state_bytes.iter().any(|&byte| byte > 16) {
         return Err(4);
     }
     let mut list = Vec::new();
@@ -109,7 +109,8 @@ pub fn read_machine(part: &[u8], symbols: u8) -> Result<Machine, Refusal> {
             }
         }
     }
-    Ok(Machine { endings: bytes.iter().map(|&byte| byte.checked_sub(1).map(u16::from)).collect(), arcs: list })
+    let endings = state_bytes.iter().map(|&byte| (byte as u16).checked_sub(1)).collect();
+    Ok(Machine { endings, arcs: list })
 }
 
 /// Whether both arcs take some pair, symbol after symbol; 0:0 is no pair.

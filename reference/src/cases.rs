@@ -15,8 +15,8 @@ fn line(ranking: &str, word: impl IntoIterator<Item = u8>) -> String {
     format!("{ranking} {}", symbols.join(","))
 }
 
-/// Card B, all six rankings, all words of at most four symbols.
-fn card_b() -> Vec<String> {
+/// All six rankings of three machines, all words of at most four symbols, 1 and 2.
+fn short_words() -> Vec<String> {
     let mut lines = Vec::new();
     for ranking in ["012", "021", "102", "120", "201", "210"] {
         for length in 0..=4 {
@@ -40,8 +40,10 @@ pub fn cases() -> Vec<Case> {
     let six = ["012345", "543210", "204153"];
     let case = |name, card, lines| Case { name, card, lines };
     vec![
-        case("card_b", samples::card_b(), card_b()),
+        case("card_b", samples::card_b(), short_words()),
+        case("card_b_ending", samples::card_b_ending(), short_words()),
         case("chain", samples::chain(), [long_words(&["01", "10"], 3), vec![line("01", [])]].concat()),
+        case("chain_ending", samples::chain_ending(), long_words(&["01", "10"], 3)),
         case("chain_full", samples::chain_full(), long_words(&["012345", "543210"], 63)),
         case("shortcuts", samples::shortcuts(), long_words(&["012", "210", "102"], 63)),
         case("full", samples::full(), long_words(&six, 63)),

@@ -88,10 +88,14 @@ fn describe_card(card: &[u8]) -> String {
     let Ok(card) = read_card(card) else { return String::new() };
     let mut text = format!("  the card: {} symbols\n", card.symbols);
     for (place, machine) in card.machines.iter().enumerate() {
-        let ending = |(state, ending): (usize, &Option<u16>)| ending.map(|marks| format!("{state} with {marks}"));
+        let ending = |(state, ending): (usize, &Option<u16>)| match ending {
+            None => None,
+            Some(0) => Some(state.to_string()),
+            Some(marks) => Some(format!("{state} with {marks} marks")),
+        };
         let endings: Vec<String> = machine.endings.iter().enumerate().filter_map(ending).collect();
         let states = machine.endings.len();
-        writeln!(text, "    machine {place}: {states} states, endings {{{}}}", endings.join(", ")).unwrap();
+        writeln!(text, "    machine {place}: {states} states, final {{{}}}", endings.join(", ")).unwrap();
         for arc in &machine.arcs {
             let (inputs, outputs) = (symbols(arc.inputs), symbols(arc.outputs));
             writeln!(text, "      {} to {}, {} marks, in {inputs}, out {outputs}", arc.from, arc.to, arc.marks)

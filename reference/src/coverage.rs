@@ -1,6 +1,7 @@
 //! What a comparison met: how often each call answered each number, and the sizes of what it was lent.
 
 use crate::call::{reference, Call, Outcome, KINDS};
+use crate::card::{read_card, Card, Machine};
 use std::collections::BTreeMap;
 use std::fmt;
 
@@ -14,18 +15,26 @@ const OFTEN: u64 = 100;
 const VERDICTS: [(i64, &str); 3] = [(1, "right"), (2, "another row"), (3, "not in the table")];
 
 /// What an answer of the optimizer can have.
-const TRAITS: [&str; 7] = [
+const TRAITS: [&str; 8] = [
     "no pair",
     "an insertion",
     "an insertion at its end",
     "a deletion",
     "another symbol",
     "marks",
+    "ending marks",
     "insertions without marks",
 ];
 
+/// The marks of a machine at the end of a complete candidate.
+fn ending_marks(machine: &Machine, pairs: &[u8]) -> u16 {
+    let step = |state, pair: &[u8]| Some(machine.step(state, pair[0], pair[1])?.0);
+    let last = pairs.chunks(2).try_fold(0, step).expect("a complete candidate");
+    machine.endings[last].expect("a final state")
+}
+
 /// Which of `TRAITS` these pairs and counts have.
-fn traits(pairs: &[u8], counts: &[usize]) -> [bool; 7] {
+fn traits(card: &Card, pairs: &[u8], counts: &[usize]) -> [bool; 8] {
     let any = |test: fn(u8, u8) -> bool| pairs.chunks(2).any(|pair| test(pair[0], pair[1]));
     let inserts = any(|input, _| input == 0);
     let marks = counts.iter().any(|&count| count > 0);
@@ -36,6 +45,7 @@ fn traits(pairs: &[u8], counts: &[usize]) -> [bool; 7] {
         any(|_, output| output == 0),
         any(|input, output| input != 0 && output != 0 && input != output),
         marks,
+        card.machines.iter().any(|machine| ending_marks(machine, pairs) > 0),
         inserts && !marks,
     ]
 }
@@ -51,7 +61,7 @@ pub struct Coverage {
     words: Counts,
     pairs: Counts,
     /// How often an answer has each of `TRAITS`.
-    traits: [u64; 7],
+    traits: [u64; 8],
     /// What is answered for the empty word.
     empty_words: Counts,
     /// Lengths of slices, less what is needed.
@@ -115,8 +125,9 @@ impl Coverage {
                     count(&mut self.words, word.len());
                 }
                 if outcome.number == 0 {
+                    let read = read_card(card).expect("an accepted card");
                     let pairs = &outcome.slice[..2 * outcome.result[6]];
-                    for (times, met) in self.traits.iter_mut().zip(traits(pairs, &outcome.result[..6])) {
+                    for (times, met) in self.traits.iter_mut().zip(traits(&read, pairs, &outcome.result[..6])) {
                         *times += met as u64;
                     }
                 }

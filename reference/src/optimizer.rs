@@ -60,19 +60,22 @@ fn steps(card: &Card, ranking: &[u8], input: u8) -> Vec<Vec<Step>> {
     (0..card.states()).map(from).collect()
 }
 
+/// What it costs to end in a joined state, if every machine may.
+fn ending(card: &Card, ranking: &[u8], number: usize) -> Option<Cost> {
+    let states = apart(card, number);
+    let mut cost = [0; 7];
+    for (place, &machine) in ranking.iter().enumerate() {
+        let machine = machine as usize;
+        cost[place] = card.machines[machine].endings[states[machine]]? as u32;
+    }
+    Some(cost)
+}
+
 /// The best candidate for a word on an accepted card.
 pub fn best(card: &Card, ranking: &[u8], word: &[u8]) -> Option<Vec<Pair>> {
     let insertions = steps(card, ranking, 0);
     let readings: Vec<_> = word.iter().map(|&symbol| steps(card, ranking, symbol)).collect();
-    let ending = |number| {
-        let states = apart(card, number);
-        let mut cost = [0; 7];
-        for (place, &machine) in ranking.iter().enumerate() {
-            cost[place] = card.machines[machine as usize].endings[states[machine as usize]]? as u32;
-        }
-        Some(cost)
-    };
-    let endings: Vec<Option<Cost>> = (0..card.states()).map(ending).collect();
+    let endings: Vec<Option<Cost>> = (0..card.states()).map(|number| ending(card, ranking, number)).collect();
 
     // labels[position][state]: the least cost from there to an end
     let mut labels: Vec<Vec<Option<Cost>>> = vec![vec![]; word.len() + 1];

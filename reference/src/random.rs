@@ -1,6 +1,5 @@
 //! A small generator of numbers that look random and depend on the seed alone.
 
-#[derive(Clone)]
 pub struct Random(u64);
 
 impl Random {

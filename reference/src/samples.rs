@@ -12,9 +12,9 @@ pub fn arc(from: usize, to: usize, marks: u16, inputs: u64, outputs: u64) -> Arc
     Arc { from, to, marks, inputs, outputs }
 }
 
-/// A machine whose endings cost nothing.
+/// A machine whose endings have no marks.
 pub fn machine(finals: &[bool], arcs: Vec<Arc>) -> Machine {
-    Machine { endings: finals.iter().map(|is_final| is_final.then_some(0)).collect(), arcs }
+    Machine { endings: finals.iter().map(|&is_final| is_final.then_some(0)).collect(), arcs }
 }
 
 pub fn card(symbols: u8, machines: &[Machine]) -> Vec<u8> {
@@ -46,6 +46,13 @@ pub fn card_b() -> Vec<u8> {
         arc(0, 0, 1, segment, empty),
     ];
     card(2, &[machine(&[true, true], onset), machine(&[true], insertion), machine(&[true], deletion)])
+}
+
+/// Card B with state byte 2 for state 1 of machine 0: a mark for a consonant at the end.
+pub fn card_b_ending() -> Vec<u8> {
+    let mut card = card_b();
+    card[17] = 2;
+    card
 }
 
 /// `count` sets that share out the symbols, none of them empty, by chance.
@@ -116,6 +123,15 @@ fn counters(lowest: u8, carry: u8, symbols: u8, marks: u16) -> [Machine; 2] {
 /// The chain with few arcs: for 24 symbols the best has 3,199 pairs and both counts are 47,985.
 pub fn chain() -> Vec<u8> {
     card(3, &counters(1, 1, 3, 15))
+}
+
+/// The chain with ending marks: for 24 symbols both counts are 48,000, the most that there can be.
+pub fn chain_ending() -> Vec<u8> {
+    let mut machines = counters(1, 1, 3, 15);
+    for machine in &mut machines {
+        *machine.endings.last_mut().expect("a machine has a state") = Some(15);
+    }
+    card(3, &machines)
 }
 
 /// The lower half of a set of two symbols or more.

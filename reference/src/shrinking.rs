@@ -358,7 +358,9 @@ fn clash(first: &[u8; 20], second: &[u8; 20]) -> bool {
 /// The call with two states of a machine made one, the lower, without arcs that clash then.
 fn with_one_state_for_two(call: &Call, machine: usize, low: usize, high: usize) -> Option<Call> {
     with_part(call, machine, |part| {
-        part.states[low] = part.states[low].max(part.states[high]);
+        // final if one of them is, with the fewer marks
+        let (kept, other) = (part.states[low], part.states[high]);
+        part.states[low] = if kept == 0 || other == 0 { kept | other } else { kept.min(other) };
         part.states.remove(high);
         let gone = high..high + 1;
         let mut arcs: Vec<[u8; 20]> = Vec::new();

@@ -1,10 +1,10 @@
-//! The ten examples of the requirements, those of the change requests, and the cards they are about.
+//! The ten examples of the requirements, and the cards they are about.
 
 use reference::candidate::evaluate;
 use reference::card::{lay_out, read_card, read_part};
 use reference::lines::answer;
 use reference::ranking::{condition, find_ranking};
-use reference::samples::{arc, card, card_b, machine, set, CARD_A};
+use reference::samples::{arc, card, card_b, card_b_ending, machine, set, CARD_A};
 
 #[test]
 fn card_a_is_as_described() {
@@ -42,6 +42,12 @@ fn the_empty_word() {
     assert_eq!(answer(&card_b(), b"012 "), "0,0,0");
 }
 
+/// Ending marks.
+#[test]
+fn a_final_consonant() {
+    assert_eq!(answer(&card_b_ending(), b"012 1"), "0,0,1 1:0");
+}
+
 #[test]
 fn example_6() {
     let mut machine = read_card(&CARD_A).unwrap().machines.remove(0);
@@ -68,14 +74,4 @@ fn example_9() {
 #[test]
 fn example_10() {
     assert_eq!(find_ranking(3, &[0b100, 0b001]), Ok([1, 2, 0, 0, 0, 0]));
-}
-
-/// S-5: a mark for ending in state 1 of card B's first machine.
-#[test]
-fn ending_marks() {
-    let mut card = card_b();
-    card[17] = 2;
-    assert_eq!(answer(&card, b"012 1"), "0,0,1 1:0");
-    assert_eq!(answer(&card, b"201 1"), "0,1,0 1:1 0:2");
-    assert_eq!(answer(&card, b"210 1"), "1,0,0 1:1");
 }

@@ -1,9 +1,9 @@
 //! The optimizer by rounds against the list of all candidates, on small cards made by chance.
 
-use reference::card::{lay_out, read_card, read_machine, Card};
+use reference::card::{lay_out, read_card, read_machine, Card, Machine};
 use reference::optimizer::{best, best_by_listing, optimize};
 use reference::random::Random;
-use reference::samples::{arc, machine};
+use reference::samples::arc;
 
 /// A card of one to three machines, one or two symbols and at most four joined states.
 fn small_card(random: &mut Random) -> Card {
@@ -14,8 +14,8 @@ fn small_card(random: &mut Random) -> Card {
         .map(|_| {
             let states = 1 + random.below(room.min(3));
             room /= states;
-            let finals: Vec<bool> = (0..states).map(|_| random.below(3) > 0).collect();
-            let mut made = machine(&finals, vec![]);
+            let endings = (0..states).map(|_| random.one_of(&[None, Some(0), Some(0), Some(1), Some(2)])).collect();
+            let mut made = Machine { endings, arcs: vec![] };
             for _ in 0..2 + random.below(8 * states) {
                 let (from, to, marks) = (random.below(states), random.below(states), random.below(3) as u16);
                 made.arcs.push(arc(from, to, marks, 1 + random.below(sets) as u64, 1 + random.below(sets) as u64));

@@ -2,7 +2,7 @@
 //! of all candidates.
 
 use reference::candidate::{evaluate, Pair};
-use reference::card::{lay_out as lay_out_card, read_card, read_machine, Card};
+use reference::card::{lay_out as lay_out_card, read_card, read_machine, Card, Machine};
 use reference::optimizer::{best, list};
 use reference::random::Random;
 use reference::ranking::harmony;
@@ -209,8 +209,8 @@ fn small_card(random: &mut Random) -> Card {
     let parts: Vec<Vec<u8>> = states[..1 + random.below(2)]
         .iter()
         .map(|&states| {
-            let finals: Vec<bool> = (0..states).map(|_| random.below(3) > 0).collect();
-            let mut made = machine(&finals, vec![]);
+            let endings = (0..states).map(|_| random.one_of(&[None, Some(0), Some(0), Some(1), Some(2)])).collect();
+            let mut made = Machine { endings, arcs: vec![] };
             for _ in 0..2 + random.below(8 * states) {
                 let (from, to, marks) = (random.below(states), random.below(states), random.below(3) as u16);
                 made.arcs.push(arc(from, to, marks, 1 + random.below(sets) as u64, 1 + random.below(sets) as u64));

@@ -49,6 +49,14 @@ impl Generator {
         }
     }
 
+    /// An accepted card, and pairs that its machines take in turn.
+    pub fn card_and_candidate(&self, random: &mut Random) -> (Card, Vec<u8>) {
+        let card = self.card(random);
+        let pairs = random.below(30);
+        let candidate = walk(random, &card, pairs);
+        (card, candidate)
+    }
+
     fn card(&self, random: &mut Random) -> Card {
         if random.percent(3) {
             self.examples[random.below(self.examples.len())].clone()
@@ -65,8 +73,9 @@ impl Generator {
         let mut word = any_word(random, read.symbols);
         if word.is_empty() && random.percent(50) {
             // a start state that is not final, where another is, asks for insertions
-            if let Some(machine) = read.machines.iter_mut().find(|machine| machine.finals[1..].contains(&true)) {
-                machine.finals[0] = false;
+            let other_final = |machine: &&mut Machine| machine.endings[1..].iter().any(Option::is_some);
+            if let Some(machine) = read.machines.iter_mut().find(other_final) {
+                machine.endings[0] = None;
             }
         }
         if read.states() == 128 && random.percent(40) {

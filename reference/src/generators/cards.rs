@@ -14,6 +14,9 @@ struct Style {
     most_marks: usize,
     targets: Targets,
     finals: Finals,
+    /// How many of a hundred final states have ending marks, and the most that they have.
+    ending: usize,
+    most_ending_marks: usize,
 }
 
 #[derive(Clone, Copy)]
@@ -33,12 +36,15 @@ enum Finals {
 impl Style {
     fn by_chance(random: &mut Random) -> Style {
         let (marked, most_marks) = random.one_of(&[(0, 0), (10, 1), (50, 1), (50, 3), (90, 15), (100, 15)]);
+        let (ending, most_ending_marks) = random.one_of(&[(0, 0), (0, 0), (40, 1), (60, 3), (90, 15)]);
         Style {
             density: random.one_of(&[100, 100, 100, 95, 80, 50]),
             marked,
             most_marks,
             targets: random.one_of(&[Targets::Any, Targets::Any, Targets::Same, Targets::Next]),
             finals: random.one_of(&[Finals::All, Finals::All, Finals::Some, Finals::Last]),
+            ending,
+            most_ending_marks,
         }
     }
 
@@ -58,13 +64,19 @@ impl Style {
         }
     }
 
-    fn finals(&self, random: &mut Random, states: usize) -> Vec<bool> {
-        let is_final = |state: usize| match self.finals {
-            Finals::All => true,
-            Finals::Some => random.percent(60),
-            Finals::Last => state == states - 1,
+    fn endings(&self, random: &mut Random, states: usize) -> Vec<Option<u16>> {
+        let ending = |state: usize| {
+            let is_final = match self.finals {
+                Finals::All => true,
+                Finals::Some => random.percent(60),
+                Finals::Last => state == states - 1,
+            };
+            is_final.then(|| match random.percent(self.ending) {
+                true => random.between(1, self.most_ending_marks) as u16,
+                false => 0,
+            })
         };
-        (0..states).map(is_final).collect()
+        (0..states).map(ending).collect()
     }
 }
 
@@ -122,7 +134,7 @@ fn shared_machine(random: &mut Random, symbols: u8, states: usize, style: &Style
         }
     }
     random.shuffle(&mut arcs);
-    machine(&style.finals(random, states), arcs)
+    Machine { endings: style.endings(random, states), arcs }
 }
 
 /// A set that is not empty, by chance.
@@ -148,7 +160,7 @@ fn loose_machine(random: &mut Random, symbols: u8, states: usize, style: &Style)
             arcs.push(next);
         }
     }
-    machine(&style.finals(random, states), arcs)
+    Machine { endings: style.endings(random, states), arcs }
 }
 
 /// Insertions lead from the first state to the last, and only there a symbol of the word is taken: long candidates.
@@ -185,7 +197,7 @@ fn faithful_machine(random: &mut Random, symbols: u8, states: usize, style: &Sty
             add(unlike, set(apart + 1..symbols + 1), segments);
         }
     }
-    machine(&style.finals(random, states), arcs)
+    Machine { endings: style.endings(random, states), arcs }
 }
 
 /// A machine that takes every pair and changes no state.
@@ -202,7 +214,7 @@ fn any_machine(random: &mut Random, symbols: u8, states: usize, style: &Style) -
         12..=13 => counting_machine(random, symbols, states, style),
         14..=16 => faithful_machine(random, symbols, states, style),
         17..=18 => open_machine(random, symbols, states, style),
-        _ if random.percent(20) => machine(&style.finals(random, states), vec![]),
+        _ if random.percent(20) => Machine { endings: style.endings(random, states), arcs: vec![] },
         _ => shared_machine(random, symbols, states, &Style { density: 100, ..*style }),
     }
 }
@@ -229,19 +241,6 @@ fn most_states(random: &mut Random, machines: usize) -> Vec<usize> {
         }
     }
     counts
-}
-
-/// Marks for ending, by chance, in some of the machines. What is made next does not depend on them.
-fn mark_endings(random: &Random, machines: &mut [Machine]) {
-    let mut random = random.clone();
-    for machine in machines {
-        if random.percent(40) {
-            let most = random.one_of(&[1, 2, 15]);
-            for ending in machine.endings.iter_mut().flatten() {
-                *ending = random.between(0, most) as u16;
-            }
-        }
-    }
 }
 
 /// A card with these machines.
@@ -289,7 +288,6 @@ pub fn any_card(random: &mut Random) -> Card {
         let place = random.below(machines);
         list[place].endings.fill(None);
     }
-    mark_endings(random, &mut list);
     card_of(symbols, list)
 }
 
@@ -307,7 +305,6 @@ pub fn open_card(random: &mut Random) -> Card {
         }
         list.push(made);
     }
-    mark_endings(random, &mut list);
     card_of(symbols, list)
 }
 

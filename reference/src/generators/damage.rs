@@ -64,7 +64,8 @@ fn damage_a_field(random: &mut Random, symbols: u8, part: &mut [u8]) {
     if kind == 0 {
         let place = 2 + random.below(states.max(1) as usize);
         if let Some(byte) = part.get_mut(place) {
-            *byte = random.between(17, 255) as u8;
+            let any = random.between(17, 255) as u8;
+            *byte = random.one_of(&[17, 17, 128, any]);
         }
         return;
     }
