@@ -1,5 +1,5 @@
 // Prints how many bytes of stack a call of the verified engine uses, the most over all rows: the call runs on a painted
-// stack, and the deepest byte that it changed is looked for.
+// stack, and the deepest byte that it changed is looked for. `stack all` prints it for every exported call.
 
 #define _GNU_SOURCE
 #include "pastaspur.h"
@@ -8,6 +8,7 @@
 #include <stdint.h>
 #include <stdio.h>
 #include <stdlib.h>
+#include <string.h>
 #include <sys/mman.h>
 #include <ucontext.h>
 
@@ -22,6 +23,14 @@ static uint8_t answer[PASTASPUR_ANSWER_BYTES];
 static uint16_t result[8];
 static uint32_t number;
 
+// What the other calls are lent: the answer as a candidate, the card's parts, a target, sixty-four conditions.
+static uint16_t lengths[6];
+static uint8_t target[65536];
+static size_t places[2];
+static const uint16_t counts[2][6] = {{1, 2, 3, 4, 5, 6}, {6, 5, 4, 3, 2, 1}};
+static uint8_t conditions[128];
+static uint8_t bytes[6];
+
 static void call_nothing(void) { number = 0; }
 
 static void call_optimize(void) {
@@ -29,6 +38,41 @@ static void call_optimize(void) {
                               asked.word.start, asked.word.length, work, PASTASPUR_WORK_NUMBERS, answer,
                               PASTASPUR_ANSWER_BYTES, result);
 }
+
+static void call_evaluate(void) {
+  number = pastaspur_evaluate(asked.card.start, asked.card.length, answer, 2 * (size_t)result[6], result);
+}
+
+static void call_read_part(void) {
+  number = pastaspur_read_part(asked.card.start, asked.card.length, asked.card.start[0] - 1, places);
+}
+
+static void call_pack(void) {
+  size_t machines = asked.card.start[0];
+  size_t parts = 2 + 4 * machines;
+  for (size_t i = 0; i < machines; i++) lengths[i] = asked.card.start[4 + 4 * i] | asked.card.start[5 + 4 * i] << 8;
+  number = pastaspur_pack(asked.card.start[1], lengths, machines, asked.card.start + parts, asked.card.length - parts, target,
+                          sizeof target, places);
+}
+
+static void call_compare(void) {
+  number = pastaspur_compare(asked.card.start[0], asked.ranking.start, asked.ranking.length, counts[0], counts[1], bytes);
+}
+
+static void call_condition(void) { number = pastaspur_condition(asked.card.start[0], counts[0], counts[1], bytes); }
+
+static void call_find_ranking(void) {
+  for (size_t i = 0; i < sizeof conditions; i += 2) conditions[i] = 1;
+  number = pastaspur_find_ranking(asked.card.start[0], conditions, sizeof conditions, bytes);
+}
+
+static const struct {
+  const char *name;
+  void (*call)(void);
+} calls[] = {{"optimize", call_optimize},   {"evaluate", call_evaluate},   {"read_part", call_read_part},
+             {"pack", call_pack},           {"compare", call_compare},     {"condition", call_condition},
+             {"find_ranking", call_find_ranking}};
+enum { CALLS = sizeof calls / sizeof *calls };
 
 // The bytes of a painted stack from its top down to the deepest one that is changed.
 static size_t depth_by(void (*call)(void), uint8_t paint) {
@@ -54,22 +98,26 @@ static size_t depth(void (*call)(void)) {
   return deepest;
 }
 
-int main(void) {
+int main(int count, char **words) {
   stack = mmap(NULL, STACK_BYTES, PROT_READ | PROT_WRITE, MAP_PRIVATE | MAP_ANONYMOUS, -1, 0);
   if (stack == MAP_FAILED) return 1;
   depth(call_nothing);
   size_t nothing = depth(call_nothing);
-  size_t most = 0;
+  int all = count > 1 && strcmp(words[1], "all") == 0;
+  size_t most[CALLS] = {0};
   for (size_t row = 0; row < row_count(); row++) {
     for (size_t i = 0; i < row_cases(row); i++) {
       asked = row_case(row, i);
-      size_t used = depth(call_optimize);
-      if (number != 0 || used <= nothing || used == STACK_BYTES) {
-        fprintf(stderr, "%s: number %u, %zu bytes\n", row_name(row), number, used);
-        return 1;
+      for (int c = 0; c < (all ? CALLS : 1); c++) {
+        size_t used = depth(calls[c].call);
+        if (number != 0 || used <= nothing || used == STACK_BYTES) {
+          fprintf(stderr, "%s, %s: number %u, %zu bytes\n", row_name(row), calls[c].name, number, used);
+          return 1;
+        }
+        if (used - nothing > most[c]) most[c] = used - nothing;
       }
-      if (used - nothing > most) most = used - nothing;
     }
   }
-  printf("%zu\n", most);
+  if (!all) printf("%zu\n", most[0]);
+  for (int c = 0; all && c < CALLS; c++) printf("%s %zu\n", calls[c].name, most[c]);
 }

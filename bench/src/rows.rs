@@ -122,7 +122,7 @@ fn large() -> Vec<Case> {
     cases
 }
 
-/// The cases that lines of the board's program ask for.
+/// The cases that lines of the board's program ask for, but for the empty word, which would be measured with long ones.
 fn from_lines(card: &[u8], lines: &str) -> Vec<Case> {
     let case = |line: &str| {
         let (ranking, word) = line.split_once(' ').expect("a ranking and a word");
@@ -132,7 +132,7 @@ fn from_lines(card: &[u8], lines: &str) -> Vec<Case> {
             word: word.split(',').map(|symbol| symbol.parse().expect("a symbol")).collect(),
         }
     };
-    lines.lines().map(case).collect()
+    lines.lines().filter(|line| !line.ends_with(' ')).map(case).collect()
 }
 
 pub fn rows() -> Vec<Row> {

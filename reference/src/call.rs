@@ -127,12 +127,15 @@ pub fn reference(call: &Call) -> Outcome {
             outcome(found.map(|length| vec![length]), 1, slice)
         }
         Call::Compare { machines, ranking, first, second } => {
-            let order = |order| match order {
-                Ordering::Less => vec![1],
-                Ordering::Equal => vec![2],
-                Ordering::Greater => vec![3],
+            let decision = |(order, machine): (Ordering, Option<u8>)| {
+                let order = match order {
+                    Ordering::Less => 1,
+                    Ordering::Equal => 2,
+                    Ordering::Greater => 3,
+                };
+                vec![order, machine.map_or(0, usize::from)]
             };
-            outcome(compare(*machines, ranking, first, second).map(order), 1, vec![])
+            outcome(compare(*machines, ranking, first, second).map(decision), 2, vec![])
         }
         Call::Condition { machines, first, second } => {
             outcome(condition(*machines, first, second).map(|(fewer, more)| numbers([fewer, more])), 2, vec![])

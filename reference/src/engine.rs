@@ -206,7 +206,7 @@ impl Engine for Library {
             Call::Compare { machines, ranking, first, second } => {
                 let mut ranking = lender.bytes(ranking);
                 let (mut first, mut second) = (lender.shorts(first), lender.shorts(second));
-                let mut result = lender.result(1, |number| number as u8);
+                let mut result = lender.result(2, |number| number as u8);
                 // SAFETY: as above, and both profiles have six counts
                 let number = unsafe {
                     pastaspur_compare(

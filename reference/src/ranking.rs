@@ -18,14 +18,21 @@ pub fn harmony(ranking: &[u8], first: &Profile, second: &Profile) -> Ordering {
     Ordering::Equal
 }
 
-pub fn compare(count: u8, ranking: &[u8], first: &Profile, second: &Profile) -> Result<Ordering, Refusal> {
+/// How the first profile stands to the second, and the machine that decided: the highest ranked one where they differ.
+pub fn compare(
+    count: u8,
+    ranking: &[u8],
+    first: &Profile,
+    second: &Profile,
+) -> Result<(Ordering, Option<u8>), Refusal> {
     if !(1..=6).contains(&count) {
         return Err(1);
     }
     if !is_ranking(count as usize, ranking) {
         return Err(7);
     }
-    Ok(harmony(ranking, first, second))
+    let decided = ranking.iter().copied().find(|&machine| first[machine as usize] != second[machine as usize]);
+    Ok((harmony(ranking, first, second), decided))
 }
 
 /// The condition that the first profile beats the second: W, the machines where it has fewer, and L, where it has more.

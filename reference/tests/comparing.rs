@@ -6,9 +6,9 @@ use std::cmp::Ordering::{Equal, Greater, Less};
 #[test]
 fn down_the_ranking() {
     let (a, b) = ([0, 0, 9, 1, 1, 1], [0, 1, 0, 2, 0, 7]);
-    assert_eq!(compare(3, &[0, 1, 2], &a, &b), Ok(Less));
-    assert_eq!(compare(3, &[0, 2, 1], &a, &b), Ok(Greater));
-    assert_eq!(compare(1, &[0], &a, &b), Ok(Equal)); // the places from K on are ignored
+    assert_eq!(compare(3, &[0, 1, 2], &a, &b), Ok((Less, Some(1))));
+    assert_eq!(compare(3, &[0, 2, 1], &a, &b), Ok((Greater, Some(2))));
+    assert_eq!(compare(1, &[0], &a, &b), Ok((Equal, None))); // the places from K on are ignored
     assert_eq!(condition(3, &a, &b), Ok((0b010, 0b100)));
 }
 
@@ -35,8 +35,11 @@ fn conditions_and_comparison() {
         for second in (0..27).map(profile) {
             let (w, l) = condition(3, &first, &second).unwrap();
             for ranking in [[0, 1, 2], [0, 2, 1], [1, 0, 2], [1, 2, 0], [2, 0, 1], [2, 1, 0]] {
-                let order = compare(3, &ranking, &first, &second).unwrap();
+                let (order, decided) = compare(3, &ranking, &first, &second).unwrap();
                 assert_eq!(fits(&ranking, w, l), order != Greater);
+                // the machine that decided is in W where the first is better, in L where it is worse
+                assert_eq!(order == Equal, decided.is_none());
+                assert!(decided.is_none_or(|machine| (if order == Less { w } else { l }) >> machine & 1 == 1));
             }
         }
     }

@@ -317,7 +317,7 @@ fn comparing_and_finding() {
             let beyond = (ranking.len().min(6)..6).find(|&place| first[place] != second[place]);
             match (right.result[0], beyond) {
                 (2, Some(place)) => {
-                    let result = vec![if first[place] < second[place] { 1 } else { 3 }];
+                    let result = vec![if first[place] < second[place] { 1 } else { 3 }, place];
                     Outcome { result, ..right }
                 }
                 _ => right,
@@ -328,6 +328,20 @@ fn comparing_and_finding() {
     let Call::Compare { machines, ranking, first, second } = call else { panic!("a call that compares") };
     assert_eq!((machines, ranking), (1, vec![0]));
     assert_eq!(first.iter().chain(&second).sum::<u16>(), 1);
+
+    // the place in the ranking in the stead of the machine that decided
+    let call = found_out(|call| match call {
+        Call::Compare { ranking, .. } => {
+            let mut right = reference(call);
+            if let [1 | 3, machine] = right.result[..] {
+                right.result[1] = ranking.iter().position(|&ranked| ranked as usize == machine).unwrap();
+            }
+            right
+        }
+        _ => reference(call),
+    });
+    let Call::Compare { machines, ranking, .. } = call else { panic!("a call that compares") };
+    assert_eq!((machines, ranking), (2, vec![1, 0]));
 
     // a finder that always gives 0, 1, 2
     let call = found_out(|call| match call {

@@ -77,13 +77,6 @@ module _ (f : ℕ → Bool) where
   none-below zero h = refl
   none-below (suc n) h = rw (none-below n (λ k q. h k (omega arith)), h n (omega arith))
 
-  pub no-one-below : (n : ℕ) → someBelow f n ≡ false → (k : ℕ) → k < n → f k ≡ false
-  no-one-below n t k h = go (f k) refl
-    where
-      go : (b : Bool) → f k ≡ b → f k ≡ false
-      go true e = absurd (clash (found-below n k h e) t)
-      go false e = e
-
 -- the numbers below n, in order
 pub length-numbers : (n : ℕ) → length (numbersBelow n) ≡ n
 unfolding numbersBelow

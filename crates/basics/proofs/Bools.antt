@@ -10,11 +10,7 @@ same true false p q = sym (p refl)
 same false true p q = q refl
 same false false p q = refl
 
--- a test passes or fails, and never both
-pub decided : (a : Bool) → (a ≡ true) ⊎ (a ≡ false)
-decided true = inl refl
-decided false = inr refl
-
+-- a test does not both pass and fail
 pub clash : {a : Bool} → a ≡ true → a ≡ false → ⊥
 clash p q = false≢true (sym q ∙ p)
 

@@ -60,9 +60,6 @@ pub none-first : (n : ℕ) (ns : List ℕ) → firstOf (n ∷ ns) ≡ 0 → (n �
 none-first zero ns e = (refl, e)
 none-first (suc n) ns e = absurd (omega arith)
 
-pub its-number : (n : ℕ) (b : Bool) {m : ℕ} → m ≡ refuse n b → b ≡ false → m ≡ n
-its-number n b e f = rw f at e
-
 pub last-one : (n : ℕ) → firstOf (n ∷ []) ≡ n
 last-one zero = refl
 last-one (suc n) = refl

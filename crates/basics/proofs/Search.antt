@@ -2,7 +2,7 @@
 use mathlib.Core.Path.{_≡_, refl}
 use mathlib.Core.Logic.{_⊎_, inl, inr}
 use mathlib.Core.Bool.{Bool, true, false, not, _&&_}
-use mathlib.Core.List.{List, [], _∷_, _++_, List·Memᴰ, List·Memᴰ·head, List·Memᴰ·tail, List·Memᴰ·not-nil, List·Memᴰ·cases-cons, List·Memᴰ·append-cases, Memᴰ·append-left, Memᴰ·append-right}
+use mathlib.Core.List.{List, [], _∷_, _++_, map, List·Memᴰ, List·Memᴰ·head, List·Memᴰ·tail, List·Memᴰ·not-nil, List·Memᴰ·cases-cons, List·Memᴰ·append-cases, Memᴰ·append-left, Memᴰ·append-right}
 use mathlib.Core.Option.{some, none}
 use Prim.Native.Nat.{ℕ, zero, suc, _+_, _<_, _≤_}
 use native.Mathlib.Numerals.{add-one}
@@ -23,14 +23,6 @@ left-none l i h = drop-of-length-le l h
 pub all-none : {A : Type 0} (f : A → Bool) {xs : List A} → xs ≡ [] → allOf f xs ≡ true
 unfolding allOf
 all-none f e = rw e
-
-pub pairwise-none : {A : Type 0} (f : A → A → Bool) {xs : List A} → xs ≡ [] → pairwise f xs ≡ true
-unfolding pairwise
-pairwise-none f e = rw e
-
-pub first-none : {A : Type 0} (f : A → Bool) {xs : List A} → xs ≡ [] → firstThat f xs ≡ none
-unfolding firstThat
-first-none f e = rw e
 
 module _ {A : Type 0} (f : A → Bool) {xs : List A} {x : A} {rest : List A} (e : xs ≡ x ∷ rest) where
   pub all-next : f x ≡ true → allOf f rest ≡ allOf f xs
@@ -200,3 +192,9 @@ module _ {A B : Type 0} (f : A → List B) where
   unfolding joined
   member-joined {y = y} (List·Memᴰ·head {x = z} {xs = zs} e) m = Memᴰ·append-left (joined f zs) (rw e at m)
   member-joined (List·Memᴰ·tail {x = z} {xs = zs} k) m = Memᴰ·append-right (f z) (member-joined k m)
+
+-- an element of a map
+pub map-at : {A B : Type 0} (f : A → B) (xs : List A) (i : ℕ) → i < length xs → (d : B) (a : A) → getD (map f xs) i d ≡ f (getD xs i a)
+map-at f [] i h d a = absurd (omega arith)
+map-at f (x ∷ xs) zero h d a = refl
+map-at f (x ∷ xs) (suc i) h d a = map-at f xs i (omega arith) d a

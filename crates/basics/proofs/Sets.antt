@@ -2,6 +2,7 @@
 use mathlib.Core.Path.{_≡_, refl, sym, _∙_, ap}
 use mathlib.Core.Bool.{Bool, true, false, _&&_, _||_, cond}
 use Prim.Native.Nat.{ℕ, zero, suc, _+_, _-_, _*_, _/_, _%_, _^_, _<_, _≤_, min, max}
+use native.Mathlib.Decide.{decLt}
 use native.Mathlib.Nat.{div-one, zero-div, div-eq-of-lt, pow-suc, add-mul-div-right, add-mul-mod-self-right}
 use native.Mathlib.Omega.{arith}
 use lib.Dec.{eqb}
@@ -140,3 +141,17 @@ module _ (f : ℕ → Bool) where
 
   pub empty-set : (n : ℕ) → setOf f n ≡ 0 → (i : ℕ) → i < n → f i ≡ false
   empty-set n e i h = sym (set-member n i h) ∙ (rw e (no-member i))
+
+-- the set of one number
+pub member-one : (n i : ℕ) → member (2 ^ n) i ≡ eqb i n
+member-one n i = go (decLt i (suc n))
+  where
+    f : ℕ → Bool
+    f k = eqb k n
+
+    one : setOf f (suc n) ≡ 2 ^ n
+    one = set-grows f n (eq-eqb n n refl) ∙ omega (arith, set-empty f n (λ k h. ne-eqb k n (omega arith)))
+
+    go : Dec (i < suc n) → member (2 ^ n) i ≡ eqb i n
+    go (yes h) = rw (← one) (set-member f (suc n) i h)
+    go (no h) = rw (← one) (set-beyond f (suc n) i (omega arith) ∙ sym (ne-eqb i n (omega arith)))

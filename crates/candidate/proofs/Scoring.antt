@@ -17,7 +17,7 @@ use Rattle.machine.specs.Part.{machineOf}
 use Rattle.ranking.specs.declared.Profile.{Profile}
 use Rattle.card.specs.Layout.{machineCount, partOf}
 use Rattle.card.specs.Card.{machinesOf}
-use Rattle.card.specs.Laws.Search.{map-at}
+use Rattle.basics.proofs.Search.{map-at}
 use Rattle.card.specs.Laws.Machines.{length-machines, machine-at}
 use Rattle.candidate.specs.Candidates.{marksOf, isSome, countOf, isComplete, profileOf}
 use Rattle.candidate.specs.Evaluating.{profileWith}

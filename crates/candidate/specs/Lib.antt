@@ -1,6 +1,5 @@
 pub mod Refusals
 pub mod Candidates
+pub mod ProfileMerge
 pub mod Evaluating
 pub mod Scoring
-pub mod Best
-pub mod Optimizing

@@ -73,10 +73,7 @@ fn pair_at(candidate: &[u8], at: usize) -> Pair
     requires { ⌜ at + 2 ≤ length (now candidate) ⌝ }
     ensures { λ r. ⌜ r ≡ pairAt (now (candidate .entry)) at ⌝ }
 {
-    Pair {
-        input: candidate[at],
-        output: candidate[at + 1],
-    }
+    Pair::new(candidate[at], candidate[at + 1])
 }
 
 // Takes a candidate's pairs in turn on one machine, and ends.
@@ -166,7 +163,7 @@ fn score(card: &[u8], candidate: &[u8]) -> Scored
     requires { ⌜ (cardRefusal (now card) ≡ 0) × (soundCandidate (symbolCount (now card)) (now candidate) ≡ true) ⌝ }
     ensures { λ r. ⌜ Scores (machinesOf (now (card .entry))) (pairsOf (now (candidate .entry))) r ⌝ }
 {
-    let mut counts = [0u16; 6];
+    let mut counts = Profile::ZERO.counts;
     let machines = card::machine_count(card);
     let symbols = card::symbol_count(card);
     for machine in 0..machines {

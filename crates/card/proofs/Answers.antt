@@ -6,7 +6,7 @@ use native.Mathlib.Omega.{arith}
 use lib.ListN.{length, take, drop}
 use lib.Seq.{take-at, drop-at, drop-drop}
 use Rattle.basics.specs.Refusals.{firstOf}
-use Rattle.card.specs.Layout.{offsetOf, lengthOf}
+use Rattle.layout.specs.Layout.{offsetOf, lengthOf}
 use Rattle.card.specs.Reading.{readingRefusal, reading}
 use Rattle.card.specs.Packing.{table, packed, packingRefusal, packing, packedTarget}
 use Rattle.card.specs.Laws.Packed.{length-table, packed-length}

@@ -1,5 +1,5 @@
 pub mod Stages
-pub mod LayoutSteps
+pub mod Lengths
 pub mod PartSteps
 pub mod Writing
 pub mod Answers

@@ -1,6 +1,6 @@
 -- How the check of parts in turn goes on and ends. Assumes nothing.
 use mathlib.Core.Path.{_≡_, refl, ap, sym, _∙_}
-use mathlib.Core.List.{List, [], _∷_}
+use mathlib.Core.List.{List, [], _∷_, map}
 use Prim.Native.Nat.{ℕ, zero, suc, _+_, _*_, _-_, _^_, _<_, _≤_}
 use native.Mathlib.Nat.{one-mul, mul-one, mul-assoc, mul-le-mul, pow-suc, pow-le-pow-right}
 use native.Mathlib.Numerals.{add-one}
@@ -8,35 +8,36 @@ use native.Mathlib.Omega.{arith}
 use lib.Dec.{leb, lit<}
 use lib.ListN.{length, getD, take, drop, drop-of-length-le}
 use lib.Seq.{drop-cons, drop-drop}
+use Rattle.basics.specs.Products.{product}
 use Rattle.basics.specs.Refusals.{refuse, firstOf}
 use Rattle.basics.proofs.Refusals.{last-one}
 use Rattle.machine.specs.Part.{stateCount, partRefusal}
-use Rattle.card.specs.Card.{stateProduct, partsRefusal, fewStates}
+use Rattle.card.specs.Card.{partsRefusal, fewStates}
 use Rattle.card.specs.Packing.{split}
 
 -- the refusal of the parts that are left, where the state counts of those before them have a product
 abbrev pub partsLeft : ℕ → ℕ → List (List ℕ) → ℕ
-partsLeft product S parts = firstOf (partsRefusal S parts ∷ refuse 6 (leb (product * stateProduct parts) 128) ∷ [])
+partsLeft states S parts = firstOf (partsRefusal S parts ∷ refuse 6 (leb (states * product (map stateCount parts)) 128) ∷ [])
 
 pub parts-start : (S : ℕ) (parts : List (List ℕ)) → partsLeft 1 S parts ≡ firstOf (partsRefusal S parts ∷ refuse 6 (fewStates parts) ∷ [])
-parts-start S parts = ap (λ (n : ℕ). firstOf (partsRefusal S parts ∷ refuse 6 (leb n 128) ∷ [])) (one-mul (stateProduct parts))
+parts-start S parts = ap (λ (n : ℕ). firstOf (partsRefusal S parts ∷ refuse 6 (leb n 128) ∷ [])) (one-mul (product (map stateCount parts)))
 
-module _ (product S : ℕ) where
-  pub parts-on : (part : List ℕ) (parts : List (List ℕ)) → partRefusal S part ≡ 0 → partsLeft product S (part ∷ parts) ≡ partsLeft (product * stateCount part) S parts
-  unfolding partsRefusal stateProduct
-  parts-on part parts e = rw (e, mul-assoc product (stateCount part) (stateProduct parts))
+module _ (states S : ℕ) where
+  pub parts-on : (part : List ℕ) (parts : List (List ℕ)) → partRefusal S part ≡ 0 → partsLeft states S (part ∷ parts) ≡ partsLeft (states * stateCount part) S parts
+  unfolding partsRefusal product
+  parts-on part parts e = rw (e, mul-assoc states (stateCount part) (product (map stateCount parts)))
 
-  pub parts-stop : (part : List ℕ) (parts : List (List ℕ)) → 0 < partRefusal S part → partsLeft product S (part ∷ parts) ≡ partRefusal S part
+  pub parts-stop : (part : List ℕ) (parts : List (List ℕ)) → 0 < partRefusal S part → partsLeft states S (part ∷ parts) ≡ partRefusal S part
   unfolding partsRefusal
   parts-stop part parts h = go (partRefusal S part) refl h
     where
-      go : (n : ℕ) → partRefusal S part ≡ n → 0 < n → partsLeft product S (part ∷ parts) ≡ n
+      go : (n : ℕ) → partRefusal S part ≡ n → 0 < n → partsLeft states S (part ∷ parts) ≡ n
       go zero e h = absurd (omega arith)
       go (suc n) e h = rw e
 
-  pub parts-end : partsLeft product S [] ≡ refuse 6 (leb product 128)
-  unfolding partsRefusal stateProduct
-  parts-end = rw (mul-one product) (last-one (refuse 6 (leb product 128)))
+  pub parts-end : partsLeft states S [] ≡ refuse 6 (leb states 128)
+  unfolding partsRefusal product
+  parts-end = rw (mul-one states) (last-one (refuse 6 (leb states 128)))
 
 -- the parts from part i on, which start at an offset: the slice of the next, and the others
 split-next : (ns : List ℕ) (i : ℕ) (bytes : List ℕ) (offset size : ℕ) → i < length ns → size ≡ getD ns i 0
@@ -52,31 +53,31 @@ split-next ns i bytes offset size h e =
     ∙ ap (λ (n : ℕ). take n rest ∷ split (drop (i + 1) ns) (drop (offset + size) bytes)) (sym f)
 
 -- a loop over the parts, whose answer z is that of the parts that are left
-module _ (S product : ℕ) (ns bytes : List ℕ) (i offset z : ℕ) (left : partsLeft product S (split (drop i ns) (drop offset bytes)) ≡ z) where
+module _ (S states : ℕ) (ns bytes : List ℕ) (i offset z : ℕ) (left : partsLeft states S (split (drop i ns) (drop offset bytes)) ≡ z) where
   pub check-on : (size : ℕ) → i < length ns → size ≡ getD ns i 0 → partRefusal S (take (offset + size - offset) (drop offset bytes)) ≡ 0
-      → partsLeft (product * stateCount (take (offset + size - offset) (drop offset bytes))) S (split (drop (i + 1) ns) (drop (offset + size) bytes)) ≡ z
+      → partsLeft (states * stateCount (take (offset + size - offset) (drop offset bytes))) S (split (drop (i + 1) ns) (drop (offset + size) bytes)) ≡ z
   check-on size h e p =
-      sym (parts-on product S (take (offset + size - offset) (drop offset bytes)) (split (drop (i + 1) ns) (drop (offset + size) bytes)) p)
-      ∙ ap (partsLeft product S) (sym (split-next ns i bytes offset size h e))
+      sym (parts-on states S (take (offset + size - offset) (drop offset bytes)) (split (drop (i + 1) ns) (drop (offset + size) bytes)) p)
+      ∙ ap (partsLeft states S) (sym (split-next ns i bytes offset size h e))
       ∙ left
 
   pub check-stop : (size : ℕ) → i < length ns → size ≡ getD ns i 0 → 0 < partRefusal S (take (offset + size - offset) (drop offset bytes))
       → partRefusal S (take (offset + size - offset) (drop offset bytes)) ≡ z
   check-stop size h e p =
-      sym (parts-stop product S (take (offset + size - offset) (drop offset bytes)) (split (drop (i + 1) ns) (drop (offset + size) bytes)) p)
-      ∙ ap (partsLeft product S) (sym (split-next ns i bytes offset size h e))
+      sym (parts-stop states S (take (offset + size - offset) (drop offset bytes)) (split (drop (i + 1) ns) (drop (offset + size) bytes)) p)
+      ∙ ap (partsLeft states S) (sym (split-next ns i bytes offset size h e))
       ∙ left
 
-  pub check-end : length ns ≤ i → refuse 6 (leb product 128) ≡ z
+  pub check-end : length ns ≤ i → refuse 6 (leb states 128) ≡ z
   unfolding split
   check-end h =
-      sym (parts-end product S)
-      ∙ ap (λ (l : List ℕ). partsLeft product S (split l (drop offset bytes))) (sym (drop-of-length-le ns h))
+      sym (parts-end states S)
+      ∙ ap (λ (l : List ℕ). partsLeft states S (split l (drop offset bytes))) (sym (drop-of-length-le ns h))
       ∙ left
 
 -- a product of counts up to 32
-pub product-next : (product i Q : ℕ) → product ≤ 32 ^ i → Q ≤ 32 → product * Q ≤ 32 ^ (i + 1)
-product-next product i Q h k = rw (add-one i, pow-suc 32 i) (mul-le-mul h k)
+pub product-next : (states i Q : ℕ) → states ≤ 32 ^ i → Q ≤ 32 → states * Q ≤ 32 ^ (i + 1)
+product-next states i Q h k = rw (add-one i, pow-suc 32 i) (mul-le-mul h k)
 
-pub product-small : (product i : ℕ) → product ≤ 32 ^ i → i ≤ 6 → product < 2 ^ 64
-product-small product i h k = omega (arith, pow-le-pow-right {n = 32} (lit< tt) k)
+pub product-small : (states i : ℕ) → states ≤ 32 ^ i → i ≤ 6 → states < 2 ^ 64
+product-small states i h k = omega (arith, pow-le-pow-right {n = 32} (lit< tt) k)

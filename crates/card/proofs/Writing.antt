@@ -5,7 +5,7 @@ use Prim.Native.Nat.{ℕ, suc, _+_, _*_, _-_, _/_, _%_, _<_, _≤_}
 use native.Mathlib.Numerals.{add-one}
 use native.Mathlib.Omega.{arith}
 use lib.ListN.{length, getD, take, drop, set, length-append, length-drop, take-append-drop, drop-of-length-le}
-use lib.Seq.{take-suc, drop-cons, set-at, append-snoc, length-take-le, take-at, drop-at, take-add, drop-drop, take-all, drop-set-lt, drop-append-add}
+use lib.Seq.{take-suc, drop-cons, set-at, append-snoc, length-take-le, take-at, drop-at, take-add, drop-drop, take-all, take-length, drop-set-lt, drop-append-add}
 use borrow.Rule.Slice.PartMut.{putMid}
 use Rattle.card.specs.Packing.{total, table, packed}
 use Rattle.card.specs.Laws.Places.{PlaceAt}
@@ -43,6 +43,13 @@ module _ (bytes : List ℕ) (n : ℕ) (target : List ℕ) where
       ∙ sym (append-assoc front part (drop (length part) (drop n target)))
       ∙ ap (λ (r : List ℕ). front ++ part ++ r) (drop-drop (length part) n target)
       ∙ ap (λ (r : List ℕ). r ++ drop (n + length part) target) (ap (λ (r : List ℕ). front ++ r) (sym e) ∙ sym (take-add n (length part) bytes))
+
+-- a stretch that is as long as the bytes holds them
+pub written-whole : (bytes stretch : List ℕ) → length stretch ≡ length bytes → written bytes (length bytes) stretch ≡ bytes
+written-whole bytes stretch e =
+    ap (λ (l : List ℕ). take (length bytes) bytes ++ l) (drop-of-length-le stretch {i = length bytes} (omega arith))
+    ∙ append-nil (take (length bytes) bytes)
+    ∙ take-length bytes
 
 -- the first two bytes
 pub written-two : (a b : ℕ) (target : List ℕ) → 2 ≤ length target → set (set target 0 a) 1 b ≡ a ∷ b ∷ drop 2 (set (set target 0 a) 1 b)
@@ -103,8 +110,7 @@ module _ (n : ℕ) (parts target : List ℕ) (room : n + length parts ≤ length
   pub parts-next : (offset from size : ℕ) (t ys : List ℕ) → offset ≡ n + from → from + size ≤ length parts
       → t ≡ written (take n target ++ parts) offset target
       → ys ≡ take (from + size - from) (drop from parts)
-      ++ drop (length (take (from + size - from) (drop from parts))) (take (length t - offset) (drop offset t))
-      → putMid offset (length t - offset) t ys ≡ written (take n target ++ parts) (offset + size) target
+      → putMid offset (offset + size - offset) t ys ≡ written (take n target ++ parts) (offset + size) target
   parts-next offset from size t ys o h e f =
       let bytes = take n target ++ parts in
       let part = take (from + size - from) (drop from parts) in
@@ -114,10 +120,9 @@ module _ (n : ℕ) (parts target : List ℕ) (room : n + length parts ≤ length
       ap (λ (k : ℕ). length (take k (drop from parts))) s ∙ length-take-le size (drop from parts) (omega (arith, length-drop from parts)) in
       let d : drop offset bytes ≡ drop from parts = ap (λ (k : ℕ). drop k bytes) (o ∙ ap (λ (k : ℕ). k + from) (sym front)) ∙ drop-append-add (take n target) parts from in
       let p : take (length part) (drop offset bytes) ≡ part = ap (λ (l : List ℕ). take (length part) l) d ∙ ap (λ (k : ℕ). take k (drop from parts)) (z ∙ sym s) in
-      let u : take (length t - offset) (drop offset t) ≡ drop offset t = take-all (length t - offset) (drop offset t) (omega (arith, length-drop offset t)) in
-      let v : drop (length t - offset) (drop offset t) ≡ [] = drop-of-length-le (drop offset t) {i = length t - offset} (omega (arith, length-drop offset t)) in
-      ap (λ (l : List ℕ). take offset t ++ (ys ++ l)) v
-      ∙ ap (λ (l : List ℕ). take offset t ++ l) (append-nil ys ∙ f ∙ ap (λ (l : List ℕ). part ++ drop (length part) l) u)
+      let u : offset + size - offset ≡ length part = omega arith in
+      ap (λ (l : List ℕ). take offset t ++ (l ++ drop (offset + size - offset) (drop offset t))) f
+      ∙ ap (λ (k : ℕ). take offset t ++ (part ++ drop k (drop offset t))) u
       ∙ ap (λ (l : List ℕ). take offset l ++ (part ++ drop (length part) (drop offset l))) e
       ∙ written-part bytes offset target part (omega arith) p
       ∙ ap (λ (k : ℕ). written bytes (offset + k) target) z

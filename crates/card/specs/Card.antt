@@ -1,29 +1,26 @@
 -- A card's machines, and its refusal.
 use mathlib.Core.Bool.{Bool}
 use mathlib.Core.List.{List, [], _∷_, map}
-use Prim.Native.Nat.{ℕ, _*_}
+use Prim.Native.Nat.{ℕ}
 use lib.Dec.{leb}
+use Rattle.basics.specs.Products.{product}
 use Rattle.basics.specs.Refusals.{refuse, firstOf}
 use Rattle.machine.specs.Machine.{Machine}
 use Rattle.machine.specs.Part.{machineOf, stateCount, partRefusal}
-use Rattle.card.specs.Layout.{symbolCount, counted, laidOut, partsOf}
+use Rattle.layout.specs.Layout.{laidOut}
+use Rattle.card.specs.Layout.{machineCount, symbolCount, counted, partsOf}
 
 -- the machines of a card, in card order
 unfoldable pub machinesOf : List ℕ → List Machine
 machinesOf card = map machineOf (partsOf card)
 
--- P, the product of the state counts
-unfoldable pub stateProduct : List (List ℕ) → ℕ
-stateProduct [] = 1
-stateProduct (part ∷ parts) = stateCount part * stateProduct parts
-
 -- machines are checked in card order, each for 3, 4, 5
 unfoldable pub partsRefusal : ℕ → List (List ℕ) → ℕ
 partsRefusal S parts = firstOf (map (partRefusal S) parts)
 
--- not refusal 6
+-- not refusal 6: P, the product of the state counts, is at most 128
 abbrev pub fewStates : List (List ℕ) → Bool
-fewStates parts = leb (stateProduct parts) 128
+fewStates parts = leb (product (map stateCount parts)) 128
 
 -- refusals 3 to 6 of parts
 abbrev pub machinesRefusal : ℕ → List (List ℕ) → ℕ
@@ -33,4 +30,4 @@ machinesRefusal S parts = firstOf (partsRefusal S parts ∷ refuse 6 (fewStates 
 unfoldable pub cardRefusal : List ℕ → ℕ
 cardRefusal card =
     firstOf
-    (refuse 1 (counted card) ∷ refuse 2 (laidOut card) ∷ partsRefusal (symbolCount card) (partsOf card) ∷ refuse 6 (fewStates (partsOf card)) ∷ [])
+    (refuse 1 (counted card) ∷ refuse 2 (laidOut (machineCount card) card) ∷ partsRefusal (symbolCount card) (partsOf card) ∷ refuse 6 (fewStates (partsOf card)) ∷ [])

@@ -4,7 +4,8 @@ use Prim.Native.Nat.{ℕ}
 use lib.Dec.{ltb}
 use Rattle.basics.specs.Refusals.{refuse, firstOf, unlessRefused}
 use Rattle.card.specs.declared.PartPlace.{PartPlace}
-use Rattle.card.specs.Layout.{machineCount, offsetOf, lengthOf}
+use Rattle.layout.specs.Layout.{offsetOf, lengthOf}
+use Rattle.card.specs.Layout.{machineCount}
 use Rattle.card.specs.Card.{cardRefusal}
 
 -- 0 where part i can be read, else the first refusal: 1 to 6, 17

@@ -7,15 +7,18 @@ use lib.ListN.{length, getD, take, drop, length-map}
 use lib.Seq.{take-at, drop-at}
 use borrow.Author.Tests.{lt-ltb, le-leb}
 use Rattle.basics.specs.Search.{joined}
-use Rattle.machine.specs.Part.{machineOf}
-use Rattle.card.specs.Layout.{Bytes, machineCount, symbolCount, offsetOf, lengthOf, counted, partsOf}
-use Rattle.card.specs.Card.{machinesOf, stateProduct, cardRefusal}
+use Rattle.basics.specs.Products.{product}
+use Rattle.machine.specs.Part.{machineOf, stateCount}
+use Rattle.layout.specs.Layout.{Bytes, offsetOf, lengthOf}
+use Rattle.card.specs.Layout.{machineCount, symbolCount, counted, partsOf}
+use Rattle.card.specs.Card.{machinesOf, cardRefusal}
 use Rattle.card.specs.Reading.{reading}
 use Rattle.card.specs.Packing.{split, places, packed, packingRefusal, packedTarget}
 use Rattle.card.specs.Laws.Bytes.{bytes-cons, bytes-append}
 use Rattle.card.specs.Laws.Places.{places-bytes}
 use Rattle.card.specs.Laws.Parts.{split-lengths, split-joined, joined-split, joined-total}
-use Rattle.card.specs.Laws.Layout.{counts-told, counts-hold, layout-holds, part-at, length-parts}
+use Rattle.layout.specs.LaidOut.{layout-holds}
+use Rattle.card.specs.Laws.Layout.{counts-told, counts-hold, part-at, length-parts}
 use Rattle.card.specs.Laws.Packed.{packed-length, packed-machines, packed-symbols, packed-parts, packed-laid-out}
 use Rattle.card.specs.Laws.Repacked.{repacked}
 use Rattle.card.specs.Laws.Packable.{Packable, packable, packs}
@@ -46,7 +49,7 @@ packed-accepted S lengths bytes room p =
       p .parts,
       p .states,
       p .counts,
-      layout-holds (packed S lengths bytes) (packed-laid-out S lengths bytes (p .sum)),
+      layout-holds (length lengths) (packed S lengths bytes) (packed-laid-out S lengths bytes (p .sum)),
       le-leb 2 (length (packed S lengths bytes)) (omega (arith, packed-length S lengths bytes)),
     )
 
@@ -101,7 +104,7 @@ accepted-packs-back card b e =
       counts = rw k (counts-hold (machineCount card) S (a .head .counts));
       sum = joined-total parts;
       parts = rw s (a .all-parts);
-      states = rw s (le-leb (stateProduct parts) 128 (a .states));
+      states = rw s (le-leb (product (map stateCount parts)) 128 (a .states));
       fits = rw p h;
     }) in
     record { packs = p; accepts = ok; writes = λ target h. rw (ok (length target) h, p) }

@@ -2,14 +2,17 @@
 ghost use mathlib.Core.Path.{_≡_};
 ghost use Prim.Native.Nat.{_<_};
 ghost use Rattle.card.specs.Refusals.{numberOf, stageNumber};
-ghost use Rattle.card.specs.Layout.{machineCount, symbolCount, offsetOf, lengthOf, partOf};
+ghost use Rattle.layout.specs.Layout.{partOf};
+ghost use Rattle.card.specs.Layout.{machineCount, symbolCount};
 ghost use Rattle.card.specs.Card.{cardRefusal};
 ghost use Rattle.card.specs.Reading.{readingRefusal, reading};
 ghost use Rattle.card.specs.Packing.{packingRefusal, packing, packedTarget};
 
-mod layout; // layout.rt: K, S and the places of the parts
+mod head; // head.rt: K, S and the lengths of the parts
 mod packing; // packing.rt: the writing of a card
 mod parts; // parts.rt: the check of the machine parts
+
+use basics::index;
 
 // Why a card, a reading or a packing is refused.
 pub enum Refusal {
@@ -85,11 +88,11 @@ pub struct Packed {
 pub fn check(card: &[u8]) -> Stage
     ensures { λ r. ⌜ stageNumber r ≡ cardRefusal (now (card .entry)) ⌝ }
 {
-    let answer = layout::check_head(card);
+    let answer = head::check_head(card);
     let Stage::Passed = answer else {
         return answer;
     };
-    let answer = layout::check_layout(card);
+    let answer = head::check_layout(card);
     let Stage::Passed = answer else {
         return answer;
     };
@@ -101,7 +104,7 @@ pub fn machine_count(card: &[u8]) -> usize
     requires { ⌜ cardRefusal (now card) ≡ 0 ⌝ }
     ensures { λ r. ⌜ r ≡ machineCount (now (card .entry)) ⌝ }
 {
-    layout::index(card[0])
+    index(card[0])
 }
 
 // S, the number of symbols of an accepted card.
@@ -112,30 +115,12 @@ pub fn symbol_count(card: &[u8]) -> u8
     card[1]
 }
 
-// Where a part of an accepted card starts.
-pub fn part_offset(card: &[u8], machine: usize) -> usize
-    requires { ⌜ (cardRefusal (now card) ≡ 0) × (machine < machineCount (now card)) ⌝ }
-    ensures { λ r. ⌜ r ≡ offsetOf (now (card .entry)) machine ⌝ }
-{
-    layout::short(card, 2 + 4 * machine)
-}
-
-// How many bytes a part of an accepted card has.
-pub fn part_length(card: &[u8], machine: usize) -> usize
-    requires { ⌜ (cardRefusal (now card) ≡ 0) × (machine < machineCount (now card)) ⌝ }
-    ensures { λ r. ⌜ (r ≡ lengthOf (now (card .entry)) machine) × (r < 65536) ⌝ }
-{
-    layout::short(card, 4 + 4 * machine)
-}
-
 // A part of an accepted card: the card's slice from its offset, as long as it is.
 pub fn part(card: &[u8], machine: usize) -> &[u8]
     requires { ⌜ (cardRefusal (now card) ≡ 0) × (machine < machineCount (now card)) ⌝ }
     ensures { λ r. ⌜ now r ≡ partOf (now (card .entry)) machine ⌝ }
 {
-    let offset = part_offset(card, machine);
-    let end = offset + part_length(card, machine);
-    &card[offset..end]
+    layout::part(card, machine)
 }
 
 // The first of refusals 1 to 6 and 17 that reading part `machine` meets.
@@ -146,7 +131,7 @@ fn check_reading(card: &[u8], machine: u8) -> Stage
     let Stage::Passed = answer else {
         return answer;
     };
-    layout::tested(machine < card[0], Refusal::Number)
+    head::tested(machine < card[0], Refusal::Number)
 }
 
 // Reading part `machine`: where it lies in the card.
@@ -161,11 +146,11 @@ pub fn read_part(card: &[u8], machine: u8) -> PartPlace
             length: 0,
         };
     };
-    let machine = layout::index(machine);
+    let machine = index(machine);
     PartPlace {
         number: 0,
-        offset: part_offset(card, machine),
-        length: part_length(card, machine),
+        offset: layout::part_offset(card, machine),
+        length: layout::part_length(card, machine),
     }
 }
 
@@ -173,11 +158,11 @@ pub fn read_part(card: &[u8], machine: u8) -> PartPlace
 fn check_packing(symbols: u8, lengths: &[u16], parts: &[u8], room: usize) -> Stage
     ensures { λ r. ⌜ stageNumber r ≡ packingRefusal symbols (now (lengths .entry)) (now (parts .entry)) room ⌝ }
 {
-    let answer = layout::check_counts(lengths.len(), symbols);
+    let answer = head::check_counts(lengths.len(), symbols);
     let Stage::Passed = answer else {
         return answer;
     };
-    let answer = layout::tested(packing::sum(lengths) == parts.len(), Refusal::Lengths);
+    let answer = head::tested(packing::sum(lengths) == parts.len(), Refusal::Lengths);
     let Stage::Passed = answer else {
         return answer;
     };
@@ -185,7 +170,7 @@ fn check_packing(symbols: u8, lengths: &[u16], parts: &[u8], room: usize) -> Sta
     let Stage::Passed = answer else {
         return answer;
     };
-    layout::tested(2 + 4 * lengths.len() + parts.len() <= room, Refusal::Target)
+    head::tested(2 + 4 * lengths.len() + parts.len() <= room, Refusal::Target)
 }
 
 // Packs parts, joined, into a card at the front of the target, whose other bytes stay.

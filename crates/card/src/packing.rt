@@ -43,17 +43,17 @@ pub fn write_table(target: &mut [u8], symbols: u8, lengths: &[u16])
     }
 }
 
-// Writes a part to the front of its stretch of the target.
-fn write_part(target: &mut [u8], part: &[u8])
-    requires { ⌜ length (now part) ≤ length (now target) ⌝ }
-    ensures { λ _. ⌜ now (target .exit) ≡ now (part .entry) ++ drop (length (now (part .entry))) (now (target .entry)) ⌝ }
+// Writes a part to its stretch of the target, which then holds the part.
+fn write_part(stretch: &mut [u8], part: &[u8])
+    requires { ⌜ length (now stretch) ≡ length (now part) ⌝ }
+    ensures { λ _. ⌜ now (stretch .exit) ≡ now (part .entry) ⌝ }
 {
     for i in 0..part.len() {
-        target[i] = part[i];
+        stretch[i] = part[i];
     }
 }
 
-// Writes each part to its own stretch of the target, from the part's offset.
+// Writes each part to its own stretch of the target, from the part's offset and as long as the part.
 pub fn write_parts(target: &mut [u8], lengths: &[u16], parts: &[u8])
     requires { ⌜ (length (now lengths) ≤ 6) × (total (now lengths) ≡ length (now parts)) × (2 + 4 * length (now lengths) + length (now parts) ≤ length (now target)) ⌝ }
     ensures { λ _. ⌜ now (target .exit) ≡ take (2 + 4 * length (now (lengths .entry))) (now (target .entry)) ++ now (parts .entry) ++ drop (2 + 4 * length (now (lengths .entry)) + length (now (parts .entry))) (now (target .entry)) ⌝ }
@@ -62,9 +62,10 @@ pub fn write_parts(target: &mut [u8], lengths: &[u16], parts: &[u8])
     let mut from = 0;
     for i in 0..lengths.len() {
         let length = wide(lengths[i]);
-        let end = from + length;
-        write_part(&mut target[offset..], &parts[from..end]);
-        offset += length;
-        from = end;
+        let end = offset + length;
+        let next = from + length;
+        write_part(&mut target[offset..end], &parts[from..next]);
+        offset = end;
+        from = next;
     }
 }

@@ -5,14 +5,15 @@ ghost use Prim.Native.Nat.{_+_, _<_, _≤_};
 ghost use lib.ListN.{length, drop};
 ghost use Rattle.machine.specs.Part.{partRefusal};
 ghost use Rattle.card.specs.Refusals.{stageNumber};
-ghost use Rattle.card.specs.Layout.{symbolCount, counted, laidOut, partsOf};
+ghost use Rattle.layout.specs.Layout.{laidOut};
+ghost use Rattle.card.specs.Layout.{machineCount, symbolCount, counted, partsOf};
 ghost use Rattle.card.specs.Card.{machinesRefusal};
 ghost use Rattle.card.specs.Packing.{total, split};
 use crate::Refusal;
 use crate::Stage;
-use crate::layout::index;
-use crate::layout::read_lengths;
-use crate::layout::tested;
+use crate::head::read_lengths;
+use crate::head::tested;
+use basics::index;
 
 // A part's length as a number to index with.
 pub fn wide(x: u16) -> usize
@@ -54,7 +55,7 @@ pub fn check_parts(bytes: &[u8], start: usize, lengths: &[u16], symbols: u8) -> 
 
 // Refusals 3 to 6 of a card whose counts and layout are right.
 pub fn check_card(card: &[u8]) -> Stage
-    requires { ⌜ (counted (now card) ≡ true) × (laidOut (now card) ≡ true) ⌝ }
+    requires { ⌜ (counted (now card) ≡ true) × (laidOut (machineCount (now card)) (now card) ≡ true) ⌝ }
     ensures { λ r. ⌜ stageNumber r ≡ machinesRefusal (symbolCount (now (card .entry))) (partsOf (now (card .entry))) ⌝ }
 {
     let lengths = read_lengths(card);

@@ -127,6 +127,7 @@ pub fn compare(machines: u8, ranking: &[u8], first: Profile, second: Profile) {
         Comparison::Refused(refusal) => {
             write_byte(refusal.number());
             write_byte(0);
+            write_byte(0);
         }
     }
 }

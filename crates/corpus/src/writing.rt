@@ -76,12 +76,18 @@ pub fn write_finding(finding: Finding) {
     write_next_machine(finding.ranking[5]);
 }
 
-// Better is 1, equal 2, worse 3.
+// An order's number, and the machine that decided.
+fn write_decided(order: u8, machine: u8) {
+    write_byte(order);
+    write_byte(machine);
+}
+
+// Better is 1, equal 2, worse 3; the machine is 0 with equal.
 pub fn write_order(order: Order) {
     match order {
-        Order::Better => write_byte(1),
-        Order::Equal => write_byte(2),
-        Order::Worse => write_byte(3),
+        Order::Better(machine) => write_decided(1, machine),
+        Order::Equal => write_decided(2, 0),
+        Order::Worse(machine) => write_decided(3, machine),
     }
 }
 

@@ -18,19 +18,25 @@ abbrev pub placeNumbers : PartPlace → List ℕ
 placeNumbers p = p .offset ∷ p .length ∷ []
 
 -- six counts as a profile
-abbrev pub profileOf : List ℕ → Profile
-profileOf counts = record { counts = counts }
+abbrev pub asProfile : List ℕ → Profile
+asProfile counts = record { counts = counts }
 
 -- better, equal, worse
 abbrev pub orderNumber : Order → ℕ
-orderNumber Better = 1
+orderNumber (Better m) = 1
 orderNumber Equal = 2
-orderNumber Worse = 3
+orderNumber (Worse m) = 3
 
--- 0 where comparing was refused
+-- the machine that decided: equal carries none, and 0 stands for it
+abbrev pub decidingMachine : Order → ℕ
+decidingMachine (Better m) = m
+decidingMachine Equal = 0
+decidingMachine (Worse m) = m
+
+-- the order and the machine that decided; 0 and 0 where comparing was refused
 abbrev pub orderNumbers : Option Order → List ℕ
-orderNumbers none = 0 ∷ []
-orderNumbers (some o) = orderNumber o ∷ []
+orderNumbers none = 0 ∷ 0 ∷ []
+orderNumbers (some o) = orderNumber o ∷ decidingMachine o ∷ []
 
 -- W and L
 abbrev pub conditionNumbers : Condition → List ℕ

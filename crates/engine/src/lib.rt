@@ -1,7 +1,6 @@
 // The static library: the public calls as functions that C can call. include/pastaspur.h says what each is lent and answers.
 ghost use mathlib.Core.Path.{_≡_};
 ghost use mathlib.Core.List.{[], _∷_};
-ghost use Prim.Native.Nat.{ℕ};
 ghost use lib.ListN.{length};
 ghost use Rattle.ranking.specs.Harmony.{comparing};
 ghost use Rattle.ranking.specs.Conditions.{derivedFrom};
@@ -9,9 +8,9 @@ ghost use Rattle.ranking.specs.Finder.{finding};
 ghost use Rattle.card.specs.Reading.{reading};
 ghost use Rattle.card.specs.Packing.{packing, packedTarget};
 ghost use Rattle.candidate.specs.Evaluating.{evaluating};
-ghost use Rattle.candidate.specs.Optimizing.{optimized};
+ghost use Rattle.product.specs.Optimizing.{optimized};
 ghost use Rattle.optimizer.specs.Optimizes.{Optimizes};
-ghost use Rattle.engine.specs.Results.{evaluationNumbers, placeNumbers, orderNumber, orderNumbers, conditionNumbers, profileOf};
+ghost use Rattle.engine.specs.Results.{evaluationNumbers, placeNumbers, orderNumber, decidingMachine, orderNumbers, conditionNumbers, asProfile};
 use candidate::Evaluation;
 use ranking::Comparison;
 use ranking::Condition;
@@ -97,7 +96,7 @@ pub extern "C" fn pastaspur_pack(
 
 // The profile of six counts.
 fn profile_of(counts: &[u16; 6]) -> Profile
-    ensures { λ r. ⌜ r ≡ profileOf (now (counts .entry)) ⌝ }
+    ensures { λ r. ⌜ r ≡ asProfile (now (counts .entry)) ⌝ }
 {
     let counts = *counts;
     Profile { counts }
@@ -108,23 +107,34 @@ fn order_number(order: Order) -> u8
     ensures { λ r. ⌜ r ≡ orderNumber order ⌝ }
 {
     match order {
-        Order::Better => 1,
+        Order::Better(_) => 1,
         Order::Equal => 2,
-        Order::Worse => 3,
+        Order::Worse(_) => 3,
     }
 }
 
-// Compares two profiles under a ranking: 1, 7.
+// The machine that decided, 0 where none did.
+fn deciding_machine(order: Order) -> u8
+    ensures { λ r. ⌜ r ≡ decidingMachine order ⌝ }
+{
+    match order {
+        Order::Better(machine) => machine,
+        Order::Equal => 0,
+        Order::Worse(machine) => machine,
+    }
+}
+
+// Compares two profiles under a ranking, the order and the machine that decided: 1, 7.
 #[no_mangle]
 pub extern "C" fn pastaspur_compare(
     machines: u8,
     ranking: &[u8],
     first: &[u16; 6],
     second: &[u16; 6],
-    result: &mut [u8; 1],
+    result: &mut [u8; 2],
 ) -> u32
-    ensures { λ r. ⌜ r ≡ comparing machines (now (ranking .entry)) (profileOf (now (first .entry))) (profileOf (now (second .entry))) .number ⌝ }
-    ensures { λ _. ⌜ now (result .exit) ≡ orderNumbers (comparing machines (now (ranking .entry)) (profileOf (now (first .entry))) (profileOf (now (second .entry))) .order) ⌝ }
+    ensures { λ r. ⌜ r ≡ comparing machines (now (ranking .entry)) (asProfile (now (first .entry))) (asProfile (now (second .entry))) .number ⌝ }
+    ensures { λ _. ⌜ now (result .exit) ≡ orderNumbers (comparing machines (now (ranking .entry)) (asProfile (now (first .entry))) (asProfile (now (second .entry))) .order) ⌝ }
 {
     let answer = ranking::harmony::compare(
         machines,
@@ -134,11 +144,11 @@ pub extern "C" fn pastaspur_compare(
     );
     match answer {
         Comparison::Ordered(order) => {
-            *result = [order_number(order)];
+            *result = [order_number(order), deciding_machine(order)];
             0
         }
         Comparison::Refused(refusal) => {
-            *result = [0];
+            *result = [0; 2];
             refusal.number() as u32
         }
     }
@@ -152,8 +162,8 @@ pub extern "C" fn pastaspur_condition(
     second: &[u16; 6],
     result: &mut [u8; 2],
 ) -> u32
-    ensures { λ r. ⌜ r ≡ derivedFrom machines (profileOf (now (first .entry))) (profileOf (now (second .entry))) .number ⌝ }
-    ensures { λ _. ⌜ now (result .exit) ≡ conditionNumbers (derivedFrom machines (profileOf (now (first .entry))) (profileOf (now (second .entry))) .condition) ⌝ }
+    ensures { λ r. ⌜ r ≡ derivedFrom machines (asProfile (now (first .entry))) (asProfile (now (second .entry))) .number ⌝ }
+    ensures { λ _. ⌜ now (result .exit) ≡ conditionNumbers (derivedFrom machines (asProfile (now (first .entry))) (asProfile (now (second .entry))) .condition) ⌝ }
 {
     let answer = ranking::conditions::derive(machines, profile_of(first), profile_of(second));
     match answer {

@@ -4,22 +4,22 @@ use mathlib.Core.List.{List, [], _∷_}
 use Prim.Native.Nat.{ℕ}
 use Rattle.basics.specs.Search.{allOf, pairwise, those, firstThat, joined, everyBelow, someBelow, numbersBelow, occurrences}
 use Rattle.basics.specs.Sets.{setOf}
+use Rattle.basics.specs.Products.{product}
 use Rattle.machine.specs.Machine.{takes, stepAmong, endingOf, takeOnePair, clash}
 use Rattle.machine.specs.Part.{arcAt, arcsAt, machineOf, soundArc, shaped, partRefusal}
-use Rattle.card.specs.Layout.{counted, dueOffset, laidOut, partsOf}
-use Rattle.card.specs.Card.{cardRefusal, partsRefusal, stateProduct, machinesOf}
-use Rattle.ranking.specs.declared.Condition.{Condition}
-use Rattle.ranking.specs.declared.Finding.{Finding}
+use Rattle.layout.specs.Layout.{dueOffset, laidOut, partsIn}
+use Rattle.card.specs.Layout.{counted, partsOf}
+use Rattle.card.specs.Card.{cardRefusal, partsRefusal, machinesOf}
 use Rattle.ranking.specs.Rankings.{isRanking, arrangements}
 use Rattle.ranking.specs.Harmony.{harmony}
 use Rattle.ranking.specs.Conditions.{conditionOf, highest, fits}
-use Rattle.ranking.specs.Finder.{conditionsOf, apart, soundCondition, soundList, smallest, finding}
+use Rattle.ranking.specs.Finder.{conditionsOf, disjoint, soundCondition, soundList, smallest, finding}
 use Rattle.candidate.specs.declared.Evaluation.{Evaluation}
 use Rattle.candidate.specs.Candidates.{pairsOf, bytesOf, spelled, marksFrom, isComplete, profileOf}
 use Rattle.candidate.specs.Evaluating.{refused, soundCandidate, evaluating}
 use Rattle.ranking.specs.ByteStrings.{smaller}
-use Rattle.candidate.specs.Best.{shorter, preferred, sameWord, pairsOver, listsBelow, formsAmong, leastOf, bestBelow, best}
-use Rattle.candidate.specs.Optimizing.{soundWord, inputRefusal, optimizerRefusal, optimized, optimizedAnswer}
+use Rattle.product.specs.Best.{winsTie, preferred, sameWord, pairsOver, listsBelow, contendersAmong, leastOf, bestBelow, bestIn, best}
+use Rattle.product.specs.Optimizing.{soundWord, inputRefusal, optimizerRefusal, optimized, optimizedAnswer}
 use Rattle.examples.specs.Cards.{cardA, cardAWithInsertion, cardB}
 
 -- an accepted result: the counts, the pairs, the length of the word
@@ -27,23 +27,23 @@ abbrev pub accepted : List ℕ → ℕ → ℕ → Evaluation
 accepted counts pairs word = record { number = 0; profile = record { counts = counts }; pairs = pairs; «word_length» = word }
 
 -- the optimizer, given the program's work slice and a word of one symbol: its result, and what an answer slice of four bytes holds
-abbrev pub Optimizes : List ℕ → List ℕ → ℕ → Evaluation → List ℕ → Type 0
-Optimizes card ranking symbol result bytes =
+abbrev pub Gives : List ℕ → List ℕ → ℕ → Evaluation → List ℕ → Type 0
+Gives card ranking symbol result bytes =
     (optimized card ranking (symbol ∷ []) 25600 4 ≡ result) × (optimizedAnswer card ranking (symbol ∷ []) 25600 (9 ∷ 9 ∷ 9 ∷ 9 ∷ []) ≡ bytes)
 
 pub record TenExamples : Type 0 where
   -- A, ranking 0, word 1: `0 1:1`
-  pub one : Optimizes cardA (0 ∷ []) 1 (accepted (0 ∷ 0 ∷ 0 ∷ 0 ∷ 0 ∷ 0 ∷ []) 1 1) (1 ∷ 1 ∷ 9 ∷ 9 ∷ [])
+  pub one : Gives cardA (0 ∷ []) 1 (accepted (0 ∷ 0 ∷ 0 ∷ 0 ∷ 0 ∷ 0 ∷ []) 1 1) (1 ∷ 1 ∷ 9 ∷ 9 ∷ [])
   -- A, word 2: 10
-  pub two : Optimizes cardA (0 ∷ []) 2 (refused 10) (9 ∷ 9 ∷ 9 ∷ 9 ∷ [])
+  pub two : Gives cardA (0 ∷ []) 2 (refused 10) (9 ∷ 9 ∷ 9 ∷ 9 ∷ [])
   -- B, `012 2`: `0,0,1 2:0`
-  pub three : Optimizes cardB (0 ∷ 1 ∷ 2 ∷ []) 2 (accepted (0 ∷ 0 ∷ 1 ∷ 0 ∷ 0 ∷ 0 ∷ []) 1 1) (2 ∷ 0 ∷ 9 ∷ 9 ∷ [])
+  pub three : Gives cardB (0 ∷ 1 ∷ 2 ∷ []) 2 (accepted (0 ∷ 0 ∷ 1 ∷ 0 ∷ 0 ∷ 0 ∷ []) 1 1) (2 ∷ 0 ∷ 9 ∷ 9 ∷ [])
   -- B, `021 2`: `0,1,0 0:1 2:2`
-  pub four : Optimizes cardB (0 ∷ 2 ∷ 1 ∷ []) 2 (accepted (0 ∷ 1 ∷ 0 ∷ 0 ∷ 0 ∷ 0 ∷ []) 2 1) (0 ∷ 1 ∷ 2 ∷ 2 ∷ [])
+  pub four : Gives cardB (0 ∷ 2 ∷ 1 ∷ []) 2 (accepted (0 ∷ 1 ∷ 0 ∷ 0 ∷ 0 ∷ 0 ∷ []) 2 1) (0 ∷ 1 ∷ 2 ∷ 2 ∷ [])
   -- B, `120 2`: `1,0,0 2:2`
-  pub five : Optimizes cardB (1 ∷ 2 ∷ 0 ∷ []) 2 (accepted (1 ∷ 0 ∷ 0 ∷ 0 ∷ 0 ∷ 0 ∷ []) 1 1) (2 ∷ 2 ∷ 9 ∷ 9 ∷ [])
+  pub five : Gives cardB (1 ∷ 2 ∷ 0 ∷ []) 2 (accepted (1 ∷ 0 ∷ 0 ∷ 0 ∷ 0 ∷ 0 ∷ []) 1 1) (2 ∷ 2 ∷ 9 ∷ 9 ∷ [])
   -- A with another arc, a loop of free insertions; word 1: `0 1:1`
-  pub six : Optimizes cardAWithInsertion (0 ∷ []) 1 (accepted (0 ∷ 0 ∷ 0 ∷ 0 ∷ 0 ∷ 0 ∷ []) 1 1) (1 ∷ 1 ∷ 9 ∷ 9 ∷ [])
+  pub six : Gives cardAWithInsertion (0 ∷ []) 1 (accepted (0 ∷ 0 ∷ 0 ∷ 0 ∷ 0 ∷ 0 ∷ []) 1 1) (1 ∷ 1 ∷ 9 ∷ 9 ∷ [])
   -- B evaluates 0:1 2:0: 0,1,1; two pairs, word length 1
   pub seven : evaluating cardB (0 ∷ 1 ∷ 2 ∷ 0 ∷ []) ≡ accepted (0 ∷ 1 ∷ 1 ∷ 0 ∷ 0 ∷ 0 ∷ []) 2 1
   -- (0,0,1) against (0,1,0): W {1}, L {2}
@@ -54,7 +54,7 @@ pub record TenExamples : Type 0 where
   pub ten : finding 3 (4 ∷ 1 ∷ []) ≡ record { number = 0; ranking = 1 ∷ 2 ∷ 0 ∷ 0 ∷ 0 ∷ 0 ∷ [] }
 
 pub the-ten-examples : TenExamples
-unfolding allOf pairwise those firstThat joined everyBelow someBelow numbersBelow occurrences setOf takes stepAmong endingOf takeOnePair clash arcAt arcsAt machineOf soundArc shaped partRefusal counted dueOffset laidOut partsOf cardRefusal partsRefusal stateProduct machinesOf isRanking arrangements harmony highest fits conditionsOf apart soundCondition soundList smallest finding pairsOf bytesOf spelled marksFrom isComplete profileOf soundCandidate evaluating smaller shorter preferred sameWord pairsOver listsBelow formsAmong leastOf bestBelow best soundWord inputRefusal optimizerRefusal optimized optimizedAnswer
+unfolding allOf pairwise those firstThat joined everyBelow someBelow numbersBelow occurrences setOf takes stepAmong endingOf takeOnePair clash arcAt arcsAt machineOf soundArc shaped partRefusal dueOffset laidOut partsIn counted partsOf cardRefusal partsRefusal product machinesOf isRanking arrangements harmony highest fits conditionsOf disjoint soundCondition soundList smallest finding pairsOf bytesOf spelled marksFrom isComplete profileOf soundCandidate evaluating smaller winsTie preferred sameWord pairsOver listsBelow contendersAmong leastOf bestBelow bestOf bestIn best soundWord inputRefusal optimizerRefusal optimized optimizedAnswer
 the-ten-examples = record {
   one = (refl, refl);
   two = (refl, refl);

@@ -11,7 +11,7 @@ use lib.Dec.{eqb}
 use borrow.Author.Tests.{eqb-true, eqb-false, not-true, not-false}
 use Rattle.paths.specs.Costs.{AtMost, Above, kept, lowered, above-none, above-some}
 use Rattle.paths.specs.Ranked.{Ranked, add, Less}
-use Rattle.labels.specs.Marks.{nibbles, marksOf}
+use Rattle.labels.specs.Marks.{nibbles, marksCost}
 use Rattle.labels.specs.LabelCost.{isLess}
 use Rattle.labels.specs.Work.{stateOf, costAt, labelOf, Reached, Stored}
 use Rattle.labels.specs.Lowering.{VisitPre, Compared, Lowered, LoweredBy, Visited, passed, tried}
@@ -52,18 +52,18 @@ module _ (xs : List ℕ) (u : ℕ) where
   lowered-by-stored ys c a s = record { lowered = lowered-stored ys c a s; kept = λ q. absurd (false≢true (sym q)) }
 
 -- more in the first two counts than u's bound: nothing is done
-pub visited-bound : {xs : List ℕ} {u k e n : ℕ} {d : Ranked 6} → VisitPre xs u k e d n → n + (e / 1048576 * 65536 + e % 1048576 / 65536) < 4294967296 → k < n + (e / 1048576 * 65536 + e % 1048576 / 65536) → Visited xs xs u (add 6 (marksOf e) d) false
+pub visited-bound : {xs : List ℕ} {u k e n : ℕ} {d : Ranked 6} → VisitPre xs u k e d n → n + (e / 1048576 * 65536 + e % 1048576 / 65536) < 4294967296 → k < n + (e / 1048576 * 65536 + e % 1048576 / 65536) → Visited xs xs u (add 6 (marksCost e) d) false
 unfolding nibbles
 visited-bound {xs} {u} {k} {e} {n} {d} R fits h = go (ℕ-discrete (stateOf xs u) 2) (ℕ-discrete (stateOf xs u) 0)
   where
-    go : Dec (stateOf xs u ≡ 2) → Dec (stateOf xs u ≡ 0) → Visited xs xs u (add 6 (marksOf e) d) false
+    go : Dec (stateOf xs u ≡ 2) → Dec (stateOf xs u ≡ 0) → Visited xs xs u (add 6 (marksCost e) d) false
     go (yes s) t = passed s refl
     go (no s) (yes t) = absurd (omega (arith, R .its s .unlabelled t))
     go (no s) (no t) =
-        tried s (lowered-by-kept xs u (add 6 (marksOf e) d) (record {
+        tried s (lowered-by-kept xs u (add 6 (marksCost e) d) (record {
           val = costAt xs u;
           is = labelled xs u t;
-          upto = inl (two-less (costAt xs u) (add 6 (marksOf e) d) (omega (arith, R .pair .marks, R .pair .fits .1 .0)) (omega (arith, R .its s .labelled t, R .own)));
+          upto = inl (two-less (costAt xs u) (add 6 (marksCost e) d) (omega (arith, R .pair .marks, R .pair .fits .1 .0)) (omega (arith, R .its s .labelled t, R .own)));
         }))
 
 -- whether a node has a label

@@ -3,8 +3,7 @@ use mathlib.Core.Path.{_≡_, refl, sym, _∙_, ap}
 use mathlib.Core.Bool.{Bool, true, false, _&&_, cond, false≢true}
 use mathlib.Core.Option.{Option, none, some, Option·none-ne-some}
 use mathlib.Core.List.{List}
-use Prim.Native.Nat.{ℕ, suc, _+_, _*_, _-_, _≤_, _<_}
-use native.Mathlib.Nat.{mul-le-mul-right, suc-mul}
+use Prim.Native.Nat.{ℕ, _+_, _*_, _-_, _<_}
 use native.Mathlib.Omega.{arith}
 use lib.Dec.{leb, ltb}
 use borrow.Author.Tests.{le-leb, lt-ltb, leb-true, ltb-true}
@@ -41,9 +40,6 @@ module _ (b P u : ℕ) where
 
 pub at-node : (b P j : ℕ) → j < P → InPosition b P (b + j)
 at-node b P j h = record { low = omega arith; high = omega arith }
-
-pub row-below : (P z j : ℕ) → z < P → j < P → z * P + j < P * P
-row-below P z j h k = let q : suc z * P ≤ P * P = mul-le-mul-right P h in omega (arith, suc-mul z P)
 
 module _ (ks : List ℕ) (b P : ℕ) where
   -- the table's entry

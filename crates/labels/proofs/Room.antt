@@ -1,6 +1,6 @@
 -- Attained labels leave room in 16 bits: what the settling of a position requires is met.
-use mathlib.Core.Path.{_≡_, sym, _∙_}
-use mathlib.Core.Option.{none, some, Option·none-ne-some}
+use mathlib.Core.Path.{_≡_}
+use mathlib.Core.Option.{some}
 use mathlib.Core.List.{List}
 use Prim.Native.Nat.{ℕ, zero, suc, _+_, _*_, _≤_, _<_}
 use native.Mathlib.Omega.{arith}
@@ -15,7 +15,6 @@ use Rattle.labels.specs.LabelCost.{RoomFor}
 use Rattle.labels.specs.Work.{HasNodes, stateOf, labelOf}
 use Rattle.labels.specs.PositionGraph.{InPosition}
 use Rattle.labels.specs.Settling.{SettlePre}
-use Rattle.labels.proofs.Work.{blank-state}
 
 -- every edge is a pair with at most 15 marks of a machine, and an ending has no pair and at most `last` marks of a machine
 pub record SmallMarks {alphabet : Alphabet} (G : Graph (rankedCosts 6) alphabet) (last : ℕ) : Type 0 where
@@ -54,12 +53,3 @@ module _ {alphabet : Alphabet} (G : Graph (rankedCosts 6) alphabet) {last : ℕ}
   pub settle-pre : (xs ks : List ℕ) (b P : ℕ) → P * P ≤ length ks → HasNodes xs (b + P) → b + P ≤ N → 15 * (N + P) + last < 65536
       → ((u : ℕ) → InPosition b P u → stateOf xs u ≤ 1) → Attained G (labelOf xs) → SettlePre xs ks b P
   settle-pre xs ks b P t r k few f A = record { table = t; room = r; fresh = f; fits = λ u c x e. attained-room A P few u c (omega (arith, x .high)) e }
-
--- where no node of the position has a label, it is met too
-pub settle-blank : (xs ks : List ℕ) (b P : ℕ) → P * P ≤ length ks → HasNodes xs (b + P) → ((u : ℕ) → InPosition b P u → labelOf xs u ≡ none) → SettlePre xs ks b P
-settle-blank xs ks b P t r f = record {
-  table = t;
-  room = r;
-  fresh = λ u x. (omega (arith, blank-state xs u (f u x)));
-  fits = λ u c x e. absurd (Option·none-ne-some c (sym (f u x) ∙ e));
-}

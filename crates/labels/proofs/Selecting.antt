@@ -11,7 +11,7 @@ use Rattle.paths.specs.Total.{Upto, less-upto}
 use Rattle.paths.specs.Ranked.{Ranked, Less, less-total}
 use Rattle.labels.specs.LabelCost.{frontKey, AllShort, isLess}
 use Rattle.labels.specs.Work.{costAt, OpenAt}
-use Rattle.labels.specs.Selecting.{NoneOpen, PastOpen, BeatsPre, Beats, SelectPre, Least}
+use Rattle.labels.specs.Selecting.{NoneOpen, PastOpen, OpenBelowPre, OpenBelow, SelectPre, Least}
 use Rattle.labels.proofs.Comparing.{less-true, less-false}
 use Rattle.labels.proofs.Keys.{key-less}
 
@@ -49,17 +49,17 @@ module _ (xs : List ℕ) (b f l : ℕ) where
 -- ---- a least one
 
 module _ (xs : List ℕ) (u : ℕ) (c : Ranked 6) where
-  pub beats-shut : ¬ (OpenAt xs u) → Beats xs u c false
+  pub beats-shut : ¬ (OpenAt xs u) → OpenBelow xs u c false
   beats-shut n = record { takes = λ e. absurd (false≢true e); better = λ e. absurd (false≢true e); upto = λ _ o. absurd (n o) }
 
-  pub beats-open : {d : Ranked 6} {r : Bool} → OpenAt xs u → d ≡ costAt xs u → r ≡ isLess 6 d c → Beats xs u c r
+  pub beats-open : {d : Ranked 6} {r : Bool} → OpenAt xs u → d ≡ costAt xs u → r ≡ isLess 6 d c → OpenBelow xs u c r
   beats-open {d} {r} o e t = record { takes = λ _. o; better = λ q. less-true 6 (costAt xs u) c (sym test ∙ q); upto = λ q _. less-false 6 (costAt xs u) c (sym test ∙ q) }
     where
       test : r ≡ isLess 6 (costAt xs u) c
       test = t ∙ ap (λ (y : Ranked 6). isLess 6 y c) e
 
 -- the key of c is smaller
-pub beats-key : (xs : List ℕ) (u i k : ℕ) (c : Ranked 6) → BeatsPre xs u i c k → k < i → Beats xs u c false
+pub beats-key : (xs : List ℕ) (u i k : ℕ) (c : Ranked 6) → OpenBelowPre xs u i c k → k < i → OpenBelow xs u c false
 beats-key xs u i k c R h = record {
   takes = λ e. absurd (false≢true e);
   better = λ e. absurd (false≢true e);
@@ -84,11 +84,11 @@ module _ {xs : List ℕ} {b f l : ℕ} where
     least = record { low = omega arith; high = omega arith; state = R .state; least = λ a h k o. let q : a ≡ f = omega arith in inr (ap (λ (i : ℕ). costAt xs (b + i)) (sym q)) };
   }
 
-  pub select-beats : {keys : List ℕ} {i best : ℕ} {c : Ranked 6} {k : ℕ} → SelectPre xs keys b f l → Selecting xs b f l i best c k → i < l → BeatsPre xs (b + i) (getD keys i 0) c k
+  pub select-beats : {keys : List ℕ} {i best : ℕ} {c : Ranked 6} {k : ℕ} → SelectPre xs keys b f l → Selecting xs b f l i best c k → i < l → OpenBelowPre xs (b + i) (getD keys i 0) c k
   select-beats {i = i} R S h = record { node = omega (arith, R .room); its = R .keys-are i h; own = S .own; short = S .short }
 
   module _ {i best : ℕ} {c : Ranked 6} {k : ℕ} (S : Selecting xs b f l i best c k) (h : i < l) where
-    pub select-take : (d : Ranked 6) {m : ℕ} → Beats xs (b + i) c true → d ≡ costAt xs (b + i) → m ≡ frontKey d → AllShort 6 d → Selecting xs b f l (i + 1) i d m
+    pub select-take : (d : Ranked 6) {m : ℕ} → OpenBelow xs (b + i) c true → d ≡ costAt xs (b + i) → m ≡ frontKey d → AllShort 6 d → Selecting xs b f l (i + 1) i d m
     select-take d B e q s = record {
       top = omega arith;
       own = q;
@@ -104,7 +104,7 @@ module _ {xs : List ℕ} {b f l : ℕ} where
         least a k m o (yes q) = inr (ap (λ (j : ℕ). costAt xs (b + j)) (sym q))
         least a k m o (no q) = inl (less-upto (less-total 6) less (S .least .least a k (omega arith) o))
 
-    pub select-keep : Beats xs (b + i) c false → Selecting xs b f l (i + 1) best c k
+    pub select-keep : OpenBelow xs (b + i) c false → Selecting xs b f l (i + 1) best c k
     select-keep B = record {
       top = omega arith;
       own = S .own;

@@ -14,7 +14,7 @@ use Rattle.paths.specs.Graph.{Edge}
 use Rattle.paths.specs.Improvement.{Improves}
 use Rattle.paths.specs.Cheapest.{cheapest-none}
 use Rattle.paths.specs.Settling.{Relaxing, relaxing-skip, relaxing-settled, relaxing-cheapest}
-use Rattle.labels.specs.Marks.{marksOf, noPair, pairFrom, pairMarks}
+use Rattle.labels.specs.Marks.{marksCost, noPair, pairFrom, pairMarks}
 use Rattle.labels.specs.MarksLaws.{pair-some, room-plus}
 use Rattle.labels.specs.LabelCost.{firstTwo, RoomFor}
 use Rattle.labels.specs.Work.{stateOf, costAt, labelOf, OpenAt, SettledAt, AlikeAt}
@@ -54,7 +54,7 @@ module _ (xs ks : List ℕ) (b P z : ℕ) (below : z < P) where
         → Spread xs ys ks b P z (j + 1)
     same-next f = record { size = S .size; others = S .others; states = S .states; stay = S .stay; only = S .only; fits = S .fits; relaxes = λ before X. f before (S .relaxes before X) }
 
-    spread-next : (zs : List ℕ) (d : Ranked 6) {r : Bool} → d ≡ costAt xs (b + z) → getD ks (z * P + j) 0 < 16 ^ 6 → Visited ys zs (b + j) (add 6 (marksOf (getD ks (z * P + j) 0)) d) r → Spread xs zs ks b P z (j + 1)
+    spread-next : (zs : List ℕ) (d : Ranked 6) {r : Bool} → d ≡ costAt xs (b + z) → getD ks (z * P + j) 0 < 16 ^ 6 → Visited ys zs (b + j) (add 6 (marksCost (getD ks (z * P + j) 0)) d) r → Spread xs zs ks b P z (j + 1)
     spread-next zs d q low (passed s o) = rw o (same-next (λ before X. relaxing-settled (positionGraph before ks b P) (place b P) 0 X (λ u _. u < b + (j + 1)) (b + j) (S .only (b + j) s) (λ w p f a m x k t. below-next w b j x)))
     spread-next zs d q low (tried n L) = record {
       size = W .size ∙ S .size;
@@ -68,9 +68,9 @@ module _ (xs ks : List ℕ) (b P z : ℕ) (below : z < P) where
     }
       where
         c : Ranked 6
-        c = marksOf (getD ks (z * P + j) 0)
+        c = marksCost (getD ks (z * P + j) 0)
 
-        W : Lowered ys zs (b + j) (add 6 (marksOf (getD ks (z * P + j) 0)) d)
+        W : Lowered ys zs (b + j) (add 6 (marksCost (getD ks (z * P + j) 0)) d)
         W = L .lowered
 
         sum : add 6 c d ≡ add 6 c (costAt xs (b + z))
@@ -155,13 +155,13 @@ module _ {xs ys ks ls : List ℕ} {b P z k : ℕ} (below : z < P) (S : SpreadLoo
     loop-from : pairFrom (getD ls (z * P + k) 0) < P
     loop-from = told-next (S .told) h m .high
 
-    loop-next : (zs : List ℕ) (d : Ranked 6) {r : Bool} → d ≡ costAt xs (b + z) → Visited ys zs (b + pairFrom (getD ls (z * P + k) 0)) (add 6 (marksOf (pairMarks (getD ls (z * P + k) 0))) d) r → SpreadLoop xs zs ks ls b P z (k + 1)
+    loop-next : (zs : List ℕ) (d : Ranked 6) {r : Bool} → d ≡ costAt xs (b + z) → Visited ys zs (b + pairFrom (getD ls (z * P + k) 0)) (add 6 (marksCost (pairMarks (getD ls (z * P + k) 0))) d) r → SpreadLoop xs zs ks ls b P z (k + 1)
     loop-next zs d {r} q T = record {
       from = a + 1;
       top = omega (arith, loop-from);
       told = N .rest;
       spread = spread-next xs ks b P z below ys a loop-from (spread-to xs ks b P z below ys (S .from) a (omega (arith, loop-from)) (N .skipped) (S .spread)) zs d q (rw (N .marks) (omega arith))
-          (subst (λ (e : ℕ). Visited ys zs (b + a) (add 6 (marksOf e) d) r) (sym (N .marks)) T);
+          (subst (λ (e : ℕ). Visited ys zs (b + a) (add 6 (marksCost e) d) r) (sym (N .marks)) T);
     }
       where
         a : ℕ
@@ -250,7 +250,7 @@ module _ {xs ys keys bounds ls : List ℕ} {b P z f l : ℕ} {d : Ranked 6} {n g
       own = S .own;
     }
 
-    module _ (zs : List ℕ) {r : Bool} (T : Visited ys zs (b + getD ls (z * P + k) 0 / 16777216) (add 6 (marksOf (getD ls (z * P + k) 0 % 16777216)) d) r) where
+    module _ (zs : List ℕ) {r : Bool} (T : Visited ys zs (b + getD ls (z * P + k) 0 / 16777216) (add 6 (marksCost (getD ls (z * P + k) 0 % 16777216)) d) r) where
       turn : (ks bs : List ℕ) (i j : ℕ) → Widened xs zs b P f l i j → Keyed zs ks bs b P → Spreading xs zs ks bs ls b P z f l d n i j (k + 1)
       turn ks bs i j W K = record { pre = S .pre; loaded = S .loaded; own = S .own; size = visited-size T ∙ S .size; window = W; keyed = K; lists = λ ks L. loop-next (S .pre .below) (S .lists ks L) h o zs d (S .loaded) T }
 
@@ -260,7 +260,7 @@ module _ {xs ys keys bounds ls : List ℕ} {b P z f l : ℕ} {d : Ranked 6} {n g
       -- nothing was done
       pub spreading-kept : r ≡ false → Spreading xs zs keys bounds ls b P z f l d n g m (k + 1)
       spreading-kept e =
-          let q : zs ≡ ys = visited-kept (subst (λ (t : Bool). Visited ys zs (b + from) (add 6 (marksOf marks) d) t) e T) in
+          let q : zs ≡ ys = visited-kept (subst (λ (t : Bool). Visited ys zs (b + from) (add 6 (marksCost marks) d) t) e T) in
           turn keys bounds g m (rw q (S .window)) (rw q (S .keyed))
 
       -- the node has a new label

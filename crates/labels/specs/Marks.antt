@@ -11,16 +11,16 @@ nibbles zero e = 1
 nibbles (suc k) e = (e / 16 ^ k, nibbles k (e % 16 ^ k))
 
 -- the number that stands for these marks
-unfoldable pub packed : (k : ℕ) → Ranked k → ℕ
-packed zero c = 0
-packed (suc k) c = c .0 * 16 ^ k + packed k (c .1)
+unfoldable pub fromNibbles : (k : ℕ) → Ranked k → ℕ
+fromNibbles zero c = 0
+fromNibbles (suc k) c = c .0 * 16 ^ k + fromNibbles k (c .1)
 
-abbrev pub marksOf : ℕ → Ranked 6
-marksOf e = nibbles 6 e
+abbrev pub marksCost : ℕ → Ranked 6
+marksCost e = nibbles 6 e
 
 -- what the pair costs; a number that is not of six marks stands for no pair
 unfoldable pub pairCost : ℕ → Option (Ranked 6)
-pairCost e = cond (ltb e (16 ^ 6)) (some (marksOf e)) none
+pairCost e = cond (ltb e (16 ^ 6)) (some (marksCost e)) none
 
 -- the number of no pair
 abbrev pub noPair : ℕ

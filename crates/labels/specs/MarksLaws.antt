@@ -11,7 +11,7 @@ use borrow.Author.Tests.{lt-ltb, le-ltb}
 use Rattle.paths.specs.Total.{ℕ-total, Upto}
 use Rattle.paths.specs.Costs.{Lowers, kept, lowered}
 use Rattle.paths.specs.Ranked.{Ranked, add, Less, letterCount, countAt}
-use Rattle.labels.specs.Marks.{nibbles, packed, marksOf, pairCost}
+use Rattle.labels.specs.Marks.{nibbles, fromNibbles, marksCost, pairCost}
 use Rattle.labels.specs.LabelCost.{RoomFor}
 
 base-pos : (k : ℕ) → 0 < 16 ^ k
@@ -58,10 +58,6 @@ less-nibbles zero e f a b h = absurd (omega arith)
 less-nibbles (suc k) e f a b (inl h) = first-decides k e f h
 less-nibbles (suc k) e f a b (inr h) = rest-decides k e f (h .0) .1 (less-nibbles k (e % 16 ^ k) (f % 16 ^ k) (rest-below k e) (rest-below k f) (h .1))
 
--- comparing the numbers is comparing the costs
-pub marks-order : (e f : ℕ) → e < 16 ^ 6 → f < 16 ^ 6 → (e < f) ↔ Less 6 (marksOf e) (marksOf f)
-marks-order e f a b = (nibbles-less 6 e f a b, less-nibbles 6 e f a b)
-
 -- ---- how large they are
 
 pub nibbles-letters : (k e : ℕ) → letterCount k (nibbles k e) ≡ 1
@@ -87,44 +83,44 @@ room-less (suc k) c h r = (omega arith, room-less k (c .1) h (r .1))
 
 -- ---- making the number
 
-pub packed-below : (k : ℕ) (c : Ranked k) → ((i : ℕ) → countAt k i c ≤ 15) → packed k c < 16 ^ k
-unfolding packed
-packed-below zero c f = omega arith
-packed-below (suc k) c f =
+pub from-nibbles-below : (k : ℕ) (c : Ranked k) → ((i : ℕ) → countAt k i c ≤ 15) → fromNibbles k c < 16 ^ k
+unfolding fromNibbles
+from-nibbles-below zero c f = omega arith
+from-nibbles-below (suc k) c f =
     let m : c .0 * 16 ^ k ≤ 15 * 16 ^ k = mul-le-mul-right (16 ^ k) (f zero) in
-    rw pow-succ' (omega (arith, packed-below k (c .1) (λ i. f (suc i))))
+    rw pow-succ' (omega (arith, from-nibbles-below k (c .1) (λ i. f (suc i))))
 
 -- the marks that it stands for are those that it was made of
-pub nibbles-packed : (k : ℕ) (c : Ranked k) → ((i : ℕ) → countAt k i c ≤ 15) → letterCount k c ≡ 1 → nibbles k (packed k c) ≡ c
-unfolding nibbles packed
-nibbles-packed zero c f l = sym l
-nibbles-packed (suc k) c f l =
-    let t = packed-below k (c .1) (λ i. f (suc i)) in
-    let a : (c .0 * 16 ^ k + packed k (c .1)) / 16 ^ k ≡ c .0 = mul-add-div-right (base-pos k) (c .0) (packed k (c .1)) ∙ ap (λ (n : ℕ). c .0 + n) (div-eq-of-lt t) ∙ omega arith in
-    let b : (c .0 * 16 ^ k + packed k (c .1)) % 16 ^ k ≡ packed k (c .1) = mul-add-mod-self-right (c .0) (16 ^ k) (packed k (c .1)) ∙ mod-eq-of-lt t in
-    let r = ap (nibbles k) b ∙ nibbles-packed k (c .1) (λ i. f (suc i)) l in
+pub nibbles-back : (k : ℕ) (c : Ranked k) → ((i : ℕ) → countAt k i c ≤ 15) → letterCount k c ≡ 1 → nibbles k (fromNibbles k c) ≡ c
+unfolding nibbles fromNibbles
+nibbles-back zero c f l = sym l
+nibbles-back (suc k) c f l =
+    let t = from-nibbles-below k (c .1) (λ i. f (suc i)) in
+    let a : (c .0 * 16 ^ k + fromNibbles k (c .1)) / 16 ^ k ≡ c .0 = mul-add-div-right (base-pos k) (c .0) (fromNibbles k (c .1)) ∙ ap (λ (n : ℕ). c .0 + n) (div-eq-of-lt t) ∙ omega arith in
+    let b : (c .0 * 16 ^ k + fromNibbles k (c .1)) % 16 ^ k ≡ fromNibbles k (c .1) = mul-add-mod-self-right (c .0) (16 ^ k) (fromNibbles k (c .1)) ∙ mod-eq-of-lt t in
+    let r = ap (nibbles k) b ∙ nibbles-back k (c .1) (λ i. f (suc i)) l in
     λ i. (a i, r i)
 
 -- ---- the number of a pair, or of none
 
 module _ (e : ℕ) where
-  pub pair-some : e < 16 ^ 6 → pairCost e ≡ some (marksOf e)
+  pub pair-some : e < 16 ^ 6 → pairCost e ≡ some (marksCost e)
   unfolding pairCost
-  pair-some h = ap (λ (b : Bool). cond b (some (marksOf e)) none) (lt-ltb e (16 ^ 6) h)
+  pair-some h = ap (λ (b : Bool). cond b (some (marksCost e)) none) (lt-ltb e (16 ^ 6) h)
 
   pub pair-none : 16 ^ 6 ≤ e → pairCost e ≡ none
   unfolding pairCost
-  pair-none h = ap (λ (b : Bool). cond b (some (marksOf e)) none) (le-ltb e (16 ^ 6) h)
+  pair-none h = ap (λ (b : Bool). cond b (some (marksCost e)) none) (le-ltb e (16 ^ 6) h)
 
   pub record IsPair (c : Ranked 6) : Type 0 where
     pub below : e < 16 ^ 6
-    pub is : marksOf e ≡ c
+    pub is : marksCost e ≡ c
 
   pub is-pair : (c : Ranked 6) → pairCost e ≡ some c → IsPair c
   is-pair c h = go (decLt e (16 ^ 6))
     where
       go : Dec (e < 16 ^ 6) → IsPair c
-      go (yes k) = let q : marksOf e ≡ c = cc (pair-some k, h) in record { below = k; is = q }
+      go (yes k) = let q : marksCost e ≡ c = cc (pair-some k, h) in record { below = k; is = q }
       go (no k) = absurd (Option·none-ne-some c (sym (pair-none (omega arith)) ∙ h))
 
 -- it has one pair
@@ -132,15 +128,15 @@ pub pair-letters : (e : ℕ) (c : Ranked 6) → pairCost e ≡ some c → letter
 pair-letters e c h = ap (letterCount 6) (sym (is-pair e c h .is)) ∙ nibbles-letters 6 e
 
 -- what is there, e, and a pair f: the smaller number has the lesser of the two costs
-pub pair-taken : (e f : ℕ) → f < 16 ^ 6 → f < e → Lowers (Less 6) (pairCost e) (marksOf f) (pairCost f)
+pub pair-taken : (e f : ℕ) → f < 16 ^ 6 → f < e → Lowers (Less 6) (pairCost e) (marksCost f) (pairCost f)
 pair-taken e f h k = lowered (λ c q. above c (is-pair e c q)) (pair-some f h)
   where
-    above : (c : Ranked 6) → IsPair e c → Less 6 (marksOf f) c
+    above : (c : Ranked 6) → IsPair e c → Less 6 (marksCost f) c
     above c p = rw (← (p .is)) (nibbles-less 6 f e h (p .below) k)
 
-pub pair-left : (e f : ℕ) → f < 16 ^ 6 → e ≤ f → Lowers (Less 6) (pairCost e) (marksOf f) (pairCost e)
-pair-left e f h k = kept (record { val = marksOf e; is = pair-some e (omega arith); upto = go (decLt e f) }) refl
+pub pair-left : (e f : ℕ) → f < 16 ^ 6 → e ≤ f → Lowers (Less 6) (pairCost e) (marksCost f) (pairCost e)
+pair-left e f h k = kept (record { val = marksCost e; is = pair-some e (omega arith); upto = go (decLt e f) }) refl
   where
-    go : Dec (e < f) → Upto (Less 6) (marksOf e) (marksOf f)
+    go : Dec (e < f) → Upto (Less 6) (marksCost e) (marksCost f)
     go (yes l) = inl (nibbles-less 6 e f (omega arith) h l)
-    go (no l) = inr (ap marksOf (let q : e ≡ f = omega arith in q))
+    go (no l) = inr (ap marksCost (let q : e ≡ f = omega arith in q))

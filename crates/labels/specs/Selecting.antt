@@ -28,14 +28,14 @@ pub record PastOpen (xs : List ℕ) (b f l r : ℕ) : Type 0 where
   pub shut : NoneOpen xs b r l
 
 -- i is the key of u, if u is open, and k that of c
-pub record BeatsPre (xs : List ℕ) (u i : ℕ) (c : Ranked 6) (k : ℕ) : Type 0 where
+pub record OpenBelowPre (xs : List ℕ) (u i : ℕ) (c : Ranked 6) (k : ℕ) : Type 0 where
   pub node : HasNode xs u
   pub its : OpenAt xs u → KeyOf i (costAt xs u)
   pub own : k ≡ frontKey c
   pub short : AllShort 6 c
 
 -- whether u is open and its label below c
-pub record Beats (xs : List ℕ) (u : ℕ) (c : Ranked 6) (r : Bool) : Type 0 where
+pub record OpenBelow (xs : List ℕ) (u : ℕ) (c : Ranked 6) (r : Bool) : Type 0 where
   pub takes : r ≡ true → OpenAt xs u
   pub better : r ≡ true → Less 6 (costAt xs u) c
   pub upto : r ≡ false → OpenAt xs u → Upto (Less 6) c (costAt xs u)

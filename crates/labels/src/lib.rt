@@ -3,13 +3,13 @@ ghost use mathlib.Core.Path.{_≡_};
 ghost use Prim.Native.Nat.{ℕ, _+_, _*_, _^_, _≤_, _<_};
 ghost use lib.ListN.{length};
 ghost use Rattle.paths.specs.Ranked.{add};
-ghost use Rattle.labels.specs.Marks.{nibbles, marksOf};
+ghost use Rattle.labels.specs.Marks.{nibbles, marksCost};
 ghost use Rattle.labels.specs.LabelCost.{costOf, lastPlaces, firstTwo, frontKey, AllShort, isLess, isSame, RoomFor};
 ghost use Rattle.labels.specs.Work.{HasNode, HasNodes, costAt, OpenAt, Reached, Stored, Cleared};
 ghost use Rattle.labels.specs.Keys.{KeyOf, BoundOf, Keyed};
 ghost use Rattle.labels.specs.Listing.{PairCount, Listed, RowListed};
 ghost use Rattle.labels.specs.Lowering.{PairPre, VisitPre, Compared, Lowered, LoweredBy, Visited};
-ghost use Rattle.labels.specs.Selecting.{FirstOpen, PastOpen, BeatsPre, Beats, SelectPre, Least};
+ghost use Rattle.labels.specs.Selecting.{FirstOpen, PastOpen, OpenBelowPre, OpenBelow, SelectPre, Least};
 ghost use Rattle.labels.specs.Spreading.{SpreadPre, SpreadListed};
 ghost use Rattle.labels.specs.Settling.{SettlePreListed, SettledListed};
 
@@ -77,7 +77,7 @@ pub fn same(a: Label, b: Label) -> bool
 // The label with one pair more in front of its path.
 pub fn plus(label: Label, marks: u32) -> Label
     requires { ⌜ (marks < 16 ^ 6) × RoomFor 1 6 (costOf label) ⌝ }
-    ensures { λ r. ⌜ costOf r ≡ add 6 (marksOf marks) (costOf label) ⌝ }
+    ensures { λ r. ⌜ costOf r ≡ add 6 (marksCost marks) (costOf label) ⌝ }
 {
     let five = marks % 1048576;
     let four = five % 65536;
@@ -196,7 +196,7 @@ fn cheaper_last(work: &[u16], node: usize, marks: u32, label: Label) -> bool
 // looked at one after the other, as far as they are the same.
 fn cheaper(work: &[u16], node: usize, marks: u32, label: Label) -> bool
     requires { ⌜ PairPre (now work) node marks (costOf label) ⌝ }
-    ensures { λ r. ⌜ Compared (now (work .entry)) node (add 6 (marksOf marks) (costOf label)) r ⌝ }
+    ensures { λ r. ⌜ Compared (now (work .entry)) node (add 6 (marksCost marks) (costOf label)) r ⌝ }
 {
     let at = node * 8;
     if work[at] == 0 {
@@ -226,7 +226,7 @@ fn cheaper(work: &[u16], node: usize, marks: u32, label: Label) -> bool
 // node's or the node has none: whether it did.
 pub fn lower_by(work: &mut [u16], node: usize, marks: u32, label: Label) -> bool
     requires { ⌜ PairPre (now work) node marks (costOf label) ⌝ }
-    ensures { λ r. ⌜ LoweredBy (now (work .entry)) (now (work .exit)) node (add 6 (marksOf marks) (costOf label)) r ⌝ }
+    ensures { λ r. ⌜ LoweredBy (now (work .entry)) (now (work .exit)) node (add 6 (marksCost marks) (costOf label)) r ⌝ }
 {
     if cheaper(work, node, marks, label) {
         store(work, node, plus(label, marks));
@@ -260,7 +260,7 @@ fn node_bound(work: &[u16], node: usize) -> u32
 // first: most often it tells that the pair is of no use.
 fn visit(work: &mut [u16], node: usize, bound: u32, marks: u32, label: Label, own: u32) -> bool
     requires { ⌜ VisitPre (now work) node bound marks (costOf label) own ⌝ }
-    ensures { λ r. ⌜ Visited (now (work .entry)) (now (work .exit)) node (add 6 (marksOf marks) (costOf label)) r ⌝ }
+    ensures { λ r. ⌜ Visited (now (work .entry)) (now (work .exit)) node (add 6 (marksCost marks) (costOf label)) r ⌝ }
 {
     if bound < own + (marks / 1048576 * 65536 + marks % 1048576 / 65536) {
         return false;
@@ -387,8 +387,8 @@ fn fill_keys(work: &[u16], base: usize, size: usize, keys: &mut [u64; 128], boun
 
 // Whether the node is open and its label better than the one given. The keys of both are looked at first: most often they tell.
 fn beats(work: &[u16], node: usize, its: u64, label: Label, own: u64) -> bool
-    requires { ⌜ BeatsPre (now work) node its (costOf label) own ⌝ }
-    ensures { λ r. ⌜ Beats (now (work .entry)) node (costOf label) r ⌝ }
+    requires { ⌜ OpenBelowPre (now work) node its (costOf label) own ⌝ }
+    ensures { λ r. ⌜ OpenBelow (now (work .entry)) node (costOf label) r ⌝ }
 {
     if own < its {
         return false;

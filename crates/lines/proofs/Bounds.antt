@@ -10,9 +10,9 @@ use lib.ListN.{length, drop, length-map, length-take, length-drop}
 use borrow.Author.Tests.{leb-true, leb-false}
 use Rattle.lines.specs.declared.Parsed.{Parsed}
 use Rattle.lines.specs.declared.Next.{Next}
-use Rattle.lines.specs.Text.{space, comma, lineEnd, before, after, segments}
+use Rattle.lines.specs.Text.{space, lineEnd, before, after}
 use Rattle.lines.specs.Decimal.{digitValue, valueOf}
-use Rattle.lines.specs.Parsing.{isRankingText, isWordText, parsedParts, parsedLine, answerOf}
+use Rattle.lines.specs.Parsing.{isRankingText, symbolsIn, isWordText, parsedParts, parsedLine, parsedAnswer}
 use Rattle.lines.specs.Input.{kept, nextOf}
 use Rattle.lines.proofs.Cutting.{before-short, after-short}
 use Rattle.lines.proofs.Forms.{line-long, line-parts, parts-unranked, parts-unworded, parts-formed, ranking-digits, word-symbols}
@@ -83,20 +83,20 @@ good-bounds m n hm hn =
       word-length = λ r w h. let e : w ≡ n = cc in omega arith;
     }
 
-parts-bounds : (digits symbols : List ℕ) → length symbols ≤ 200 → ParsedBounds (answerOf (parsedParts digits (some symbols)))
+parts-bounds : (digits symbols : List ℕ) → length symbols ≤ 200 → ParsedBounds (parsedAnswer (parsedParts digits (some symbols)))
 parts-bounds digits symbols short = go (isRankingText digits) refl (isWordText symbols) refl
   where
-    go : (s : Bool) → isRankingText digits ≡ s → (t : Bool) → isWordText symbols ≡ t → ParsedBounds (answerOf (parsedParts digits (some symbols)))
+    go : (s : Bool) → isRankingText digits ≡ s → (t : Bool) → isWordText symbols ≡ t → ParsedBounds (parsedAnswer (parsedParts digits (some symbols)))
     go false e t d = rw (parts-unranked digits symbols e) bad-bounds
     go true e false d = rw (parts-unworded digits symbols d) bad-bounds
     go true e true d =
-        rw (parts-formed digits symbols e d, length-map digits digitValue, length-map (segments comma symbols) valueOf)
-        (good-bounds (length digits) (length (segments comma symbols)) (ranking-digits digits e .no-more) (omega (arith, word-symbols symbols d)))
+        rw (parts-formed digits symbols e d, length-map digits digitValue, length-map (symbolsIn symbols) valueOf)
+        (good-bounds (length digits) (length (symbolsIn symbols)) (ranking-digits digits e .no-more) (omega (arith, word-symbols symbols d)))
 
-pub parsed-bounds : (l : List ℕ) → ParsedBounds (answerOf (parsedLine l))
+pub parsed-bounds : (l : List ℕ) → ParsedBounds (parsedAnswer (parsedLine l))
 parsed-bounds l = go (leb (length l) 200) refl (after space l) refl
   where
-    go : (t : Bool) → leb (length l) 200 ≡ t → (o : Option (List ℕ)) → after space l ≡ o → ParsedBounds (answerOf (parsedLine l))
+    go : (t : Bool) → leb (length l) 200 ≡ t → (o : Option (List ℕ)) → after space l ≡ o → ParsedBounds (parsedAnswer (parsedLine l))
     go false e o d = rw (line-long l (leb-false (length l) 200 e)) bad-bounds
     go true e none d = rw (line-parts l (leb-true (length l) 200 e), d) bad-bounds
     go true e (some symbols) d =

@@ -11,7 +11,8 @@ use lib.Dec.{ltb, leb, lit<, lit≤}
 use borrow.Author.Tests.{leb-true, ltb-true, ltb-false}
 use Rattle.lines.specs.Decimal.{isDigit, digitValue, valueFrom, digitOf, decimal}
 use Rattle.lines.specs.DecimalRead.{decimal-digit, decimal-more}
-use Rattle.lines.proofs.Lists.{rest-cons, and-left, and-right}
+use Rattle.basics.proofs.Bools.{left, right}
+use Rattle.lines.proofs.Lists.{rest-cons}
 
 -- how many digits there are
 pub digit-length : (n : ℕ) → n < 10 → length (decimal n) ≡ 1
@@ -35,7 +36,7 @@ pub record Digit (b : ℕ) : Type 0 where
   pub high : b ≤ 57
 
 pub digit-facts : (b : ℕ) → isDigit b ≡ true → Digit b
-digit-facts b e = record { low = leb-true 48 b (and-left (leb 48 b) (leb b 57) e); high = leb-true b 57 (and-right (leb 48 b) (leb b 57) e) }
+digit-facts b e = record { low = leb-true 48 b (left (leb 48 b) (leb b 57) e); high = leb-true b 57 (right (leb 48 b) (leb b 57) e) }
 
 -- the value of digits, from a place on
 module _ (n : ℕ) (l : List ℕ) (at : ℕ) {v : ℕ} where

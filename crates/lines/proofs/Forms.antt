@@ -1,9 +1,10 @@
 -- Laws of the forms of a line's parts. Assumes nothing.
 use mathlib.Core.Path.{_≡_, refl, ap, sym, _∙_}
-use mathlib.Core.Bool.{Bool, true, false, _&&_}
+use mathlib.Core.Bool.{Bool, true, false, _&&_, and-false}
 use mathlib.Core.List.{List, [], _∷_, map}
 use mathlib.Core.Option.{some, none}
 use Prim.Native.Nat.{ℕ, _+_, _-_, _*_, _<_, _≤_, zero-le}
+use native.Mathlib.Nat.{suc-ne-zero}
 use native.Mathlib.Omega.{arith}
 use lib.ListN.{length, length-map, take, drop}
 use lib.Dec.{leb}
@@ -14,8 +15,9 @@ use Rattle.lines.specs.declared.Parsed.{Parsed}
 use Rattle.lines.specs.Text.{space, comma, before, after, segments}
 use Rattle.lines.specs.Decimal.{isDigit, digitValue, valueOf}
 use Rattle.lines.specs.Buffers.{atFront}
-use Rattle.lines.specs.Parsing.{isRankingText, isSymbolText, isWordText, requestOf, parsedParts, parsedLine, answerOf, rankingOf, wordOf}
-use Rattle.lines.proofs.Lists.{and-false, and-left, and-right, all-first, all-rest}
+use Rattle.lines.specs.Parsing.{isRankingText, isSymbolText, symbolsIn, isWordText, requestOf, parsedParts, parsedLine, parsedAnswer, rankingOf, wordOf}
+use Rattle.basics.proofs.Bools.{left, right}
+use Rattle.lines.proofs.Lists.{all-first, all-rest}
 use Rattle.lines.proofs.Cutting.{take-before, after-none, after-some, part-rest, lengths, segments-lengths}
 
 -- 1 to so many digits
@@ -29,11 +31,11 @@ pub record SomeDigits (most : ℕ) (l : List ℕ) : Type 0 where
 
 pub some-digits : (most : ℕ) (l : List ℕ) → someDigits most l ≡ true → SomeDigits most l
 some-digits most l h =
-    let lengths : (leb 1 (length l) && leb (length l) most) ≡ true = and-left (leb 1 (length l) && leb (length l) most) (allOf isDigit l) h in
+    let lengths : (leb 1 (length l) && leb (length l) most) ≡ true = left (leb 1 (length l) && leb (length l) most) (allOf isDigit l) h in
     record {
-      one = leb-true 1 (length l) (and-left (leb 1 (length l)) (leb (length l) most) lengths);
-      no-more = leb-true (length l) most (and-right (leb 1 (length l)) (leb (length l) most) lengths);
-      digits = and-right (leb 1 (length l) && leb (length l) most) (allOf isDigit l) h;
+      one = leb-true 1 (length l) (left (leb 1 (length l)) (leb (length l) most) lengths);
+      no-more = leb-true (length l) most (right (leb 1 (length l)) (leb (length l) most) lengths);
+      digits = right (leb 1 (length l) && leb (length l) most) (allOf isDigit l) h;
     }
 
 module _ (l : List ℕ) where
@@ -51,11 +53,11 @@ module _ (l : List ℕ) where
 
   pub symbol-digits : isSymbolText l ≡ true → SomeDigits 3 l
   unfolding isSymbolText
-  symbol-digits h = some-digits 3 l (and-left (someDigits 3 l) (leb (valueOf l) 255) h)
+  symbol-digits h = some-digits 3 l (left (someDigits 3 l) (leb (valueOf l) 255) h)
 
   pub symbol-small : isSymbolText l ≡ true → valueOf l ≤ 255
   unfolding isSymbolText
-  symbol-small h = leb-true (valueOf l) 255 (and-right (someDigits 3 l) (leb (valueOf l) 255) h)
+  symbol-small h = leb-true (valueOf l) 255 (right (someDigits 3 l) (leb (valueOf l) 255) h)
 
 -- a word's symbols are at most half as many as its bytes and one
 symbols-lengths : (ps : List (List ℕ)) → allOf isSymbolText ps ≡ true → 2 * length ps ≤ lengths ps
@@ -64,8 +66,21 @@ symbols-lengths (p ∷ ps) h =
     let i = symbols-lengths ps (all-rest isSymbolText refl h) in
     omega (arith, symbol-digits p (all-first isSymbolText refl h) .one)
 
-pub word-symbols : (l : List ℕ) → isWordText l ≡ true → 2 * length (segments comma l) ≤ length l + 1
-word-symbols l h = rw (segments-lengths comma l) at (symbols-lengths (segments comma l) h)
+-- the empty text has no symbols, any other has those between its commas
+pub symbols-none : (l : List ℕ) → length l ≡ 0 → symbolsIn l ≡ []
+unfolding symbolsIn
+symbols-none [] e = refl
+symbols-none (x ∷ l) e = absurd (suc-ne-zero (length l) e)
+
+pub symbols-some : (l : List ℕ) → (length l ≡ 0 → ⊥) → symbolsIn l ≡ segments comma l
+unfolding symbolsIn
+symbols-some [] h = absurd (h refl)
+symbols-some (x ∷ l) h = refl
+
+pub word-symbols : (l : List ℕ) → isWordText l ≡ true → 2 * length (symbolsIn l) ≤ length l + 1
+unfolding symbolsIn
+word-symbols [] h = zero-le
+word-symbols (x ∷ l) h = rw (segments-lengths comma (x ∷ l)) at (symbols-lengths (segments comma (x ∷ l)) h)
 
 -- a line that is parsed: too long; with no space; with the parts before and after the space, which end and start at places
 module _ (l : List ℕ) where
@@ -98,14 +113,14 @@ module _ (digits symbols : List ℕ) where
 -- what parsing answers and what it writes: of a bad line nothing
 abbrev pub Parses : Parsed → List ℕ → List ℕ → List ℕ → List ℕ → List ℕ → Type 0
 Parses answer l ranking newRanking word newWord =
-    (answer ≡ answerOf (parsedLine l)) × ((newRanking ≡ atFront (rankingOf (parsedLine l)) ranking) × (newWord ≡ atFront (wordOf (parsedLine l)) word))
+    (answer ≡ parsedAnswer (parsedLine l)) × ((newRanking ≡ atFront (rankingOf (parsedLine l)) ranking) × (newWord ≡ atFront (wordOf (parsedLine l)) word))
 
 pub unparsed : (l ranking word : List ℕ) → parsedLine l ≡ none → Parses BadLine l ranking ranking word word
 unparsed l ranking word e = rw e (refl, (refl, refl))
 
 pub parsed : (l digits symbols ranking word : List ℕ) {newRanking newWord : List ℕ} {n count : ℕ} → parsedLine l ≡ some (requestOf digits symbols)
     → n ≡ length digits → newRanking ≡ atFront (map digitValue digits) ranking
-    → count ≡ length (segments comma symbols) → newWord ≡ atFront (map valueOf (segments comma symbols)) word
+    → count ≡ length (symbolsIn symbols) → newWord ≡ atFront (map valueOf (symbolsIn symbols)) word
     → Parses (Line n count) l ranking newRanking word newWord
 parsed l digits symbols ranking word e n r c w =
-    rw e ((λ i. Line ((n ∙ sym (length-map digits digitValue)) i) ((c ∙ sym (length-map (segments comma symbols) valueOf)) i)), (r, w))
+    rw e ((λ i. Line ((n ∙ sym (length-map digits digitValue)) i) ((c ∙ sym (length-map (symbolsIn symbols) valueOf)) i)), (r, w))

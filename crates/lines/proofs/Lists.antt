@@ -1,6 +1,6 @@
 -- Laws of lists from a place on, of tests over them, and of stores in a row. Assumes nothing.
 use mathlib.Core.Path.{_≡_, refl, ap, sym, _∙_}
-use mathlib.Core.Bool.{Bool, true, false, _&&_, false≢true}
+use mathlib.Core.Bool.{Bool, true, false}
 use mathlib.Core.List.{List, [], _∷_, _++_}
 use Prim.Native.Nat.{ℕ, suc, _+_, _<_, _≤_, min}
 use native.Mathlib.Nat.{add-zero, add-suc, suc-add, zero-add}
@@ -11,23 +11,11 @@ use lib.ListN.{length, getD, take, drop, set}
 use lib.Seq.{drop-cons, take-all, sets, sets-eq}
 use borrow.Author.Tests.{leb-true, leb-false}
 use Rattle.basics.specs.Search.{allOf}
+use Rattle.basics.proofs.Bools.{left, right}
 
 -- the element at a place, and the rest
 pub rest-cons : {A : Type 0} (l : List A) (at : ℕ) (d : A) → at < length l → drop at l ≡ getD l at d ∷ drop (at + 1) l
 rest-cons l at d h = rw add-one (drop-cons l at d h)
-
--- the parts of a test that passes
-pub and-left : (a b : Bool) → (a && b) ≡ true → a ≡ true
-and-left true b e = refl
-and-left false b e = e
-
-pub and-right : (a b : Bool) → (a && b) ≡ true → b ≡ true
-and-right true b e = e
-and-right false b e = absurd (false≢true e)
-
-pub and-false : (a : Bool) → (a && false) ≡ false
-and-false true = refl
-and-false false = refl
 
 -- a test of every element of a list that is an element and the rest
 module _ {A : Type 0} (f : A → Bool) {xs : List A} {x : A} {rest : List A} (e : xs ≡ x ∷ rest) where
@@ -41,11 +29,11 @@ module _ {A : Type 0} (f : A → Bool) {xs : List A} {x : A} {rest : List A} (e 
 
   pub all-first : allOf f xs ≡ true → f x ≡ true
   unfolding allOf
-  all-first i = and-left (f x) (allOf f rest) (rw e at i)
+  all-first i = left (f x) (allOf f rest) (rw e at i)
 
   pub all-rest : allOf f xs ≡ true → allOf f rest ≡ true
   unfolding allOf
-  all-rest i = and-right (f x) (allOf f rest) (rw e at i)
+  all-rest i = right (f x) (allOf f rest) (rw e at i)
 
 pub all-end : {A : Type 0} (f : A → Bool) {xs : List A} {t : Bool} → xs ≡ [] → allOf f xs ≡ t → true ≡ t
 unfolding allOf

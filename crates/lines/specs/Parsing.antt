@@ -1,6 +1,6 @@
--- An input line: ranking digits, a space, symbols in decimal with commas.
+-- An input line: ranking digits, a space, symbols in decimal with commas, or none.
 use mathlib.Core.Bool.{Bool, true, false, _&&_}
-use mathlib.Core.List.{List, [], map}
+use mathlib.Core.List.{List, [], _∷_, map}
 use mathlib.Core.Option.{Option, some, none}
 use Prim.Native.Nat.{ℕ}
 use lib.ListN.{length}
@@ -19,9 +19,10 @@ isRankingText text = leb 1 (length text) && leb (length text) 9 && allOf isDigit
 unfoldable pub isSymbolText : List ℕ → Bool
 isSymbolText text = leb 1 (length text) && leb (length text) 3 && allOf isDigit text && leb (valueOf text) 255
 
--- a word is symbols with commas between them
-abbrev pub symbolsIn : List ℕ → List (List ℕ)
-symbolsIn text = segments comma text
+-- a word is symbols with commas between them; the empty text is the empty word
+unfoldable pub symbolsIn : List ℕ → List (List ℕ)
+symbolsIn [] = []
+symbolsIn (x ∷ xs) = segments comma (x ∷ xs)
 
 abbrev pub isWordText : List ℕ → Bool
 isWordText text = allOf isSymbolText (symbolsIn text)
@@ -45,9 +46,9 @@ unfoldable pub parsedLine : List ℕ → Option Request
 parsedLine line = elim (leb (length line) 200) [ true ↦ parsedParts (before space line) (after space line) | false ↦ none ]
 
 -- what parsing answers of a line, and what it writes: of a bad line nothing
-abbrev pub answerOf : Option Request → Parsed
-answerOf none = BadLine
-answerOf (some request) = Line (length (request .ranking)) (length (request .word))
+abbrev pub parsedAnswer : Option Request → Parsed
+parsedAnswer none = BadLine
+parsedAnswer (some request) = Line (length (request .ranking)) (length (request .word))
 
 abbrev pub rankingOf : Option Request → List ℕ
 rankingOf none = []

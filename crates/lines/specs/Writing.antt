@@ -18,14 +18,14 @@ withCommas [] = []
 withCommas (n ∷ ns) = decimal n ++ joined nextCount ns
 
 -- a text with its line end
-abbrev pub ended : List ℕ → List ℕ
-ended text = text ++ textOf "\n"
+abbrev pub withLineEnd : List ℕ → List ℕ
+withLineEnd text = text ++ textOf "\n"
 
 unfoldable pub badLine : List ℕ
-badLine = ended (textOf "bad line")
+badLine = withLineEnd (textOf "bad line")
 
 unfoldable pub refusedLine : ℕ → List ℕ
-refusedLine number = ended (textOf "refused " ++ decimal number)
+refusedLine number = withLineEnd (textOf "refused " ++ decimal number)
 
 -- a space and `in:out`
 unfoldable pub pairText : ℕ → ℕ → List ℕ
@@ -37,7 +37,7 @@ pairsText bytes = joined (λ p. pairText (p .input) (p .output)) (pairsOf bytes)
 
 -- an accepted answer: the counts with commas; then for each pair a space and `in:out`
 unfoldable pub acceptedLine : List ℕ → List ℕ → List ℕ
-acceptedLine counts bytes = ended (withCommas counts ++ pairsText bytes)
+acceptedLine counts bytes = withLineEnd (withCommas counts ++ pairsText bytes)
 
 -- the line of an answer, for a card of K machines: of number 0 the counts in card order and the pairs, which fill the front of
 -- the answer slice; of another number the refusal

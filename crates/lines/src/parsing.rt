@@ -10,7 +10,7 @@ ghost use Prim.Native.Nat.{_≤_};
 ghost use lib.ListN.{length};
 ghost use Rattle.basics.specs.Search.{allOf};
 ghost use Rattle.lines.specs.Decimal.{isDigit, digitValue, valueOf};
-ghost use Rattle.lines.specs.Parsing.{isRankingText, isSymbolText, symbolsIn, isWordText, parsedLine, answerOf, rankingOf, wordOf};
+ghost use Rattle.lines.specs.Parsing.{isRankingText, isSymbolText, symbolsIn, isWordText, parsedLine, parsedAnswer, rankingOf, wordOf};
 ghost use Rattle.lines.specs.Buffers.{atFront};
 
 fn is_ranking_text(text: &[u8]) -> bool
@@ -32,6 +32,9 @@ fn is_symbol_text(text: &[u8]) -> bool
 fn is_word_text(text: &[u8]) -> bool
     ensures { λ r. ⌜ r ≡ isWordText (now (text .entry)) ⌝ }
 {
+    if text.len() == 0 {
+        return true;
+    }
     let mut rest = text;
     loop {
         let n = length_before(rest, b',');
@@ -63,6 +66,9 @@ fn write_word(text: &[u8], word: &mut [u8]) -> usize
     ensures { λ r. ⌜ r ≡ length (symbolsIn (now (text .entry))) ⌝ }
     ensures { λ _. ⌜ now (word .exit) ≡ atFront (map valueOf (symbolsIn (now (text .entry)))) (now (word .entry)) ⌝ }
 {
+    if text.len() == 0 {
+        return 0;
+    }
     let mut rest = text;
     let mut count = 0;
     loop {
@@ -79,7 +85,7 @@ fn write_word(text: &[u8], word: &mut [u8]) -> usize
 // Parses a line, given without its line end. Of a bad line nothing is written.
 pub fn parse(line: &[u8], ranking: &mut [u8], word: &mut [u8]) -> Parsed
     requires { ⌜ (9 ≤ length (now ranking)) × (100 ≤ length (now word)) ⌝ }
-    ensures answer { λ r. ⌜ r ≡ answerOf (parsedLine (now (line .entry))) ⌝ }
+    ensures answer { λ r. ⌜ r ≡ parsedAnswer (parsedLine (now (line .entry))) ⌝ }
     ensures ranking { λ _. ⌜ now (ranking .exit) ≡ atFront (rankingOf (parsedLine (now (line .entry)))) (now (ranking .entry)) ⌝ }
     ensures word { λ _. ⌜ now (word .exit) ≡ atFront (wordOf (parsedLine (now (line .entry)))) (now (word .entry)) ⌝ }
 {

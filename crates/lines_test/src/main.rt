@@ -59,14 +59,23 @@ fn well_formed() {
     show(b"000000000 000,007,07,7");
 }
 
-// Lines that lack a ranking, a space or a word.
+// Lines of the empty word: ranking digits, and exactly one space.
+fn empty_words() {
+    show(b"012 ");
+    show(b"0 ");
+    show(b"123456789 ");
+    show(b"012  ");
+    show(b"012 \r");
+}
+
+// Lines that lack a ranking or a space.
 fn lacking() {
     show(b"");
     show(b" ");
     show(b" 1");
     show(b"1");
     show(b"1,1");
-    show(b"0 ");
+    show(b"012");
 }
 
 // Lines whose ranking has too many digits, or other bytes.
@@ -215,6 +224,7 @@ fn pieces() {
 
 fn main() {
     well_formed();
+    empty_words();
     lacking();
     bad_digits();
     bad_commas();

@@ -21,10 +21,10 @@ use Rattle.machine.specs.declared.Arc.{Arc}
 use Rattle.machine.specs.declared.Pair.{Pair}
 use Rattle.machine.specs.Symbols.{emptySymbol, isPair}
 use Rattle.machine.specs.Machine.{takes, takesFrom, bothTake, takeOnePair, clash}
-use Rattle.machine.specs.Part.{stateCount, arcCount, arcAt, arcsOf, soundArc, soundArcs, apart}
+use Rattle.machine.specs.Part.{stateCount, arcCount, arcAt, arcsOf, soundArc, soundArcs, clashFree}
 use Rattle.machine.specs.Accepted.{sound-facts}
 use Rattle.machine.specs.Steps.{clash-at}
-use Rattle.machine.specs.Clashes.{LeavesStates, apartFrom, pairsWith, noted, takenFrom, Taken, PairsNoted}
+use Rattle.machine.specs.Clashes.{LeavesStates, clashFreeFrom, pairsWith, noted, takenFrom, Taken, PairsNoted}
 use Rattle.machine.proofs.SymbolSets.{member-half}
 use Rattle.machine.proofs.SetLoops.{Passed, with-true, passed-none, still-old, passed-next, passed-all}
 use Rattle.machine.proofs.Arcs.{leaves, leaves-other, arc-at, arcs-count}
@@ -145,11 +145,11 @@ taken-none s = record { pairs = λ p h. ap (λ (n : ℕ). member n (p .input)) (
 
 module _ (s : ℕ) (a : Arc) where
   -- no arc of the rest takes a pair that this one takes
-  apart-all : (rest : List Arc) → ((p : Pair) → p .output < 64 → isPair p ≡ true → takesFrom a s p ≡ true → takenFrom s rest p ≡ false) → allOf (apartFrom s a) rest ≡ true
+  free-all : (rest : List Arc) → ((p : Pair) → p .output < 64 → isPair p ≡ true → takesFrom a s p ≡ true → takenFrom s rest p ≡ false) → allOf (clashFreeFrom s a) rest ≡ true
   unfolding takenFrom allOf clash takeOnePair
-  apart-all [] h = refl
-  apart-all (b ∷ rest) h =
-      both (go (eqb (a .from) s) refl (clash a b) refl) (apart-all rest (λ p l i t. right-fails (takesFrom b s p) (takenFrom s rest p) (h p l i t)))
+  free-all [] h = refl
+  free-all (b ∷ rest) h =
+      both (go (eqb (a .from) s) refl (clash a b) refl) (free-all rest (λ p l i t. right-fails (takesFrom b s p) (takenFrom s rest p) (h p l i t)))
     where
       go : (e : Bool) → eqb (a .from) s ≡ e → (d : Bool) → clash a b ≡ d → not (eqb (a .from) s && clash a b) ≡ true
       go false e d f = rw e
@@ -164,17 +164,17 @@ module _ (s : ℕ) (a : Arc) where
           absurd (never tb (left-fails (takesFrom b s p) (takenFrom s rest p) (h p (y .1) (left (isPair p) (takes a p) ia) (both e (right (isPair p) (takes a p) ia)))))
 
   -- an arc of the rest takes a pair that this one takes
-  apart-fails : (rest : List Arc) (p : Pair) → p .input < 64 → p .output < 64 → isPair p ≡ true → takesFrom a s p ≡ true → takenFrom s rest p ≡ true → allOf (apartFrom s a) rest ≡ false
+  free-fails : (rest : List Arc) (p : Pair) → p .input < 64 → p .output < 64 → isPair p ≡ true → takesFrom a s p ≡ true → takenFrom s rest p ≡ true → allOf (clashFreeFrom s a) rest ≡ false
   unfolding takenFrom allOf
-  apart-fails [] p x y i t u = absurd (never u refl)
-  apart-fails (b ∷ rest) p x y i t u = go (takesFrom b s p) refl (apart-fails rest p x y i t)
+  free-fails [] p x y i t u = absurd (never u refl)
+  free-fails (b ∷ rest) p x y i t u = go (takesFrom b s p) refl (free-fails rest p x y i t)
     where
       leaves-s : eqb (a .from) s ≡ true
       leaves-s = left (eqb (a .from) s) (takes a p) t
 
-      go : (d : Bool) → takesFrom b s p ≡ d → (takenFrom s rest p ≡ true → allOf (apartFrom s a) rest ≡ false) → (apartFrom s a b && allOf (apartFrom s a) rest) ≡ false
+      go : (d : Bool) → takesFrom b s p ≡ d → (takenFrom s rest p ≡ true → allOf (clashFreeFrom s a) rest ≡ false) → (clashFreeFrom s a b && allOf (clashFreeFrom s a) rest) ≡ false
       go true e r = rw (leaves-s, clash-at a b s p x y i t e)
-      go false e r = ap (λ (d : Bool). apartFrom s a b && d) (r (rw e at u)) ∙ and-false (apartFrom s a b)
+      go false e r = ap (λ (d : Bool). clashFreeFrom s a b && d) (r (rw e at u)) ∙ and-false (clashFreeFrom s a b)
 
   module _ {rest : List Arc} {before after : List ℕ} (T : Taken s rest before) where
     pub taken-next : PairsNoted (takesFrom a s) before after false → Taken s (a ∷ rest) after
@@ -188,14 +188,14 @@ module _ (s : ℕ) (a : Arc) where
         go true false true = refl
         go true false false = refl
 
-    pub apart-next : PairsNoted (takesFrom a s) before after false → allOf (apartFrom s a) rest ≡ true
-    apart-next N = apart-all rest (λ p h i t. fails (takenFrom s rest p) (λ u. never (T .pairs p h ∙ both i u) (N .clean refl p h i t)))
+    pub free-next : PairsNoted (takesFrom a s) before after false → allOf (clashFreeFrom s a) rest ≡ true
+    free-next N = free-all rest (λ p h i t. fails (takenFrom s rest p) (λ u. never (T .pairs p h ∙ both i u) (N .clean refl p h i t)))
 
-    pub apart-stop : PairsNoted (takesFrom a s) before after true → allOf (apartFrom s a) rest ≡ false
-    apart-stop N =
+    pub free-stop : PairsNoted (takesFrom a s) before after true → allOf (clashFreeFrom s a) rest ≡ false
+    free-stop N =
         let w = N .found refl in
         let p = w .0 in
-        apart-fails rest p (w .1) (w .2) (w .3) (w .4) (right (isPair p) (takenFrom s rest p) (sym (T .pairs p (w .2)) ∙ w .5))
+        free-fails rest p (w .1) (w .2) (w .3) (w .4) (right (isPair p) (takenFrom s rest p) (sym (T .pairs p (w .2)) ∙ w .5))
 
 -- all states
 all-weaker : (f g : Arc → Bool) → ((a : Arc) → f a ≡ true → g a ≡ true) → (arcs : List Arc) → allOf f arcs ≡ true → allOf g arcs ≡ true
@@ -203,32 +203,32 @@ unfolding allOf
 all-weaker f g h [] t = refl
 all-weaker f g h (a ∷ rest) t = both (h a (left (f a) (allOf f rest) t)) (all-weaker f g h rest (right (f a) (allOf f rest) t))
 
-apart-from : (s : ℕ) (a b : Arc) → apart a b ≡ true → apartFrom s a b ≡ true
-apart-from s a b t = go (eqb (a .from) s) (clash a b) t
+free-from : (s : ℕ) (a b : Arc) → clashFree a b ≡ true → clashFreeFrom s a b ≡ true
+free-from s a b t = go (eqb (a .from) s) (clash a b) t
   where
     go : (e d : Bool) → not d ≡ true → not (e && d) ≡ true
     go true d q = q
     go false d q = refl
 
 -- where no two arcs clash, none of a state do
-pub state-apart : (s : ℕ) (arcs : List Arc) → pairwise apart arcs ≡ true → pairwise (apartFrom s) arcs ≡ true
+pub state-free : (s : ℕ) (arcs : List Arc) → pairwise clashFree arcs ≡ true → pairwise (clashFreeFrom s) arcs ≡ true
 unfolding pairwise
-state-apart s [] t = refl
-state-apart s (a ∷ rest) t =
-    both (all-weaker (apart a) (apartFrom s a) (apart-from s a) rest (left (allOf (apart a) rest) (pairwise apart rest) t)) (state-apart s rest (right (allOf (apart a) rest) (pairwise apart rest) t))
+state-free s [] t = refl
+state-free s (a ∷ rest) t =
+    both (all-weaker (clashFree a) (clashFreeFrom s a) (free-from s a) rest (left (allOf (clashFree a) rest) (pairwise clashFree rest) t)) (state-free s rest (right (allOf (clashFree a) rest) (pairwise clashFree rest) t))
 
-pub state-clash : (s : ℕ) (arcs : List Arc) → pairwise (apartFrom s) arcs ≡ false → pairwise apart arcs ≡ false
-state-clash s arcs f = fails (pairwise apart arcs) (λ t. never (state-apart s arcs t) f)
+pub state-clash : (s : ℕ) (arcs : List Arc) → pairwise (clashFreeFrom s) arcs ≡ false → pairwise clashFree arcs ≡ false
+state-clash s arcs f = fails (pairwise clashFree arcs) (λ t. never (state-free s arcs t) f)
 
 -- where every arc leaves one of Q states, and none of any of these clash, no two do
-pub states-apart : (Q : ℕ) (arcs : List Arc) → allOf (λ a. ltb (a .from) Q) arcs ≡ true → ((s : ℕ) → s < Q → pairwise (apartFrom s) arcs ≡ true) → pairwise apart arcs ≡ true
+pub states-free : (Q : ℕ) (arcs : List Arc) → allOf (λ a. ltb (a .from) Q) arcs ≡ true → ((s : ℕ) → s < Q → pairwise (clashFreeFrom s) arcs ≡ true) → pairwise clashFree arcs ≡ true
 unfolding pairwise allOf
-states-apart Q [] l h = refl
-states-apart Q (a ∷ rest) l h =
+states-free Q [] l h = refl
+states-free Q (a ∷ rest) l h =
     let q = ltb-true (a .from) Q (left (ltb (a .from) Q) (allOf (λ b. ltb (b .from) Q) rest) l) in
     both
-    (all-weaker (apartFrom (a .from) a) (apart a) (λ b t. (rw (eq-eqb (a .from) (a .from) refl) at t)) rest (left (allOf (apartFrom (a .from) a) rest) (pairwise (apartFrom (a .from)) rest) (h (a .from) q)))
-    (states-apart Q rest (right (ltb (a .from) Q) (allOf (λ b. ltb (b .from) Q) rest) l) (λ s k. right (allOf (apartFrom s a) rest) (pairwise (apartFrom s) rest) (h s k)))
+    (all-weaker (clashFreeFrom (a .from) a) (clashFree a) (λ b t. (rw (eq-eqb (a .from) (a .from) refl) at t)) rest (left (allOf (clashFreeFrom (a .from) a) rest) (pairwise (clashFreeFrom (a .from)) rest) (h (a .from) q)))
+    (states-free Q rest (right (ltb (a .from) Q) (allOf (λ b. ltb (b .from) Q) rest) l) (λ s k. right (allOf (clashFreeFrom s a) rest) (pairwise (clashFreeFrom s) rest) (h s k)))
 
 pub sound-leaves : (S : ℕ) (part : List ℕ) → soundArcs S part ≡ true → LeavesStates part
 sound-leaves S part t =
@@ -239,7 +239,7 @@ pub record StateChecked (part : List ℕ) (s : ℕ) (taken : List ℕ) (i : ℕ)
   pub arcs : i ≤ arcCount part
   pub size : length taken ≡ 64
   pub taken-is : Taken s (drop i (arcsOf part)) taken
-  pub apart-is : pairwise (apartFrom s) (drop i (arcsOf part)) ≡ true
+  pub free-is : pairwise (clashFreeFrom s) (drop i (arcsOf part)) ≡ true
 
 pairwise-drop : {A : Type 0} (f : A → A → Bool) (i : ℕ) (l : List A) → pairwise f l ≡ true → pairwise f (drop i l) ≡ true
 unfolding pairwise
@@ -258,7 +258,7 @@ module _ (part : List ℕ) (s : ℕ) where
   unfolding pairwise
   state-start i e =
       let none : drop i (arcsOf part) ≡ [] = drop-of-length-le (arcsOf part) {i = i} (omega (arith, arcs-count part (2 + stateCount part) (arcCount part))) in
-      record { arcs = omega arith; size = refl; taken-is = rw none (taken-none s); apart-is = rw none }
+      record { arcs = omega arith; size = refl; taken-is = rw none (taken-none s); free-is = rw none }
 
   module _ {taken : List ℕ} {j : ℕ} (C : StateChecked part s taken j) where
     module _ (i at : ℕ) (more : j ≡ suc i) (place : at ≡ 2 + stateCount part + 20 * i) (after : List ℕ) where
@@ -270,13 +270,13 @@ module _ (part : List ℕ) (s : ℕ) where
         arcs = omega (arith, C .arcs);
         size = z;
         taken-is = rw here (taken-next s (arcAt part at) (C .taken-is) N);
-        apart-is = sym (pairwise-next (apartFrom s) here (apart-next s (arcAt part at) (C .taken-is) N)) ∙ C .apart-is;
+        free-is = sym (pairwise-next (clashFreeFrom s) here (free-next s (arcAt part at) (C .taken-is) N)) ∙ C .free-is;
       }
 
-      pub state-stop : PairsNoted (takesFrom (arcAt part at) s) taken after true → pairwise (apartFrom s) (arcsOf part) ≡ false
+      pub state-stop : PairsNoted (takesFrom (arcAt part at) s) taken after true → pairwise (clashFreeFrom s) (arcsOf part) ≡ false
       state-stop N =
-          let f = pairwise-fails (apartFrom s) here (apart-stop s (arcAt part at) (C .taken-is) N) in
-          fails (pairwise (apartFrom s) (arcsOf part)) (λ t. never (pairwise-drop (apartFrom s) i (arcsOf part) t) f)
+          let f = pairwise-fails (clashFreeFrom s) here (free-stop s (arcAt part at) (C .taken-is) N) in
+          fails (pairwise (clashFreeFrom s) (arcsOf part)) (λ t. never (pairwise-drop (clashFreeFrom s) i (arcsOf part) t) f)
 
-    pub state-end : j ≤ 0 → pairwise (apartFrom s) (arcsOf part) ≡ true
-    state-end h = let z : j ≡ 0 = omega arith in rw z at (C .apart-is)
+    pub state-end : j ≤ 0 → pairwise (clashFreeFrom s) (arcsOf part) ≡ true
+    state-end h = let z : j ≡ 0 = omega arith in rw z at (C .free-is)

@@ -13,30 +13,14 @@ use lib.Count.{trailingZeros, under}
 use lib.Pow.{shr-shr}
 use borrow.Author.Tests.{ltb-true, ltb-false, lt-ltb, eqb-true, eqb-false, eq-eqb, ne-eqb, not-true}
 use Rattle.basics.specs.Search.{everyBelow}
-use Rattle.basics.specs.Sets.{member, setOf}
+use Rattle.basics.specs.Sets.{member}
 use Rattle.basics.proofs.Bools.{same, clash, both, left, right}
 use Rattle.basics.proofs.Below.{every-at}
-use Rattle.basics.proofs.Sets.{has-member, its-member, member-and, set-grows, set-empty, set-member, set-beyond}
+use Rattle.basics.proofs.Sets.{has-member, its-member, member-one, member-and}
 
 -- a table that passes one test has the power of two at each place
 pub power-at : (table : List ℕ) → everyBelow (λ k. eqb (getD table k 0) (2 ^ k)) 64 ≡ true → (k : ℕ) → k < 64 → getD table k 0 ≡ 2 ^ k
 power-at table t k h = eqb-true (getD table k 0) (2 ^ k) (every-at (λ k. eqb (getD table k 0) (2 ^ k)) 64 t k h)
-
--- the set of one symbol
-pub only-member : (n i : ℕ) → member (2 ^ n) i ≡ eqb i n
-only-member n i = go (ltb i (suc n)) refl
-  where
-    f : ℕ → Bool
-    f k = eqb k n
-
-    one : setOf f (suc n) ≡ 2 ^ n
-    one = set-grows f n (eq-eqb n n refl) ∙ omega (arith, set-empty f n (λ k h. ne-eqb k n (omega arith)))
-
-    go : (b : Bool) → ltb i (suc n) ≡ b → member (2 ^ n) i ≡ eqb i n
-    go true h = rw (← one) (set-member f (suc n) i (ltb-true i (suc n) h))
-    go false h =
-        let q : suc n ≤ i = ltb-false i (suc n) h in
-        rw (← one) (set-beyond f (suc n) i q ∙ sym (ne-eqb i n (omega arith)))
 
 -- a set has a symbol where it meets the set of that symbol
 pub meets-one : (w n : ℕ) → w < 2 ^ 64 → not (eqb (bitAnd w (2 ^ n)) 0) ≡ member w n
@@ -48,12 +32,12 @@ meets-one w n h = same (not (eqb (bitAnd w (2 ^ n)) 0)) (member w n) there back
         let q = its-member 64 (bitAnd w (2 ^ n)) (omega (arith, and-le-l w (2 ^ n))) (omega (arith, z)) in
         let i = q .0 in
         let m = sym (member-and w (2 ^ n) i) ∙ q .2 in
-        let e = eqb-true i n (sym (only-member n i) ∙ right (member w i) (member (2 ^ n) i) m) in
+        let e = eqb-true i n (sym (member-one n i) ∙ right (member w i) (member (2 ^ n) i) m) in
         rw (← e) (left (member w i) (member (2 ^ n) i) m)
 
     back : member w n ≡ true → not (eqb (bitAnd w (2 ^ n)) 0) ≡ true
     back t =
-        let m = member-and w (2 ^ n) n ∙ both t (only-member n n ∙ eq-eqb n n refl) in
+        let m = member-and w (2 ^ n) n ∙ both t (member-one n n ∙ eq-eqb n n refl) in
         let p = has-member (bitAnd w (2 ^ n)) n m in
         rw (ne-eqb (bitAnd w (2 ^ n)) 0 (omega arith))
 
@@ -126,3 +110,17 @@ without-least d w n h b = member-and w (w - 1) n ∙ go (eqb n t) refl (member w
     go e p false q = rw q
     go true p true q = rw (q, p) (rw (eqb-true n t p) (l .gone))
     go false p true q = rw (q, p) (l .others n (eqb-false n t p) q)
+
+-- no symbol of a set is below its least one
+pub below-least : (d w n : ℕ) → n < trailingZeros d w → member w n ≡ false
+unfolding trailingZeros
+below-least zero w n h = absurd (omega arith)
+below-least (suc d) w n h = go (w % 2) refl h (λ m. below-least d (w / 2) m)
+  where
+    at : (n : ℕ) → w % 2 ≡ 0 → n < suc (trailingZeros d (w / 2)) → ((m : ℕ) → m < trailingZeros d (w / 2) → member (w / 2) m ≡ false) → member w n ≡ false
+    at zero e h rec = rw div-one (ne-eqb (w % 2) 1 (omega arith))
+    at (suc m) e h rec = member-half w m ∙ rec m (omega arith)
+
+    go : (r : ℕ) → w % 2 ≡ r → n < under r (trailingZeros d (w / 2)) → ((m : ℕ) → m < trailingZeros d (w / 2) → member (w / 2) m ≡ false) → member w n ≡ false
+    go zero e h rec = at n e h rec
+    go (suc r) e h rec = absurd (omega arith)

@@ -18,8 +18,8 @@ abbrev pub LeavesStates : List ℕ → Type 0
 LeavesStates part = allOf (λ a. ltb (a .from) (stateCount part)) (arcsOf part) ≡ true
 
 -- two arcs do not both leave the state s and take one pair
-abbrev pub apartFrom : ℕ → Arc → Arc → Bool
-apartFrom s a b = not (eqb (a .from) s && clash a b)
+abbrev pub clashFreeFrom : ℕ → Arc → Arc → Bool
+clashFreeFrom s a b = not (eqb (a .from) s && clash a b)
 
 -- the inputs of a set that make a pair with an output: all, but for 0 with 0
 abbrev pub pairsWith : ℕ → ℕ → ℕ

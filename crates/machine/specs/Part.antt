@@ -18,16 +18,16 @@ abbrev pub arcCount : List ℕ → ℕ
 arcCount part = getD part 1 0
 
 -- the little-endian number of four bytes, and of eight
-abbrev pub halfAt : List ℕ → ℕ → ℕ
-halfAt l at = getD l at 0 + 256 * (getD l (at + 1) 0 + 256 * (getD l (at + 2) 0 + 256 * getD l (at + 3) 0))
+abbrev pub fourBytesAt : List ℕ → ℕ → ℕ
+fourBytesAt l at = getD l at 0 + 256 * (getD l (at + 1) 0 + 256 * (getD l (at + 2) 0 + 256 * getD l (at + 3) 0))
 
-abbrev pub wordAt : List ℕ → ℕ → ℕ
-wordAt l at = halfAt l at + 2 ^ 32 * halfAt l (at + 4)
+abbrev pub eightBytesAt : List ℕ → ℕ → ℕ
+eightBytesAt l at = fourBytesAt l at + 2 ^ 32 * fourBytesAt l (at + 4)
 
 -- the arc whose 20 bytes start at a place
 unfoldable pub arcAt : List ℕ → ℕ → Arc
 arcAt l at =
-    record { from = getD l at 0; to = getD l (at + 1) 0; marks = getD l (at + 2) 0; reserved = getD l (at + 3) 0; inputs = wordAt l (at + 4); outputs = wordAt l (at + 12) }
+    record { from = getD l at 0; to = getD l (at + 1) 0; marks = getD l (at + 2) 0; reserved = getD l (at + 3) 0; inputs = eightBytesAt l (at + 4); outputs = eightBytesAt l (at + 12) }
 
 -- n arcs from a place
 unfoldable pub arcsAt : List ℕ → ℕ → ℕ → List Arc
@@ -67,11 +67,11 @@ abbrev pub soundArcs : ℕ → List ℕ → Bool
 soundArcs S part = allOf (soundArc S (stateCount part)) (arcsOf part)
 
 -- not refusal 5: no two arcs of a state take one pair
-abbrev pub apart : Arc → Arc → Bool
-apart a b = not (clash a b)
+abbrev pub clashFree : Arc → Arc → Bool
+clashFree a b = not (clash a b)
 
 abbrev pub noClash : List ℕ → Bool
-noClash part = pairwise apart (arcsOf part)
+noClash part = pairwise clashFree (arcsOf part)
 
 -- 0 where the part is accepted on a card of S symbols, else the first refusal that applies
 unfoldable pub partRefusal : ℕ → List ℕ → ℕ

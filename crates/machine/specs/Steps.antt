@@ -16,7 +16,7 @@ use Rattle.machine.specs.declared.Arc.{Arc}
 use Rattle.machine.specs.declared.Pair.{Pair}
 use Rattle.machine.specs.Symbols.{isPair}
 use Rattle.machine.specs.Machine.{takes, takesFrom, stepAmong, stepOf, endingOf, bothTake, takeOnePair, clash}
-use Rattle.machine.specs.Part.{stateCount, stateBytes, arcsOf, machineOf, soundArc, apart, partRefusal}
+use Rattle.machine.specs.Part.{stateCount, stateBytes, arcsOf, machineOf, soundArc, clashFree, partRefusal}
 use Rattle.machine.specs.Accepted.{finals-count, accepted, sound-facts, taken-within}
 
 -- two arcs that take a pair from a state clash
@@ -78,7 +78,7 @@ module _ (S : ℕ) (part : List ℕ) (ok : partRefusal S part ≡ 0) where
           let w = taken-within S (stateCount part) b p (arc-sound d j hj) (right (eqb (b .from) s) (takes b p) tj) in
           never
           (clash-at a b s p (omega arith) (omega arith) q ti tj)
-          (not-true (clash a b) (pairwise-at apart (arcsOf part) d (accepted S part ok .clashes) i j h hj))
+          (not-true (clash a b) (pairwise-at clashFree (arcsOf part) d (accepted S part ok .clashes) i j h hj))
 
       go : (b : Bool) → ltb i j ≡ b → (e : Bool) → ltb j i ≡ e → i ≡ j
       go true f e g = absurd (before i j (ltb-true i j f) hj ti tj)

@@ -8,6 +8,10 @@ use Rattle.machine.specs.declared.Pair.{Pair}
 abbrev pub emptySymbol : ℕ
 emptySymbol = 0
 
+-- the pair of an in and an out
+abbrev pub pairOf : ℕ → ℕ → Pair
+pairOf x y = record { input = x; output = y }
+
 -- in and out are not both empty
 abbrev pub isPair : Pair → Bool
 isPair p = not (eqb (p .input) emptySymbol && eqb (p .output) emptySymbol)

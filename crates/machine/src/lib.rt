@@ -6,12 +6,14 @@ ghost use lib.Dec.{eqb};
 ghost use lib.ListN.{getD};
 ghost use Rattle.basics.specs.Sets.{member};
 ghost use Rattle.machine.specs.Refusals.{stageNumber};
-ghost use Rattle.machine.specs.Symbols.{emptySymbol, isPair, withinSymbols};
+ghost use Rattle.machine.specs.Symbols.{emptySymbol, pairOf, isPair, withinSymbols};
 ghost use Rattle.machine.specs.Machine.{startState, takes, stepOf, stepped, endingOf, ended};
 ghost use Rattle.machine.specs.Part.{stateCount, arcCount, arcsOf, machineOf, shaped, soundArc, partRefusal};
 
 pub mod sets; // sets.rt: sets of symbols
 mod part; // part.rt: what a part's bytes say, and the stages of its check
+
+use basics::index;
 
 // A pair of symbols, in and out.
 pub struct Pair {
@@ -22,6 +24,13 @@ pub struct Pair {
 impl Pair {
     // The empty symbol.
     pub const EMPTY: u8 = 0;
+
+    // The pair of an in and an out.
+    pub fn new(input: u8, output: u8) -> Self
+        ensures { λ r. ⌜ r ≡ pairOf input output ⌝ }
+    {
+        Pair { input, output }
+    }
 
     // Whether in and out are not both empty.
     pub fn is_pair(self) -> bool
@@ -125,7 +134,7 @@ pub fn state_count(part: &[u8]) -> usize
     requires { ⌜ shaped (now part) ≡ true ⌝ }
     ensures { λ r. ⌜ r ≡ stateCount (now (part .entry)) ⌝ }
 {
-    part::index(part[0])
+    index(part[0])
 }
 
 // A, the number of arcs of a part.
@@ -133,7 +142,7 @@ pub fn arc_count(part: &[u8]) -> usize
     requires { ⌜ shaped (now part) ≡ true ⌝ }
     ensures { λ r. ⌜ r ≡ arcCount (now (part .entry)) ⌝ }
 {
-    part::index(part[1])
+    index(part[1])
 }
 
 // The arc i of a part of `states` states.
@@ -179,7 +188,7 @@ impl Position {
         let state = self.state;
         let input = sets::set_of(pair.input);
         let output = sets::set_of(pair.output);
-        let mut at = 2 + part::index(part[0]);
+        let mut at = 2 + index(part[0]);
         let mut left = part[1];
         while left > 0 {
             if part::takes_from(part, at, state, input, output) {
@@ -201,8 +210,8 @@ impl Position {
         requires { ⌜ shaped (now part) ≡ true ⌝ }
         ensures { λ r. ⌜ ended r ≡ endingOf (machineOf (now (part .entry))) (self .state) ⌝ }
     {
-        let state = part::index(self.state);
-        if part::index(part[0]) <= state {
+        let state = index(self.state);
+        if index(part[0]) <= state {
             return Ending::NotFinal;
         }
         if part[2 + state] == 1 {

@@ -7,20 +7,14 @@ ghost use Rattle.basics.specs.Search.{pairwise};
 ghost use Rattle.basics.specs.Refusals.{refuse};
 ghost use Rattle.machine.specs.Refusals.{numberOf, stageNumber};
 ghost use Rattle.machine.specs.Machine.{takes, takesFrom};
-ghost use Rattle.machine.specs.Part.{stateCount, halfAt, wordAt, arcAt, arcsOf, shaped, soundStates, soundArcs, noClash};
-ghost use Rattle.machine.specs.Clashes.{pairsWith, apartFrom, PairsNoted, LeavesStates};
+ghost use Rattle.machine.specs.Part.{stateCount, fourBytesAt, eightBytesAt, arcAt, arcsOf, shaped, soundStates, soundArcs, noClash};
+ghost use Rattle.machine.specs.Clashes.{pairsWith, clashFreeFrom, PairsNoted, LeavesStates};
 use crate::Arc;
 use crate::Pair;
 use crate::Refusal;
 use crate::Stage;
 use crate::sets;
-
-// A byte as a number to index with.
-pub fn index(x: u8) -> usize
-    ensures { λ r. ⌜ (r ≡ x) × (r < 256) ⌝ }
-{
-    x as usize
-}
+use basics::index;
 
 fn wide(x: u8) -> u64
     ensures { λ r. ⌜ (r ≡ x) × (r < 256) ⌝ }
@@ -29,20 +23,20 @@ fn wide(x: u8) -> u64
 }
 
 // The number of four bytes from a place, little-endian.
-fn half(part: &[u8], at: usize) -> u64
+fn four_bytes(part: &[u8], at: usize) -> u64
     requires { ⌜ at + 4 ≤ length (now part) ⌝ }
-    ensures { λ r. ⌜ (r ≡ halfAt (now (part .entry)) at) × (r < 2 ^ 32) ⌝ }
+    ensures { λ r. ⌜ (r ≡ fourBytesAt (now (part .entry)) at) × (r < 2 ^ 32) ⌝ }
 {
     wide(part[at])
         + 256 * (wide(part[at + 1]) + 256 * (wide(part[at + 2]) + 256 * wide(part[at + 3])))
 }
 
 // The number of eight bytes from a place, little-endian.
-fn word(part: &[u8], at: usize) -> u64
+fn eight_bytes(part: &[u8], at: usize) -> u64
     requires { ⌜ at + 8 ≤ length (now part) ⌝ }
-    ensures { λ r. ⌜ r ≡ wordAt (now (part .entry)) at ⌝ }
+    ensures { λ r. ⌜ r ≡ eightBytesAt (now (part .entry)) at ⌝ }
 {
-    half(part, at) + 4294967296 * half(part, at + 4)
+    four_bytes(part, at) + 4294967296 * four_bytes(part, at + 4)
 }
 
 // The arc whose 20 bytes start at a place.
@@ -55,8 +49,8 @@ pub fn read_arc(part: &[u8], at: usize) -> Arc
         to: part[at + 1],
         marks: part[at + 2],
         reserved: part[at + 3],
-        inputs: word(part, at + 4),
-        outputs: word(part, at + 12),
+        inputs: eight_bytes(part, at + 4),
+        outputs: eight_bytes(part, at + 12),
     }
 }
 
@@ -135,7 +129,7 @@ pub fn check_arcs(part: &[u8], symbols: u8) -> Stage
 fn pairs_with(inputs: u64, output: usize) -> u64
     ensures { λ r. ⌜ r ≡ pairsWith inputs output ⌝ }
 {
-    if output == 0 {
+    if output == index(Pair::EMPTY) {
         return inputs / 2 * 2;
     }
     inputs
@@ -176,7 +170,7 @@ fn note_arc(taken: &mut [u64], part: &[u8], at: usize, from: u8) -> bool
 // Refusal 5, one state: no two arcs of it take one pair. The arcs are gone through from the last to the first.
 fn check_state(part: &[u8], states: usize, from: u8) -> Stage
     requires { ⌜ (shaped (now part) ≡ true) × (states ≡ stateCount (now part)) ⌝ }
-    ensures { λ r. ⌜ stageNumber r ≡ refuse 5 (pairwise (apartFrom from) (arcsOf (now (part .entry)))) ⌝ }
+    ensures { λ r. ⌜ stageNumber r ≡ refuse 5 (pairwise (clashFreeFrom from) (arcsOf (now (part .entry)))) ⌝ }
 {
     let mut taken = [0; 64];
     let mut left = index(part[1]);

@@ -1,33 +1,25 @@
 -- What the call answers, by the checks that the input passes and by the best candidate. Assumes nothing.
-use mathlib.Core.Path.{_≡_, refl, sym, _∙_, ap}
-use mathlib.Core.Bool.{Bool, true}
+use mathlib.Core.Path.{_≡_, refl, _∙_, ap}
+use mathlib.Core.Bool.{true}
 use mathlib.Core.List.{List, [], _∷_, _++_}
-use mathlib.Core.Option.{Option, some, none}
-use Prim.Native.Nat.{ℕ, zero, suc, _+_, _*_, _<_, _≤_}
-use native.Mathlib.Nat.{mul-le-mul}
+use mathlib.Core.Option.{some}
+use Prim.Native.Nat.{ℕ, zero, suc, _<_, _≤_}
 use native.Mathlib.Decide.{decLt}
 use native.Mathlib.Omega.{arith}
 use lib.ListN.{length, getD, take, drop, length-append, length-drop, List·getD-eq-default}
 use lib.Dec.{leb}
-use borrow.Author.Tests.{le-leb, lt-leb}
+use borrow.Author.Tests.{le-leb}
 use Rattle.basics.specs.Search.{allOf}
 use Rattle.basics.specs.Refusals.{unlessRefused}
 use Rattle.basics.proofs.Bools.{both}
 use Rattle.basics.proofs.Search.{all-at}
-use Rattle.card.specs.Layout.{symbolCount}
-use Rattle.card.specs.Card.{cardRefusal, machinesOf}
 use Rattle.candidate.specs.Evaluating.{refused}
-use Rattle.candidate.specs.Best.{Form, nodeCount, best}
-use Rattle.candidate.specs.Optimizing.{soundWord, inputRefusal, countsFit, optimizerRefusal, evaluationOf, filled, optimized, optimizedAnswer}
+use Rattle.product.specs.Best.{Contender, best}
+use Rattle.product.specs.Optimizing.{inputRefusal, countsFit, optimizerRefusal, evaluationOf, filled, optimized, optimizedAnswer}
 use Rattle.paths.specs.Ranked.{Ranked, countAt}
 use Rattle.paths.specs.ByRanking.{ranked}
-use Rattle.labels.specs.declared.Label.{Label}
-use Rattle.labels.specs.LabelCost.{costOf}
-use Rattle.product.specs.Nodes.{product, stateCounts}
-use Rattle.product.specs.Laws.Accepted.{accepted-machines}
 use Rattle.tables.specs.Places.{sixPlaces}
-use Rattle.optimizer.specs.AcceptedInput.{short-word}
-use Rattle.optimizer.specs.Searching.{searchRefusal, labelFits}
+use Rattle.optimizer.specs.Searching.{searchRefusal, costFits}
 
 -- ---- the checks 1 to 9
 
@@ -54,23 +46,7 @@ module _ (card ranking word : List ℕ) (room : ℕ) where
   unfolding optimizedAnswer optimizerRefusal
   searched-answer answer e = rw e
 
--- ---- the checks 10 to 12, by what the best is
-
-module _ {A : Type 0} (o : Option Form) (room : ℕ) (a : A) (f : ℕ → A) where
-  pub no-best : o ≡ none → f 10 ≡ unlessRefused (searchRefusal o room) a f
-  no-best e = rw e
-
-  pub no-room : (b : Form) → o ≡ some b → countsFit o ≡ true → room < 2 * length (b .candidate) → f 12 ≡ unlessRefused (searchRefusal o room) a f
-  no-room b e h k =
-      let q : countsFit (some b) ≡ true = rw e at h in
-      rw (e, q, lt-leb (2 * length (b .candidate)) room k)
-
-  pub best-fits : (b : Form) → o ≡ some b → countsFit o ≡ true → 2 * length (b .candidate) ≤ room → a ≡ unlessRefused (searchRefusal o room) a f
-  best-fits b e h k =
-      let q : countsFit (some b) ≡ true = rw e at h in
-      rw (e, q, le-leb (2 * length (b .candidate)) room k)
-
--- ---- a label of counts that fit
+-- ---- counts that fit
 
 each-fits : (X : List ℕ) → allOf (λ n. leb n 60000) X ≡ true → (i : ℕ) → leb (getD X i 0) 60000 ≡ true
 each-fits X t i = go (decLt i (length X))
@@ -79,8 +55,8 @@ each-fits X t i = go (decLt i (length X))
     go (yes h) = all-at (λ n. leb n 60000) X 0 t i h
     go (no h) = let z = List·getD-eq-default X 0 {n = i} (omega arith) in le-leb (getD X i 0) 60000 (omega arith)
 
-pub label-fits : (label : Label) (ranking : List ℕ) (b : Form) (n : ℕ) → countsFit (some b) ≡ true → costOf label ≡ ranked (sixPlaces ranking) (b .profile) n → labelFits label ≡ true
-label-fits label ranking b n t e =
+pub cost-fits : (cost : Ranked 6) (ranking : List ℕ) (b : Contender) (n : ℕ) → countsFit (some b) ≡ true → cost ≡ ranked (sixPlaces ranking) (b .profile) n → costFits cost ≡ true
+cost-fits cost ranking b n t e =
     let X = b .profile in
     let z : (j : ℕ) → leb (getD X (getD ranking j 6) 0) 60000 ≡ true = λ j. each-fits X t (getD ranking j 6) in
     both (ap (λ (c : Ranked 6). leb (countAt 6 0 c) 60000) e ∙ z 0)
@@ -90,18 +66,7 @@ label-fits label ranking b n t e =
     (both (ap (λ (c : Ranked 6). leb (countAt 6 4 c) 60000) e ∙ z 4)
     (ap (λ (c : Ranked 6). leb (countAt 6 5 c) 60000) e ∙ z 5)))))
 
--- ---- the room for the nodes
-
--- of a word of at most 24 symbols and at most 128 joint states
-pub few-nodes : (n P : ℕ) → n ≤ 24 → P ≤ 128 → (n + 1) * P ≤ 3200
-few-nodes n P h k = let q : n + 1 ≤ 25 = omega arith in mul-le-mul q k
-
-module _ (card word : List ℕ) (ok : cardRefusal card ≡ 0) (P : ℕ) (e : P ≡ product (stateCounts (machinesOf card))) where
-  pub node-room : (length word + 1) * P * 8 ≡ 8 * nodeCount card word
-  node-room = let q : (length word + 1) * P ≡ nodeCount card word = ap (λ (p : ℕ). (length word + 1) * p) (e ∙ accepted-machines card ok .states) in omega arith
-
-  pub nodes-few : soundWord (symbolCount card) word ≡ true → (length word + 1) * P ≤ 3200
-  nodes-few t = few-nodes (length word) P (short-word (symbolCount card) word t) (omega (arith, accepted-machines card ok .states, accepted-machines card ok .few-states))
+-- ---- the work slice
 
 -- the front of a slice that has so many numbers
 pub front-room : (n : ℕ) (l : List ℕ) → n ≤ length l → length (take n l) ≡ n

@@ -6,9 +6,10 @@ use native.Mathlib.Decide.{decLt, ℕ-discrete}
 use native.Mathlib.Omega.{arith}
 use lib.ListN.{length, getD, set, replicate, length-set, length-append, length-replicate, getD-replicate, List·getD-append, List·getD-eq-default}
 use lib.Seq.{ext-getD, getD-append-add, getD-set-same, getD-set-other}
+use Rattle.ranking.specs.Profiles.{zeroProfile}
 use Rattle.ranking.specs.Lemmas.Rankings.{Ranking, ranking-facts, place-of, place-unique}
 use Rattle.paths.specs.Ranked.{countAt}
-use Rattle.paths.specs.ByRanking.{ranked, ranked-count}
+use Rattle.paths.specs.ByRanking.{ranked-count}
 use Rattle.labels.specs.declared.Label.{Label}
 use Rattle.labels.specs.LabelCost.{costOf}
 use Rattle.tables.specs.Places.{sixPlaces}
@@ -32,8 +33,8 @@ zeros n i = go (decLt i n)
     go (yes h) = getD-replicate n i 0 0 h
     go (no h) = List·getD-eq-default (replicate n 0) 0 (rw length-replicate (omega arith))
 
-pub placed-start : (ranking ranks : List ℕ) → Placed ranking ranks 0 (replicate 6 0)
-placed-start ranking ranks = record { size = refl; placed = λ j h. absurd (omega arith); unused = λ i _. zeros 6 i }
+pub placed-start : (ranking ranks counts : List ℕ) → counts ≡ zeroProfile .counts → Placed ranking ranks 0 counts
+placed-start ranking ranks counts e = record { size = ap length e; placed = λ j h. absurd (omega arith); unused = λ i _. ap (λ (l : List ℕ). getD l i 0) e ∙ zeros 6 i }
 
 module _ (ranking : List ℕ) (some : RankingOfSome ranking) where
   facts : Ranking (length ranking) ranking

@@ -1,147 +1,170 @@
--- The search, stage by stage: what the labels say, and what is answered. Assumes nothing.
-use mathlib.Core.Path.{_≡_, sym, _∙_, ap}
-use mathlib.Core.Bool.{true, false}
-use mathlib.Core.List.{List, _++_}
-use mathlib.Core.Option.{some, none}
-use Prim.Native.Nat.{ℕ, _+_, _*_, _/_, _<_, _≤_}
-use native.Mathlib.Nat.{mul-le-mul}
+-- The search: what the labels say, and what is answered. Assumes nothing.
+use mathlib.Core.Path.{_≡_, refl, sym, _∙_, ap}
+use mathlib.Core.Bool.{Bool, true}
+use mathlib.Core.List.{List, [], _∷_, _++_}
+use mathlib.Core.Option.{Option, some, none}
+use Prim.Native.Nat.{ℕ, _+_, _*_, _<_, _≤_}
 use native.Mathlib.Omega.{arith}
+use lib.Dec.{leb}
 use lib.ListN.{length, drop}
-use Rattle.basics.proofs.Bools.{clash}
+use Rattle.basics.specs.Refusals.{refuse, firstOf, unlessRefused}
+use Rattle.basics.proofs.Refusals.{accepted as taken, not-accepted}
 use Rattle.machine.specs.declared.Pair.{Pair}
 use Rattle.ranking.specs.declared.Profile.{Profile}
 use Rattle.ranking.specs.Lemmas.Rankings.{ranking-facts}
-use Rattle.card.specs.Layout.{machineCount, symbolCount}
+use Rattle.card.specs.Layout.{machineCount}
 use Rattle.card.specs.Card.{machinesOf}
 use Rattle.card.specs.Accepted.{accepted}
 use Rattle.candidate.specs.declared.Evaluation.{Evaluation}
 use Rattle.candidate.specs.Candidates.{bytesOf}
 use Rattle.candidate.specs.Evaluating.{refused}
-use Rattle.candidate.specs.Best.{best}
-use Rattle.candidate.specs.Optimizing.{countsFit, evaluationOf, filled}
-use Rattle.paths.specs.Ranked.{letterCount}
+use Rattle.product.specs.Best.{Contender}
+use Rattle.product.specs.Sets.{bestOfSets}
+use Rattle.product.specs.Optimizing.{countsFit, evaluationOf, filled}
+use Rattle.paths.specs.Ranked.{Ranked, letterCount}
 use Rattle.paths.specs.ByRanking.{ranked, ranked-letters}
 use Rattle.paths.specs.Labels.{Closed, Attained}
 use Rattle.labels.specs.declared.Label.{Label}
 use Rattle.labels.specs.LabelCost.{costOf}
 use Rattle.labels.specs.Work.{HasNode, labelOf, costAt}
-use Rattle.product.specs.BestTheorem.{counts-always-fit}
+use Rattle.labels.proofs.Work.{holds}
+use Rattle.product.specs.ProductGraph.{cardStart}
+use Rattle.product.specs.Prices.{ranking-agrees}
+use Rattle.product.specs.SetsTheorem.{best-of-sets-is-small, counts-of-sets-fit}
 use Rattle.product.specs.Laws.Accepted.{accepted-machines}
 use Rattle.product.specs.Laws.BestCandidate.{profile-length}
+use Rattle.product.specs.Laws.CardGraph.{start-within}
+use Rattle.tables.specs.Engine.{engineGraph}
 use Rattle.tables.specs.Places.{sixPlaces}
-use Rattle.tables.specs.Laws.Edges.{sixGraph}
-use Rattle.positions.specs.Labelling.{LabelPre, PositionsDone}
-use Rattle.walk.specs.Walked.{WalkPre, Walked}
-use Rattle.optimizer.specs.Searching.{SearchPre, Searched, labelFits, RankingOfSome, CardOrder}
-use Rattle.optimizer.specs.AcceptedInput.{short-word}
+use Rattle.positions.specs.Labelling.{PositionsDone}
+use Rattle.walk.specs.Walked.{StartsAt, WalkPre, Walked}
+use Rattle.optimizer.specs.Searching.{searchRefusal, labelRefusal, SetsPre, Searched, RankingOfSome, CardOrder}
 use Rattle.optimizer.proofs.Found.{FoundAt, not-found, found, path-found}
-use Rattle.optimizer.proofs.Answers.{no-best, no-room, best-fits, label-fits}
+use Rattle.optimizer.proofs.Answers.{cost-fits}
+use Rattle.optimizer.proofs.Labels.{starts-at}
 
-module _ {card ranking word work : List ℕ} {size : ℕ} (pre : SearchPre card ranking word work size) where
-  pub label-pre : LabelPre card ranking word work size
-  label-pre = record { setting = record { accepted = pre .accepted; ranks = pre .ranks; sound = pre .sound; size = pre .states }; room = pre .room }
-
-  some-state : 1 ≤ size
-  some-state = omega (arith, pre .states, accepted-machines card (pre .accepted) .states, accepted card (pre .accepted) .some-state)
-
+module _ {card ranking sets work : List ℕ} {size : ℕ} (pre : SetsPre card ranking sets work size) where
   pub some-ranking : RankingOfSome ranking
   some-ranking =
       let p = ranking-facts (machineCount card) ranking (pre .ranks) .places in
-      record { few = omega (arith, p, accepted card (pre .accepted) .head); ranks = rw p (pre .ranks) }
+      record { few = omega (arith, p, accepted card (pre .setting .accepted) .head); ranks = rw p (pre .ranks) }
 
-  fitting : countsFit (best card ranking word) ≡ true
-  fitting = counts-always-fit card ranking word (pre .accepted) (short-word (symbolCount card) word (pre .sound))
+  fitting : countsFit (bestOfSets card ranking sets) ≡ true
+  fitting = counts-of-sets-fit card ranking sets (pre .setting .accepted) (pre .setting .few)
 
-  module _ {after : List ℕ} (done : PositionsDone card ranking word work after 0) where
-    closed : Closed (sixGraph ranking word (machinesOf card)) (labelOf after)
+  module _ {after : List ℕ} (done : PositionsDone card ranking sets work after 0) where
+    closed : Closed (engineGraph card ranking sets) (labelOf after)
     closed u = done .done .closed u (omega arith)
 
-    attained : Attained (sixGraph ranking word (machinesOf card)) (labelOf after)
+    attained : Attained (engineGraph card ranking sets) (labelOf after)
     attained = done .done .attained
 
-    pub start-there : HasNode after 0
-    start-there =
-        let a : 1 ≤ length word + 1 = omega arith in
-        let b : 1 * 1 ≤ (length word + 1) * size = mul-le-mul a some-state in
-        omega (arith, done .size, pre .room)
+    pub start-there : HasNode after (cardStart card)
+    start-there = omega (arith, done .size, pre .room, ap (λ (n : ℕ). (length sets + 1) * n) (pre .setting .states), start-within card sets (pre .setting .accepted))
 
-    -- no label at the start
-    pub none-answered : (answer : List ℕ) (r : Evaluation) → labelOf after 0 ≡ none → r ≡ refused 10 → Searched card ranking word work after answer answer r
-    none-answered answer r l q =
-        let e = not-found card ranking word (pre .accepted) (pre .ranks) (labelOf after) closed l in
-        record {
-          result = q ∙ no-best (best card ranking word) (length answer) (evaluationOf (best card ranking word) word) refused e;
-          answer-slice = no-best (best card ranking word) (length answer) (filled (best card ranking word) answer) (λ n. answer) e;
-          work-length = done .size;
-        }
+    -- the checks by the label of the start are those by the best candidate
+    by-label : (room : ℕ) → labelRefusal (labelOf after (cardStart card)) room ≡ searchRefusal (bestOfSets card ranking sets) room
+    by-label room = go (labelOf after (cardStart card)) refl
+      where
+        go : (o : Option (Ranked 6)) → labelOf after (cardStart card) ≡ o → labelRefusal o room ≡ searchRefusal (bestOfSets card ranking sets) room
+        go none l = sym (ap (λ (b : Option Contender). searchRefusal b room) (not-found card ranking sets (pre .setting .accepted) (pre .ranks) (pre .bits) (labelOf after) closed l))
+        go (some x) l =
+            ap (λ (t : Bool). firstOf (refuse 11 t ∷ refuse 12 (leb (2 * letterCount 6 x) room) ∷ [])) (cost-fits x ranking (f .form) (length (f .form .candidate)) fits-itself (f .cost))
+            ∙ ap (λ (n : ℕ). firstOf (refuse 12 (leb (2 * n) room) ∷ [])) its-pairs
+            ∙ sym (ap (λ (t : Bool). firstOf (refuse 11 t ∷ refuse 12 (leb (2 * length (f .form .candidate)) room) ∷ [])) fits-itself)
+            ∙ sym (ap (λ (b : Option Contender). searchRefusal b room) (f .is))
+          where
+            f : FoundAt card ranking sets x
+            f = found card ranking sets (pre .setting .accepted) (pre .ranks) (pre .bits) (labelOf after) closed attained x l
 
-    module _ (label : Label) (l : labelOf after 0 ≡ some (costAt after 0)) (at : costOf label ≡ costAt after 0) where
-      the-best : FoundAt card ranking word (costAt after 0)
-      the-best = found card ranking word (pre .accepted) (pre .ranks) (labelOf after) closed attained (costAt after 0) l
+            fits-itself : countsFit (some (f .form)) ≡ true
+            fits-itself = rw (f .is) at fitting
 
-      cost : costOf label ≡ ranked (sixPlaces ranking) (the-best .form .profile) (length (the-best .form .candidate))
-      cost = at ∙ the-best .cost
+            its-pairs : letterCount 6 x ≡ length (f .form .candidate)
+            its-pairs = ap (letterCount 6) (f .cost) ∙ ranked-letters (sixPlaces ranking) (f .form .profile) (length (f .form .candidate))
 
-      its-pairs : label .pairs ≡ length (the-best .form .candidate)
-      its-pairs = ap (letterCount 6) cost ∙ ranked-letters (sixPlaces ranking) (the-best .form .profile) (length (the-best .form .candidate))
+    -- and the start is where it was found
+    pub at-start : {n : ℕ} (room u : ℕ) → u ≡ cardStart card → n ≡ labelRefusal (labelOf after u) room → n ≡ labelRefusal (labelOf after (cardStart card)) room
+    at-start room u q e = e ∙ ap (λ (v : ℕ). labelRefusal (labelOf after v) room) q
 
-      fits-itself : countsFit (some (the-best .form)) ≡ true
-      fits-itself = rw (the-best .is) at fitting
+    pub loaded-at : {x : Ranked 6} (u : ℕ) → u ≡ cardStart card → x ≡ costAt after u → x ≡ costAt after (cardStart card)
+    loaded-at u q e = e ∙ ap (costAt after) q
 
-      -- no count is too large
-      pub not-large : labelFits label ≡ false → ⊥
-      not-large f = clash (label-fits label ranking (the-best .form) (length (the-best .form .candidate)) fits-itself cost) f
+    -- a refusal
+    pub refused-answered : (answer : List ℕ) (n : ℕ) (r : Evaluation) → n ≡ labelRefusal (labelOf after (cardStart card)) (length answer) → 0 < n → r ≡ refused n → Searched (bestOfSets card ranking sets) sets work after answer answer r
+    refused-answered answer n r e h q = record {
+      result = q ∙ refused-by (evaluationOf (bestOfSets card ranking sets) sets) refused;
+      answer-slice = refused-by (filled (bestOfSets card ranking sets) answer) (λ n. answer);
+      work-length = done .size;
+    }
+      where
+        refused-by : {A : Type 0} (a : A) (f : ℕ → A) → f n ≡ unlessRefused (searchRefusal (bestOfSets card ranking sets) (length answer)) a f
+        refused-by a f = sym (not-accepted n a f h) ∙ ap (λ (m : ℕ). unlessRefused m a f) (e ∙ by-label (length answer))
 
-      -- no room
-      pub room-answered : (answer : List ℕ) (r : Evaluation) → length answer / 2 < label .pairs → r ≡ refused 12 → Searched card ranking word work after answer answer r
-      room-answered answer r h q =
-          let k : length answer < 2 * length (the-best .form .candidate) = omega (arith, its-pairs) in
-          record {
-            result = q ∙ no-room (best card ranking word) (length answer) (evaluationOf (best card ranking word) word) refused (the-best .form) (the-best .is) fitting k;
-            answer-slice = no-room (best card ranking word) (length answer) (filled (best card ranking word) answer) (λ n. answer) (the-best .form) (the-best .is) fitting k;
-            work-length = done .size;
-          }
+    -- none
+    module _ (room : ℕ) (passes : labelRefusal (labelOf after (cardStart card)) room ≡ 0) where
+      start : StartsAt card after room
+      start = starts-at card after room passes
+
+      the-best : FoundAt card ranking sets (start .cost)
+      the-best = found card ranking sets (pre .setting .accepted) (pre .ranks) (pre .bits) (labelOf after) closed attained (start .cost) (start .label-is)
 
       -- what the walk needs
-      pub walk-pre : (room : ℕ) → (room / 2 < label .pairs → ⊥) → WalkPre ranking card word after size room
-      walk-pre room h = record {
+      pub walk-pre : WalkPre ranking card sets after size room
+      walk-pre = record {
         labels = record {
-          accepted = pre .accepted;
-          sound-word = pre .sound;
-          states = pre .states;
+          setting = pre .setting;
           room = omega (arith, done .size, pre .room);
           closed = closed;
           attained = attained;
         };
         is-ranking = pre .ranks;
-        start = record { cost = costAt after 0; label-is = l; fits = let q : label .pairs ≡ letterCount 6 (costAt after 0) = ap (letterCount 6) at in omega arith };
+        start = start;
       }
 
-      -- the best
-      pub best-answered : {answer answerAfter : List ℕ} {n : ℕ} (profile : Profile) → (length answer / 2 < label .pairs → ⊥) → CardOrder ranking (costOf label) profile → Walked ranking card word after answer answerAfter n
-          → Searched card ranking word work after answer answerAfter (record { number = 0; profile = profile; pairs = label .pairs; «word_length» = length word })
-      best-answered {answer = answer} {answerAfter = answerAfter} profile h order w = record {
-        result = evaluated ∙ best-fits (best card ranking word) (length answer) (evaluationOf (best card ranking word) word) refused (the-best .form) (the-best .is) fitting k;
-        answer-slice = written ∙ best-fits (best card ranking word) (length answer) (filled (best card ranking word) answer) (λ n. answer) (the-best .form) (the-best .is) fitting k;
-        work-length = done .size;
-      }
-        where
-          k : 2 * length (the-best .form .candidate) ≤ length answer
-          k = omega (arith, its-pairs)
+      -- the walk's pairs are the best candidate's
+      walked-best : {answer answerAfter : List ℕ} {n : ℕ} (w : Walked ranking card sets after answer answerAfter n) → w .best ≡ the-best .form .candidate
+      walked-best w = path-found card ranking sets (pre .setting .accepted) (pre .ranks) (pre .bits) the-best (w .best) (w .is-best)
 
-          lengths : length (the-best .form .profile) ≡ length ranking
-          lengths =
-              ap length (the-best .profile) ∙ profile-length (machinesOf card) (the-best .form .candidate) ∙ accepted-machines card (pre .accepted) .count
-              ∙ sym (ranking-facts (machineCount card) ranking (pre .ranks) .places)
+      walked-pairs : {answer answerAfter : List ℕ} {n : ℕ} → Walked ranking card sets after answer answerAfter n → n ≡ length (the-best .form .candidate)
+      walked-pairs w = w .count ∙ ap length (walked-best w)
 
-          evaluated : _≡_ {A = Evaluation} (record { number = 0; profile = profile; pairs = label .pairs; «word_length» = length word }) (evaluationOf (best card ranking word) word)
-          evaluated =
-              let p = order (the-best .form .profile) (length (the-best .form .candidate)) lengths cost in
-              let q : _≡_ {A = Evaluation} (record { number = 0; profile = profile; pairs = label .pairs; «word_length» = length word }) (evaluationOf (some (the-best .form)) word)
-              = λ i. record { number = 0; profile = p i; pairs = its-pairs i; «word_length» = length word } in
-              q ∙ ap (λ o. evaluationOf o word) (sym (the-best .is))
+      -- which are few
+      pub walked-few : {answer answerAfter : List ℕ} {n : ℕ} → Walked ranking card sets after answer answerAfter n → n ≤ 3199
+      unfolding bestOfSets
+      walked-few w = omega (arith, walked-pairs w, best-of-sets-is-small (ranking-agrees ranking) card sets (pre .setting .accepted) (pre .setting .few) (the-best .form) (the-best .is) .pairs)
 
-          written : answerAfter ≡ filled (best card ranking word) answer
-          written =
-              let c = path-found card ranking word (pre .accepted) (pre .ranks) the-best (w .best) (w .is-best) in
-              w .written ∙ ap (λ (d : List Pair). bytesOf d ++ drop (2 * length d) answer) c ∙ ap (λ o. filled o answer) (sym (the-best .is))
+    -- the best
+    pub best-answered : {answer answerAfter : List ℕ} {n : ℕ} (label : Label) (profile : Profile) → labelRefusal (labelOf after (cardStart card)) (length answer) ≡ 0 → costOf label ≡ costAt after (cardStart card)
+        → CardOrder ranking (costOf label) profile → Walked ranking card sets after answer answerAfter n
+        → Searched (bestOfSets card ranking sets) sets work after answer answerAfter (record { number = 0; profile = profile; pairs = n; «word_length» = length sets })
+    best-answered {answer = answer} {answerAfter = answerAfter} {n = n} label profile passes at order w = record {
+      result = evaluated ∙ sym (taken (evaluationOf (bestOfSets card ranking sets) sets) refused unrefused);
+      answer-slice = written ∙ sym (taken (filled (bestOfSets card ranking sets) answer) (λ n. answer) unrefused);
+      work-length = done .size;
+    }
+      where
+        b : FoundAt card ranking sets (start (length answer) passes .cost)
+        b = the-best (length answer) passes
+
+        unrefused : searchRefusal (bestOfSets card ranking sets) (length answer) ≡ 0
+        unrefused = sym (by-label (length answer)) ∙ passes
+
+        cost : costOf label ≡ ranked (sixPlaces ranking) (b .form .profile) (length (b .form .candidate))
+        cost = at ∙ holds after (cardStart card) (start (length answer) passes .cost) (start (length answer) passes .label-is) .cost ∙ b .cost
+
+        lengths : length (b .form .profile) ≡ length ranking
+        lengths =
+            ap length (b .profile) ∙ profile-length (machinesOf card) (b .form .candidate) ∙ accepted-machines card (pre .setting .accepted) .count
+            ∙ sym (ranking-facts (machineCount card) ranking (pre .ranks) .places)
+
+        evaluated : _≡_ {A = Evaluation} (record { number = 0; profile = profile; pairs = n; «word_length» = length sets }) (evaluationOf (bestOfSets card ranking sets) sets)
+        evaluated =
+            let p = order (b .form .profile) (length (b .form .candidate)) lengths cost in
+            let m = walked-pairs (length answer) passes w in
+            let q : _≡_ {A = Evaluation} (record { number = 0; profile = profile; pairs = n; «word_length» = length sets }) (evaluationOf (some (b .form)) sets)
+            = λ i. record { number = 0; profile = p i; pairs = m i; «word_length» = length sets } in
+            q ∙ ap (λ o. evaluationOf o sets) (sym (b .is))
+
+        written : answerAfter ≡ filled (bestOfSets card ranking sets) answer
+        written = w .written ∙ ap (λ (d : List Pair). bytesOf d ++ drop (2 * length d) answer) (walked-best (length answer) passes w) ∙ ap (λ o. filled o answer) (sym (b .is))

@@ -1,14 +1,16 @@
 -- Demand 3, of what the optimizer's call answers: for every card, ranking, word and work slice that the checks 1 to 9 accept, and every answer slice.
-use mathlib.Core.Path.{_≡_, refl, sym, _∙_, ap}
-use mathlib.Core.Logic.{_↔_, _≢_}
+use mathlib.Core.Path.{_≡_, refl, sym, _∙_, ap, subst₂}
+use mathlib.Core.Logic.{_⊎_, inl, inr, _↔_, _≢_}
 use mathlib.Core.Bool.{true, false}
 use mathlib.Core.List.{List, _++_}
 use mathlib.Core.Option.{Option, some, none}
 use Prim.Native.Nat.{ℕ, _*_, _<_, _≤_}
 use native.Mathlib.Decide.{decLt}
 use native.Mathlib.Omega.{arith}
+use lib.Dec.{leb}
 use lib.ListN.{length, drop}
 use borrow.Author.Tests.{le-leb, lt-leb}
+use Rattle.basics.specs.Search.{allOf}
 use Rattle.basics.proofs.Bools.{clash}
 use Rattle.machine.specs.declared.Pair.{Pair}
 use Rattle.card.specs.Layout.{symbolCount}
@@ -16,41 +18,46 @@ use Rattle.card.specs.Card.{machinesOf}
 use Rattle.candidate.specs.declared.Evaluation.{Evaluation}
 use Rattle.candidate.specs.Candidates.{bytesOf, profileOf, IsCandidate}
 use Rattle.candidate.specs.Evaluating.{profileWith}
-use Rattle.candidate.specs.Best.{Form, best}
-use Rattle.candidate.specs.Optimizing.{inputRefusal, countsFit, optimizerRefusal, evaluationOf, filled, optimized, optimizedAnswer}
+use Rattle.product.specs.Best.{Contender, best}
+use Rattle.product.specs.Optimizing.{inputRefusal, countsFit, optimizerRefusal, evaluationOf, filled, optimized, optimizedAnswer}
 use Rattle.product.specs.BestCandidate.{IsBestCandidate}
 use Rattle.product.specs.BestTheorem.{BestOfAll, best-is-best-of-all, counts-always-fit}
-use Rattle.optimizer.specs.AcceptedInput.{AcceptedInput, accepted-input, short-word}
+use Rattle.input.specs.AcceptedInput.{AcceptedInput, accepted-input, short-word}
+use Rattle.optimizer.specs.Optimizes.{Optimizes}
 
 -- the best candidate and where it stands: it is a candidate for the word, beats every other one, however long, and the answer has it
-pub record AnswersBest (card ranking word answer : List ℕ) (room : ℕ) (c : List Pair) : Type 0 where
+pub record AnswersBest (card ranking word answer after : List ℕ) (r : Evaluation) (c : List Pair) : Type 0 where
   pub is-best : IsBestCandidate ranking (machinesOf card) word c
   pub fits : 2 * length c ≤ length answer
-  pub bytes : optimizedAnswer card ranking word room answer ≡ bytesOf c ++ drop (2 * length c) answer
-  pub profile : optimized card ranking word room (length answer) .profile ≡ profileWith (profileOf (machinesOf card) c)
-  pub pairs : optimized card ranking word room (length answer) .pairs ≡ length c
-  pub word-length : optimized card ranking word room (length answer) .«word_length» ≡ length word
+  pub bytes : after ≡ bytesOf c ++ drop (2 * length c) answer
+  pub profile : r .profile ≡ profileWith (profileOf (machinesOf card) c)
+  pub pairs : r .pairs ≡ length c
+  pub word-length : r .«word_length» ≡ length word
 
-pub record Demand3 (card ranking word answer : List ℕ) (room : ℕ) : Type 0 where
+pub record Demand3 (card ranking word answer after : List ℕ) (r : Evaluation) : Type 0 where
+  -- the number is 0, 10, 11 or 12
+  pub numbers : (r .number ≡ 0) ⊎ ((r .number ≡ 10) ⊎ ((r .number ≡ 11) ⊎ (r .number ≡ 12)))
   -- none exactly when no list of pairs, however long, is a candidate for the word
-  pub none-exactly : (optimized card ranking word room (length answer) .number ≡ 10) ↔ ((c : List Pair) → ¬ (IsCandidate (machinesOf card) word c))
+  pub none-exactly : (r .number ≡ 10) ↔ ((c : List Pair) → ¬ (IsCandidate (machinesOf card) word c))
+  -- otherwise there is a best one
+  pub otherwise-best : (c : List Pair) → IsCandidate (machinesOf card) word c → (b : List Pair) × IsBestCandidate ranking (machinesOf card) word b
   -- 11 exactly when the best candidate has a count over 60,000, which none has
-  pub counts-exactly : (optimized card ranking word room (length answer) .number ≡ 11) ↔ (countsFit (best card ranking word) ≡ false)
-  pub never-counts : optimized card ranking word room (length answer) .number ≢ 11
+  pub counts-exactly : (r .number ≡ 11) ↔ ((c : List Pair) × IsBestCandidate ranking (machinesOf card) word c × (allOf (λ n. leb n 60000) (profileOf (machinesOf card) c) ≡ false))
+  pub never-counts : r .number ≢ 11
   -- 12 exactly when there is a best candidate and its bytes are more than the answer slice has
-  pub room-exactly : (optimized card ranking word room (length answer) .number ≡ 12) ↔ ((c : List Pair) × IsBestCandidate ranking (machinesOf card) word c × (length answer < 2 * length c))
+  pub room-exactly : (r .number ≡ 12) ↔ ((c : List Pair) × IsBestCandidate ranking (machinesOf card) word c × (length answer < 2 * length c))
   -- 0 exactly when there is a best candidate whose bytes the answer slice has room for
-  pub best-exactly : (optimized card ranking word room (length answer) .number ≡ 0) ↔ ((c : List Pair) × IsBestCandidate ranking (machinesOf card) word c × (2 * length c ≤ length answer))
+  pub best-exactly : (r .number ≡ 0) ↔ ((c : List Pair) × IsBestCandidate ranking (machinesOf card) word c × (2 * length c ≤ length answer))
   -- and then it is answered
-  pub answered : optimized card ranking word room (length answer) .number ≡ 0 → (c : List Pair) × AnswersBest card ranking word answer room c
+  pub answered : r .number ≡ 0 → (c : List Pair) × AnswersBest card ranking word answer after r c
   -- otherwise the answer slice keeps its bytes
-  pub untouched : optimized card ranking word room (length answer) .number ≢ 0 → optimizedAnswer card ranking word room answer ≡ answer
+  pub untouched : r .number ≢ 0 → after ≡ answer
 
 -- what the call answers, by what the best is
 data Outcome (card ranking word answer : List ℕ) (room : ℕ) : Type 0 where
   nothing : best card ranking word ≡ none → optimized card ranking word room (length answer) .number ≡ 10 → optimizedAnswer card ranking word room answer ≡ answer → Outcome card ranking word answer room
-  no-room : (b : Form) → best card ranking word ≡ some b → length answer < 2 * length (b .candidate) → optimized card ranking word room (length answer) .number ≡ 12 → optimizedAnswer card ranking word room answer ≡ answer → Outcome card ranking word answer room
-  found : (b : Form) → best card ranking word ≡ some b → 2 * length (b .candidate) ≤ length answer → optimized card ranking word room (length answer) ≡ evaluationOf (some b) word → optimizedAnswer card ranking word room answer ≡ filled (some b) answer → Outcome card ranking word answer room
+  no-room : (b : Contender) → best card ranking word ≡ some b → length answer < 2 * length (b .candidate) → optimized card ranking word room (length answer) .number ≡ 12 → optimizedAnswer card ranking word room answer ≡ answer → Outcome card ranking word answer room
+  found : (b : Contender) → best card ranking word ≡ some b → 2 * length (b .candidate) ≤ length answer → optimized card ranking word room (length answer) ≡ evaluationOf (some b) word → optimizedAnswer card ranking word room answer ≡ filled (some b) answer → Outcome card ranking word answer room
 
 module _ (card ranking word answer : List ℕ) (room : ℕ) (ok : inputRefusal card ranking word room ≡ 0) where
   accepts : AcceptedInput card ranking word room
@@ -60,7 +67,7 @@ module _ (card ranking word answer : List ℕ) (room : ℕ) (ok : inputRefusal c
   unfolding optimized optimizedAnswer optimizerRefusal
   outcome = go (best card ranking word) refl (rw (counts-always-fit card ranking word (accepts .accepted) (short-word (symbolCount card) word (accepts .sound))))
     where
-      go : (o : Option Form) → best card ranking word ≡ o → countsFit (best card ranking word) ≡ true → Outcome card ranking word answer room
+      go : (o : Option Contender) → best card ranking word ≡ o → countsFit (best card ranking word) ≡ true → Outcome card ranking word answer room
       go none e f = nothing e (rw (ok, e)) (rw (ok, e))
       go (some b) e f = fits (decLt (length answer) (2 * length (b .candidate)))
         where
@@ -75,26 +82,32 @@ module _ (card ranking word answer : List ℕ) (room : ℕ) (ok : inputRefusal c
   all = best-is-best-of-all card ranking word (accepts .accepted) (accepts .ranks)
 
   -- the pairs of a best candidate are those of the definition's
-  same-pairs : (b : Form) → best card ranking word ≡ some b → (c : List Pair) → IsBestCandidate ranking (machinesOf card) word c → length c ≡ length (b .candidate)
-  same-pairs b e c k = let q : b ≡ record { candidate = c; profile = profileOf (machinesOf card) c } = cc (e, all .only-it c k) in ap (λ (f : Form). length (f .candidate)) (sym q)
+  same-pairs : (b : Contender) → best card ranking word ≡ some b → (c : List Pair) → IsBestCandidate ranking (machinesOf card) word c → length c ≡ length (b .candidate)
+  same-pairs b e c k = let q : b ≡ record { candidate = c; profile = profileOf (machinesOf card) c } = cc (e, all .only-it c k) in ap (λ (f : Contender). length (f .candidate)) (sym q)
 
   no-best : best card ranking word ≡ none → (c : List Pair) → IsBestCandidate ranking (machinesOf card) word c → ⊥
   no-best e c k = all .none-exactly .0 e c (k .candidate)
 
-  some-candidate : (b : Form) → best card ranking word ≡ some b → ((c : List Pair) → ¬ (IsCandidate (machinesOf card) word c)) → ⊥
+  some-candidate : (b : Contender) → best card ranking word ≡ some b → ((c : List Pair) → ¬ (IsCandidate (machinesOf card) word c)) → ⊥
   some-candidate b e f = f (b .candidate) (all .is-best b e .candidate)
 
   fitting : countsFit (best card ranking word) ≡ true
   fitting = counts-always-fit card ranking word (accepts .accepted) (short-word (symbolCount card) word (accepts .sound))
 
-  -- the theorem
-  pub demand-3 : Demand3 card ranking word answer room
-  demand-3 = go outcome
+  -- no best candidate has a count over 60,000
+  best-fits : (c : List Pair) → IsBestCandidate ranking (machinesOf card) word c → allOf (λ n. leb n 60000) (profileOf (machinesOf card) c) ≡ true
+  best-fits c k = rw (all .only-it c k) at fitting
+
+  -- of what the definitions give
+  demanded : Demand3 card ranking word answer (optimizedAnswer card ranking word room answer) (optimized card ranking word room (length answer))
+  demanded = go outcome
     where
-      go : Outcome card ranking word answer room → Demand3 card ranking word answer room
+      go : Outcome card ranking word answer room → Demand3 card ranking word answer (optimizedAnswer card ranking word room answer) (optimized card ranking word room (length answer))
       go (nothing e n u) = record {
+        numbers = inr (inl n);
         none-exactly = (λ _. all .none-exactly .0 e, λ _. n);
-        counts-exactly = (λ h. absurd (omega arith), λ f. absurd (clash fitting f));
+        otherwise-best = λ c h. absurd (all .none-exactly .0 e c h);
+        counts-exactly = (λ h. absurd (omega arith), λ t. absurd (clash (best-fits (t .0) (t .1)) (t .2)));
         never-counts = λ h. (omega arith);
         room-exactly = (λ h. absurd (omega arith), λ t. absurd (no-best e (t .0) (t .1)));
         best-exactly = (λ h. absurd (omega arith), λ t. absurd (no-best e (t .0) (t .1)));
@@ -102,8 +115,10 @@ module _ (card ranking word answer : List ℕ) (room : ℕ) (ok : inputRefusal c
         untouched = λ _. u;
       }
       go (no-room b e l n u) = record {
+        numbers = inr (inr (inr n));
         none-exactly = (λ h. absurd (omega arith), λ f. absurd (some-candidate b e f));
-        counts-exactly = (λ h. absurd (omega arith), λ f. absurd (clash fitting f));
+        otherwise-best = λ _ _. (b .candidate, all .is-best b e);
+        counts-exactly = (λ h. absurd (omega arith), λ t. absurd (clash (best-fits (t .0) (t .1)) (t .2)));
         never-counts = λ h. (omega arith);
         room-exactly = (λ _. (b .candidate, all .is-best b e, l), λ _. n);
         best-exactly = (λ h. absurd (omega arith), λ t. absurd (omega (arith, same-pairs b e (t .0) (t .1), t .2)));
@@ -113,8 +128,10 @@ module _ (card ranking word answer : List ℕ) (room : ℕ) (ok : inputRefusal c
       go (found b e l q u) =
           let n : optimized card ranking word room (length answer) .number ≡ 0 = ap (λ (v : Evaluation). v .number) q in
           record {
+            numbers = inl n;
             none-exactly = (λ h. absurd (omega arith), λ f. absurd (some-candidate b e f));
-            counts-exactly = (λ h. absurd (omega arith), λ f. absurd (clash fitting f));
+            otherwise-best = λ _ _. (b .candidate, all .is-best b e);
+            counts-exactly = (λ h. absurd (omega arith), λ t. absurd (clash (best-fits (t .0) (t .1)) (t .2)));
             never-counts = λ h. (omega arith);
             room-exactly = (λ h. absurd (omega arith), λ t. absurd (omega (arith, same-pairs b e (t .0) (t .1), t .2)));
             best-exactly = (λ _. (b .candidate, all .is-best b e, l), λ _. n);
@@ -131,3 +148,8 @@ module _ (card ranking word answer : List ℕ) (room : ℕ) (ok : inputRefusal c
             );
             untouched = λ h. absurd (h n);
           }
+
+-- the theorem, of what the call answers
+module _ {card ranking word work workAfter answer answerAfter : List ℕ} {r : Evaluation} where
+  pub demand-3 : Optimizes card ranking word work workAfter answer answerAfter r → inputRefusal card ranking word (length work) ≡ 0 → Demand3 card ranking word answer answerAfter r
+  demand-3 c ok = subst₂ (λ (a : List ℕ) (v : Evaluation). Demand3 card ranking word answer a v) (sym (c .answer-slice)) (sym (c .result)) (demanded card ranking word answer (length work) ok)

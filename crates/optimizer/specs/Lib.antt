@@ -2,7 +2,5 @@
 pub mod Refusals
 pub mod Optimizes
 pub mod Searching
--- what accepted input promises
-pub mod AcceptedInput
 -- the theorem that joins the call's contract with demand 3
 pub mod Demand3

@@ -5,7 +5,7 @@ use mathlib.Core.List.{List}
 use Prim.Native.Nat.{ℕ}
 use lib.ListN.{length}
 use Rattle.candidate.specs.declared.Evaluation.{Evaluation}
-use Rattle.candidate.specs.Optimizing.{inputRefusal, optimized, optimizedAnswer}
+use Rattle.product.specs.Optimizing.{inputRefusal, optimized, optimizedAnswer}
 
 -- the result and the answer slice at exit are what the definitions give from the input. The work slice keeps its length; where the numbers 1 to 9 are
 -- answered it keeps its contents, and otherwise its contents at exit are left open

@@ -1,18 +1,11 @@
--- The optimizer's refusals by their numbers in the refusal table; those of the card, the ranking and the word are their crates'.
+-- The optimizer's refusals after the search by their numbers in the refusal table; those of the input are `input`'s.
 use Prim.Native.Nat.{ℕ}
-use Rattle.ranking.specs.Refusals as ranking
-use Rattle.card.specs.Refusals as card
-use Rattle.product.specs.Refusals as word
 use Rattle.optimizer.specs.declared.Refusal.{Refusal}
-use Rattle.optimizer.specs.declared.Refusal.the-variants.{Card, Ranking, Word, Work, NoCandidate, Counts, Answer}
+use Rattle.optimizer.specs.declared.Refusal.the-variants.{NoCandidate, Counts, Answer}
 use Rattle.optimizer.specs.declared.Stage.{Stage}
 use Rattle.optimizer.specs.declared.Stage.the-variants.{Passed, Refused}
 
 abbrev pub numberOf : Refusal → ℕ
-numberOf (Card r) = card.numberOf r
-numberOf (Ranking r) = ranking.numberOf r
-numberOf (Word r) = word.numberOf r
-numberOf Work = 9
 numberOf NoCandidate = 10
 numberOf Counts = 11
 numberOf Answer = 12

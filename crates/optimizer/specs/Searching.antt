@@ -2,7 +2,7 @@
 use mathlib.Core.Path.{_≡_}
 use mathlib.Core.Bool.{Bool, true, _&&_}
 use mathlib.Core.List.{List, [], _∷_}
-use mathlib.Core.Option.{Option}
+use mathlib.Core.Option.{Option, some, none}
 use Prim.Native.Nat.{ℕ, _+_, _*_, _≤_}
 use lib.Dec.{leb}
 use lib.ListN.{length}
@@ -14,19 +14,27 @@ use Rattle.card.specs.Card.{cardRefusal, machinesOf}
 use Rattle.candidate.specs.declared.Evaluation.{Evaluation}
 use Rattle.candidate.specs.Candidates.{isSome}
 use Rattle.candidate.specs.Evaluating.{profileWith, refused}
-use Rattle.candidate.specs.Best.{Form, best}
-use Rattle.candidate.specs.Optimizing.{soundWord, countsFit, answerFits, evaluationOf, filled}
-use Rattle.paths.specs.Ranked.{Ranked}
+use Rattle.product.specs.Best.{Contender}
+use Rattle.product.specs.Optimizing.{soundWord, countsFit, answerFits, evaluationOf, filled}
+use Rattle.paths.specs.Ranked.{Ranked, letterCount}
 use Rattle.paths.specs.ByRanking.{ranked}
-use Rattle.labels.specs.declared.Label.{Label}
 use Rattle.product.specs.Nodes.{product, stateCounts}
+use Rattle.product.specs.Setting.{Setting}
+use Rattle.product.specs.Laws.BestOfSets.{are64Bits}
 use Rattle.tables.specs.Places.{sixPlaces}
 
 -- the checks 10 to 12
-abbrev pub searchRefusal : Option Form → ℕ → ℕ
+abbrev pub searchRefusal : Option Contender → ℕ → ℕ
 searchRefusal b room = firstOf (refuse 10 (isSome b) ∷ refuse 11 (countsFit b) ∷ refuse 12 (answerFits b room) ∷ [])
 
--- accepted input; size is the product of the state counts, and the work slice has just the room for the nodes
+-- accepted sets, all of them 64-bit numbers, with just the room for the nodes in the work slice
+pub record SetsPre (card ranking sets work : List ℕ) (size : ℕ) : Type 0 where
+  pub setting : Setting card sets size
+  pub ranks : isRanking (machineCount card) ranking ≡ true
+  pub bits : are64Bits sets ≡ true
+  pub room : length work ≡ (length sets + 1) * size * 8
+
+-- the same with an accepted word
 pub record SearchPre (card ranking word work : List ℕ) (size : ℕ) : Type 0 where
   pub accepted : cardRefusal card ≡ 0
   pub ranks : isRanking (machineCount card) ranking ≡ true
@@ -34,15 +42,20 @@ pub record SearchPre (card ranking word work : List ℕ) (size : ℕ) : Type 0 w
   pub states : size ≡ product (stateCounts (machinesOf card))
   pub room : length work ≡ (length word + 1) * size * 8
 
--- what the search answers, and the slices at exit
-pub record Searched (card ranking word work workAfter answer answerAfter : List ℕ) (r : Evaluation) : Type 0 where
-  pub result : r ≡ unlessRefused (searchRefusal (best card ranking word) (length answer)) (evaluationOf (best card ranking word) word) refused
-  pub answer-slice : answerAfter ≡ unlessRefused (searchRefusal (best card ranking word) (length answer)) (filled (best card ranking word) answer) (λ n. answer)
+-- what the search answers by what the best is, and the slices at exit
+pub record Searched (b : Option Contender) (word work workAfter answer answerAfter : List ℕ) (r : Evaluation) : Type 0 where
+  pub result : r ≡ unlessRefused (searchRefusal b (length answer)) (evaluationOf b word) refused
+  pub answer-slice : answerAfter ≡ unlessRefused (searchRefusal b (length answer)) (filled b answer) (λ n. answer)
   pub work-length : length workAfter ≡ length work
 
--- no count of a label is over 60,000
-abbrev pub labelFits : Label → Bool
-labelFits l = leb (l .first) 60000 && (leb (l .second) 60000 && (leb (l .third) 60000 && (leb (l .fourth) 60000 && (leb (l .fifth) 60000 && leb (l .sixth) 60000))))
+-- no count of a cost is over 60,000
+abbrev pub costFits : Ranked 6 → Bool
+costFits c = leb (c .0) 60000 && (leb (c .1 .0) 60000 && (leb (c .1 .1 .0) 60000 && (leb (c .1 .1 .1 .0) 60000 && (leb (c .1 .1 .1 .1 .0) 60000 && leb (c .1 .1 .1 .1 .1 .0) 60000))))
+
+-- the checks 10 to 12 by the label of the start, which is what the best candidate costs
+abbrev pub labelRefusal : Option (Ranked 6) → ℕ → ℕ
+labelRefusal none room = 10
+labelRefusal (some c) room = firstOf (refuse 11 (costFits c) ∷ refuse 12 (leb (2 * letterCount 6 c) room) ∷ [])
 
 -- a ranking of at most six machines
 pub record RankingOfSome (ranking : List ℕ) : Type 0 where

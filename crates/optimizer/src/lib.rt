@@ -1,27 +1,28 @@
 // The optimizer: from card, ranking and word to the best candidate.
 ghost use mathlib.Core.Path.{_≡_};
-ghost use Prim.Native.Nat.{_+_, _*_, _<_};
-ghost use lib.ListN.{length};
-ghost use Rattle.card.specs.Card.{cardRefusal, machinesOf};
-ghost use Rattle.product.specs.Nodes.{product, stateCounts};
+ghost use Prim.Native.Nat.{_+_, _*_, _<_, _≤_};
+ghost use lib.Dec.{ltb};
+ghost use lib.ListN.{length, take};
+ghost use mathlib.Core.Bool.{true};
+ghost use Rattle.basics.specs.Search.{allOf};
+ghost use Rattle.product.specs.Best.{best};
+ghost use Rattle.product.specs.Sets.{singletons, bestOfSets};
+ghost use Rattle.card.specs.Card.{cardRefusal};
+ghost use Rattle.product.specs.ProductGraph.{cardStart};
 ghost use Rattle.labels.specs.LabelCost.{costOf};
 ghost use Rattle.optimizer.specs.Refusals.{numberOf, stageNumber};
 ghost use Rattle.optimizer.specs.Optimizes.{Optimizes};
-ghost use Rattle.optimizer.specs.Searching.{SearchPre, Searched, labelFits, RankingOfSome, CardOrder};
+ghost use Rattle.optimizer.specs.Searching.{SetsPre, SearchPre, Searched, RankingOfSome, CardOrder};
+use basics::index;
 use candidate::Evaluation;
 use candidate::refused;
 use labels::Label;
 use ranking::Profile;
 
-mod checks; // checks.rt: the checks 1 to 9
+mod checks; // checks.rt: the checks of the best candidate
 
-// Why the call is refused.
+// Why the call is refused after the search; the input has its own refusals.
 pub enum Refusal {
-    Card(card::Refusal),
-    Ranking(ranking::Refusal),
-    Word(product::Refusal),
-    // The work slice is too short.
-    Work,
     // No candidate is complete.
     NoCandidate,
     // The best profile has a count over 60,000.
@@ -36,12 +37,6 @@ impl Refusal {
         ensures { λ r. ⌜ r ≡ numberOf self ⌝ }
     {
         match self {
-            Refusal::Card(refusal) => refusal.number(),
-            Refusal::Ranking(refusal) => refusal.number(),
-            Refusal::Word(refusal) => match refusal {
-                product::Refusal::Word => 8,
-            },
-            Refusal::Work => 9,
             Refusal::NoCandidate => 10,
             Refusal::Counts => 11,
             Refusal::Answer => 12,
@@ -67,13 +62,6 @@ impl Stage {
     }
 }
 
-// A byte as a number to index with.
-fn index(x: u8) -> usize
-    ensures { λ r. ⌜ (r ≡ x) × (r < 256) ⌝ }
-{
-    x as usize
-}
-
 // Counts in ranked order as a profile, which is in card order.
 fn profile_of(label: Label, ranking: &[u8]) -> Profile
     requires { ⌜ RankingOfSome (now ranking) ⌝ }
@@ -87,7 +75,7 @@ fn profile_of(label: Label, ranking: &[u8]) -> Profile
         label.fifth,
         label.sixth,
     ];
-    let mut counts = [0u16; 6];
+    let mut counts = Profile::zero().counts;
     let mut place = 0;
     while place < ranking.len() {
         let machine = index(ranking[place]);
@@ -97,27 +85,59 @@ fn profile_of(label: Label, ranking: &[u8]) -> Profile
     Profile { counts }
 }
 
-// P, the product of the state counts of an accepted card's machines.
-fn joint_states(card: &[u8]) -> usize
+// The start node: the first position, every machine of an accepted card in its start state.
+fn start_node(card: &[u8]) -> usize
     requires { ⌜ cardRefusal (now card) ≡ 0 ⌝ }
-    ensures { λ r. ⌜ r ≡ product (stateCounts (machinesOf (now (card .entry)))) ⌝ }
+    ensures { λ r. ⌜ r ≡ cardStart (now (card .entry)) ⌝ }
 {
     let counts = tables::state_counts(card);
     let machines = card::machine_count(card);
-    tables::joint_states(&counts[..machines])
+    tables::start_node(&counts[..machines])
 }
 
-// Whether no count is over 60,000.
-fn counts_fit(label: Label) -> bool
-    ensures { λ r. ⌜ r ≡ labelFits label ⌝ }
+// The search for accepted sets: labels the nodes, and writes the best candidate if there is one and it has room.
+fn search_sets(
+    card: &[u8],
+    ranking: &[u8],
+    sets: &[u64],
+    size: usize,
+    work: &mut [u16],
+    answer: &mut [u8],
+) -> Evaluation
+    requires { ⌜ SetsPre (now card) (now ranking) (now sets) (now work) size ⌝ }
+    ensures { λ r. ⌜ Searched (bestOfSets (now (card .entry)) (now (ranking .entry)) (now (sets .entry))) (now (sets .entry)) (now (work .entry)) (now (work .exit)) (now (answer .entry)) (now (answer .exit)) r ⌝ }
 {
-    (label.first <= 60000)
-        & ((label.second <= 60000)
-            & ((label.third <= 60000)
-                & ((label.fourth <= 60000) & ((label.fifth <= 60000) & (label.sixth <= 60000)))))
+    positions::label(work, card, ranking, sets, size);
+    let start = start_node(card);
+    let found = checks::check_best(work, start, answer.len());
+    let Stage::Passed = found else {
+        return refused(found.number());
+    };
+    let label = labels::load(work, start);
+    let profile = profile_of(label, ranking);
+    let pairs = walk::walk(work, card, ranking, sets, size, answer) as u16;
+    let length = sets.len() as u16;
+    Evaluation {
+        number: 0,
+        profile,
+        pairs,
+        word_length: length,
+    }
 }
 
-// The search for accepted input: labels the nodes, and writes the best candidate if there is one and it has room.
+// The sets of one symbol each of a word.
+fn fill_sets(word: &[u8], sets: &mut [u64])
+    requires { ⌜ (length (now word) ≤ length (now sets)) × (allOf (λ x. ltb x 64) (now word) ≡ true) ⌝ }
+    ensures { λ _. ⌜ take (length (now (word .entry))) (now (sets .exit)) ≡ singletons (now (word .entry)) ⌝ }
+{
+    let mut i = 0;
+    while i < word.len() {
+        sets[i] = machine::sets::set_of(word[i]);
+        i += 1;
+    }
+}
+
+// The search for an accepted word: that for its sets of one symbol each.
 fn search(
     card: &[u8],
     ranking: &[u8],
@@ -127,27 +147,11 @@ fn search(
     answer: &mut [u8],
 ) -> Evaluation
     requires { ⌜ SearchPre (now card) (now ranking) (now word) (now work) size ⌝ }
-    ensures { λ r. ⌜ Searched (now (card .entry)) (now (ranking .entry)) (now (word .entry)) (now (work .entry)) (now (work .exit)) (now (answer .entry)) (now (answer .exit)) r ⌝ }
+    ensures { λ r. ⌜ Searched (best (now (card .entry)) (now (ranking .entry)) (now (word .entry))) (now (word .entry)) (now (work .entry)) (now (work .exit)) (now (answer .entry)) (now (answer .exit)) r ⌝ }
 {
-    positions::label(work, card, ranking, word, size);
-    if !labels::reached(work, 0) {
-        return refused(Refusal::NoCandidate.number());
-    }
-    let label = labels::load(work, 0);
-    if !counts_fit(label) {
-        return refused(Refusal::Counts.number());
-    }
-    if answer.len() / 2 < label.pairs as usize {
-        return refused(Refusal::Answer.number());
-    }
-    let profile = profile_of(label, ranking);
-    walk::walk(work, card, ranking, word, size, answer);
-    Evaluation {
-        number: 0,
-        profile,
-        pairs: label.pairs,
-        word_length: word.len() as u16,
-    }
+    let mut sets = [0u64; 24];
+    fill_sets(word, &mut sets);
+    search_sets(card, ranking, &sets[..word.len()], size, work, answer)
 }
 
 // Answers the best candidate for a word under a ranking: 1 to 12.
@@ -160,11 +164,11 @@ pub fn optimize(
 ) -> Evaluation
     ensures { λ r. ⌜ Optimizes (now (card .entry)) (now (ranking .entry)) (now (word .entry)) (now (work .entry)) (now (work .exit)) (now (answer .entry)) (now (answer .exit)) r ⌝ }
 {
-    let checked = checks::check_input(card, ranking, word, work.len());
-    let Stage::Passed = checked else {
+    let checked = input::check_input(card, ranking, word, work.len());
+    let input::Stage::Passed = checked else {
         return refused(checked.number());
     };
-    let size = joint_states(card);
+    let size = input::joint_states(card);
     let nodes = (word.len() + 1) * size;
     search(card, ranking, word, size, &mut work[..nodes * 8], answer)
 }

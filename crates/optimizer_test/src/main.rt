@@ -1,4 +1,4 @@
-// Tries the optimizer's call: rows 7 to 12 of the refusal table with their neighbours that pass, and the examples. A line for each case: the number,
+// Tries the optimizer's call: rows 7 to 12 of the refusal table with their neighbours that pass, the empty word, and the examples. A line for each case: the number,
 // profile, pair count and word length, the pairs, how many bytes of the answer slice still hold 9, and how many numbers of the work slice still hold 7.
 use candidate::Evaluation;
 
@@ -356,6 +356,60 @@ const CARD_B: [u8; 264] = [
     0,
 ];
 
+// An affix without sounds: from the start state, which is not final, to the final one by 0:1 with 3 marks or by 0:2 with 1.
+const CARD_AFFIX: [u8; 50] = [
+    1,
+    2,
+    6,
+    0,
+    44,
+    0,
+    2,
+    2,
+    0,
+    1,
+    0,
+    1,
+    3,
+    0,
+    1,
+    0,
+    0,
+    0,
+    0,
+    0,
+    0,
+    0,
+    2,
+    0,
+    0,
+    0,
+    0,
+    0,
+    0,
+    0,
+    0,
+    1,
+    1,
+    0,
+    1,
+    0,
+    0,
+    0,
+    0,
+    0,
+    0,
+    0,
+    4,
+    0,
+    0,
+    0,
+    0,
+    0,
+    0,
+    0,
+];
+
 fn write(text: &[u8]) {
     io::write_all(1, text);
 }
@@ -477,6 +531,21 @@ fn on_b(ranking: &[u8], word: &[u8], room: usize, bytes: usize) {
     try_on(&card, ranking, word, room, bytes);
 }
 
+fn on_affix(word: &[u8], room: usize, bytes: usize) {
+    let card = CARD_AFFIX;
+    write(b"affix ");
+    try_on(&card, b"\x00", word, room, bytes);
+}
+
+// The affix with 1 in the place of nothing: no insertions.
+fn on_affix_of_one(word: &[u8], room: usize, bytes: usize) {
+    let mut card = CARD_AFFIX;
+    card[14] = 2;
+    card[34] = 2;
+    write(b"affix of one ");
+    try_on(&card, b"\x00", word, room, bytes);
+}
+
 // Refusals of the card come first.
 fn cards() {
     let card = CARD_A;
@@ -523,6 +592,22 @@ fn answers() {
     on_b(b"\x00\x02\x01", b"\x02", 400, 4);
 }
 
+// The empty word: no pairs, insertions alone, no candidate; work slices of 8 for each joint state and one less; answer slices with and without room.
+fn empty_words() {
+    on_a(b"\x00", b"", 8, 0);
+    on_a(b"\x00", b"", 7, 0);
+    on_b(b"\x00\x01\x02", b"", 16, 0);
+    on_b(b"\x00\x01\x02", b"", 15, 0);
+    on_affix(b"", 16, 60);
+    on_affix(b"", 16, 2);
+    on_affix(b"", 16, 1);
+    on_affix(b"", 16, 0);
+    on_affix(b"", 15, 0);
+    on_affix_of_one(b"\x01", 32, 2);
+    on_affix_of_one(b"", 16, 0);
+    on_affix_of_one(b"", 15, 0);
+}
+
 fn examples() {
     on_a(b"\x00", b"\x01", 400, 60);
     on_a(b"\x00", b"\x02", 400, 60);
@@ -539,5 +624,6 @@ fn main() {
     long_words();
     rooms();
     answers();
+    empty_words();
     examples();
 }

@@ -1,16 +1,16 @@
 -- The best path from a node: the cheapest, and of those the first in the order of its letters. There is one at most, and below N nodes it is
 -- the best of the paths of fewer than N letters.
 use mathlib.Core.Path.{_≡_, refl, sym, _∙_, ap}
-use mathlib.Core.Logic.{_⊎_, inl, inr, _≢_, _↔_}
+use mathlib.Core.Logic.{_⊎_, inl, inr, _≢_}
 use mathlib.Core.Option.{Option, none, some, Option·none-ne-some}
 use mathlib.Core.List.{List}
-use Prim.Native.Nat.{ℕ, _+_, _*_, _-_, _≤_, _<_}
+use Prim.Native.Nat.{ℕ, _-_, _<_}
 use lib.ListN.{length}
 use Rattle.paths.specs.Total.{Total, Then, then-total, Lex, lex-total, same?, asym}
 use Rattle.paths.specs.Costs.{Costs}
 use Rattle.paths.specs.Pigeonhole.{Distinct}
 use Rattle.paths.specs.Graph.{Alphabet, Graph, pathCost, nodes, Within, run→cost, cost→run}
-use Rattle.paths.specs.Bounds.{BoundedCount, distinct-short, short-count}
+use Rattle.paths.specs.Bounds.{distinct-short}
 use Rattle.paths.specs.Cut.{Cheaper, cut, Short, shortened}
 
 module _ (costs : Costs) (alphabet : Alphabet) where
@@ -62,14 +62,6 @@ module _ {costs : Costs} {alphabet : Alphabet} (G : Graph costs alphabet) where
   answer-unique u (some ps) none a b = let k = a .best ps refl in absurd (Option·none-ne-some (k .cost) (sym (b .no-path refl ps) ∙ k .is))
   answer-unique u (some ps) (some qs) a b = ap {B = Option (List Letter)} some (best-unique u ps qs (a .best ps refl) (b .best qs refl))
 
-  -- there is none exactly when no list of letters, however long, is a path
-  pub answer-none : (u : ℕ) (o : Option (List Letter)) → Answers u o → (o ≡ none) ↔ ((ps : List Letter) → pathCost G u ps ≡ none)
-  answer-none u o a = (λ e. a .no-path e, λ f. go o refl f)
-    where
-      go : (o′ : Option (List Letter)) → o ≡ o′ → ((ps : List Letter) → pathCost G u ps ≡ none) → o′ ≡ none
-      go none e f = refl
-      go (some ps) e f = let k = a .best ps e in absurd (Option·none-ne-some (k .cost) (sym (f ps) ∙ k .is))
-
   -- ---- a best path passes no node twice: it would be cut to a cheaper one
 
   pub best-distinct : (u : ℕ) (ps : List Letter) → IsBest u ps → Distinct (nodes G u ps)
@@ -91,10 +83,6 @@ module _ {costs : Costs} {alphabet : Alphabet} (G : Graph costs alphabet) where
     pub best-short : (ps : List Letter) → IsBest u ps → length ps < N
     best-short ps a = distinct-short G W u ps (a .cost) b (a .is) (best-distinct u ps a)
 
-    -- and a count of it is at most `most` times N - 1, and `last`
-    pub best-count : {count : Cost → ℕ} {most last : ℕ} → BoundedCount G count most last → (ps : List Letter) (a : IsBest u ps) → count (a .cost) ≤ most * (N - 1) + last
-    best-count B ps a = short-count G B N u ps (a .cost) (a .is) (best-short ps a)
-
     -- ---- Theorem 4, for the best: the best of the paths of fewer than N letters is the best of all
 
     pub best-below→best : (ps : List Letter) → IsBestBelow N u ps → IsBest u ps
@@ -114,9 +102,6 @@ module _ {costs : Costs} {alphabet : Alphabet} (G : Graph costs alphabet) where
             go (inl l) (no m) = before-total costs alphabet .trans (a .cost, ps) (k .cost, k .letters) (d, qs) (a .first (k .letters) (k .cost) (k .fewer) m is) (inl l)
             go (inr l) (yes e) = absurd (n (sym (l .1) ∙ e))
             go (inr l) (no m) = rw (l .0, l .1) at (a .first (k .letters) (k .cost) (k .fewer) m is)
-
-    pub best→best-below : (ps : List Letter) → IsBest u ps → IsBestBelow N u ps
-    best→best-below ps a = record { cost = a .cost; is = a .is; fewer = best-short ps a; first = λ qs d k n h. a .first qs d n h }
 
     -- and where no list of fewer than N letters is a path, none is
     pub none-below→none : ((ps : List Letter) → length ps < N → pathCost G u ps ≡ none) → (ps : List Letter) → pathCost G u ps ≡ none

@@ -4,7 +4,7 @@ use mathlib.Core.Option.{some}
 use mathlib.Core.List.{List}
 use Prim.Native.Nat.{ℕ, suc, _+_, _*_, _-_, _≤_, _<_}
 use native.Mathlib.Omega.{arith}
-use native.Mathlib.Nat.{mul-le-mul-left, mul-suc}
+use native.Mathlib.Nat.{mul-suc}
 use lib.ListN.{length}
 use Rattle.paths.specs.Costs.{Costs, Labels}
 use Rattle.paths.specs.Pigeonhole.{Distinct, AllBelow, pigeonhole}
@@ -46,13 +46,6 @@ module _ {costs : Costs} {alphabet : Alphabet} (G : Graph costs alphabet) where
       let r = cost→run G u ps c h in
       rw (← nodes-length G r) (pigeonhole N (nodes G u ps) k (nodes-below W b r))
 
-  -- so a count is at most `most` times N - 1, and `last`
-  pub short-count : {count : Cost → ℕ} {most last : ℕ} → BoundedCount G count most last → (N u : ℕ) (ps : List Letter) (c : Cost) → pathCost G u ps ≡ some c → length ps < N → count c ≤ most * (N - 1) + last
-  short-count {most = most} B N u ps c h k =
-      let r = run-count B (cost→run G u ps c h) in
-      let m : most * length ps ≤ most * (N - 1) = mul-le-mul-left most (omega arith) in
-      omega arith
-
   -- an attained label is the cost of a path of fewer than N letters
   pub record ShortPath (N u : ℕ) (c : Cost) : Type 0 where
     pub letters : List Letter
@@ -72,10 +65,7 @@ module _ {costs : Costs} {alphabet : Alphabet} (G : Graph costs alphabet) where
         let s = attained-short in
         rw (run-size Z (cost→run G u (s .letters) c (s .is))) (s .fewer)
 
-    -- and its count is at most `most` for each letter of it, and at most `most` times N - 1, and `last`
-    pub attained-count : {count : Cost → ℕ} {most last : ℕ} → BoundedCount G count most last → count c ≤ most * (N - 1) + last
-    attained-count B = let s = attained-short in short-count B N u (s .letters) c (s .is) (s .fewer)
-
+    -- and its count is at most `most` for each letter of it, and `last`
     pub attained-count-size : {size count : Cost → ℕ} {most last : ℕ} → Sized G size → BoundedCount G count most last → count c ≤ most * size c + last
     attained-count-size Z B =
         let s = attained-short in

@@ -56,16 +56,6 @@ module _ {A : Type 0} (R : A → A → Type 0) where
   above-some {y = y} e k a h = let q : y ≡ a = cc (e, h) in rw q at k
 
 module _ {A : Type 0} {R : A → A → Type 0} where
-  -- a value compared with x: one law for each outcome
-  pub lowers-none : {o o′ : Option A} {x : A} → o ≡ none → o′ ≡ some x → Lowers R o x o′
-  lowers-none {x = x} e k = lowered (above-none R x e) k
-
-  pub lowers-less : {o o′ : Option A} {x y : A} → o ≡ some y → R x y → o′ ≡ some x → Lowers R o x o′
-  lowers-less e h k = lowered (above-some R e h) k
-
-  pub lowers-not : {o o′ : Option A} {x y : A} → o ≡ some y → Upto R y x → o′ ≡ o → Lowers R o x o′
-  lowers-not {y = y} e h k = kept (record { val = y; is = e; upto = h }) k
-
   pub atmost-is : {o : Option A} {x : A} → o ≡ some x → AtMost R o x
   atmost-is {x = x} e = record { val = x; is = e; upto = inr refl }
 

@@ -44,18 +44,6 @@ module _ {costs : Costs} {alphabet : Alphabet} (G : Graph costs alphabet) where
   pathCost u [] = ending u
   pathCost u (p ∷ ps) = follow (edge u p) (λ v. pathCost v ps)
 
-  pub pathCost-end : (u : ℕ) → pathCost u [] ≡ ending u
-  unfolding pathCost
-  pathCost-end u = refl
-
-  pub pathCost-edge : (u : ℕ) (p : Letter) (ps : List Letter) (e : Edge Cost) → edge u p ≡ some e → pathCost u (p ∷ ps) ≡ addTo (e .cost) (pathCost (e .target) ps)
-  unfolding pathCost
-  pathCost-edge u p ps e h = rw h
-
-  pub pathCost-no-edge : (u : ℕ) (p : Letter) (ps : List Letter) → edge u p ≡ none → pathCost u (p ∷ ps) ≡ none
-  unfolding pathCost
-  pathCost-no-edge u p ps h = rw h
-
   -- every edge leads to a node below N
   abbrev pub Within : ℕ → Type 0
   Within N = (u : ℕ) (p : Letter) (e : Edge Cost) → edge u p ≡ some e → e .target < N

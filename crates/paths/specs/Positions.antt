@@ -1,16 +1,16 @@
 -- Labels position by position, from the last to the first: what holds when a position is entered, and when it is done.
 use mathlib.Core.Path.{_≡_, refl, sym, _∙_, ap}
 use mathlib.Core.Logic.{_⊎_, inl, inr, _≢_}
-use mathlib.Core.Option.{Option, none, some, Option·none-ne-some}
+use mathlib.Core.Option.{none, some, Option·none-ne-some}
 use Prim.Native.Nat.{ℕ, suc, _≤_, _<_}
 use native.Mathlib.Omega.{arith}
 use native.Mathlib.Decide.{ℕ-discrete}
 use Rattle.paths.specs.Total.{Upto}
 use Rattle.paths.specs.Costs.{Costs, Labels, AtMost, atmost-upto, shift-right-upto}
 use Rattle.paths.specs.Graph.{Alphabet, Edge, Graph}
-use Rattle.paths.specs.Labels.{ClosedAt, Closed, Attained, attained-none}
+use Rattle.paths.specs.Labels.{ClosedAt, Attained, attained-none}
 use Rattle.paths.specs.Improvement.{Improves, Falls, improves-upto, improves-falls, improve-edge, improve-end}
-use Rattle.paths.specs.Cheapest.{EdgeTo, Cheapest, cheapest-none, cheapest-upto}
+use Rattle.paths.specs.Cheapest.{EdgeTo}
 use Rattle.paths.specs.Settling.{Settling, AllSettled, settling-end}
 
 -- an edge stays at its position or goes to the next one, n is the last position, and a path ends only there
@@ -131,23 +131,6 @@ module _ {costs : Costs} {alphabet : Alphabet} (G : Graph costs alphabet) (pos :
         go w q f k (inl x) = x
         go w q f k (inr x) = let z : edge u p ≡ some f = rw (← (x .0), ← (x .1)) k in absurd (Option·none-ne-some f (sym n ∙ z))
 
-    -- by the cheapest edge from u to v: every edge from u to v was looked at
-    pub entering-cheapest : {M : Labels costs} {o : Option Cost} (Did′ : ℕ → Letter → Type 0) (u v : ℕ) (e d : Cost) → pos u ≡ i → Cheapest G u v o → o ≡ some e → L v ≡ some d → Improves _≺_ L u (e ⊕ d) M
-        → MoreLeaving i Did Did′ (λ w q f. (w ≡ u) × (f .target ≡ v)) → Entering K M i Ended Did′
-    entering-cheapest Did′ u v e d a k s l I more = entering-step Did′ u v e d a (k .attained e s) l I (λ w q f b t x h. go w q f h (more w q f b t x h))
-      where
-        go : (w : ℕ) (q : Letter) (f : Edge Cost) → edge w q ≡ some f → Did w q ⊎ ((w ≡ u) × (f .target ≡ v)) → Did w q ⊎ ((w ≡ u) × (f .target ≡ v) × Upto _≺_ e (f .cost))
-        go w q f h (inl x) = inl x
-        go w q f h (inr x) = inr (x .0, x .1, cheapest-upto G k s q f (rw (← (x .0)) h) (x .1))
-
-    -- no edge leads from u to v
-    pub entering-none : {o : Option Cost} (Did′ : ℕ → Letter → Type 0) (u v : ℕ) → Cheapest G u v o → o ≡ none → MoreLeaving i Did Did′ (λ w q f. (w ≡ u) × (f .target ≡ v)) → Entering K L i Ended Did′
-    entering-none Did′ u v k s more = entering-skip Ended Did′ (λ w c a x h. x) (λ w q f c b t x h l. go w q f h (more w q f b t x h))
-      where
-        go : (w : ℕ) (q : Letter) (f : Edge Cost) → edge w q ≡ some f → Did w q ⊎ ((w ≡ u) × (f .target ≡ v)) → Did w q
-        go w q f h (inl x) = x
-        go w q f h (inr x) = absurd (cheapest-none G k s q f (rw (← (x .0)) h) (x .1))
-
     -- v has no label
     pub entering-unlabelled : (Did′ : ℕ → Letter → Type 0) (v : ℕ) → L v ≡ none → MoreLeaving i Did Did′ (λ w q f. f .target ≡ v) → Entering K L i Ended Did′
     entering-unlabelled Did′ v n more = entering-skip Ended Did′ (λ w c a x h. x) (λ w q f c b t x h l. go w q f c l (more w q f b t x h))
@@ -202,7 +185,3 @@ module _ {costs : Costs} {alphabet : Alphabet} (G : Graph costs alphabet) (pos :
         closed : (u : ℕ) → i ≤ pos u → Dec (pos u ≡ i) → ClosedAt G L u
         closed u h (yes a) = record { ends = λ c e. S .falls u c (E .ends u c a e); edges = λ p e c k l. edges u p e c a k l (ℕ-discrete (pos (e .target)) i) }
         closed u h (no a) = closed-same (omega arith) (S .others) (E .closed u (omega arith))
-
-  -- ---- every position is done: the labels are closed, and they are attained
-  pub done-closed : {L : Labels costs} → Done L 0 → Closed G L
-  done-closed d u = d .closed u (omega arith)

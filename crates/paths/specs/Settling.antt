@@ -10,7 +10,7 @@ use Rattle.paths.specs.Costs.{Costs, Labels, AtMost, atmost-is, atmost-u
 use Rattle.paths.specs.Graph.{Alphabet, Edge, Graph}
 use Rattle.paths.specs.Labels.{Attained}
 use Rattle.paths.specs.Improvement.{Improves, Falls, improves-upto, improves-falls, improve-edge}
-use Rattle.paths.specs.Cheapest.{EdgeTo, Cheapest, cheapest-none, cheapest-upto}
+use Rattle.paths.specs.Cheapest.{EdgeTo, Cheapest, cheapest-upto}
 
 -- E is D and v
 pub record Settles (D : ℕ → Type 0) (v : ℕ) (E : ℕ → Type 0) : Type 0 where
@@ -138,16 +138,6 @@ module _ {costs : Costs} {alphabet : Alphabet} (G : Graph costs alphabet) (pos :
         relaxed w q f b m h t (inl k) = improves-falls total I w (f .cost ⊕ c) (S .relaxed w q f b m k h t)
         relaxed w q f b m h t (inr k) = rw (k .0) (atmost-upto total (improves-upto total I) (shift-right-upto costs c (k .1)))
 
-    -- by one letter
-    pub relaxing-letter : {N : Labels costs} (u : ℕ) (p : Letter) (e : Edge Cost) → pos u ≡ i → ¬ (D u) → edge u p ≡ some e → e .target ≡ v → Improves _≺_ M u (e .cost ⊕ c) N
-        → MoreInto D v Did Did′ (λ w q f. (w ≡ u) × (q ≡ p)) → Relaxing L N D v c Did′
-    relaxing-letter u p e a n h t I more =
-        relaxing-step u (e .cost) a n (record { letter = p; to = e; edge-is = h; target-is = t; cost-is = refl }) I (λ w q f b m x k z. go w q f k (more w q f b m x k z))
-      where
-        go : (w : ℕ) (q : Letter) (f : Edge Cost) → edge w q ≡ some f → Did w q ⊎ ((w ≡ u) × (q ≡ p)) → Did w q ⊎ ((w ≡ u) × Upto _≺_ (e .cost) (f .cost))
-        go w q f k (inl x) = inl x
-        go w q f k (inr x) = let same : e ≡ f = cc (h, k, x .0, x .1) in inr (x .0, inr (ap (λ (y : Edge Cost). y .cost) same))
-
     -- by the cheapest edge from u to v: every edge from u to v is relaxed
     pub relaxing-cheapest : {N : Labels costs} {o : Option Cost} (u : ℕ) (e : Cost) → pos u ≡ i → ¬ (D u) → Cheapest G u v o → o ≡ some e → Improves _≺_ M u (e ⊕ c) N
         → MoreInto D v Did Did′ (λ w q f. w ≡ u) → Relaxing L N D v c Did′
@@ -156,14 +146,6 @@ module _ {costs : Costs} {alphabet : Alphabet} (G : Graph costs alphabet) (pos :
         go : (w : ℕ) (q : Letter) (f : Edge Cost) → edge w q ≡ some f → f .target ≡ v → Did w q ⊎ (w ≡ u) → Did w q ⊎ ((w ≡ u) × Upto _≺_ e (f .cost))
         go w q f h t (inl x) = inl x
         go w q f h t (inr x) = inr (x, cheapest-upto G k s q f (rw (← x) h) t)
-
-    -- no edge leads from u to v
-    pub relaxing-none : {o : Option Cost} (u : ℕ) → Cheapest G u v o → o ≡ none → MoreInto D v Did Did′ (λ w q f. w ≡ u) → Relaxing L M D v c Did′
-    relaxing-none u k s more = relaxing-skip (λ w q f b m x h t. go w q f h t (more w q f b m x h t))
-      where
-        go : (w : ℕ) (q : Letter) (f : Edge Cost) → edge w q ≡ some f → f .target ≡ v → Did w q ⊎ (w ≡ u) → Did w q
-        go w q f h t (inl x) = x
-        go w q f h t (inr x) = absurd (cheapest-none G k s q f (rw (← x) h) t)
 
     -- u is settled
     pub relaxing-settled : (u : ℕ) → D u → MoreInto D v Did Did′ (λ w q f. w ≡ u) → Relaxing L M D v c Did′

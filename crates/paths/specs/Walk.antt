@@ -156,13 +156,6 @@ module _ {costs : Costs} {alphabet : Alphabet} (G : Graph costs alphabet) (L : L
     pub walk-cost : Attained G L → (u : ℕ) (c : Cost) (ps : List Letter) → L u ≡ some c → Walk (size c) u ps → pathCost G u ps ≡ some c
     walk-cost A u c ps l w = run→cost G (walk-run A w c l refl)
 
-    -- so it is the answer
-    pub walk-answers : Closed G L → Attained G L → (u : ℕ) (c : Cost) (ps : List Letter) → L u ≡ some c → Walk (size c) u ps → Answers G u (some ps)
-    walk-answers K A u c ps l w = record {
-      best = λ qs e. let q : ps ≡ qs = cc in rw q at (walk-best K A u c ps l w);
-      no-path = λ e. let z : _≡_ {A = ℕ} 0 1 = cc in absurd (omega arith);
-    }
-
     -- ---- a loop that writes the walk
 
     pub walking-next : (u : ℕ) (c : Cost) (ps : List Letter) (w : ℕ) (d : Cost) (p : Letter) → Walking size u c ps w d → (t : LeastTight w p) → Walking size u c (ps ++ p ∷ []) (t .tight .to .target) (t .tight .rest)

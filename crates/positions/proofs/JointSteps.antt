@@ -1,25 +1,22 @@
 -- What the table of the joint steps of a card's machines needs.
 use mathlib.Core.Path.{_≡_}
-use mathlib.Core.Bool.{true}
 use mathlib.Core.List.{List}
 use Prim.Native.Nat.{ℕ, _<_}
 use native.Mathlib.Omega.{arith}
-use Rattle.ranking.specs.Rankings.{isRanking}
-use Rattle.card.specs.Layout.{machineCount, symbolCount}
+use Rattle.card.specs.Layout.{symbolCount}
 use Rattle.card.specs.Card.{cardRefusal, machinesOf}
 use Rattle.card.specs.Accepted.{accepted}
 use Rattle.product.specs.Nodes.{product, stateCounts}
-use Rattle.tables.specs.Places.{sixPlaces}
+use Rattle.tables.specs.Places.{sixPlaces, SixPlaces}
 use Rattle.tables.specs.JointTable.{HoldsJoint, JointTablePre}
-use Rattle.tables.specs.Laws.Harmony.{six-places}
 use Rattle.positions.specs.Engine.{Lent}
 
 module _ (card ranking : List ℕ) {cs ps : List ℕ} (ok : cardRefusal card ≡ 0) (c : cs ≡ stateCounts (machinesOf card)) (p : ps ≡ sixPlaces ranking) where
-  pub joint-ready : {ss js : List ℕ} {x P S : ℕ} → isRanking (machineCount card) ranking ≡ true → P ≡ product (stateCounts (machinesOf card)) → x < 64 → S ≡ symbolCount card → Lent ss js P → JointTablePre card cs ps ss js x S
-  joint-ready ranks e h k L = record {
+  pub joint-ready : {ss js : List ℕ} {x P S : ℕ} → SixPlaces ps → P ≡ product (stateCounts (machinesOf card)) → x < 64 → S ≡ symbolCount card → Lent ss js P → JointTablePre card cs ps ss js x S
+  joint-ready six e h k L = record {
     accepted = ok;
     counts-are = c;
-    six = rw p (six-places (machineCount card) ranking (accepted card ok .head .counts .machines) ranks);
+    six = six;
     input = h;
     outputs = omega (arith, accepted card ok .head .counts .symbols);
     stretch-room = L .stretch;

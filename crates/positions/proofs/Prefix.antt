@@ -1,16 +1,20 @@
 -- The state counts of a card's machines at the front of an array.
 use mathlib.Core.Path.{_≡_, sym, _∙_, ap}
+use mathlib.Core.Bool.{true}
 use mathlib.Core.List.{List, [], _∷_}
 use Prim.Native.Nat.{ℕ, zero, suc, _≤_}
 use native.Mathlib.Omega.{arith}
 use lib.ListN.{length, take, length-map}
+use Rattle.ranking.specs.Rankings.{isRanking}
 use Rattle.card.specs.Layout.{machineCount, symbolCount}
 use Rattle.card.specs.Card.{machinesOf, cardRefusal}
+use Rattle.card.specs.Accepted.{accepted}
 use Rattle.product.specs.Nodes.{product, stateCountOf, stateCounts}
 use Rattle.product.specs.Laws.Accepted.{accepted-machines}
-use Rattle.tables.specs.Places.{sixPlaces}
+use Rattle.tables.specs.Places.{sixPlaces, SixPlaces}
 use Rattle.tables.specs.Tables.{CountsOfSome, HoldsRows}
 use Rattle.tables.specs.FillingRows.{RowsPre}
+use Rattle.tables.specs.Laws.Harmony.{six-places}
 use Rattle.tables.specs.Laws.Cards.{card-machines}
 use Rattle.positions.specs.Engine.{Looked}
 
@@ -19,6 +23,10 @@ front-there : (n : ℕ) (l : List ℕ) → length (take n l) ≡ n → n ≤ len
 front-there zero l h = omega arith
 front-there (suc n) [] h = absurd (omega (arith, h))
 front-there (suc n) (x ∷ l) h = omega (arith, front-there n l (omega (arith, h)))
+
+-- the places of a ranking are six
+pub places-six : (card : List ℕ) → cardRefusal card ≡ 0 → (ranking : List ℕ) {ps : List ℕ} → ps ≡ sixPlaces ranking → isRanking (machineCount card) ranking ≡ true → SixPlaces ps
+places-six card ok ranking p ranks = rw p (six-places (machineCount card) ranking (accepted card ok .head .counts .machines) ranks)
 
 module _ (card : List ℕ) (ok : cardRefusal card ≡ 0) (r : List ℕ) (k : ℕ) (q : k ≡ machineCount card) (e : take (machineCount card) r ≡ stateCounts (machinesOf card)) where
   pub front-is : take k r ≡ stateCounts (machinesOf card)
@@ -37,5 +45,5 @@ module _ (card : List ℕ) (ok : cardRefusal card ≡ 0) (r : List ℕ) (k : ℕ
   pub rows-ready : (rs : List ℕ) (P : ℕ) → P ≡ product (stateCounts (machinesOf card)) → length rs ≡ 1024 → RowsPre (take k r) rs P
   rows-ready rs P p n = record { counts-of = front-counts; states = rw front-is p; room = n }
 
-  pub front-looked : {ranking rs ps : List ℕ} → HoldsRows (take k r) rs → ps ≡ sixPlaces ranking → Looked card ranking rs (take k r) ps
-  front-looked H p = record { rows = rw front-is at H; counts = front-is; places = p }
+  pub front-looked : {ranking rs ps : List ℕ} → HoldsRows (take k r) rs → ps ≡ sixPlaces ranking → isRanking (machineCount card) ranking ≡ true → Looked card ranking rs (take k r) ps
+  front-looked {ranking} H p ranks = record { rows = rw front-is at H; counts = front-is; places = p; six = places-six card ok ranking p ranks }

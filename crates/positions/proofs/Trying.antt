@@ -10,7 +10,7 @@ use lib.ListN.{length, getD, set, length-set}
 use lib.Seq.{getD-set-same, getD-set-other}
 use Rattle.paths.specs.Costs.{AtMost}
 use Rattle.paths.specs.Ranked.{Ranked, add, Less}
-use Rattle.labels.specs.Marks.{nibbles, marksOf}
+use Rattle.labels.specs.Marks.{nibbles, marksCost}
 use Rattle.labels.specs.LabelCost.{RoomFor}
 use Rattle.labels.specs.Work.{costAt, labelOf}
 use Rattle.labels.specs.Lowering.{Lowered}
@@ -69,25 +69,25 @@ module _ (xs : List ℕ) (u v m : ℕ) where
   edge-none n = record { unlabelled = λ h. refl; labelled = λ d h. absurd (Option·none-ne-some d (sym n ∙ h)) }
 
   module _ (k : labelOf xs v ≡ some (costAt xs v)) (l : Ranked 6) (e : l ≡ costAt xs v) where
-    pub edge-lowered : (ys : List ℕ) (c : Ranked 6) → c ≡ add 6 (marksOf m) l → Lowered xs ys u c → EdgeTried xs ys u v m
+    pub edge-lowered : (ys : List ℕ) (c : Ranked 6) → c ≡ add 6 (marksCost m) l → Lowered xs ys u c → EdgeTried xs ys u v m
     edge-lowered ys c q L = record {
       unlabelled = λ h. absurd (Option·none-ne-some (costAt xs v) (sym h ∙ k));
       labelled = λ d h.
           let w : costAt xs v ≡ d = cc (k, h) in
-          subst (λ (x : Ranked 6). Lowered xs ys u x) (q ∙ ap (add 6 (marksOf m)) (e ∙ w)) L;
+          subst (λ (x : Ranked 6). Lowered xs ys u x) (q ∙ ap (add 6 (marksCost m)) (e ∙ w)) L;
     }
 
   -- the pair is of no use: it would lead to more in the first three counts
   pub edge-skipped : {own f : ℕ} → EdgePre xs u v m → FrontOf xs u own → FrontOf xs v f → own < f + frontMarks m → EdgeTried xs xs u v m
   unfolding nibbles
-  edge-skipped {own} {f} E U T h = record { unlabelled = λ _. refl; labelled = λ d g. lowered-kept xs u (add 6 (marksOf m) d) (upto d (E .fits d g) (T .labelled d g)) }
+  edge-skipped {own} {f} E U T h = record { unlabelled = λ _. refl; labelled = λ d g. lowered-kept xs u (add 6 (marksCost m) d) (upto d (E .fits d g) (T .labelled d g)) }
     where
-      upto : (d : Ranked 6) → RoomFor 1 6 d → f ≡ firstThree d → AtMost (Less 6) (labelOf xs u) (add 6 (marksOf m) d)
+      upto : (d : Ranked 6) → RoomFor 1 6 d → f ≡ firstThree d → AtMost (Less 6) (labelOf xs u) (add 6 (marksCost m) d)
       upto d r e = go (labelOf xs u) refl
         where
-          sum : firstThree (add 6 (marksOf m) d) ≡ f + frontMarks m
+          sum : firstThree (add 6 (marksCost m) d) ≡ f + frontMarks m
           sum = omega arith
 
-          go : (o : Option (Ranked 6)) → labelOf xs u ≡ o → AtMost (Less 6) o (add 6 (marksOf m) d)
+          go : (o : Option (Ranked 6)) → labelOf xs u ≡ o → AtMost (Less 6) o (add 6 (marksCost m) d)
           go none q = absurd (omega (arith, U .unlabelled q, sum, E .marks, r .0, r .1 .0, r .1 .1 .0))
-          go (some b) q = record { val = b; is = refl; upto = inl (three-less b (add 6 (marksOf m) d) (omega (arith, E .marks, r .1 .0)) (omega (arith, E .marks, r .1 .1 .0)) (omega (arith, U .labelled b q, sum))) }
+          go (some b) q = record { val = b; is = refl; upto = inl (three-less b (add 6 (marksCost m) d) (omega (arith, E .marks, r .1 .0)) (omega (arith, E .marks, r .1 .1 .0)) (omega (arith, U .labelled b q, sum))) }

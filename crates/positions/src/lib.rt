@@ -69,23 +69,24 @@ fn exceeds(fronts: &[u64], to: usize, marks: u32, own: u64) -> bool
     own < fronts[to] + front_marks(marks)
 }
 
-// Tries the node of a position and a code, which has the front `own`, by the pair of the position's symbol and an output: the node's front
+// Tries the node of a position and a code, which has the front `own`, by the pair of a symbol of the position's set and an output: the node's front
 // after that. Most pairs are told to be of no use by the fronts alone.
 fn try_pair(
     work: &mut [u16],
     card: &[u8],
     ranking: &[u8],
-    word: &[u8],
+    sets: &[u64],
     joint: &[u32],
     fronts: &[u64],
     size: usize,
     position: usize,
+    symbol: u8,
     code: usize,
     output: usize,
     own: u64,
 ) -> u64
-    requires { ⌜ NodePre (now card) (now ranking) (now word) (now joint) (now fronts) (now work) size position × (code < size) × (output ≤ symbolCount (now card)) × FrontOf (now work) (position * size + code) own ⌝ }
-    ensures { λ r. ⌜ Tried (now (card .entry)) (now (ranking .entry)) (now (word .entry)) (now (work .entry)) (now (work .exit)) position (position * size + code) output (position * size + code) (output + 1) × FrontOf (now (work .exit)) (position * size + code) r ⌝ }
+    requires { ⌜ NodePre (now card) (now ranking) (now sets) (now joint) (now fronts) (now work) size position symbol × (code < size) × (output ≤ symbolCount (now card)) × FrontOf (now work) (position * size + code) own ⌝ }
+    ensures { λ r. ⌜ Tried (now (card .entry)) (now (ranking .entry)) (now (sets .entry)) (now (work .entry)) (now (work .exit)) position symbol (position * size + code) output (position * size + code) (output + 1) × FrontOf (now (work .exit)) (position * size + code) r ⌝ }
 {
     let found = tables::joint_table::read(joint[code * 64 + output]);
     let Joint::To(to, marks) = found else {
@@ -103,20 +104,21 @@ fn try_pair(
     front(work, position * size + code)
 }
 
-// Tries a node by every pair of the position's symbol.
+// Tries a node by every pair of a symbol of the position's set.
 fn enter_node(
     work: &mut [u16],
     card: &[u8],
     ranking: &[u8],
-    word: &[u8],
+    sets: &[u64],
     joint: &[u32],
     fronts: &[u64],
     size: usize,
     position: usize,
+    symbol: u8,
     code: usize,
 )
-    requires { ⌜ NodePre (now card) (now ranking) (now word) (now joint) (now fronts) (now work) size position × (code < size) ⌝ }
-    ensures { λ _. ⌜ Tried (now (card .entry)) (now (ranking .entry)) (now (word .entry)) (now (work .entry)) (now (work .exit)) position (position * size + code) 0 (position * size + (code + 1)) 0 ⌝ }
+    requires { ⌜ NodePre (now card) (now ranking) (now sets) (now joint) (now fronts) (now work) size position symbol × (code < size) ⌝ }
+    ensures { λ _. ⌜ Tried (now (card .entry)) (now (ranking .entry)) (now (sets .entry)) (now (work .entry)) (now (work .exit)) position symbol (position * size + code) 0 (position * size + (code + 1)) 0 ⌝ }
 {
     let symbols = card::symbol_count(card) as usize;
     let mut own = front(work, position * size + code);
@@ -126,11 +128,12 @@ fn enter_node(
             work,
             card,
             ranking,
-            word,
+            sets,
             joint,
             fronts,
             size,
             position,
+            symbol,
             code,
             output,
             own,
@@ -139,18 +142,19 @@ fn enter_node(
     }
 }
 
-// Tries each node of a position by every pair of the position's symbol.
+// Tries each node of a position by every pair of a symbol of the position's set.
 fn enter_nodes(
     work: &mut [u16],
     card: &[u8],
     ranking: &[u8],
-    word: &[u8],
+    sets: &[u64],
     joint: &[u32],
     size: usize,
     position: usize,
+    symbol: u8,
 )
-    requires { ⌜ EnterPre (now card) (now ranking) (now word) (now joint) (now work) size position ⌝ }
-    ensures { λ _. ⌜ Tried (now (card .entry)) (now (ranking .entry)) (now (word .entry)) (now (work .entry)) (now (work .exit)) position (position * size) 0 (position * size + size) 0 ⌝ }
+    requires { ⌜ EnterPre (now card) (now ranking) (now sets) (now joint) (now work) size position symbol ⌝ }
+    ensures { λ _. ⌜ Tried (now (card .entry)) (now (ranking .entry)) (now (sets .entry)) (now (work .entry)) (now (work .exit)) position symbol (position * size) 0 (position * size + size) 0 ⌝ }
 {
     let mut fronts = [0u64; 128];
     fill_fronts(work, (position + 1) * size, size, &mut fronts);
@@ -160,23 +164,24 @@ fn enter_nodes(
             work,
             card,
             ranking,
-            word,
+            sets,
             joint,
             &fronts,
             size,
             position,
+            symbol,
             code,
         );
         code += 1;
     }
 }
 
-// Enters a position before the last one.
+// Enters a position before the last one: by one symbol of its set after the other.
 fn enter_symbol(
     work: &mut [u16],
     card: &[u8],
     ranking: &[u8],
-    word: &[u8],
+    sets: &[u64],
     rows: &[u16],
     counts: &[u8],
     places: &[u8; 6],
@@ -185,20 +190,17 @@ fn enter_symbol(
     size: usize,
     position: usize,
 )
-    requires { ⌜ PositionPre (now card) (now ranking) (now word) (now rows) (now counts) (now places) (now work) size position × Lent (now stretch) (now joint) size × (position < length (now word)) ⌝ }
-    ensures { λ _. ⌜ PositionEntered (now (card .entry)) (now (ranking .entry)) (now (word .entry)) (now (work .entry)) (now (work .exit)) position ⌝ }
+    requires { ⌜ PositionPre (now card) (now ranking) (now sets) (now rows) (now counts) (now places) (now work) size position × Lent (now stretch) (now joint) size × (position < length (now sets)) ⌝ }
+    ensures { λ _. ⌜ PositionEntered (now (card .entry)) (now (ranking .entry)) (now (sets .entry)) (now (work .entry)) (now (work .exit)) position ⌝ }
 {
     let symbols = card::symbol_count(card) as usize;
-    tables::joint_table::fill(
-        card,
-        word[position],
-        counts,
-        places,
-        symbols,
-        stretch,
-        joint,
-    );
-    enter_nodes(work, card, ranking, word, joint, size, position);
+    let mut left = sets[position];
+    while left > 0 {
+        let symbol = machine::sets::least(left) as u8;
+        tables::joint_table::fill(card, symbol, counts, places, symbols, stretch, joint);
+        enter_nodes(work, card, ranking, sets, joint, size, position, symbol);
+        left = machine::sets::without_least(left);
+    }
 }
 
 // Tries the node of the last position and a code by its ending.
@@ -206,21 +208,21 @@ fn try_ending(
     work: &mut [u16],
     card: &[u8],
     ranking: &[u8],
-    word: &[u8],
+    sets: &[u64],
     rows: &[u16],
     counts: &[u8],
     places: &[u8; 6],
     size: usize,
     code: usize,
 )
-    requires { ⌜ EndPre (now card) (now ranking) (now word) (now rows) (now counts) (now places) (now work) size × (code < size) ⌝ }
-    ensures { λ _. ⌜ EndsTried (now (card .entry)) (now (ranking .entry)) (now (word .entry)) (now (work .entry)) (now (work .exit)) (length (now (word .entry)) * size + code) (length (now (word .entry)) * size + (code + 1)) ⌝ }
+    requires { ⌜ EndPre (now card) (now ranking) (now sets) (now rows) (now counts) (now places) (now work) size × (code < size) ⌝ }
+    ensures { λ _. ⌜ EndsTried (now (card .entry)) (now (ranking .entry)) (now (sets .entry)) (now (work .entry)) (now (work .exit)) (length (now (sets .entry)) * size + code) (length (now (sets .entry)) * size + (code + 1)) ⌝ }
 {
     let ending = tables::joint_ending(card, rows, places, code);
     let JointEnding::Marks(marks) = ending else {
         return;
     };
-    labels::lower(work, word.len() * size + code, tables::ending_label(marks));
+    labels::lower(work, sets.len() * size + code, tables::ending_label(marks));
 }
 
 // Enters the last position.
@@ -228,64 +230,29 @@ fn enter_last(
     work: &mut [u16],
     card: &[u8],
     ranking: &[u8],
-    word: &[u8],
+    sets: &[u64],
     rows: &[u16],
     counts: &[u8],
     places: &[u8; 6],
     size: usize,
 )
-    requires { ⌜ EndPre (now card) (now ranking) (now word) (now rows) (now counts) (now places) (now work) size ⌝ }
-    ensures { λ _. ⌜ EndsTried (now (card .entry)) (now (ranking .entry)) (now (word .entry)) (now (work .entry)) (now (work .exit)) (length (now (word .entry)) * size) (length (now (word .entry)) * size + size) ⌝ }
+    requires { ⌜ EndPre (now card) (now ranking) (now sets) (now rows) (now counts) (now places) (now work) size ⌝ }
+    ensures { λ _. ⌜ EndsTried (now (card .entry)) (now (ranking .entry)) (now (sets .entry)) (now (work .entry)) (now (work .exit)) (length (now (sets .entry)) * size) (length (now (sets .entry)) * size + size) ⌝ }
 {
     let mut code = 0;
     while code < size {
-        try_ending(work, card, ranking, word, rows, counts, places, size, code);
+        try_ending(work, card, ranking, sets, rows, counts, places, size, code);
         code += 1;
     }
 }
 
-// Enters a position.
-fn enter(
-    work: &mut [u16],
-    card: &[u8],
-    ranking: &[u8],
-    word: &[u8],
-    rows: &[u16],
-    counts: &[u8],
-    places: &[u8; 6],
-    stretch: &mut [u16],
-    joint: &mut [u32],
-    size: usize,
-    position: usize,
-)
-    requires { ⌜ PositionPre (now card) (now ranking) (now word) (now rows) (now counts) (now places) (now work) size position × Lent (now stretch) (now joint) size ⌝ }
-    ensures { λ _. ⌜ PositionEntered (now (card .entry)) (now (ranking .entry)) (now (word .entry)) (now (work .entry)) (now (work .exit)) position ⌝ }
-{
-    if position < word.len() {
-        enter_symbol(
-            work,
-            card,
-            ranking,
-            word,
-            rows,
-            counts,
-            places,
-            stretch,
-            joint,
-            size,
-            position,
-        );
-    } else {
-        enter_last(work, card, ranking, word, rows, counts, places, size);
-    }
-}
-
-// Labels the nodes of a position.
+// Labels the nodes of a position: enters it, by the pairs of the symbols of its set or, at the last one, by the endings, and settles it, by
+// insertions.
 fn label_position(
     work: &mut [u16],
     card: &[u8],
     ranking: &[u8],
-    word: &[u8],
+    sets: &[u64],
     rows: &[u16],
     counts: &[u8],
     places: &[u8; 6],
@@ -295,23 +262,28 @@ fn label_position(
     size: usize,
     position: usize,
 )
-    requires { ⌜ PositionPre (now card) (now ranking) (now word) (now rows) (now counts) (now places) (now work) size position × Lent (now stretch) (now joint) size × Insertions (now card) (now ranking) (now insertions) size ⌝ }
-    ensures { λ _. ⌜ PositionsDone (now (card .entry)) (now (ranking .entry)) (now (word .entry)) (now (work .entry)) (now (work .exit)) position ⌝ }
+    requires { ⌜ PositionPre (now card) (now ranking) (now sets) (now rows) (now counts) (now places) (now work) size position × Lent (now stretch) (now joint) size × Insertions (now card) (now ranking) (now insertions) size ⌝ }
+    ensures { λ _. ⌜ PositionsDone (now (card .entry)) (now (ranking .entry)) (now (sets .entry)) (now (work .entry)) (now (work .exit)) position ⌝ }
 {
-    enter(
-        work,
-        card,
-        ranking,
-        word,
-        rows,
-        counts,
-        places,
-        stretch,
-        joint,
-        size,
-        position,
-    );
-    labels::settle(work, insertions, position * size, size);
+    if position < sets.len() {
+        enter_symbol(
+            work,
+            card,
+            ranking,
+            sets,
+            rows,
+            counts,
+            places,
+            stretch,
+            joint,
+            size,
+            position,
+        );
+        labels::settle(work, insertions, position * size, size);
+    } else {
+        enter_last(work, card, ranking, sets, rows, counts, places, size);
+        labels::settle(work, insertions, sets.len() * size, size);
+    }
 }
 
 // The cheapest insertions between the codes, as lists of pairs.
@@ -347,7 +319,7 @@ fn label_positions(
     work: &mut [u16],
     card: &[u8],
     ranking: &[u8],
-    word: &[u8],
+    sets: &[u64],
     rows: &[u16],
     counts: &[u8],
     places: &[u8; 6],
@@ -356,18 +328,18 @@ fn label_positions(
     joint: &mut [u32],
     size: usize,
 )
-    requires { ⌜ LabelPre (now card) (now ranking) (now word) (now work) size × Looked (now card) (now ranking) (now rows) (now counts) (now places) × Lent (now stretch) (now joint) size × Insertions (now card) (now ranking) (now insertions) size ⌝ }
-    ensures { λ _. ⌜ PositionsDone (now (card .entry)) (now (ranking .entry)) (now (word .entry)) (now (work .entry)) (now (work .exit)) 0 ⌝ }
+    requires { ⌜ LabelPre (now card) (now ranking) (now sets) (now work) size × Looked (now card) (now ranking) (now rows) (now counts) (now places) × Lent (now stretch) (now joint) size × Insertions (now card) (now ranking) (now insertions) size ⌝ }
+    ensures { λ _. ⌜ PositionsDone (now (card .entry)) (now (ranking .entry)) (now (sets .entry)) (now (work .entry)) (now (work .exit)) 0 ⌝ }
 {
-    labels::clear(work, (word.len() + 1) * size);
-    let mut left = word.len() + 1;
+    labels::clear(work, (sets.len() + 1) * size);
+    let mut left = sets.len() + 1;
     while left > 0 {
         left -= 1;
         label_position(
             work,
             card,
             ranking,
-            word,
+            sets,
             rows,
             counts,
             places,
@@ -385,13 +357,13 @@ fn label_with(
     work: &mut [u16],
     card: &[u8],
     ranking: &[u8],
-    word: &[u8],
+    sets: &[u64],
     size: usize,
     joint: &mut [u32],
     cheapest: &mut [u32],
 )
-    requires { ⌜ LabelPre (now card) (now ranking) (now word) (now work) size × TablesFit (now joint) (now cheapest) size ⌝ }
-    ensures { λ _. ⌜ PositionsDone (now (card .entry)) (now (ranking .entry)) (now (word .entry)) (now (work .entry)) (now (work .exit)) 0 ⌝ }
+    requires { ⌜ LabelPre (now card) (now ranking) (now sets) (now work) size × TablesFit (now joint) (now cheapest) size ⌝ }
+    ensures { λ _. ⌜ PositionsDone (now (card .entry)) (now (ranking .entry)) (now (sets .entry)) (now (work .entry)) (now (work .exit)) 0 ⌝ }
 {
     let mut rows = [0u16; 1024];
     let mut stretch = [0u16; 2048];
@@ -414,7 +386,7 @@ fn label_with(
         work,
         card,
         ranking,
-        word,
+        sets,
         &rows,
         counts,
         &places,
@@ -426,46 +398,46 @@ fn label_with(
 }
 
 // Labels all nodes of a card with at most 8 joint states.
-fn label_tiny(work: &mut [u16], card: &[u8], ranking: &[u8], word: &[u8], size: usize)
-    requires { ⌜ LabelPre (now card) (now ranking) (now word) (now work) size × (size ≤ 8) ⌝ }
-    ensures { λ _. ⌜ PositionsDone (now (card .entry)) (now (ranking .entry)) (now (word .entry)) (now (work .entry)) (now (work .exit)) 0 ⌝ }
+fn label_tiny(work: &mut [u16], card: &[u8], ranking: &[u8], sets: &[u64], size: usize)
+    requires { ⌜ LabelPre (now card) (now ranking) (now sets) (now work) size × (size ≤ 8) ⌝ }
+    ensures { λ _. ⌜ PositionsDone (now (card .entry)) (now (ranking .entry)) (now (sets .entry)) (now (work .entry)) (now (work .exit)) 0 ⌝ }
 {
     let mut joint = [0u32; 512];
     let mut cheapest = [NO_PAIR; 64];
-    label_with(work, card, ranking, word, size, &mut joint, &mut cheapest);
+    label_with(work, card, ranking, sets, size, &mut joint, &mut cheapest);
 }
 
 // Labels all nodes of a card with at most 32 joint states.
-fn label_small(work: &mut [u16], card: &[u8], ranking: &[u8], word: &[u8], size: usize)
-    requires { ⌜ LabelPre (now card) (now ranking) (now word) (now work) size × (size ≤ 32) ⌝ }
-    ensures { λ _. ⌜ PositionsDone (now (card .entry)) (now (ranking .entry)) (now (word .entry)) (now (work .entry)) (now (work .exit)) 0 ⌝ }
+fn label_small(work: &mut [u16], card: &[u8], ranking: &[u8], sets: &[u64], size: usize)
+    requires { ⌜ LabelPre (now card) (now ranking) (now sets) (now work) size × (size ≤ 32) ⌝ }
+    ensures { λ _. ⌜ PositionsDone (now (card .entry)) (now (ranking .entry)) (now (sets .entry)) (now (work .entry)) (now (work .exit)) 0 ⌝ }
 {
     let mut joint = [0u32; 2048];
     let mut cheapest = [NO_PAIR; 1024];
-    label_with(work, card, ranking, word, size, &mut joint, &mut cheapest);
+    label_with(work, card, ranking, sets, size, &mut joint, &mut cheapest);
 }
 
 // Labels all nodes of any card.
-fn label_large(work: &mut [u16], card: &[u8], ranking: &[u8], word: &[u8], size: usize)
-    requires { ⌜ LabelPre (now card) (now ranking) (now word) (now work) size ⌝ }
-    ensures { λ _. ⌜ PositionsDone (now (card .entry)) (now (ranking .entry)) (now (word .entry)) (now (work .entry)) (now (work .exit)) 0 ⌝ }
+fn label_large(work: &mut [u16], card: &[u8], ranking: &[u8], sets: &[u64], size: usize)
+    requires { ⌜ LabelPre (now card) (now ranking) (now sets) (now work) size ⌝ }
+    ensures { λ _. ⌜ PositionsDone (now (card .entry)) (now (ranking .entry)) (now (sets .entry)) (now (work .entry)) (now (work .exit)) 0 ⌝ }
 {
     let mut joint = [0u32; 8192];
     let mut cheapest = [NO_PAIR; 16384];
-    label_with(work, card, ranking, word, size, &mut joint, &mut cheapest);
+    label_with(work, card, ranking, sets, size, &mut joint, &mut cheapest);
 }
 
 // Labels all nodes: the label of a node is the cost of a best path from it. Few joint states take small tables, since a table has to be
 // written whole when it is made.
-pub fn label(work: &mut [u16], card: &[u8], ranking: &[u8], word: &[u8], size: usize)
-    requires { ⌜ LabelPre (now card) (now ranking) (now word) (now work) size ⌝ }
-    ensures { λ _. ⌜ PositionsDone (now (card .entry)) (now (ranking .entry)) (now (word .entry)) (now (work .entry)) (now (work .exit)) 0 ⌝ }
+pub fn label(work: &mut [u16], card: &[u8], ranking: &[u8], sets: &[u64], size: usize)
+    requires { ⌜ LabelPre (now card) (now ranking) (now sets) (now work) size ⌝ }
+    ensures { λ _. ⌜ PositionsDone (now (card .entry)) (now (ranking .entry)) (now (sets .entry)) (now (work .entry)) (now (work .exit)) 0 ⌝ }
 {
     if size <= 8 {
-        label_tiny(work, card, ranking, word, size);
+        label_tiny(work, card, ranking, sets, size);
     } else if size <= 32 {
-        label_small(work, card, ranking, word, size);
+        label_small(work, card, ranking, sets, size);
     } else {
-        label_large(work, card, ranking, word, size);
+        label_large(work, card, ranking, sets, size);
     }
 }

@@ -1,7 +1,6 @@
 -- How the check of a word ends. Assumes nothing.
 use mathlib.Core.Path.{_≡_}
-use mathlib.Core.Bool.{Bool, true, false, _&&_, _||_, and-false}
-use mathlib.Core.Logic.{_⊎_, inl, inr}
+use mathlib.Core.Bool.{Bool, true, false, _&&_}
 use mathlib.Core.List.{List}
 use Prim.Native.Nat.{ℕ, _+_, _<_}
 use native.Mathlib.Numerals.{add-one}
@@ -10,29 +9,21 @@ use lib.ListN.{length, getD, drop}
 use lib.Seq.{drop-cons, drop-length}
 use borrow.Author.Tests.{ltb-true, ltb-false, le-leb, lt-leb}
 use Rattle.basics.specs.Search.{allOf}
-use Rattle.basics.proofs.Bools.{either, left-fails, right-fails}
 use Rattle.basics.proofs.Search.{all-next, all-fails, all-none}
-use Rattle.candidate.specs.Optimizing.{soundWord}
+use Rattle.product.specs.Optimizing.{soundWord}
 
 abbrev pub symbol : ℕ → ℕ → Bool
 symbol S x = leb 1 x && leb x S
 
 module _ (S : ℕ) (word : List ℕ) where
   -- by its length
-  pub wrong-length : (ltb (length word) 1 || ltb 24 (length word)) ≡ true → soundWord S word ≡ false
+  pub wrong-length : ltb 24 (length word) ≡ true → soundWord S word ≡ false
   unfolding soundWord
-  wrong-length t = go (either (ltb (length word) 1) (ltb 24 (length word)) t)
-    where
-      go : (ltb (length word) 1 ≡ true) ⊎ (ltb 24 (length word) ≡ true) → soundWord S word ≡ false
-      go (inl e) = rw (lt-leb 1 (length word) (ltb-true (length word) 1 e))
-      go (inr e) = rw (lt-leb (length word) 24 (ltb-true 24 (length word) e), and-false)
+  wrong-length t = rw (lt-leb (length word) 24 (ltb-true 24 (length word) t))
 
-  pub right-length : (ltb (length word) 1 || ltb 24 (length word)) ≡ false → allOf (symbol S) (drop 0 word) ≡ soundWord S word
+  pub right-length : ltb 24 (length word) ≡ false → allOf (symbol S) (drop 0 word) ≡ soundWord S word
   unfolding soundWord
-  right-length t =
-      let a = ltb-false (length word) 1 (left-fails (ltb (length word) 1) (ltb 24 (length word)) t) in
-      let b = ltb-false 24 (length word) (right-fails (ltb (length word) 1) (ltb 24 (length word)) t) in
-      rw (le-leb 1 (length word) a, le-leb (length word) 24 b)
+  right-length t = rw (le-leb (length word) 24 (ltb-false 24 (length word) t))
 
   -- by the rest of its symbols from a place on
   pub next-symbol : (at : ℕ) → at < length word → symbol S (getD word at 0) ≡ true → allOf (symbol S) (drop (at + 1) word) ≡ allOf (symbol S) (drop at word)

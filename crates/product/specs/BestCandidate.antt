@@ -1,20 +1,38 @@
--- When a candidate is the best for a word, among candidates of any length.
+-- When a candidate is the best for a word, among candidates of any length; and when an answer is it.
 use mathlib.Core.Path.{_≡_}
-use mathlib.Core.Logic.{_≢_}
+use mathlib.Core.Logic.{_≢_, _↔_}
 use mathlib.Core.Bool.{true}
 use mathlib.Core.List.{List}
+use mathlib.Core.Option.{Option, some, none}
 use Prim.Native.Nat.{ℕ, _<_}
 use lib.ListN.{length}
 use Rattle.machine.specs.declared.Pair.{Pair}
 use Rattle.machine.specs.Machine.{Machine}
-use Rattle.ranking.specs.declared.Order.the-variants.{Worse}
-use Rattle.ranking.specs.Harmony.{harmony}
+use Rattle.ranking.specs.Harmony.{worse}
 use Rattle.candidate.specs.Candidates.{bytesOf, profileOf, IsCandidate}
+use Rattle.product.specs.Sets.{IsCandidateOf}
+use Rattle.product.specs.Best.{Contender, contenderOf, ProfileOrder}
 use Rattle.ranking.specs.ByteStrings.{smaller}
+use Rattle.product.specs.Prices.{Alike}
+
+-- ---- in an order on profiles
+
+-- a beats b: it has the better profile; or neither has, and a has fewer pairs; or neither has, and of as many pairs the smaller byte string
+pub data BeatsIn (better : ProfileOrder) (a b : Contender) : Type 0 where
+  by-profile : better (a .profile) (b .profile) ≡ true → BeatsIn better a b
+  by-pairs : Alike better (a .profile) (b .profile) → length (a .candidate) < length (b .candidate) → BeatsIn better a b
+  by-bytes : Alike better (a .profile) (b .profile) → length (a .candidate) ≡ length (b .candidate) → smaller (bytesOf (a .candidate)) (bytesOf (b .candidate)) ≡ true → BeatsIn better a b
+
+-- of the candidates meant, those for a word or for the words of sets, c is the one that beats every other one, however long
+pub record IsBestIn (better : ProfileOrder) (ms : List Machine) (Meant : List Pair → Type 0) (c : List Pair) : Type 0 where
+  pub candidate : Meant c
+  pub rivals : (d : List Pair) → Meant d → d ≢ c → BeatsIn better (contenderOf ms c) (contenderOf ms d)
+
+-- ---- under a ranking, where equal in harmony is equal
 
 -- c beats d: d has a worse profile; or an equal profile and more pairs; or an equal profile, as many pairs and a larger byte string
 pub data Beats (ranking : List ℕ) (ms : List Machine) (c d : List Pair) : Type 0 where
-  better-profile : harmony ranking (profileOf ms d) (profileOf ms c) ≡ Worse → Beats ranking ms c d
+  better-profile : worse ranking (profileOf ms d) (profileOf ms c) ≡ true → Beats ranking ms c d
   fewer-pairs : profileOf ms d ≡ profileOf ms c → length c < length d → Beats ranking ms c d
   smaller-bytes : profileOf ms d ≡ profileOf ms c → length d ≡ length c → smaller (bytesOf c) (bytesOf d) ≡ true → Beats ranking ms c d
 
@@ -22,3 +40,19 @@ pub data Beats (ranking : List ℕ) (ms : List Machine) (c d : List Pair) : Type
 pub record IsBestCandidate (ranking : List ℕ) (ms : List Machine) (word : List ℕ) (c : List Pair) : Type 0 where
   pub candidate : IsCandidate ms word c
   pub rivals : (d : List Pair) → IsCandidate ms word d → d ≢ c → Beats ranking ms c d
+
+-- c is a candidate for a word with one symbol from each set, and beats every other candidate for such a word
+pub record IsBestOfSets (ranking : List ℕ) (ms : List Machine) (sets : List ℕ) (c : List Pair) : Type 0 where
+  pub candidate : IsCandidateOf ms sets c
+  pub rivals : (d : List Pair) → IsCandidateOf ms sets d → d ≢ c → Beats ranking ms c d
+
+-- ---- an answer is the best of the candidates meant, of any length, by what it is for one to be the best
+
+pub record BestOf (ms : List Machine) (Meant IsBest : List Pair → Type 0) (answer : Option Contender) : Type 0 where
+  -- there is none exactly when no list of pairs, however long, is such a candidate
+  pub none-exactly : (answer ≡ none) ↔ ((c : List Pair) → ¬ (Meant c))
+  -- otherwise it is the best, and it comes with its profile
+  pub is-best : (b : Contender) → answer ≡ some b → IsBest (b .candidate)
+  pub its-profile : (b : Contender) → answer ≡ some b → b .profile ≡ profileOf ms (b .candidate)
+  -- and no other candidate is
+  pub only-it : (c : List Pair) → IsBest c → answer ≡ some (contenderOf ms c)

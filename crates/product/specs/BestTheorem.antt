@@ -1,7 +1,6 @@
 -- The theorem on the best candidate, over the definitions alone: the definition looks at lists of fewer pairs than there are nodes, and what it
 -- finds is the best of the lists of any length. It holds for every accepted card, every ranking and every word, the empty one too.
 use mathlib.Core.Path.{_≡_, refl, sym, _∙_, ap}
-use mathlib.Core.Logic.{_↔_}
 use mathlib.Core.Bool.{true}
 use mathlib.Core.List.{List}
 use mathlib.Core.Option.{Option, some, none, Option·none-ne-some}
@@ -12,106 +11,165 @@ use lib.ListN.{length}
 use lib.Dec.{leb}
 use Rattle.basics.specs.Search.{allOf}
 use Rattle.machine.specs.declared.Pair.{Pair}
+use Rattle.machine.specs.Machine.{Machine}
 use Rattle.ranking.specs.Rankings.{isRanking}
 use Rattle.card.specs.Layout.{machineCount}
 use Rattle.card.specs.Card.{machinesOf, cardRefusal}
 use Rattle.candidate.specs.Candidates.{profileOf, IsCandidate}
-use Rattle.candidate.specs.Best.{Form, nodeCount, best}
-use Rattle.candidate.specs.Optimizing.{countsFit}
+use Rattle.product.specs.Sets.{singletons}
+use Rattle.product.specs.Best.{Contender, contenderOf, ProfileOrder, bestIn, best}
+use Rattle.product.specs.Nodes.{nodeCount}
+use Rattle.product.specs.Optimizing.{countsFit}
+use Rattle.paths.specs.Total.{lex-total, same?, asym}
+use Rattle.paths.specs.Costs.{Costs}
 use Rattle.paths.specs.Pigeonhole.{Distinct}
 use Rattle.paths.specs.Graph.{pathCost, nodes}
-use Rattle.paths.specs.Best.{IsBest, best-distinct, best-short}
-use Rattle.product.specs.Prices.{byRanking}
-use Rattle.product.specs.ProductGraph.{cardGraph, cardStart}
-use Rattle.product.specs.BestCandidate.{IsBestCandidate}
+use Rattle.paths.specs.Best.{before-total, IsBest, best-distinct, best-short}
+use Rattle.product.specs.Prices.{Price, Alike, Agrees, byRanking, ranking-agrees}
+use Rattle.product.specs.ProductGraph.{pairs, pricedGraph, cardGraph, cardStart}
+use Rattle.product.specs.BestCandidate.{BeatsIn, by-profile, by-pairs, by-bytes, IsBestIn, IsBestCandidate, BestOf}
 use Rattle.product.specs.Laws.Candidates.{candidate-cost, cost-candidate}
-use Rattle.product.specs.Laws.Listing.{formOf}
 use Rattle.product.specs.Laws.Accepted.{accepted-machines}
-use Rattle.product.specs.Laws.CardGraph.{start-within, card-within}
-use Rattle.product.specs.Laws.Best.{candidateOf, best-answers, best-form, is-the-best, there-is-none}
-use Rattle.product.specs.Laws.BestCandidate.{best-path-candidate, best-candidate-path}
+use Rattle.product.specs.Laws.CardGraph.{start-within, word-within}
+use Rattle.product.specs.Laws.Preference.{keyOf, beats-earlier}
+use Rattle.product.specs.Laws.Best.{candidateOf, best-answers, best-contender, is-the-best, there-is-none}
+use Rattle.product.specs.Laws.BestCandidate.{best-harmonic, harmonic-best, path-best-in, best-in-path}
 use Rattle.product.specs.Laws.Counts.{profile-bound, all-below}
 
--- the best of the lists of pairs of any length
-pub record BestOfAll (card ranking word : List ℕ) : Type 0 where
-  -- there is none exactly when no list of pairs, however long, is a candidate
-  pub none-exactly : (best card ranking word ≡ none) ↔ ((c : List Pair) → ¬ (IsCandidate (machinesOf card) word c))
-  -- otherwise it is a candidate that beats every other one, however long, and it comes with its profile
-  pub is-best : (b : Form) → best card ranking word ≡ some b → IsBestCandidate ranking (machinesOf card) word (b .candidate)
-  pub its-profile : (b : Form) → best card ranking word ≡ some b → b .profile ≡ profileOf (machinesOf card) (b .candidate)
-  -- and no other candidate does so
-  pub only-it : (c : List Pair) → IsBestCandidate ranking (machinesOf card) word c → best card ranking word ≡ some (record { candidate = c; profile = profileOf (machinesOf card) c })
+-- ---- in an order on profiles, with a price that agrees with it
 
-pub best-is-best-of-all : (card ranking word : List ℕ) → cardRefusal card ≡ 0 → isRanking (machineCount card) ranking ≡ true → BestOfAll card ranking word
-best-is-best-of-all card r word ok is = record { none-exactly = (nothing, empty); is-best = best-one; its-profile = profile; only-it = only }
-  where
-    ranks : isRanking (length (machinesOf card)) r ≡ true
-    ranks = rw (accepted-machines card ok .count) is
+module _ {costs : Costs} {price : Price costs} {better : ProfileOrder} (agrees : Agrees price better) (card word : List ℕ) (ok : cardRefusal card ≡ 0) where
+  -- the best of the definition is the best of the lists of pairs of any length
+  pub best-in-is-best-of-all : BestOf (machinesOf card) (IsCandidate (machinesOf card) word) (IsBestIn better (machinesOf card) (IsCandidate (machinesOf card) word)) (bestIn better card word)
+  best-in-is-best-of-all = record { none-exactly = (nothing, empty); is-best = best-one; its-profile = profile; only-it = only }
+    where
+      nothing : bestIn better card word ≡ none → (c : List Pair) → ¬ (IsCandidate (machinesOf card) word c)
+      nothing e c h =
+          let q = best-answers agrees card word ok .no-path (ap candidateOf e) c in
+          Option·none-ne-some _ (sym q ∙ candidate-cost price word (accepted-machines card ok .sound) c h)
 
-    nothing : best card r word ≡ none → (c : List Pair) → ¬ (IsCandidate (machinesOf card) word c)
-    nothing e c h =
-        let q = best-answers card r word ok .no-path (ap candidateOf e) c in
-        Option·none-ne-some _ (sym q ∙ candidate-cost (byRanking r) word (accepted-machines card ok .sound) c h)
+      empty : ((c : List Pair) → ¬ (IsCandidate (machinesOf card) word c)) → bestIn better card word ≡ none
+      empty f = there-is-none agrees card word ok (λ c. go c (pathCost (pricedGraph price card (singletons word)) (cardStart card) c) refl)
+        where
+          go : (c : List Pair) (o : Option _) → pathCost (pricedGraph price card (singletons word)) (cardStart card) c ≡ o → o ≡ none
+          go c none h = refl
+          go c (some x) h = absurd (f c (cost-candidate price word (accepted-machines card ok .sound) c x h .is))
 
-    empty : ((c : List Pair) → ¬ (IsCandidate (machinesOf card) word c)) → best card r word ≡ none
-    empty f = there-is-none card r word ok (λ c. go c (pathCost (cardGraph card r word) (cardStart card) c) refl)
-      where
-        go : (c : List Pair) (o : Option _) → pathCost (cardGraph card r word) (cardStart card) c ≡ o → o ≡ none
-        go c none h = refl
-        go c (some x) h = absurd (f c (cost-candidate (byRanking r) word (accepted-machines card ok .sound) c x h .is))
+      best-one : (b : Contender) → bestIn better card word ≡ some b → IsBestIn better (machinesOf card) (IsCandidate (machinesOf card) word) (b .candidate)
+      best-one b e = path-best-in agrees (accepted-machines card ok .sound) word (b .candidate) (best-answers agrees card word ok .best (b .candidate) (ap candidateOf e))
 
-    best-one : (b : Form) → best card r word ≡ some b → IsBestCandidate r (machinesOf card) word (b .candidate)
-    best-one b e = best-path-candidate (accepted-machines card ok .sound) r word ranks (b .candidate) (best-answers card r word ok .best (b .candidate) (ap candidateOf e))
+      profile : (b : Contender) → bestIn better card word ≡ some b → b .profile ≡ profileOf (machinesOf card) (b .candidate)
+      profile b e = ap (λ (a : Contender). a .profile) (best-contender agrees card word ok b e)
 
-    profile : (b : Form) → best card r word ≡ some b → b .profile ≡ profileOf (machinesOf card) (b .candidate)
-    profile b e = ap (λ (a : Form). a .profile) (best-form card r word ok b e)
-
-    only : (c : List Pair) → IsBestCandidate r (machinesOf card) word c → best card r word ≡ some (formOf (machinesOf card) c)
-    only c a = is-the-best card r word ok c (best-candidate-path (accepted-machines card ok .sound) r word c a)
-
--- ---- how an engine shows that it found it: its answer is the best path of the product, or the product has no path
-
-pub best-path-is-best : (card ranking word : List ℕ) → cardRefusal card ≡ 0 → (c : List Pair) → IsBest (cardGraph card ranking word) (cardStart card) c
-    → best card ranking word ≡ some (record { candidate = c; profile = profileOf (machinesOf card) c })
-best-path-is-best = is-the-best
-
-pub no-path-no-best : (card ranking word : List ℕ) → cardRefusal card ≡ 0 → ((c : List Pair) → pathCost (cardGraph card ranking word) (cardStart card) c ≡ none) → best card ranking word ≡ none
-no-path-no-best = there-is-none
-
--- ---- how long it is
+      only : (c : List Pair) → IsBestIn better (machinesOf card) (IsCandidate (machinesOf card) word) c → bestIn better card word ≡ some (contenderOf (machinesOf card) c)
+      only c a = is-the-best agrees card word ok c (best-in-path agrees (accepted-machines card ok .sound) word c a)
 
 -- it passes no node twice, so it has fewer pairs than there are nodes
-pub record ShortBest (card ranking word : List ℕ) (b : Form) : Type 0 where
-  pub no-node-twice : Distinct (nodes (cardGraph card ranking word) (cardStart card) (b .candidate))
-  pub fewer-pairs : length (b .candidate) < nodeCount card word
+pub record ShortAt {costs : Costs} (price : Price costs) (card word : List ℕ) (b : Contender) : Type 0 where
+  pub no-node-twice : Distinct (nodes (pricedGraph price card (singletons word)) (cardStart card) (b .candidate))
+  pub fewer-pairs : length (b .candidate) < nodeCount (machinesOf card) (length word)
 
-pub best-is-short : (card ranking word : List ℕ) → cardRefusal card ≡ 0 → (b : Form) → best card ranking word ≡ some b → ShortBest card ranking word b
-best-is-short card r word ok b e = record {
-  no-node-twice = best-distinct (cardGraph card r word) (cardStart card) (b .candidate) a;
-  fewer-pairs = best-short (cardGraph card r word) (card-within card r word ok) (cardStart card) (start-within card word ok) (b .candidate) a;
-}
+pub best-in-is-short : {costs : Costs} {price : Price costs} {better : ProfileOrder} → Agrees price better → (card word : List ℕ) → cardRefusal card ≡ 0 → (b : Contender) → bestIn better card word ≡ some b → ShortAt price card word b
+best-in-is-short {price = price} agrees card word ok b e =
+    let G = pricedGraph price card (singletons word) in
+    let a = best-answers agrees card word ok .best (b .candidate) (ap candidateOf e) in
+    record {
+      no-node-twice = best-distinct G (cardStart card) (b .candidate) a;
+      fewer-pairs = best-short G (word-within card word ok price) (cardStart card) (start-within card word ok) (b .candidate) a;
+    }
+
+-- orders that compare two profiles alike prefer alike
+pub beats-alike : {better better′ : ProfileOrder} {a b : Contender} → better (a .profile) (b .profile) ≡ better′ (a .profile) (b .profile) → better (b .profile) (a .profile) ≡ better′ (b .profile) (a .profile) → BeatsIn better a b → BeatsIn better′ a b
+beats-alike {better} {better′} {a} {b} p q = go
   where
-    a : IsBest (cardGraph card r word) (cardStart card) (b .candidate)
-    a = best-answers card r word ok .best (b .candidate) (ap candidateOf e)
+    neither : Alike better (a .profile) (b .profile) → Alike better′ (a .profile) (b .profile)
+    neither e = (sym p ∙ e .0, sym q ∙ e .1)
+
+    go : BeatsIn better a b → BeatsIn better′ a b
+    go (by-profile e) = by-profile (sym p ∙ e)
+    go (by-pairs e k) = by-pairs (neither e) k
+    go (by-bytes e k l) = by-bytes (neither e) k l
+
+-- two orders that compare their two bests alike have one best
+module _ {costs costs′ : Costs} {price : Price costs} {price′ : Price costs′} {better better′ : ProfileOrder} (agrees : Agrees price better) (agrees′ : Agrees price′ better′) where
+  pub same-best : (card word : List ℕ) → cardRefusal card ≡ 0 → (a b : Contender) → bestIn better card word ≡ some a → bestIn better′ card word ≡ some b
+      → better (a .profile) (b .profile) ≡ better′ (a .profile) (b .profile) → better (b .profile) (a .profile) ≡ better′ (b .profile) (a .profile) → a ≡ b
+  same-best card word ok a b ea eb p q = go (same? (lex-total (pairs ._◃_) (pairs .total)) (a .candidate) (b .candidate))
+    where
+      ms : List Machine
+      ms = machinesOf card
+
+      one : a ≡ contenderOf ms (a .candidate)
+      one = best-contender agrees card word ok a ea
+
+      other : b ≡ contenderOf ms (b .candidate)
+      other = best-contender agrees′ card word ok b eb
+
+      go : Dec (a .candidate ≡ b .candidate) → a ≡ b
+      go (yes e) = one ∙ ap (contenderOf ms) e ∙ sym other
+      go (no n) =
+          let x = best-in-is-best-of-all agrees card word ok .is-best a ea in
+          let y = best-in-is-best-of-all agrees′ card word ok .is-best b eb in
+          let ab : BeatsIn better a b = rw (one, other) (x .rivals (b .candidate) (y .candidate) (λ e. n (sym e))) in
+          let ba : BeatsIn better′ b a = rw (one, other) (y .rivals (a .candidate) (x .candidate) n) in
+          absurd (asym (before-total costs′ pairs) (keyOf price′ a) (keyOf price′ b) (beats-earlier agrees′ a b (beats-alike p q ab)) (beats-earlier agrees′ b a ba))
 
 -- of a word of at most 24 symbols it has at most 3,199 pairs and no count above 47,985, which is 15 a pair
-pub record SmallBest (b : Form) : Type 0 where
+pub record SmallBest (b : Contender) : Type 0 where
   pub pairs : length (b .candidate) ≤ 3199
   pub counts : allOf (λ n. leb n 47985) (b .profile) ≡ true
 
-pub best-is-small : (card ranking word : List ℕ) → cardRefusal card ≡ 0 → length word ≤ 24 → (b : Form) → best card ranking word ≡ some b → SmallBest b
-best-is-small card r word ok h b e = record { pairs = short; counts = rw (best-form card r word ok b e) (profile-bound (accepted-machines card ok .sound) (b .candidate) 47985 (omega (arith, short))) }
+pub best-in-is-small : {costs : Costs} {price : Price costs} {better : ProfileOrder} → Agrees price better → (card word : List ℕ) → cardRefusal card ≡ 0 → length word ≤ 24 → (b : Contender) → bestIn better card word ≡ some b → SmallBest b
+best-in-is-small agrees card word ok h b e = record { pairs = short; counts = rw (best-contender agrees card word ok b e) (profile-bound (accepted-machines card ok .sound) (b .candidate) 47985 (omega (arith, short))) }
   where
-    few : nodeCount card word ≤ 25 * 128
+    few : nodeCount (machinesOf card) (length word) ≤ 25 * 128
     few = let n : length word + 1 ≤ 25 = omega arith in mul-le-mul n (accepted-machines card ok .few-states)
 
     short : length (b .candidate) ≤ 3199
-    short = omega (arith, few, best-is-short card r word ok b e .fewer-pairs)
+    short = omega (arith, few, best-in-is-short agrees card word ok b e .fewer-pairs)
+
+-- ---- under a ranking
+
+abbrev pub BestOfAll : (card ranking word : List ℕ) → Type 0
+BestOfAll card ranking word = BestOf (machinesOf card) (IsCandidate (machinesOf card) word) (IsBestCandidate ranking (machinesOf card) word) (best card ranking word)
+
+pub best-is-best-of-all : (card ranking word : List ℕ) → cardRefusal card ≡ 0 → isRanking (machineCount card) ranking ≡ true → BestOfAll card ranking word
+unfolding best
+best-is-best-of-all card r word ok is =
+    let all = best-in-is-best-of-all (ranking-agrees r) card word ok in
+    record {
+      none-exactly = all .none-exactly;
+      is-best = λ b e. harmonic-best r (machinesOf card) word (b .candidate) (rw (accepted-machines card ok .count) is) (all .is-best b e);
+      its-profile = all .its-profile;
+      only-it = λ c a. all .only-it c (best-harmonic r (machinesOf card) word c a);
+    }
+
+-- how an engine shows that it found it: its answer is the best path of the product, or the product has no path
+pub best-path-is-best : (card ranking word : List ℕ) → cardRefusal card ≡ 0 → (c : List Pair) → IsBest (cardGraph card ranking word) (cardStart card) c
+    → best card ranking word ≡ some (record { candidate = c; profile = profileOf (machinesOf card) c })
+unfolding best
+best-path-is-best card r word ok = is-the-best (ranking-agrees r) card word ok
+
+pub no-path-no-best : (card ranking word : List ℕ) → cardRefusal card ≡ 0 → ((c : List Pair) → pathCost (cardGraph card ranking word) (cardStart card) c ≡ none) → best card ranking word ≡ none
+unfolding best
+no-path-no-best card r word ok = there-is-none (ranking-agrees r) card word ok
+
+-- how long it is
+abbrev pub ShortBest : (card ranking word : List ℕ) → Contender → Type 0
+ShortBest card ranking word b = ShortAt (byRanking ranking) card word b
+
+pub best-is-short : (card ranking word : List ℕ) → cardRefusal card ≡ 0 → (b : Contender) → best card ranking word ≡ some b → ShortBest card ranking word b
+unfolding best
+best-is-short card r word ok b e = best-in-is-short (ranking-agrees r) card word ok b e
+
+pub best-is-small : (card ranking word : List ℕ) → cardRefusal card ≡ 0 → length word ≤ 24 → (b : Contender) → best card ranking word ≡ some b → SmallBest b
+unfolding best
+best-is-small card r word ok h b e = best-in-is-small (ranking-agrees r) card word ok h b e
 
 -- so no count of it is over 60,000
 pub counts-always-fit : (card ranking word : List ℕ) → cardRefusal card ≡ 0 → length word ≤ 24 → countsFit (best card ranking word) ≡ true
 counts-always-fit card r word ok h = go (best card r word) refl
   where
-    go : (o : Option Form) → best card r word ≡ o → countsFit o ≡ true
+    go : (o : Option Contender) → best card r word ≡ o → countsFit o ≡ true
     go none e = refl
     go (some b) e = all-below (b .profile) 47985 60000 (omega arith) (best-is-small card r word ok h b e .counts)

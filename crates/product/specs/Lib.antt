@@ -5,9 +5,16 @@ pub mod JointStep
 pub mod Prices
 pub mod ProductGraph
 pub mod Codes
+pub mod Setting
+pub mod Pairs
+pub mod Best
+pub mod Sets
+pub mod Optimizing
 pub mod BestCandidate
 -- lemmas
 pub mod Laws
 -- theorems
 pub mod CandidatePaths
 pub mod BestTheorem
+pub mod SetsTheorem
+pub mod LabelTheorem

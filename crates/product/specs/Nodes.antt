@@ -2,6 +2,7 @@
 use mathlib.Core.List.{List, [], _∷_, map}
 use Prim.Native.Nat.{ℕ, _+_, _*_, _/_, _%_}
 use lib.ListN.{length}
+unfoldable pub use Rattle.basics.specs.Products.{product}
 use Rattle.machine.specs.Machine.{Machine}
 
 -- a machine's states are the numbers below its state count
@@ -11,10 +12,9 @@ stateCountOf m = length (m .finals)
 abbrev pub stateCounts : List Machine → List ℕ
 stateCounts ms = map stateCountOf ms
 
--- P, the product of the state counts
-unfoldable pub product : List ℕ → ℕ
-product [] = 1
-product (q ∷ qs) = q * product qs
+-- P is the product of the state counts; for n symbols there are (n + 1) × P nodes
+abbrev pub nodeCount : List Machine → ℕ → ℕ
+nodeCount ms n = (n + 1) * product (stateCounts ms)
 
 -- one state per machine as one number, the first machine's most significant
 unfoldable pub codeOf : List ℕ → List ℕ → ℕ

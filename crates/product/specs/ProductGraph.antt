@@ -1,15 +1,18 @@
--- The product of the machines over a word as a graph: its letters are the pairs, and its paths from the start are the candidates for the word.
+-- The product of the machines over a list of sets of symbols as a graph: its letters are the pairs, and its paths from the start are the candidates
+-- for the words with one symbol from each set. A word is the case of sets of one symbol.
 use mathlib.Core.Path.{_≡_}
-use mathlib.Core.Bool.{true, false, _&&_, cond}
+use mathlib.Core.Bool.{true, false, cond}
 use mathlib.Core.List.{List, map}
 use mathlib.Core.Option.{Option, some, none, Option·none-ne-some}
 use Prim.Native.Nat.{ℕ, _+_, _<_}
 use lib.ListN.{length, getD}
-use lib.Dec.{eqb, ltb, leb}
+use lib.Dec.{eqb, leb}
+use Rattle.basics.specs.Sets.{member}
 use Rattle.machine.specs.declared.Pair.{Pair}
 use Rattle.machine.specs.Symbols.{emptySymbol, isPair}
 use Rattle.machine.specs.Machine.{Machine, startState}
 use Rattle.card.specs.Card.{machinesOf}
+use Rattle.product.specs.Sets.{singletons}
 use Rattle.paths.specs.Total.{Then, then-total, On, on-total, ℕ-total}
 use Rattle.paths.specs.Costs.{Costs}
 use Rattle.paths.specs.Ranked.{rankedCosts}
@@ -18,12 +21,13 @@ use Rattle.product.specs.Nodes.{stateCounts, nodeOf, positionAt, statesA
 use Rattle.product.specs.JointStep.{jointStep, jointEnding}
 use Rattle.product.specs.Prices.{Price, byRanking}
 
--- where a pair leads from an input position, 0 to n: an insertion stays there; any other pair needs the symbol there as its in, and moves on by one
+-- where a pair leads from an input position, 0 to n: an insertion stays there; any other pair needs its in in the set there, and moves on by one.
+-- Past the last set there is the empty one
 unfoldable pub advance : List ℕ → ℕ → Pair → Option ℕ
-advance word i p =
+advance sets i p =
     elim (eqb (p .input) emptySymbol) [
-      | true ↦ cond (leb i (length word)) (some i) none
-      | false ↦ cond (ltb i (length word) && eqb (getD word i emptySymbol) (p .input)) (some (i + 1)) none
+      | true ↦ cond (leb i (length sets)) (some i) none
+      | false ↦ cond (member (getD sets i 0) (p .input)) (some (i + 1)) none
     ]
 
 -- a move in the product: the node that it leads to, and the marks of each machine
@@ -38,13 +42,13 @@ moveBy qs (some i) (some steps) = some (record { target = nodeOf qs i (map (λ r
 
 -- taking a pair at a node
 unfoldable pub move : List ℕ → List Machine → ℕ → Pair → Option Move
-move word ms u p =
+move sets ms u p =
     let qs = stateCounts ms in
-    elim (isPair p) [ true ↦ moveBy qs (advance word (positionAt qs u) p) (jointStep ms (statesAt qs u) p) | false ↦ none ]
+    elim (isPair p) [ true ↦ moveBy qs (advance sets (positionAt qs u) p) (jointStep ms (statesAt qs u) p) | false ↦ none ]
 
--- ending at a node: the word is read, and every machine ends
+-- ending at a node: every set is passed, and every machine ends
 unfoldable pub ending : List ℕ → List Machine → ℕ → Option (List ℕ)
-ending word ms u = let qs = stateCounts ms in elim (eqb (positionAt qs u) (length word)) [ true ↦ jointEnding ms (statesAt qs u) | false ↦ none ]
+ending sets ms u = let qs = stateCounts ms in elim (eqb (positionAt qs u) (length sets)) [ true ↦ jointEnding ms (statesAt qs u) | false ↦ none ]
 
 -- position 0, every machine in its start state
 abbrev pub startNode : List Machine → ℕ
@@ -64,7 +68,7 @@ pairs = record {
   total = on-total bytes (Then _<_ _<_) same-bytes (then-total _<_ _<_ ℕ-total ℕ-total);
 }
 
-module _ {costs : Costs} (price : Price costs) (word : List ℕ) (ms : List Machine) where
+module _ {costs : Costs} (price : Price costs) (sets : List ℕ) (ms : List Machine) where
   -- a move costs the price of its marks and one pair; ending costs the price of its marks and no pair
   abbrev pub pricedMove : Option Move → Option (Edge (costs .Cost))
   pricedMove none = none
@@ -74,19 +78,27 @@ module _ {costs : Costs} (price : Price costs) (word : List ℕ) (ms : List Mach
   pricedEnding none = none
   pricedEnding (some marks) = some (price .of marks 0)
 
-  pub positive : (u : ℕ) (p : Pair) (e : Edge (costs .Cost)) → pricedMove (move word ms u p) ≡ some e → (c : costs .Cost) → costs ._≺_ c (costs ._⊕_ (e .cost) c)
-  positive u p e h c = go (move word ms u p) h
+  pub positive : (u : ℕ) (p : Pair) (e : Edge (costs .Cost)) → pricedMove (move sets ms u p) ≡ some e → (c : costs .Cost) → costs ._≺_ c (costs ._⊕_ (e .cost) c)
+  positive u p e h c = go (move sets ms u p) h
     where
       go : (o : Option Move) → pricedMove o ≡ some e → costs ._≺_ c (costs ._⊕_ (e .cost) c)
       go none h = absurd (Option·none-ne-some e h)
       go (some m) h = let q : e ≡ record { target = m .target; cost = price .of (m .marks) 1 } = cc in rw q (price .positive (m .marks) c)
 
   abbrev pub productGraph : Graph costs pairs
-  productGraph = record { edge = λ u p. pricedMove (move word ms u p); ending = λ u. pricedEnding (ending word ms u); positive = positive }
+  productGraph = record { edge = λ u p. pricedMove (move sets ms u p); ending = λ u. pricedEnding (ending sets ms u); positive = positive }
 
--- the product of a card's machines, for a ranking and a word
+-- the product of a card's machines over a list of sets, at a price
+abbrev pub pricedGraph : {costs : Costs} (price : Price costs) (card sets : List ℕ) → Graph costs pairs
+pricedGraph price card sets = productGraph price sets (machinesOf card)
+
+-- under a ranking
+abbrev pub setGraph : (card ranking sets : List ℕ) → Graph (rankedCosts (length ranking)) pairs
+setGraph card ranking sets = pricedGraph (byRanking ranking) card sets
+
+-- and for a word
 abbrev pub cardGraph : (card ranking word : List ℕ) → Graph (rankedCosts (length ranking)) pairs
-cardGraph card ranking word = productGraph (byRanking ranking) word (machinesOf card)
+cardGraph card ranking word = setGraph card ranking (singletons word)
 
 abbrev pub cardStart : List ℕ → ℕ
 cardStart card = startNode (machinesOf card)

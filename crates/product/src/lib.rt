@@ -4,7 +4,7 @@ ghost use mathlib.Core.Path.{_≡_};
 ghost use mathlib.Core.Bool.{_&&_};
 ghost use lib.Dec.{leb};
 ghost use Rattle.basics.specs.Refusals.{refuse};
-ghost use Rattle.candidate.specs.Optimizing.{soundWord};
+ghost use Rattle.product.specs.Optimizing.{soundWord};
 ghost use Rattle.product.specs.Refusals.{stageNumber};
 use machine::Pair;
 
@@ -26,11 +26,11 @@ fn is_symbol(byte: u8, symbols: u8) -> bool
     (Pair::EMPTY < byte) & (byte <= symbols)
 }
 
-// Refusal 8: whether a word has 1 to 24 symbols, each 1 to `symbols`.
+// Refusal 8: whether a word has at most 24 symbols, each 1 to `symbols`.
 pub fn check_word(word: &[u8], symbols: u8) -> Stage
     ensures { λ r. ⌜ stageNumber r ≡ refuse 8 (soundWord symbols (now (word .entry))) ⌝ }
 {
-    if (word.len() < 1) | (word.len() > 24) {
+    if word.len() > 24 {
         return Stage::Refused(Refusal::Word);
     }
     for at in 0..word.len() {

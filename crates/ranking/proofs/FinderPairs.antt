@@ -16,9 +16,9 @@ use Rattle.basics.proofs.Search.{all-next, all-fails, all-none, all-member}
 use Rattle.basics.proofs.Sets.{member-beyond}
 use Rattle.ranking.specs.declared.Condition.{Condition}
 use Rattle.ranking.specs.FinderSteps.{conditionAt}
-use Rattle.ranking.specs.Finder.{apart, conditionsOf, soundCondition, soundList, smallest}
+use Rattle.ranking.specs.Finder.{disjoint, conditionsOf, soundCondition, soundList, smallest}
 use Rattle.ranking.specs.Lemmas.Searches.{split}
-use Rattle.ranking.proofs.FinderSets.{apart-at}
+use Rattle.ranking.proofs.FinderSets.{disjoint-at}
 use Rattle.ranking.proofs.FinderDemotion.{demotion, demotion-smallest}
 
 module _ (l : List ℕ) (at : ℕ) where
@@ -87,21 +87,21 @@ module _ (K : ℕ) (l : List ℕ) where
 module _ (K : ℕ) (k : K ≤ 6) (c : Condition) where
   pub sound-more : soundCondition K c ≡ true → c .more < 2 ^ K
   unfolding soundCondition
-  sound-more t = ltb-true (c .more) (2 ^ K) (right (apart (c .fewer) (c .more) && ltb (c .fewer) (2 ^ K)) (ltb (c .more) (2 ^ K)) t)
+  sound-more t = ltb-true (c .more) (2 ^ K) (right (disjoint (c .fewer) (c .more) && ltb (c .fewer) (2 ^ K)) (ltb (c .more) (2 ^ K)) t)
 
   -- no machine is in both sets: none below 8, and none is in either from 8 on
-  pub sound-apart : soundCondition K c ≡ true → (m : ℕ) → member (c .fewer) m ≡ true → member (c .more) m ≡ false
+  pub sound-disjoint : soundCondition K c ≡ true → (m : ℕ) → member (c .fewer) m ≡ true → member (c .more) m ≡ false
   unfolding soundCondition
-  sound-apart t m w =
+  sound-disjoint t m w =
       split (ltb m 8)
       (λ h.
-      apart-at (c .fewer) (c .more)
-      (left (apart (c .fewer) (c .more)) (ltb (c .fewer) (2 ^ K))
-      (left (apart (c .fewer) (c .more) && ltb (c .fewer) (2 ^ K)) (ltb (c .more) (2 ^ K)) t))
+      disjoint-at (c .fewer) (c .more)
+      (left (disjoint (c .fewer) (c .more)) (ltb (c .fewer) (2 ^ K))
+      (left (disjoint (c .fewer) (c .more) && ltb (c .fewer) (2 ^ K)) (ltb (c .more) (2 ^ K)) t))
       m (ltb-true m 8 h) w)
       (λ h. member-beyond (c .more) K m (sound-more t) (omega (arith, ltb-false m 8 h)))
 
 -- demotion gives the smallest ranking that fits the conditions of a sound list
 pub demotion-sound : (K : ℕ) (l : List ℕ) → K ≤ 6 → soundList K l ≡ true → smallest K (conditionsOf l) ≡ demotion K (numbersBelow K) (conditionsOf l)
 demotion-sound K l k t =
-    demotion-smallest K (conditionsOf l) (λ c i. sound-apart K k c (sound-pairs K l t c i)) (λ c i. sound-more K k c (sound-pairs K l t c i))
+    demotion-smallest K (conditionsOf l) (λ c i. sound-disjoint K k c (sound-pairs K l t c i)) (λ c i. sound-more K k c (sound-pairs K l t c i))

@@ -1,56 +1,37 @@
 -- Sets of machines in a byte, as the code tests and grows them. Assumes nothing.
 use mathlib.Core.Path.{_≡_, sym, _∙_, ap}
 use mathlib.Core.Bool.{Bool, true, false, not, _&&_, _||_}
-use Prim.Native.Nat.{ℕ, suc, _+_, _-_, _*_, _/_, _%_, _^_, _<_}
-use native.Mathlib.Nat.{pow-suc, div-lt-iff-lt-mul, div-eq-of-lt, one-mul}
+use Prim.Native.Nat.{ℕ, _*_, _/_, _%_, _^_, _<_}
+use native.Mathlib.Nat.{div-lt-iff-lt-mul, div-eq-of-lt, one-mul}
 use native.Mathlib.Omega.{arith}
 use lib.Dec.{eqb, ltb}
 use lib.Bits.{bitAnd, bitOr, and-lt}
-use lib.Pow.{pow-pos, pow-lt, pow-add, shl-shr, shl-exact}
-use borrow.Author.Tests.{eqb-true, eqb-false, eq-eqb, ne-eqb, ltb-true, ltb-false, lt-ltb, not-true}
+use lib.Pow.{pow-pos, shl-exact}
+use borrow.Author.Tests.{eqb-true, eqb-false, eq-eqb, ltb-true, lt-ltb, not-true}
 use Rattle.basics.specs.Search.{everyBelow}
 use Rattle.basics.specs.Sets.{member}
 use Rattle.basics.proofs.Bools.{same, clash}
 use Rattle.basics.proofs.Below.{every-at, each-below}
-use Rattle.basics.proofs.Sets.{no-member, its-member, member-beyond, member-and, member-or}
-use Rattle.ranking.specs.Finder.{apart}
+use Rattle.basics.proofs.Sets.{no-member, its-member, member-one, member-and, member-or}
+use Rattle.ranking.specs.Finder.{disjoint}
 use Rattle.ranking.specs.Lemmas.Searches.{split}
-
-shifted : (k n : ℕ) → 2 ^ (k + n) / 2 ^ n ≡ 2 ^ k
-shifted k n = ap (λ (x : ℕ). x / 2 ^ n) (pow-add 2 k n) ∙ shl-shr (2 ^ k) n
-
--- the set of one number
-pub member-one : (m n : ℕ) → member (2 ^ m) n ≡ eqb n m
-member-one m n =
-    split (eqb n m)
-    (λ e.
-    let h : m ≡ 0 + n = omega (arith, eqb-true n m e) in
-    let q : 2 ^ m / 2 ^ n ≡ 1 = ap (λ (i : ℕ). 2 ^ i / 2 ^ n) h ∙ shifted 0 n in
-    eq-eqb (2 ^ m / 2 ^ n % 2) 1 (omega arith) ∙ sym e)
-    (λ e.
-    split (ltb m n) (λ d. member-beyond (2 ^ m) n n (pow-lt (ltb-true m n d)) (omega arith) ∙ sym e)
-    (λ d.
-    let k = m - suc n in
-    let h : m ≡ suc k + n = omega (arith, ltb-false m n d, eqb-false n m e) in
-    let q : 2 ^ m / 2 ^ n ≡ 2 ^ suc k = ap (λ (i : ℕ). 2 ^ i / 2 ^ n) h ∙ shifted (suc k) n in
-    ne-eqb (2 ^ m / 2 ^ n % 2) 1 (λ o. omega (arith, pow-suc 2 k, q, o)) ∙ sym e))
 
 -- sets that do not meet, machine by machine
 module _ (a b : ℕ) where
-  pub apart-at : apart a b ≡ true → (i : ℕ) → i < 8 → member a i ≡ true → member b i ≡ false
-  unfolding apart
-  apart-at t i h m = let e = not-true (member a i && member b i) (every-at (λ i. not (member a i && member b i)) 8 t i h) in rw m at e
+  pub disjoint-at : disjoint a b ≡ true → (i : ℕ) → i < 8 → member a i ≡ true → member b i ≡ false
+  unfolding disjoint
+  disjoint-at t i h m = let e = not-true (member a i && member b i) (every-at (λ i. not (member a i && member b i)) 8 t i h) in rw m at e
 
-  pub at-apart : ((i : ℕ) → i < 8 → member a i ≡ true → member b i ≡ false) → apart a b ≡ true
-  unfolding apart
-  at-apart f =
+  pub at-disjoint : ((i : ℕ) → i < 8 → member a i ≡ true → member b i ≡ false) → disjoint a b ≡ true
+  unfolding disjoint
+  at-disjoint f =
       each-below (λ i. not (member a i && member b i)) 8
       (λ i h. split (member a i) (λ m. rw (m, f i h m)) (λ m. rw m))
 
 -- two bytes whose intersection is empty do not meet
-pub apart-and : (a b : ℕ) → a < 2 ^ 8 → b < 2 ^ 8 → eqb (bitAnd a b) 0 ≡ apart a b
-unfolding apart
-apart-and a b ha hb =
+pub disjoint-and : (a b : ℕ) → a < 2 ^ 8 → b < 2 ^ 8 → eqb (bitAnd a b) 0 ≡ disjoint a b
+unfolding disjoint
+disjoint-and a b ha hb =
     same (eqb (bitAnd a b) 0) (everyBelow (λ i. not (member a i && member b i)) 8)
     (λ t.
     each-below (λ i. not (member a i && member b i)) 8

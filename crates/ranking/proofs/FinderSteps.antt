@@ -20,14 +20,14 @@ use Rattle.basics.proofs.Below.{numbers-member}
 use Rattle.basics.proofs.Sets.{no-member}
 use Rattle.ranking.specs.declared.Condition.{Condition}
 use Rattle.ranking.specs.declared.Finding.{Finding}
-use Rattle.ranking.specs.Refusals.{machineCount}
+use Rattle.ranking.specs.Refusals.{isMachineCount}
 use Rattle.ranking.specs.Lemmas.Rankings.{machine-count}
-use Rattle.ranking.specs.Finder.{apart, soundList, smallest, answerOf}
+use Rattle.ranking.specs.Finder.{disjoint, soundList, smallest, findingOf}
 use Rattle.ranking.specs.FinderSteps.{mayStand, nextMachine}
 use Rattle.ranking.specs.Lemmas.Searches.{equal-or-not, first-here, first-on, first-append, first-before, first-same, first-those, all-those, all-same, those-in, those-those, those-same}
 use Rattle.ranking.specs.Lemmas.Arrangements.{without}
 use Rattle.ranking.proofs.FinderDemotion.{free, still, demotion, demotion-stops, demotion-goes}
-use Rattle.ranking.proofs.FinderSets.{apart-at, at-apart}
+use Rattle.ranking.proofs.FinderSets.{disjoint-at, at-disjoint}
 
 -- a search that counts up
 module _ (f : ℕ → Bool) where
@@ -73,7 +73,7 @@ abbrev pub remaining : ℕ → ℕ → List ℕ
 remaining K placed = those (λ x. not (member placed x)) (numbersBelow K)
 
 abbrev pub undecided : ℕ → List Condition → List Condition
-undecided placed cs = those (λ c. apart (c .fewer) placed) cs
+undecided placed cs = those (λ c. disjoint (c .fewer) placed) cs
 
 all-those-pass : {A : Type 0} (f : A → Bool) (xs : List A) → ((x : A) → f x ≡ true) → those f xs ≡ xs
 unfolding those
@@ -84,7 +84,7 @@ remaining-start : (K : ℕ) → remaining K 0 ≡ numbersBelow K
 remaining-start K = all-those-pass (λ x. not (member 0 x)) (numbersBelow K) (λ x. ap not (no-member x))
 
 undecided-start : (cs : List Condition) → undecided 0 cs ≡ cs
-undecided-start cs = all-those-pass (λ c. apart (c .fewer) 0) cs (λ c. at-apart (c .fewer) 0 (λ i h m. no-member i))
+undecided-start cs = all-those-pass (λ c. disjoint (c .fewer) 0) cs (λ c. at-disjoint (c .fewer) 0 (λ i h m. no-member i))
 
 not-both : (a b : Bool) → (not a || not b) ≡ not (a && b)
 not-both true b = refl
@@ -103,8 +103,8 @@ next-free K cs placed =
     ∙ first-same (numbersBelow K)
     (λ m i.
     ap (λ (b : Bool). not (member placed m) && b)
-    (all-those (λ c. not (member (c .more) m)) (λ c. apart (c .fewer) placed) cs
-    ∙ all-same cs (λ c j. not-both (apart (c .fewer) placed) (member (c .more) m)))))
+    (all-those (λ c. not (member (c .more) m)) (λ c. disjoint (c .fewer) placed) cs
+    ∙ all-same cs (λ c j. not-both (disjoint (c .fewer) placed) (member (c .more) m)))))
 
 -- a machine more is placed
 module _ (placed after m : ℕ) (h : m < 8) (more : (n : ℕ) → member after n ≡ (member placed n || eqb n m)) where
@@ -114,26 +114,26 @@ module _ (placed after m : ℕ) (h : m < 8) (more : (n : ℕ) → member after n
       (those-those (λ x. not (eqb x m)) (λ x. not (member placed x)) (numbersBelow K)
       ∙ those-same (numbersBelow K) (λ n. not-either (member placed n) (eqb n m) ∙ ap not (sym (more n))))
 
-  apart-after : (w : ℕ) → (apart w placed && not (member w m)) ≡ apart w after
-  apart-after w =
-      same (apart w placed && not (member w m)) (apart w after)
+  disjoint-after : (w : ℕ) → (disjoint w placed && not (member w m)) ≡ disjoint w after
+  disjoint-after w =
+      same (disjoint w placed && not (member w m)) (disjoint w after)
       (λ t.
-      at-apart w after
+      at-disjoint w after
       (λ i l wi.
       more i
-      ∙ neither (apart-at w placed (left (apart w placed) (not (member w m)) t) i l wi)
+      ∙ neither (disjoint-at w placed (left (disjoint w placed) (not (member w m)) t) i l wi)
       (ne-eqb i m
-      (λ e. clash (ap (member w) (sym e) ∙ wi) (not-true (member w m) (right (apart w placed) (not (member w m)) t))))))
+      (λ e. clash (ap (member w) (sym e) ∙ wi) (not-true (member w m) (right (disjoint w placed) (not (member w m)) t))))))
       (λ t.
-      both (at-apart w placed (λ i l wi. left-fails (member placed i) (eqb i m) (sym (more i) ∙ apart-at w after t i l wi)))
+      both (at-disjoint w placed (λ i l wi. left-fails (member placed i) (eqb i m) (sym (more i) ∙ disjoint-at w after t i l wi)))
       (ap not
       (fails (member w m)
-      (λ wm. clash (eq-eqb m m refl) (right-fails (member placed m) (eqb m m) (sym (more m) ∙ apart-at w after t m h wm))))))
+      (λ wm. clash (eq-eqb m m refl) (right-fails (member placed m) (eqb m m) (sym (more m) ∙ disjoint-at w after t m h wm))))))
 
   undecided-next : (cs : List Condition) → undecided after cs ≡ still m (undecided placed cs)
   undecided-next cs =
       sym
-      (those-those (λ c. not (member (c .fewer) m)) (λ c. apart (c .fewer) placed) cs ∙ those-same cs (λ c. apart-after (c .fewer)))
+      (those-those (λ c. not (member (c .fewer) m)) (λ c. disjoint (c .fewer) placed) cs ∙ those-same cs (λ c. disjoint-after (c .fewer)))
 
 -- what is found with the places filled already before it
 abbrev pub onto : List ℕ → Option (List ℕ) → Option (List ℕ)
@@ -222,16 +222,16 @@ module _ {K : ℕ} {cs : List Condition} {ranking : List ℕ} {placed place : �
       ∙ ap some (append-nil (take place ranking) ∙ ap (λ (i : ℕ). take i ranking) all)
 
   -- the answer where all places are filled
-  pub filled-answer : K ≤ place → smallest K cs ≡ demotion K (numbersBelow K) cs → _≡_ {A = Finding} (record { number = 0; ranking = ranking }) (answerOf K (smallest K cs))
+  pub filled-answer : K ≤ place → smallest K cs ≡ demotion K (numbersBelow K) cs → _≡_ {A = Finding} (record { number = 0; ranking = ranking }) (findingOf K (smallest K cs))
   filled-answer h e =
       let all : place ≡ K = omega (arith, F .within) in
       let rest : drop K ranking ≡ replicate (6 - K) 0 = ap (λ (i : ℕ). drop i ranking) (sym all) ∙ F .unfilled ∙ ap (λ (i : ℕ). replicate (6 - i) 0) all in
       let q : ranking ≡ take K ranking ++ replicate (6 - K) 0 = sym (take-append-drop K ranking) ∙ ap (λ (l : List ℕ). take K ranking ++ l) rest in
-      ap {B = Finding} (λ (l : List ℕ). record { number = 0; ranking = l }) q ∙ sym (ap (answerOf K) (e ∙ filled-end h))
+      ap {B = Finding} (λ (l : List ℕ). record { number = 0; ranking = l }) q ∙ sym (ap (findingOf K) (e ∙ filled-end h))
 
 -- what a call knows that passed refusals 1 and 15
-pub passed-checks : (K : ℕ) (l : List ℕ) → firstOf (refuse 1 (machineCount K) ∷ refuse 15 (soundList K l) ∷ []) ≡ 0 → (K ≤ 6) × (soundList K l ≡ true)
+pub passed-checks : (K : ℕ) (l : List ℕ) → firstOf (refuse 1 (isMachineCount K) ∷ refuse 15 (soundList K l) ∷ []) ≡ 0 → (K ≤ 6) × (soundList K l ≡ true)
 passed-checks K l e =
-    let first = none-first (refuse 1 (machineCount K)) (refuse 15 (soundList K l) ∷ []) e in
+    let first = none-first (refuse 1 (isMachineCount K)) (refuse 15 (soundList K l) ∷ []) e in
     let second = none-first (refuse 15 (soundList K l)) [] (first .1) in
-    (machine-count K (passed 1 (machineCount K) (lit< tt) (first .0)) .most, passed 15 (soundList K l) (lit< tt) (second .0))
+    (machine-count K (passed 1 (isMachineCount K) (lit< tt) (first .0)) .most, passed 15 (soundList K l) (lit< tt) (second .0))

@@ -1,6 +1,6 @@
 -- What a ranking condition means: the rankings that fit the condition of two profiles are those under which the first is not worse than the
 -- second. Assumes nothing.
-use mathlib.Core.Path.{_≡_, refl, sym, _∙_, ap}
+use mathlib.Core.Path.{_≡_, refl, sym, _∙_}
 use mathlib.Core.Logic.{_⊎_, inl, inr, _↔_}
 use mathlib.Core.Bool.{Bool, true, false, or-true}
 use mathlib.Core.List.{List, [], _∷_}
@@ -11,21 +11,14 @@ use lib.Dec.{eqb, ltb}
 use lib.ListN.{length, getD}
 use borrow.Author.Tests.{lt-ltb, le-ltb, eqb-true, eq-eqb}
 use Rattle.basics.specs.Sets.{member}
-use Rattle.basics.proofs.Bools.{clash, either}
+use Rattle.basics.proofs.Bools.{clash, fails, either}
 use Rattle.basics.proofs.Sets.{set-member, set-empty, empty-set}
-use Rattle.ranking.specs.declared.Order.{Order}
-use Rattle.ranking.specs.declared.Order.the-variants.{Better, Equal, Worse}
 use Rattle.ranking.specs.Rankings.{isRanking}
-use Rattle.ranking.specs.Harmony.{harmony}
+use Rattle.ranking.specs.Harmony.{harmony, better, worse}
 use Rattle.ranking.specs.Conditions.{fewerIn, conditionOf, highest, inFewer, fits}
 use Rattle.ranking.specs.Lemmas.Rankings.{Ranking, ranking-facts}
 use Rattle.ranking.specs.Lemmas.Harmony.{Standing, fewer, same, more, standing, at-fewer, at-same, at-more}
-use Rattle.ranking.specs.HarmonicInequality.{worse-means, equal-means}
-
-abbrev isBetter : Order → Bool
-isBetter Better = true
-isBetter Equal = false
-isBetter Worse = false
+use Rattle.ranking.specs.HarmonicInequality.{worse-means, equal-means, not-both, neither}
 
 module _ (K : ℕ) (a b : List ℕ) where
   -- membership of the two sets
@@ -33,7 +26,7 @@ module _ (K : ℕ) (a b : List ℕ) where
   in-set v w m h = set-member (λ i. ltb (getD v i 0) (getD w i 0)) K m h
 
   -- the highest ranked machine in either set is where comparison is decided
-  decided-there : (r : List ℕ) → ((i : ℕ) → i < length r → getD r i 0 < K) → inFewer (conditionOf K a b) (highest r (conditionOf K a b)) ≡ isBetter (harmony r a b)
+  decided-there : (r : List ℕ) → ((i : ℕ) → i < length r → getD r i 0 < K) → inFewer (conditionOf K a b) (highest r (conditionOf K a b)) ≡ better r a b
   unfolding highest harmony
   decided-there [] h = refl
   decided-there (m ∷ r) h = go (standing (getD a m 0) (getD b m 0)) (decided-there r (λ i q. h (suc i) (omega arith)))
@@ -44,8 +37,8 @@ module _ (K : ℕ) (a b : List ℕ) where
       L : member (fewerIn K b a) m ≡ ltb (getD b m 0) (getD a m 0)
       L = in-set b a m (h 0 (omega arith))
 
-      go : Standing (getD a m 0) (getD b m 0) → inFewer (conditionOf K a b) (highest r (conditionOf K a b)) ≡ isBetter (harmony r a b)
-          → inFewer (conditionOf K a b) (highest (m ∷ r) (conditionOf K a b)) ≡ isBetter (harmony (m ∷ r) a b)
+      go : Standing (getD a m 0) (getD b m 0) → inFewer (conditionOf K a b) (highest r (conditionOf K a b)) ≡ better r a b
+          → inFewer (conditionOf K a b) (highest (m ∷ r) (conditionOf K a b)) ≡ better (m ∷ r) a b
       go (fewer q) k = let p : member (fewerIn K a b) m ≡ true = W ∙ lt-ltb _ _ q in rw (at-fewer m r a b q, p, highest) p
       go (same q) k =
           let p : member (fewerIn K a b) m ≡ false = W ∙ le-ltb _ _ (le-of-eq (sym q)) in
@@ -56,17 +49,17 @@ module _ (K : ℕ) (a b : List ℕ) where
           let s : member (fewerIn K b a) m ≡ true = L ∙ lt-ltb _ _ q in
           rw (at-more m r a b q, p, s, highest) p
 
-  pub fits-means : (r : List ℕ) → isRanking K r ≡ true → (fits r (conditionOf K a b) ≡ true) ↔ (harmony r a b ≡ Worse → ⊥)
+  pub fits-means : (r : List ℕ) → isRanking K r ≡ true → (fits r (conditionOf K a b) ≡ true) ↔ (worse r a b ≡ false)
   unfolding fits
-  fits-means r is = (not-worse, λ n. go (harmony r a b) refl n)
+  fits-means r is = (λ t. fails (worse r a b) (not-worse t), λ n. go (better r a b) refl n)
     where
       facts : Ranking K r
       facts = ranking-facts K r is
 
-      at-highest : inFewer (conditionOf K a b) (highest r (conditionOf K a b)) ≡ isBetter (harmony r a b)
+      at-highest : inFewer (conditionOf K a b) (highest r (conditionOf K a b)) ≡ better r a b
       at-highest = decided-there r (facts .below)
 
-      not-worse : fits r (conditionOf K a b) ≡ true → harmony r a b ≡ Worse → ⊥
+      not-worse : fits r (conditionOf K a b) ≡ true → worse r a b ≡ true → ⊥
       not-worse t w = some-way (either (eqb (fewerIn K b a) 0) (inFewer (conditionOf K a b) (highest r (conditionOf K a b))) t)
         where
           some-way : (eqb (fewerIn K b a) 0 ≡ true) ⊎ (inFewer (conditionOf K a b) (highest r (conditionOf K a b)) ≡ true) → ⊥
@@ -75,12 +68,11 @@ module _ (K : ℕ) (a b : List ℕ) where
               let m = getD r (d .place) 0 in
               let none-more = empty-set (λ i. ltb (getD b i 0) (getD a i 0)) K (eqb-true (fewerIn K b a) 0 e) m (facts .below (d .place) (d .ranked)) in
               clash (lt-ltb _ _ (d .smaller)) none-more
-          some-way (inr e) = clash (sym at-highest ∙ e) (ap isBetter w)
+          some-way (inr e) = not-both (harmony r a b) (sym at-highest ∙ e) w
 
-      go : (o : Order) → harmony r a b ≡ o → (harmony r a b ≡ Worse → ⊥) → fits r (conditionOf K a b) ≡ true
-      go Better e n = rw (at-highest ∙ ap isBetter e) (or-true (eqb (fewerIn K b a) 0))
-      go Equal e n =
-          let agree = equal-means K r is a b .0 e in
+      go : (t : Bool) → better r a b ≡ t → worse r a b ≡ false → fits r (conditionOf K a b) ≡ true
+      go true e n = rw (at-highest ∙ e) (or-true (eqb (fewerIn K b a) 0))
+      go false e n =
+          let agree = equal-means K r is a b .0 (neither (harmony r a b) e n) in
           let none-more : fewerIn K b a ≡ 0 = set-empty (λ i. ltb (getD b i 0) (getD a i 0)) K (λ i h. le-ltb _ _ (le-of-eq (agree i h))) in
           rw (eq-eqb (fewerIn K b a) 0 none-more)
-      go Worse e n = absurd (n e)

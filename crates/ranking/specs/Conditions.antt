@@ -11,7 +11,7 @@ use Rattle.ranking.specs.declared.Condition.{Condition}
 use Rattle.ranking.specs.declared.Derived.{Derived}
 use Rattle.ranking.specs.declared.Derived.the-variants as answers
 use Rattle.ranking.specs.declared.Profile.{Profile}
-use Rattle.ranking.specs.Refusals.{numberOf, machineCount}
+use Rattle.ranking.specs.Refusals.{numberOf, isMachineCount}
 
 -- the set of the machines, of K, where a has fewer than b
 abbrev pub fewerIn : ℕ → List ℕ → List ℕ → ℕ
@@ -48,4 +48,4 @@ derived (answers.Refused r) = refusedCondition (numberOf r)
 
 abbrev pub derivedFrom : ℕ → Profile → Profile → DerivedCondition
 derivedFrom K a b =
-    unlessRefused (refuse 1 (machineCount K)) (record { number = 0; condition = conditionOf K (a .counts) (b .counts) }) refusedCondition
+    unlessRefused (refuse 1 (isMachineCount K)) (record { number = 0; condition = conditionOf K (a .counts) (b .counts) }) refusedCondition

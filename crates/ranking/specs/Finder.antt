@@ -10,7 +10,7 @@ use Rattle.basics.specs.Sets.{member}
 use Rattle.basics.specs.Refusals.{refuse, firstOf, unlessRefused}
 use Rattle.ranking.specs.declared.Condition.{Condition}
 use Rattle.ranking.specs.declared.Finding.{Finding}
-use Rattle.ranking.specs.Refusals.{machineCount}
+use Rattle.ranking.specs.Refusals.{isMachineCount}
 use Rattle.ranking.specs.Rankings.{rankings}
 use Rattle.ranking.specs.Conditions.{fits}
 
@@ -21,12 +21,12 @@ conditionsOf (w ∷ []) = []
 conditionsOf (w ∷ l ∷ rest) = record { fewer = w; more = l } ∷ conditionsOf rest
 
 -- two bytes, as sets, do not meet
-unfoldable pub apart : ℕ → ℕ → Bool
-apart a b = everyBelow (λ i. not (member a i && member b i)) 8
+unfoldable pub disjoint : ℕ → ℕ → Bool
+disjoint a b = everyBelow (λ i. not (member a i && member b i)) 8
 
 -- W and L do not meet, and no bit is K or above
 unfoldable pub soundCondition : ℕ → Condition → Bool
-soundCondition K c = apart (c .fewer) (c .more) && ltb (c .fewer) (2 ^ K) && ltb (c .more) (2 ^ K)
+soundCondition K c = disjoint (c .fewer) (c .more) && ltb (c .fewer) (2 ^ K) && ltb (c .more) (2 ^ K)
 
 -- the list is even in length and of at most 64 pairs, and each condition is sound
 unfoldable pub soundList : ℕ → List ℕ → Bool
@@ -41,11 +41,11 @@ abbrev pub refusedFinding : ℕ → Finding
 refusedFinding n = record { number = n; ranking = replicate 6 0 }
 
 -- the ranking, places from K on 0; or refusal 16, where none of the K! fits
-abbrev pub answerOf : ℕ → Option (List ℕ) → Finding
-answerOf K none = refusedFinding 16
-answerOf K (some r) = record { number = 0; ranking = r ++ replicate (6 - K) 0 }
+abbrev pub findingOf : ℕ → Option (List ℕ) → Finding
+findingOf K none = refusedFinding 16
+findingOf K (some r) = record { number = 0; ranking = r ++ replicate (6 - K) 0 }
 
 -- what the finder answers: refusals 1 and 15 come before any search
 unfoldable pub finding : ℕ → List ℕ → Finding
 finding K l =
-    unlessRefused (firstOf (refuse 1 (machineCount K) ∷ refuse 15 (soundList K l) ∷ [])) (answerOf K (smallest K (conditionsOf l))) refusedFinding
+    unlessRefused (firstOf (refuse 1 (isMachineCount K) ∷ refuse 15 (soundList K l) ∷ [])) (findingOf K (smallest K (conditionsOf l))) refusedFinding

@@ -9,7 +9,7 @@ use Rattle.basics.specs.Sets.{member}
 use Rattle.ranking.specs.declared.Condition.{Condition}
 use Rattle.ranking.specs.declared.finder.Next.{Next}
 use Rattle.ranking.specs.declared.finder.Next.the-variants as nexts
-use Rattle.ranking.specs.Finder.{apart}
+use Rattle.ranking.specs.Finder.{disjoint}
 
 -- the condition whose bytes stand at a place of a list
 abbrev pub conditionAt : List ℕ → ℕ → Condition
@@ -17,7 +17,7 @@ conditionAt l at = record { fewer = getD l at 0; more = getD l (at + 1) 0 }
 
 -- no machine placed is in W, so that the condition is open still, and the machine is in L
 abbrev pub blocks : ℕ → ℕ → Condition → Bool
-blocks placed m c = apart (c .fewer) placed && member (c .more) m
+blocks placed m c = disjoint (c .fewer) placed && member (c .more) m
 
 -- no condition keeps the machine from the next place
 abbrev pub mayStand : List Condition → ℕ → ℕ → Bool

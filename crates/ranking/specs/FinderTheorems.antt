@@ -14,8 +14,8 @@ use Rattle.ranking.specs.declared.Finding.{Finding}
 use Rattle.ranking.specs.Rankings.{isRanking, rankings}
 use Rattle.ranking.specs.Conditions.{fits}
 use Rattle.ranking.specs.ByteStrings.{smaller}
-use Rattle.ranking.specs.Refusals.{machineCount}
-use Rattle.ranking.specs.Finder.{conditionsOf, soundList, smallest, refusedFinding, answerOf, finding}
+use Rattle.ranking.specs.Refusals.{isMachineCount}
+use Rattle.ranking.specs.Finder.{conditionsOf, soundList, smallest, refusedFinding, findingOf, finding}
 use Rattle.basics.specs.Refusals.{refuse, firstOf}
 use Rattle.basics.proofs.Refusals.{accepted}
 use Rattle.basics.proofs.Search.{first-passes, first-member, first-misses}
@@ -68,23 +68,23 @@ nothing-exactly K cs = (
 )
 
 -- So a call that passes refusals 1 and 15 gives the smallest ranking that fits, and refusal 16 exactly when none does.
-module _ (K : ℕ) (l : List ℕ) (counted : machineCount K ≡ true) (sound : soundList K l ≡ true) where
-  answered : finding K l ≡ answerOf K (smallest K (conditionsOf l))
+module _ (K : ℕ) (l : List ℕ) (counted : isMachineCount K ≡ true) (sound : soundList K l ≡ true) where
+  answered : finding K l ≡ findingOf K (smallest K (conditionsOf l))
   unfolding finding
-  answered = accepted (answerOf K (smallest K (conditionsOf l))) refusedFinding (both-pass (machineCount K) (soundList K l) counted sound)
+  answered = accepted (findingOf K (smallest K (conditionsOf l))) refusedFinding (both-pass (isMachineCount K) (soundList K l) counted sound)
     where
       both-pass : (a b : Bool) → a ≡ true → b ≡ true → firstOf (refuse 1 a ∷ refuse 15 b ∷ []) ≡ 0
       both-pass a b p q = rw (p, q)
 
   pub gives-smallest : (r : List ℕ) → SmallestFitting K (conditionsOf l) r → finding K l ≡ record { number = 0; ranking = r ++ replicate (6 - K) 0 }
-  gives-smallest r w = answered ∙ ap (answerOf K) (found-exactly K (conditionsOf l) r .1 w)
+  gives-smallest r w = answered ∙ ap (findingOf K) (found-exactly K (conditionsOf l) r .1 w)
 
   pub refuses-exactly : (finding K l .number ≡ 16) ↔ ((r : List ℕ) → isRanking K r ≡ true → allOf (fits r) (conditionsOf l) ≡ false)
   refuses-exactly = (
     λ e. nothing-exactly K (conditionsOf l) .0 (only-none (smallest K (conditionsOf l)) (ap (λ (f : Finding). f .number) (sym answered) ∙ e)),
-    λ h. ap (λ (f : Finding). f .number) (answered ∙ ap (answerOf K) (nothing-exactly K (conditionsOf l) .1 h)),
+    λ h. ap (λ (f : Finding). f .number) (answered ∙ ap (findingOf K) (nothing-exactly K (conditionsOf l) .1 h)),
   )
     where
-      only-none : (o : Option (List ℕ)) → answerOf K o .number ≡ 16 → o ≡ none
+      only-none : (o : Option (List ℕ)) → findingOf K o .number ≡ 16 → o ≡ none
       only-none none e = refl
       only-none (some r) e = absurd (omega arith)

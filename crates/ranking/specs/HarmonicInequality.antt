@@ -6,12 +6,13 @@ use mathlib.Core.List.{List, [], _∷_}
 use Prim.Native.Nat.{ℕ, zero, suc, _+_, _<_}
 use native.Mathlib.Omega.{arith}
 use lib.ListN.{length, getD}
-use mathlib.Core.Bool.{true}
+use mathlib.Core.Bool.{Bool, true, false}
+use Rattle.basics.proofs.Bools.{clash}
 use Rattle.ranking.specs.declared.Order.{Order}
 use Rattle.ranking.specs.declared.Order.the-variants.{Better, Equal, Worse}
 use Rattle.ranking.specs.Profiles.{merge}
 use Rattle.ranking.specs.Rankings.{isRanking}
-use Rattle.ranking.specs.Harmony.{harmony}
+use Rattle.ranking.specs.Harmony.{harmony, isBetter, isWorse, better, worse}
 use Rattle.ranking.specs.Lemmas.Rankings.{Ranking, ranking-facts, place-of}
 use Rattle.ranking.specs.Lemmas.Harmony.{Standing, fewer, same, more, standing, at-fewer, at-same, at-more}
 
@@ -26,11 +27,11 @@ pub record MoreHarmonic (r v w : List ℕ) : Type 0 where
 abbrev pub Agree : ℕ → List ℕ → List ℕ → Type 0
 Agree K v w = (m : ℕ) → m < K → getD v m 0 ≡ getD w m 0
 
--- the other way round
+-- the other way round, by the same machine
 abbrev pub opposite : Order → Order
-opposite Better = Worse
+opposite (Better m) = Worse m
 opposite Equal = Equal
-opposite Worse = Better
+opposite (Worse m) = Better m
 
 -- exactly one of three holds
 pub record ExactlyOne (A B C : Type 0) : Type 0 where
@@ -39,30 +40,31 @@ pub record ExactlyOne (A B C : Type 0) : Type 0 where
   pub not-second-third : B → C → ⊥
   pub not-first-third : A → C → ⊥
 
--- the three orders differ
-better-not-worse : {o : Order} → o ≡ Better → o ≡ Worse → ⊥
-better-not-worse p q = let z : _≡_ {A = ℕ} 0 1 = cc in omega arith
+-- none is both better and worse, and what is neither is equal
+pub not-both : (o : Order) → isBetter o ≡ true → isWorse o ≡ true → ⊥
+not-both (Better m) b w = clash w refl
+not-both Equal b w = clash b refl
+not-both (Worse m) b w = clash b refl
 
-better-not-equal : {o : Order} → o ≡ Better → o ≡ Equal → ⊥
-better-not-equal p q = let z : _≡_ {A = ℕ} 0 1 = cc in omega arith
-
-equal-not-worse : {o : Order} → o ≡ Equal → o ≡ Worse → ⊥
-equal-not-worse p q = let z : _≡_ {A = ℕ} 0 1 = cc in omega arith
+pub neither : (o : Order) → isBetter o ≡ false → isWorse o ≡ false → o ≡ Equal
+neither (Better m) b w = absurd (clash refl b)
+neither Equal b w = refl
+neither (Worse m) b w = absurd (clash refl w)
 
 nothing-ranked : (v w : List ℕ) → harmony [] v w ≡ Equal
 unfolding harmony
 nothing-ranked v w = refl
 
 -- better is more harmonic
-better-is : (r v w : List ℕ) → harmony r v w ≡ Better → MoreHarmonic r v w
-better-is [] v w e = absurd (better-not-equal e (nothing-ranked v w))
+better-is : (r v w : List ℕ) → better r v w ≡ true → MoreHarmonic r v w
+better-is [] v w e = absurd (clash e (ap isBetter (nothing-ranked v w)))
 better-is (m ∷ r) v w e = go (standing (getD v m 0) (getD w m 0)) (better-is r v w)
   where
-    go : Standing (getD v m 0) (getD w m 0) → (harmony r v w ≡ Better → MoreHarmonic r v w) → MoreHarmonic (m ∷ r) v w
+    go : Standing (getD v m 0) (getD w m 0) → (better r v w ≡ true → MoreHarmonic r v w) → MoreHarmonic (m ∷ r) v w
     go (fewer h) k = record { place = 0; ranked = omega arith; smaller = h; equal-above = λ i q. absurd (omega arith) }
-    go (more h) k = absurd (better-not-worse e (at-more m r v w h))
+    go (more h) k = absurd (clash e (ap isBetter (at-more m r v w h)))
     go (same h) k =
-        let d = k (sym (at-same m r v w h) ∙ e) in
+        let d = k (ap isBetter (sym (at-same m r v w h)) ∙ e) in
         record { place = suc (d .place); ranked = omega (arith, d .ranked); smaller = d .smaller; equal-above = above d }
       where
         above : (d : MoreHarmonic r v w) (i : ℕ) → i < suc (d .place) → getD v (getD (m ∷ r) i 0) 0 ≡ getD w (getD (m ∷ r) i 0) 0
@@ -70,12 +72,12 @@ better-is (m ∷ r) v w e = go (standing (getD v m 0) (getD w m 0)) (better-is r
         above d (suc i) q = d .equal-above i (omega arith)
 
 is-better : (r v w : List ℕ) (i : ℕ) → i < length r → getD v (getD r i 0) 0 < getD w (getD r i 0) 0
-    → ((j : ℕ) → j < i → getD v (getD r j 0) 0 ≡ getD w (getD r j 0) 0) → harmony r v w ≡ Better
+    → ((j : ℕ) → j < i → getD v (getD r j 0) 0 ≡ getD w (getD r j 0) 0) → better r v w ≡ true
 is-better [] v w i q h a = absurd (omega arith)
-is-better (m ∷ r) v w zero q h a = at-fewer m r v w h
-is-better (m ∷ r) v w (suc i) q h a = at-same m r v w (a 0 (omega arith)) ∙ is-better r v w i (omega arith) h (λ j p. a (suc j) (omega arith))
+is-better (m ∷ r) v w zero q h a = ap isBetter (at-fewer m r v w h)
+is-better (m ∷ r) v w (suc i) q h a = ap isBetter (at-same m r v w (a 0 (omega arith))) ∙ is-better r v w i (omega arith) h (λ j p. a (suc j) (omega arith))
 
-pub better-means : (r v w : List ℕ) → (harmony r v w ≡ Better) ↔ MoreHarmonic r v w
+pub better-means : (r v w : List ℕ) → (better r v w ≡ true) ↔ MoreHarmonic r v w
 better-means r v w = (better-is r v w, λ d. is-better r v w (d .place) (d .ranked) (d .smaller) (d .equal-above))
 
 -- better one way is worse the other way
@@ -88,26 +90,38 @@ reversed (m ∷ r) v w = go (standing (getD v m 0) (getD w m 0)) (reversed r v w
     go (same h) k = rw (at-same m r v w h) (at-same m r w v (sym h) ∙ k)
     go (more h) k = rw (at-more m r v w h) (at-fewer m r w v h)
 
-pub better-worse : (r v w : List ℕ) → (harmony r v w ≡ Better) ↔ (harmony r w v ≡ Worse)
-better-worse r v w = (λ e. reversed r v w ∙ ap opposite e, λ e. reversed r w v ∙ ap opposite e)
+pub better-worse : (r v w : List ℕ) → worse r w v ≡ better r v w
+better-worse r v w = ap isWorse (reversed r v w) ∙ turned (harmony r v w)
+  where
+    turned : (o : Order) → isWorse (opposite o) ≡ isBetter o
+    turned (Better m) = refl
+    turned Equal = refl
+    turned (Worse m) = refl
 
-pub worse-means : (r v w : List ℕ) → (harmony r v w ≡ Worse) ↔ MoreHarmonic r w v
-worse-means r v w = (λ e. better-is r w v (better-worse r w v .1 e), λ d. better-worse r w v .0 (better-means r w v .1 d))
+pub worse-means : (r v w : List ℕ) → (worse r v w ≡ true) ↔ MoreHarmonic r w v
+worse-means r v w = (λ e. better-is r w v (sym (better-worse r w v) ∙ e), λ d. better-worse r w v ∙ better-means r w v .1 d)
+
+-- never both ways, and equal where neither way
+pub one-way : (r v w : List ℕ) → better r v w ≡ true → better r w v ≡ true → ⊥
+one-way r v w p q = not-both (harmony r v w) p (better-worse r w v ∙ q)
+
+pub neither-way : (r v w : List ℕ) → better r v w ≡ false → better r w v ≡ false → harmony r v w ≡ Equal
+neither-way r v w p q = neither (harmony r v w) p (better-worse r w v ∙ q)
 
 -- equal: the counts of all ranked machines are
-equal-at : (r v w : List ℕ) → harmony r v w ≡ Equal → (i : ℕ) → i < length r → getD v (getD r i 0) 0 ≡ getD w (getD r i 0) 0
+pub equal-at : (r v w : List ℕ) → harmony r v w ≡ Equal → (i : ℕ) → i < length r → getD v (getD r i 0) 0 ≡ getD w (getD r i 0) 0
 equal-at [] v w e i q = absurd (omega arith)
 equal-at (m ∷ r) v w e i q = go (standing (getD v m 0) (getD w m 0)) (equal-at r v w) i q
   where
     go : Standing (getD v m 0) (getD w m 0) → (harmony r v w ≡ Equal → (j : ℕ) → j < length r → getD v (getD r j 0) 0 ≡ getD w (getD r j 0) 0)
         → (j : ℕ) → j < suc (length r) → getD v (getD (m ∷ r) j 0) 0 ≡ getD w (getD (m ∷ r) j 0) 0
-    go (fewer h) k j p = absurd (better-not-equal (at-fewer m r v w h) e)
+    go (fewer h) k j p = absurd (clash (ap isBetter (at-fewer m r v w h)) (ap isBetter e))
     go (same h) k zero p = h
     go (same h) k (suc j) p = k (sym (at-same m r v w h) ∙ e) j (omega arith)
-    go (more h) k j p = absurd (equal-not-worse e (at-more m r v w h))
+    go (more h) k j p = absurd (clash (ap isWorse (at-more m r v w h)) (ap isWorse e))
 
 -- comparison looks at the counts of the ranked machines alone
-same-at : (r v w x y : List ℕ) → ((i : ℕ) → i < length r → getD v (getD r i 0) 0 ≡ getD x (getD r i 0) 0)
+pub same-at : (r v w x y : List ℕ) → ((i : ℕ) → i < length r → getD v (getD r i 0) 0 ≡ getD x (getD r i 0) 0)
     → ((i : ℕ) → i < length r → getD w (getD r i 0) 0 ≡ getD y (getD r i 0) 0) → harmony r v w ≡ harmony r x y
 same-at [] v w x y p q = nothing-ranked v w ∙ sym (nothing-ranked x y)
 same-at (m ∷ r) v w x y p q =
@@ -148,35 +162,48 @@ module _ (K : ℕ) (r : List ℕ) (is : isRanking K r ≡ true) where
   pub total : (v w : List ℕ) → ExactlyOne (MoreHarmonic r v w) (Agree K v w) (MoreHarmonic r w v)
   total v w =
       record {
-        one = go (harmony r v w) refl;
-        not-first-second = λ b a. better-not-equal (better-means r v w .1 b) (equal-means v w .1 a);
-        not-second-third = λ a b. equal-not-worse (equal-means v w .1 a) (worse-means r v w .1 b);
-        not-first-third = λ b c. better-not-worse (better-means r v w .1 b) (worse-means r v w .1 c);
+        one = go (better r v w) refl (better r w v) refl;
+        not-first-second = λ b a. clash (better-means r v w .1 b) (ap isBetter (equal-means v w .1 a));
+        not-second-third = λ a b. clash (worse-means r v w .1 b) (ap isWorse (equal-means v w .1 a));
+        not-first-third = λ b c. one-way r v w (better-means r v w .1 b) (better-means r w v .1 c);
       }
     where
-      go : (o : Order) → harmony r v w ≡ o → MoreHarmonic r v w ⊎ (Agree K v w ⊎ MoreHarmonic r w v)
-      go Better e = inl (better-means r v w .0 e)
-      go Equal e = inr (inl (equal-means v w .0 e))
-      go Worse e = inr (inr (worse-means r v w .0 e))
+      go : (b : Bool) → better r v w ≡ b → (c : Bool) → better r w v ≡ c → MoreHarmonic r v w ⊎ (Agree K v w ⊎ MoreHarmonic r w v)
+      go true e c f = inl (better-means r v w .0 e)
+      go false e true f = inr (inr (better-means r w v .0 f))
+      go false e false f = inr (inl (equal-means v w .0 (neither-way r v w e f)))
 
 -- better than what is better is better
-pub transitive : (r u v w : List ℕ) → harmony r u v ≡ Better → harmony r v w ≡ Better → harmony r u w ≡ Better
-transitive [] u v w p q = absurd (better-not-equal p (nothing-ranked u v))
+pub transitive : (r u v w : List ℕ) → better r u v ≡ true → better r v w ≡ true → better r u w ≡ true
+transitive [] u v w p q = absurd (clash p (ap isBetter (nothing-ranked u v)))
 transitive (m ∷ r) u v w p q = go (standing (getD u m 0) (getD v m 0)) (standing (getD v m 0) (getD w m 0)) (transitive r u v w)
   where
-    go : Standing (getD u m 0) (getD v m 0) → Standing (getD v m 0) (getD w m 0) → (harmony r u v ≡ Better → harmony r v w ≡ Better → harmony r u w ≡ Better)
-        → harmony (m ∷ r) u w ≡ Better
-    go (fewer a) (fewer b) k = at-fewer m r u w (omega arith)
-    go (fewer a) (same b) k = at-fewer m r u w (omega arith)
-    go (fewer a) (more b) k = absurd (better-not-worse q (at-more m r v w b))
-    go (same a) (fewer b) k = at-fewer m r u w (omega arith)
-    go (same a) (same b) k = at-same m r u w (a ∙ b) ∙ k (sym (at-same m r u v a) ∙ p) (sym (at-same m r v w b) ∙ q)
-    go (same a) (more b) k = absurd (better-not-worse q (at-more m r v w b))
-    go (more a) b k = absurd (better-not-worse p (at-more m r u v a))
+    go : Standing (getD u m 0) (getD v m 0) → Standing (getD v m 0) (getD w m 0) → (better r u v ≡ true → better r v w ≡ true → better r u w ≡ true)
+        → better (m ∷ r) u w ≡ true
+    go (fewer a) (fewer b) k = ap isBetter (at-fewer m r u w (omega arith))
+    go (fewer a) (same b) k = ap isBetter (at-fewer m r u w (omega arith))
+    go (same a) (fewer b) k = ap isBetter (at-fewer m r u w (omega arith))
+    go (same a) (same b) k =
+        ap isBetter (at-same m r u w (a ∙ b)) ∙ k (ap isBetter (sym (at-same m r u v a)) ∙ p) (ap isBetter (sym (at-same m r v w b)) ∙ q)
+    go (fewer a) (more b) k = absurd (clash q (ap isBetter (at-more m r v w b)))
+    go (same a) (more b) k = absurd (clash q (ap isBetter (at-more m r v w b)))
+    go (more a) b k = absurd (clash p (ap isBetter (at-more m r u v a)))
 
--- equals compare alike
-pub equals-alike : (r v w x y : List ℕ) → harmony r v x ≡ Equal → harmony r w y ≡ Equal → harmony r v w ≡ harmony r x y
-equals-alike r v w x y p q = same-at r v w x y (equal-at r v x p) (equal-at r w y q)
+-- not better than what is not better is not better
+pub not-better : (r u v w : List ℕ) → better r u v ≡ false → better r v w ≡ false → better r u w ≡ false
+not-better [] u v w p q = ap isBetter (nothing-ranked u w)
+not-better (m ∷ r) u v w p q = go (standing (getD u m 0) (getD v m 0)) (standing (getD v m 0) (getD w m 0)) (not-better r u v w)
+  where
+    go : Standing (getD u m 0) (getD v m 0) → Standing (getD v m 0) (getD w m 0) → (better r u v ≡ false → better r v w ≡ false → better r u w ≡ false)
+        → better (m ∷ r) u w ≡ false
+    go (fewer a) b k = absurd (clash (ap isBetter (at-fewer m r u v a)) p)
+    go (same a) (same b) k =
+        ap isBetter (at-same m r u w (a ∙ b)) ∙ k (ap isBetter (sym (at-same m r u v a)) ∙ p) (ap isBetter (sym (at-same m r v w b)) ∙ q)
+    go (same a) (fewer b) k = absurd (clash (ap isBetter (at-fewer m r v w b)) q)
+    go (more a) (fewer b) k = absurd (clash (ap isBetter (at-fewer m r v w b)) q)
+    go (same a) (more b) k = ap isBetter (at-more m r u w (omega arith))
+    go (more a) (same b) k = ap isBetter (at-more m r u w (omega arith))
+    go (more a) (more b) k = ap isBetter (at-more m r u w (omega arith))
 
 -- a count of a merge is the sum of the counts
 pub merge-count : (v w : List ℕ) (i : ℕ) → getD (merge v w) i 0 ≡ getD v i 0 + getD w i 0

@@ -6,3 +6,4 @@ pub mod Conditions
 pub mod Searches
 pub mod Arrangements
 pub mod Order
+pub mod Profiles

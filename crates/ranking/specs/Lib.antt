@@ -8,6 +8,8 @@ pub mod Finder
 pub mod FinderSteps
 pub mod Lemmas
 pub mod HarmonicInequality
+pub mod DecidingMachine
+pub mod Violations
 pub mod ViolationSemiring
 pub mod ConditionMeaning
 pub mod FinderTheorems

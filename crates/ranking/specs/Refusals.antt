@@ -19,5 +19,5 @@ stageNumber stages.Passed = 0
 stageNumber (stages.Refused r) = numberOf r
 
 -- K is 1 to 6
-abbrev pub machineCount : ℕ → Bool
-machineCount K = leb 1 K && leb K 6
+abbrev pub isMachineCount : ℕ → Bool
+isMachineCount K = leb 1 K && leb K 6

@@ -11,8 +11,8 @@ ghost use Prim.Native.Nat.{_+_, _<_, _≤_, _%_};
 ghost use lib.ListN.{length};
 ghost use Rattle.basics.specs.Sets.{member};
 ghost use Rattle.basics.specs.Refusals.{refuse, firstOf};
-ghost use Rattle.ranking.specs.Refusals.{numberOf, stageNumber, machineCount};
-ghost use Rattle.ranking.specs.Finder.{apart, soundCondition, soundList, conditionsOf, smallest, refusedFinding, answerOf, finding};
+ghost use Rattle.ranking.specs.Refusals.{numberOf, stageNumber, isMachineCount};
+ghost use Rattle.ranking.specs.Finder.{disjoint, soundCondition, soundList, conditionsOf, smallest, refusedFinding, findingOf, finding};
 ghost use Rattle.ranking.specs.FinderSteps.{conditionAt, blocks, mayStand, nextMachine, machineOf};
 
 // The machine for the next place.
@@ -30,8 +30,8 @@ fn has(set: u8, machine: u8) -> bool
 }
 
 // Whether two sets have no machine in common.
-fn apart(a: u8, b: u8) -> bool
-    ensures { λ r. ⌜ r ≡ apart a b ⌝ }
+fn disjoint(a: u8, b: u8) -> bool
+    ensures { λ r. ⌜ r ≡ disjoint a b ⌝ }
 {
     a & b == 0
 }
@@ -47,12 +47,12 @@ fn condition_at(conditions: &[u8], at: usize) -> Condition
     }
 }
 
-// Whether a condition's sets are apart and hold machines below `machines` alone.
+// Whether a condition's sets are disjoint and hold machines below `machines` alone.
 fn sound(machines: u8, condition: Condition) -> bool
     requires { ⌜ machines < 8 ⌝ }
     ensures { λ r. ⌜ r ≡ soundCondition machines condition ⌝ }
 {
-    apart(condition.fewer, condition.more)
+    disjoint(condition.fewer, condition.more)
         & (condition.fewer >> machines == 0)
         & (condition.more >> machines == 0)
 }
@@ -62,7 +62,7 @@ fn blocks(condition: Condition, placed: u8, machine: u8) -> bool
     requires { ⌜ machine < 8 ⌝ }
     ensures { λ r. ⌜ r ≡ blocks placed machine condition ⌝ }
 {
-    apart(condition.fewer, placed) & has(condition.more, machine)
+    disjoint(condition.fewer, placed) & has(condition.more, machine)
 }
 
 // Refusal 15: whether the list is even, of at most 64 pairs, and sound in each.
@@ -88,7 +88,7 @@ fn check_conditions(machines: u8, conditions: &[u8]) -> Stage
 
 // Refusals 1 and 15.
 fn check(machines: u8, conditions: &[u8]) -> Stage
-    ensures { λ r. ⌜ stageNumber r ≡ firstOf (refuse 1 (machineCount machines) ∷ refuse 15 (soundList machines (now (conditions .entry))) ∷ []) ⌝ }
+    ensures { λ r. ⌜ stageNumber r ≡ firstOf (refuse 1 (isMachineCount machines) ∷ refuse 15 (soundList machines (now (conditions .entry))) ∷ []) ⌝ }
 {
     let answer = rankings::check_machine_count(machines);
     let Stage::Passed = answer else {
@@ -138,7 +138,7 @@ fn refused(refusal: Refusal) -> Finding
 // Fills the places from the highest down: refusal 16 where no machine may stand at one.
 fn rank(machines: u8, conditions: &[u8]) -> Finding
     requires { ⌜ (machines ≤ 6) × (soundList machines (now conditions) ≡ true) ⌝ }
-    ensures { λ r. ⌜ r ≡ answerOf machines (smallest machines (conditionsOf (now (conditions .entry)))) ⌝ }
+    ensures { λ r. ⌜ r ≡ findingOf machines (smallest machines (conditionsOf (now (conditions .entry)))) ⌝ }
 {
     let mut ranking = [0u8; 6];
     let mut placed: u8 = 0;

@@ -6,25 +6,33 @@ use super::Stage;
 use super::rankings;
 ghost use mathlib.Core.Path.{_≡_};
 ghost use mathlib.Core.Bool.{true};
-ghost use Prim.Native.Nat.{_≤_};
-ghost use lib.ListN.{length};
+ghost use Prim.Native.Nat.{_<_, _≤_};
+ghost use lib.ListN.{length, getD};
 ghost use Rattle.ranking.specs.Rankings.{isRanking};
 ghost use Rattle.ranking.specs.Harmony.{harmony, compared, comparing};
 
-// How the first profile stands to the second: goes down the ranking to the highest ranked machine where they differ.
-pub fn harmony(ranking: &[u8], first: Profile, second: Profile) -> Order
+// The machine at a place of a ranking.
+fn machine_at(ranking: &[u8], place: u8) -> u8
+    requires { ⌜ place < length (now ranking) ⌝ }
+    ensures { λ r. ⌜ r ≡ getD (now (ranking .entry)) place 0 ⌝ }
+{
+    ranking[place as usize]
+}
+
+// How the first profile stands to the second: goes down the ranking to the highest ranked machine where they differ, which decides.
+fn harmony(ranking: &[u8], first: Profile, second: Profile) -> Order
     requires { ⌜ (isRanking (length (now ranking)) (now ranking) ≡ true) × (length (now ranking) ≤ 6) ⌝ }
     ensures { λ r. ⌜ r ≡ harmony (now (ranking .entry)) (first .counts) (second .counts) ⌝ }
 {
-    for place in 0..ranking.len() {
-        let machine = ranking[place] as usize;
-        let one = first.count(machine);
-        let other = second.count(machine);
+    for place in 0..ranking.len() as u8 {
+        let machine = machine_at(ranking, place);
+        let one = first.count(machine as usize);
+        let other = second.count(machine as usize);
         if one < other {
-            return Order::Better;
+            return Order::Better(machine);
         }
         if other < one {
-            return Order::Worse;
+            return Order::Worse(machine);
         }
     }
     Order::Equal

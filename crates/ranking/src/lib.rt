@@ -35,11 +35,12 @@ impl Profile {
     }
 }
 
-// How one profile stands to another under a ranking.
+// How one profile stands to another under a ranking: better or worse with the machine that decided, the highest ranked one where they differ, by its
+// number in the card.
 pub enum Order {
-    Better,
+    Better(u8),
     Equal,
-    Worse,
+    Worse(u8),
 }
 
 // What a comparison of two profiles asks of a ranking: W, the machines where the first has fewer, and L, where it has more.

@@ -5,12 +5,12 @@ ghost use mathlib.Core.Path.{_≡_};
 ghost use mathlib.Core.List.{[], _∷_};
 ghost use Rattle.basics.specs.Refusals.{refuse, firstOf};
 ghost use Rattle.basics.specs.Search.{occurrences};
-ghost use Rattle.ranking.specs.Refusals.{stageNumber, machineCount};
+ghost use Rattle.ranking.specs.Refusals.{stageNumber, isMachineCount};
 ghost use Rattle.ranking.specs.Rankings.{isRanking};
 
 // Refusal 1: whether there are 1 to 6 machines.
 pub fn check_machine_count(machines: u8) -> Stage
-    ensures { λ r. ⌜ stageNumber r ≡ refuse 1 (machineCount machines) ⌝ }
+    ensures { λ r. ⌜ stageNumber r ≡ refuse 1 (isMachineCount machines) ⌝ }
 {
     Stage::tested((1 <= machines) & (machines <= 6), Refusal::MachineCount)
 }
@@ -45,7 +45,7 @@ pub fn check_ranking(machines: u8, ranking: &[u8]) -> Stage
 
 // Refusals 1 and 7.
 pub fn check(machines: u8, ranking: &[u8]) -> Stage
-    ensures { λ r. ⌜ stageNumber r ≡ firstOf (refuse 1 (machineCount machines) ∷ refuse 7 (isRanking machines (now (ranking .entry))) ∷ []) ⌝ }
+    ensures { λ r. ⌜ stageNumber r ≡ firstOf (refuse 1 (isMachineCount machines) ∷ refuse 7 (isRanking machines (now (ranking .entry))) ∷ []) ⌝ }
 {
     let answer = check_machine_count(machines);
     let Stage::Passed = answer else {

@@ -47,11 +47,21 @@ fn write_refusal(refusal: Refusal) {
     write_number(refusal.number() as u64);
 }
 
+fn write_better(machine: u8) {
+    write(b"better by");
+    write_machine(machine);
+}
+
+fn write_worse(machine: u8) {
+    write(b"worse by");
+    write_machine(machine);
+}
+
 fn write_order(order: Order) {
     match order {
-        Order::Better => write(b"better"),
+        Order::Better(machine) => write_better(machine),
         Order::Equal => write(b"equal"),
-        Order::Worse => write(b"worse"),
+        Order::Worse(machine) => write_worse(machine),
     }
 }
 
@@ -196,6 +206,68 @@ fn orders() {
     under(2, 0, 1, counts(3, 4, 5), counts(3, 4, 5));
 }
 
+fn with(profile: Profile, machine: u8, count: u16) -> Profile {
+    let mut counts = profile.counts;
+    if machine < 6 {
+        counts[machine as usize] = count;
+    }
+    Profile { counts }
+}
+
+// The counts x, y, z of the machines a, b, c, and `rest` in the places behind them.
+fn three(a: u8, x: u16, b: u8, y: u16, c: u8, z: u16, rest: u16) -> Profile {
+    let behind = Profile { counts: [rest; 6] };
+    with(with(with(behind, a, x), b, y), c, z)
+}
+
+// Both ways round.
+fn parted(a: u8, b: u8, c: u8, first: Profile, second: Profile) {
+    under(a, b, c, first, second);
+    under(a, b, c, second, first);
+}
+
+// Profiles that part at each place of the ranking, alike above it and the other way below it; and alike in all three. The places behind differ.
+fn parting(a: u8, b: u8, c: u8) {
+    parted(
+        a,
+        b,
+        c,
+        three(a, 1, b, 9, c, 9, 8),
+        three(a, 2, b, 0, c, 0, 7),
+    );
+    parted(
+        a,
+        b,
+        c,
+        three(a, 5, b, 1, c, 9, 8),
+        three(a, 5, b, 2, c, 0, 7),
+    );
+    parted(
+        a,
+        b,
+        c,
+        three(a, 5, b, 5, c, 1, 8),
+        three(a, 5, b, 5, c, 2, 7),
+    );
+    parted(
+        a,
+        b,
+        c,
+        three(a, 5, b, 5, c, 5, 8),
+        three(a, 5, b, 5, c, 5, 7),
+    );
+}
+
+// The machine that decided is told by its number in the card, under every ranking of three.
+fn deciding_machines() {
+    parting(0, 1, 2);
+    parting(0, 2, 1);
+    parting(1, 0, 2);
+    parting(1, 2, 0);
+    parting(2, 0, 1);
+    parting(2, 1, 0);
+}
+
 // Counts in full, up to the largest.
 fn full_counts() {
     under(0, 1, 2, counts(255, 0, 0), counts(256, 0, 0));
@@ -266,6 +338,7 @@ fn main() {
     rankings_of_three();
     other_rankings();
     orders();
+    deciding_machines();
     full_counts();
     every_machine_count();
     conditions();

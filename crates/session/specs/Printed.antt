@@ -5,7 +5,7 @@ use mathlib.Core.Option.{Option, some, none}
 use Prim.Native.Nat.{ℕ, _≤_}
 use lib.ListN.{length, replicate}
 use Rattle.card.specs.Layout.{machineCount}
-use Rattle.candidate.specs.Optimizing.{optimized, optimizedAnswer}
+use Rattle.product.specs.Optimizing.{optimized, optimizedAnswer}
 use Rattle.lines.specs.Buffers.{atFront}
 use Rattle.lines.specs.Parsing.{Request, parsedLine}
 use Rattle.lines.specs.Writing.{badLine, lineOf}

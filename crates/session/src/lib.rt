@@ -10,8 +10,8 @@ ghost use Prim.Native.Nat.{_≤_};
 ghost use lib.ListN.{length, take};
 ghost use Rattle.io.specs.Counts.{Counts};
 ghost use Rattle.card.specs.Layout.{machineCount};
-ghost use Rattle.lines.specs.Taking.{heldAfter};
 ghost use Rattle.session.specs.Printed.{bestLine, printed, Prints};
+ghost use Rattle.session.specs.Output.{Holds};
 
 // More bytes than any accepted card has: of a longer file the first ones are used.
 const CARD_BYTES: usize = 30831;
@@ -66,18 +66,25 @@ fn answer_line(card: &[u8], line: &[u8], out: &mut [u8]) -> usize
     write_best(card, &ranking[..digits], &word[..symbols], out)
 }
 
-// Prints the answer to a line.
-fn print_answer(card: &[u8], line: &[u8]) {
+// Prints the answer to a line, and answers whether it was written.
+fn print_answer(card: &[u8], line: &[u8]) -> bool {
     let mut out = [0u8; OUT_BYTES];
     let n = answer_line(card, line, &mut out);
-    io::write_all(STDOUT_FILENO, &out[..n]);
+    io::write_all(STDOUT_FILENO, &out[..n])
+}
+
+// How far the input is answered: how many bytes are held of the line that goes on, and whether everything was written. After a
+// write that failed nothing more is read or written.
+struct Progress {
+    held: usize,
+    written: bool,
 }
 
 // Prints the answers to the lines that end in a piece of the input. The first one's bytes so far stand at the front of `line`,
-// `held` of them; the answer is how many bytes are then held of the line that goes on.
-fn answer_piece(card: &[u8], piece: &[u8], line: &mut [u8], held: usize) -> usize
+// `held` of them.
+fn answer_piece(card: &[u8], piece: &[u8], line: &mut [u8], held: usize) -> Progress
     requires { ⌜ (held ≤ 201) × (length (now line) ≡ 201) ⌝ }
-    ensures { λ r. ⌜ (r ≤ 201) × (take r (now (line .exit)) ≡ heldAfter (take held (now (line .entry))) (now (piece .entry))) ⌝ }
+    ensures { λ r. ⌜ Holds (take held (now (line .entry))) (now (piece .entry)) (now (line .exit)) (r .held) (r .written) ⌝ }
 {
     let mut at = 0;
     let mut length = held;
@@ -88,12 +95,20 @@ fn answer_piece(card: &[u8], piece: &[u8], line: &mut [u8], held: usize) -> usiz
                 length: whole,
                 at: after,
             } => {
-                print_answer(card, &line[..whole]);
+                if !print_answer(card, &line[..whole]) {
+                    return Progress {
+                        held: 0,
+                        written: false,
+                    };
+                }
                 length = 0;
                 at = after;
             }
             Next::Open { length: so_far } => {
-                return so_far;
+                return Progress {
+                    held: so_far,
+                    written: true,
+                };
             }
         }
     }
@@ -107,12 +122,12 @@ fn read_piece(piece: &mut [u8]) -> usize
     io::count(got, piece)
 }
 
-// Prints the answers to the lines of the input that end, and answers how many bytes are held of the last one, at the front of
-// `line`. A proved loop has to end, and nothing says that an input does: the loop counts its turns down, from a number that no
-// run uses up, since a thousand million readings a second take 584 years for it.
-fn answer_pieces(card: &[u8], line: &mut [u8]) -> usize
+// Prints the answers to the lines of the input that end. The bytes held of the last one stand at the front of `line`. A proved
+// loop has to end, and nothing says that an input does: the loop counts its turns down, from a number that no run uses up, since
+// a thousand million readings a second take 584 years for it.
+fn answer_pieces(card: &[u8], line: &mut [u8]) -> Progress
     requires { ⌜ length (now line) ≡ 201 ⌝ }
-    ensures { λ r. ⌜ r ≤ 201 ⌝ }
+    ensures { λ r. ⌜ r .held ≤ 201 ⌝ }
 {
     let mut piece = [0u8; PIECE_BYTES];
     let mut held = 0;
@@ -120,19 +135,27 @@ fn answer_pieces(card: &[u8], line: &mut [u8]) -> usize
     while turns > 0 {
         let n = read_piece(&mut piece);
         if n == 0 {
-            return held;
+            break;
         }
-        held = answer_piece(card, &piece[..n], line, held);
+        let progress = answer_piece(card, &piece[..n], line, held);
+        if !progress.written {
+            return progress;
+        }
+        held = progress.held;
         turns -= 1;
     }
-    held
+    Progress {
+        held,
+        written: true,
+    }
 }
 
 // Prints the answers to the lines of the input. The last one may lack its line end.
 fn answer_input(card: &[u8]) {
     let mut line = [0u8; LINE_BYTES];
-    let held = answer_pieces(card, &mut line);
-    if held > 0 {
+    let progress = answer_pieces(card, &mut line);
+    let held = progress.held;
+    if progress.written & (held > 0) {
         print_answer(card, &line[..held]);
     }
 }

@@ -1,15 +1,14 @@
 -- The machines of a card, one after the other. Assumes nothing.
 use mathlib.Core.Path.{_≡_, sym, _∙_, ap}
-use mathlib.Core.List.{List, []}
+use mathlib.Core.List.{List}
 use Prim.Native.Nat.{ℕ, _+_, _*_, _<_, _≤_}
 use native.Mathlib.Decide.{ℕ-discrete}
 use native.Mathlib.Omega.{arith}
-use lib.ListN.{length, getD, length-map}
+use lib.ListN.{length, getD}
 use borrow.Rule.Slice.PartMut.{putMid}
 use Rattle.machine.specs.Machine.{Machine, stepOf}
-use Rattle.machine.specs.Part.{machineOf}
 use Rattle.machine.specs.Accepted.{shape-facts, finals-count, accepted as part-accepted}
-use Rattle.card.specs.Layout.{machineCount, symbolCount, partOf, partsOf}
+use Rattle.card.specs.Layout.{machineCount, symbolCount, partOf}
 use Rattle.card.specs.Card.{machinesOf, cardRefusal}
 use Rattle.card.specs.Accepted.{accepted}
 use Rattle.card.specs.Laws.Machines.{machine-at}

@@ -7,18 +7,12 @@ ghost use Rattle.card.specs.Layout.{machineCount};
 ghost use Rattle.card.specs.Card.{machinesOf, cardRefusal};
 ghost use Rattle.steps.specs.StepTable.{HoldsMachine, HoldsSteps};
 ghost use Rattle.steps.specs.Filling.{AcceptedPart, RowWritten, ArcEntered};
+use basics::index;
 use machine::Arc;
 use machine::sets;
 
 // The number of a pair that no arc takes.
 pub const NO_STEP: u16 = 65535;
-
-// A byte as a number to index with.
-fn index(x: u8) -> usize
-    ensures { λ r. ⌜ (r ≡ x) × (r < 256) ⌝ }
-{
-    x as usize
-}
 
 // A step as one number.
 fn step_code(to: u8, marks: u8) -> u16

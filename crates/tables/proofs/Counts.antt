@@ -1,23 +1,17 @@
 -- State counts and the states of a code, machine by machine. Assumes nothing.
-use mathlib.Core.Path.{_≡_, refl, sym, _∙_, ap}
-use mathlib.Core.Logic.{_⊎_, inl, inr}
-use mathlib.Core.List.{List, [], _∷_, _++_}
-use Prim.Native.Nat.{ℕ, zero, suc, _+_, _-_, _*_, _/_, _%_, _<_, _≤_}
-use native.Mathlib.Nat.{mul-assoc, mul-comm, mul-le-mul-left, mul-le-mul-right, mul-div-cancel-left, mod-lt, mul-one}
+use mathlib.Core.Path.{_≡_, sym, _∙_, ap}
+use mathlib.Core.List.{List, [], _∷_}
+use Prim.Native.Nat.{ℕ, zero, suc, _+_, _*_, _<_, _≤_}
+use native.Mathlib.Nat.{mul-assoc, mul-le-mul-left}
 use native.Mathlib.Numerals.{add-one}
-use native.Mathlib.Decide.{ℕ-discrete}
 use native.Mathlib.Omega.{arith}
-use lib.ListN.{length, getD, take, drop, set, length-set, drop-of-length-le}
-use lib.Seq.{drop-cons, take-suc, take-suc-set, take-all, getD-set-same, getD-set-other}
-use Rattle.card.specs.Layout.{machineCount}
-use Rattle.card.specs.Card.{machinesOf, cardRefusal}
-use Rattle.product.specs.Nodes.{stateCounts, product, statesOf}
+use lib.ListN.{length, getD, take, drop, set, drop-of-length-le}
+use lib.Seq.{drop-cons, take-suc, take-suc-set}
+use Rattle.product.specs.Nodes.{product, statesOf}
 use Rattle.product.specs.Laws.Nodes.{Positive, Below, product-positive}
 use Rattle.product.specs.Laws.JointStep.{counts-positive}
-use Rattle.steps.specs.StepTable.{rowPlace}
-use Rattle.tables.specs.Tables.{CardMachines, CountsOfSome, HoldsRows}
-use Rattle.tables.specs.FillingRows.{RowsPre, RowFilled}
-use Rattle.tables.proofs.Machines.{count-at, counts-length, below-length, below-at, code-states}
+use Rattle.tables.specs.Tables.{CountsOfSome}
+use Rattle.tables.proofs.Machines.{count-at, counts-length, code-states}
 
 -- ---- the product of the counts from m on
 

@@ -1,8 +1,8 @@
 -- The joint ending, machine by machine. Assumes nothing.
 use mathlib.Core.Path.{_≡_, refl, sym, _∙_, ap}
-use mathlib.Core.List.{List, [], _∷_, _++_, append-nil}
+use mathlib.Core.List.{List, _++_}
 use mathlib.Core.Option.{Option, some, none}
-use Prim.Native.Nat.{ℕ, zero, suc, _+_, _*_, _/_, _%_, _<_, _≤_}
+use Prim.Native.Nat.{ℕ, suc, _+_, _*_, _/_, _%_, _<_, _≤_}
 use native.Mathlib.Numerals.{add-one}
 use native.Mathlib.Decide.{ℕ-discrete}
 use native.Mathlib.Omega.{arith}
@@ -12,15 +12,14 @@ use Rattle.machine.specs.Machine.{Machine, endingOf}
 use Rattle.machine.specs.Part.{machineOf}
 use Rattle.card.specs.Layout.{machineCount, symbolCount, partOf}
 use Rattle.card.specs.Card.{machinesOf}
-use Rattle.product.specs.Nodes.{stateCounts, product, statesOf}
-use Rattle.product.specs.JointStep.{andThose, ofEach, jointEnding}
-use Rattle.steps.specs.StepTable.{noMachine, machineAt}
+use Rattle.product.specs.Nodes.{stateCounts, statesOf}
+use Rattle.product.specs.JointStep.{andThose, jointEnding}
+use Rattle.steps.specs.StepTable.{noMachine}
 use Rattle.card.specs.Laws.Machines.{length-machines, machine-at}
 use Rattle.tables.specs.Places.{markNumber}
 use Rattle.tables.specs.JointNumbers.{endingNumber, endingFrom}
 use Rattle.tables.specs.Tables.{CardMachines, EndingPre}
 use Rattle.tables.specs.Laws.Cards.{card-machines}
-use Rattle.tables.specs.Laws.Packing.{number-same}
 use Rattle.tables.proofs.Machines.{sound-at, count-at, counts-length, below-length, below-at, code-states}
 use Rattle.tables.proofs.Joining.{of-each-next, of-each-end, zeros, marks-taken}
 

@@ -19,7 +19,7 @@ use Rattle.steps.proofs.Codes.{code-none, code-some}
 use Rattle.tables.specs.Places.{markNumber}
 use Rattle.product.specs.Codes.{coded}
 use Rattle.tables.specs.JointNumbers.{numbered, jointFrom}
-use Rattle.tables.specs.Tables.{Tables, TablesOfSome, JointPre}
+use Rattle.tables.specs.Tables.{Tables, JointPre}
 use Rattle.tables.specs.Laws.Packing.{number-same}
 use Rattle.tables.proofs.Counts.{product-next, positive-drop}
 use Rattle.tables.proofs.Machines.{sound-at, count-at, counts-length, below-length, code-states, small-step, machine-below, in-rows, in-steps, entry-is}

@@ -11,7 +11,7 @@ use lib.ListN.{length, getD, set, replicate}
 use borrow.Author.Tests.{ne-eqb}
 use Rattle.machine.specs.declared.Pair.{Pair}
 use Rattle.machine.specs.Machine.{Machine}
-use Rattle.labels.specs.Marks.{packed, noPair}
+use Rattle.labels.specs.Marks.{fromNibbles, noPair}
 use Rattle.product.specs.Nodes.{stateCounts, product}
 use Rattle.product.specs.ProductGraph.{Move}
 use Rattle.product.specs.Codes.{codeStep}
@@ -62,7 +62,7 @@ unit-few (suc m) zero = omega arith
 unit-few (suc m) (suc i) = unit-few m i
 
 number-add : (places Z X E : List ℕ) (k : ℕ) → ((j : ℕ) → getD Z j 0 ≡ getD X j 0 + k * getD E j 0) → markNumber places Z ≡ markNumber places X + k * markNumber places E
-unfolding packed
+unfolding fromNibbles
 number-add [] Z X E k h = omega (arith, mul-zero k)
 number-add (p ∷ places) Z X E k h =
     let B = 16 ^ length places in
@@ -88,7 +88,7 @@ no-marks (suc m) zero = refl
 no-marks (suc m) (suc j) = no-marks m j
 
 pub number-zero : (places : List ℕ) (m : ℕ) → markNumber places (replicate m 0 ++ []) ≡ 0
-unfolding packed
+unfolding fromNibbles
 number-zero [] m = refl
 number-zero (p ∷ places) m = omega (arith, ap (λ (n : ℕ). n * 16 ^ length places) (no-marks m p), number-zero places m)
 

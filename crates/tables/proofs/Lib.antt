@@ -1,3 +1,4 @@
+pub mod Starting
 pub mod Machines
 pub mod Counts
 pub mod Rows

@@ -1,8 +1,7 @@
 -- Machines by their numbers: their counts, their states, their steps by a table. Assumes nothing.
-use mathlib.Core.Path.{_≡_, refl, sym, _∙_, ap}
-use mathlib.Core.List.{List, [], _∷_, map}
-use mathlib.Core.Option.{Option, some}
-use Prim.Native.Nat.{ℕ, zero, suc, _+_, _*_, _<_, _≤_}
+use mathlib.Core.Path.{_≡_, refl, _∙_, ap}
+use mathlib.Core.List.{List, [], _∷_}
+use Prim.Native.Nat.{ℕ, zero, suc, _+_, _*_, _<_}
 use native.Mathlib.Omega.{arith}
 use lib.ListN.{length, getD, length-map, List·getD-map}
 use Rattle.machine.specs.declared.Pair.{Pair}
@@ -12,7 +11,7 @@ use Rattle.product.specs.Laws.Nodes.{Below, states-below}
 use Rattle.product.specs.Laws.JointStep.{Sound, AllSound, all-none, all-next, counts-positive}
 use Rattle.steps.specs.StepTable.{stepCode, machineAt}
 use Rattle.steps.proofs.Codes.{SmallStep}
-use Rattle.tables.specs.Tables.{CardMachines, HoldsRows, Tables}
+use Rattle.tables.specs.Tables.{CardMachines, Tables}
 
 pub sound-at : {S : ℕ} {ms : List Machine} → AllSound S ms → (m : ℕ) → m < length ms → Sound S (machineAt ms m)
 sound-at all-none m h = absurd (omega arith)

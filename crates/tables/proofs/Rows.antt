@@ -1,17 +1,17 @@
 -- Filling the rows of the joint states. Assumes nothing.
 use mathlib.Core.Path.{_≡_, refl, sym, _∙_, ap}
 use mathlib.Core.Logic.{_⊎_, inl, inr}
-use mathlib.Core.List.{List, [], _∷_}
-use Prim.Native.Nat.{ℕ, zero, suc, _+_, _*_, _/_, _%_, _<_, _≤_}
+use mathlib.Core.List.{List, _∷_}
+use Prim.Native.Nat.{ℕ, suc, _+_, _*_, _/_, _%_, _<_, _≤_}
 use native.Mathlib.Nat.{mul-div-cancel-left, mod-lt}
 use native.Mathlib.Numerals.{add-one}
-use native.Mathlib.Decide.{decLt, ℕ-discrete}
+use native.Mathlib.Decide.{ℕ-discrete}
 use native.Mathlib.Omega.{arith}
 use lib.ListN.{length, getD, drop, set, length-set}
 use lib.Seq.{drop-cons, getD-set-same, getD-set-other}
 use Rattle.product.specs.Nodes.{product, statesOf}
 use Rattle.steps.specs.StepTable.{rowPlace}
-use Rattle.tables.specs.Tables.{CountsOfSome, HoldsRows}
+use Rattle.tables.specs.Tables.{HoldsRows}
 use Rattle.tables.specs.FillingRows.{RowsPre, RowFilled}
 use Rattle.tables.proofs.Machines.{below-length, below-at}
 use Rattle.tables.proofs.Counts.{product-next, positive-drop, few-counts, all-positive, few-states, count-positive, count-few, its-states}

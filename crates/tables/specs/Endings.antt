@@ -2,7 +2,7 @@
 use mathlib.Core.Option.{Option, some, none}
 use Prim.Native.Nat.{ℕ, zero, suc}
 use Rattle.paths.specs.Ranked.{Ranked}
-use Rattle.labels.specs.Marks.{marksOf}
+use Rattle.labels.specs.Marks.{marksCost}
 
 -- a cost with no pair
 abbrev pub withoutPairs : (k : ℕ) → Ranked k → Ranked k
@@ -11,7 +11,7 @@ withoutPairs (suc k) c = (c .0, withoutPairs k (c .1))
 
 -- the cost of an ending, by the number of its marks
 abbrev pub endingCost : ℕ → Ranked 6
-endingCost e = withoutPairs 6 (marksOf e)
+endingCost e = withoutPairs 6 (marksCost e)
 
 abbrev pub endingCosts : Option ℕ → Option (Ranked 6)
 endingCosts none = none

@@ -36,6 +36,6 @@ abbrev pub endingFrom : List ℕ → List Machine → ℕ → Option ℕ
 endingFrom places ms code = endingNumber places (codeEnding ms code)
 
 -- what a JointEnding says
-abbrev pub ended : JointEnding → Option ℕ
-ended (Marks marks) = some marks
-ended NotFinal = none
+abbrev pub jointEnded : JointEnding → Option ℕ
+jointEnded (Marks marks) = some marks
+jointEnded NotFinal = none

@@ -1,4 +1,5 @@
 pub mod Places
+pub mod Engine
 pub mod JointNumbers
 pub mod Tables
 pub mod Endings

@@ -4,7 +4,7 @@ use mathlib.Core.List.{List, [], _∷_}
 use Prim.Native.Nat.{ℕ, _<_}
 use lib.ListN.{length, getD}
 use Rattle.paths.specs.ByRanking.{ranked}
-use Rattle.labels.specs.Marks.{packed}
+use Rattle.labels.specs.Marks.{fromNibbles}
 
 -- a ranking of at most six machines as six places, highest first; past the last machine the place 6, at which no profile has a count
 abbrev pub sixPlaces : List ℕ → List ℕ
@@ -12,7 +12,7 @@ sixPlaces ranking = getD ranking 0 6 ∷ getD ranking 1 6 ∷ getD ranking 2 6 �
 
 -- the number of marks, given in card order: four bits a place, the highest ranked first
 abbrev pub markNumber : List ℕ → List ℕ → ℕ
-markNumber places marks = packed (length places) (ranked places marks 1)
+markNumber places marks = fromNibbles (length places) (ranked places marks 1)
 
 -- six places, each below 8
 pub record SixPlaces (places : List ℕ) : Type 0 where

@@ -1,17 +1,21 @@
 // Tables that the engine's inner loops look steps up in.
 ghost use mathlib.Core.Path.{_≡_};
+ghost use mathlib.Core.List.{List};
 ghost use Prim.Native.Nat.{ℕ, _^_, _<_, _≤_};
 ghost use lib.ListN.{getD, take};
+ghost use Rattle.machine.specs.Machine.{Machine};
 ghost use Rattle.card.specs.Layout.{machineCount};
 ghost use Rattle.card.specs.Card.{machinesOf, cardRefusal};
 ghost use Rattle.product.specs.Nodes.{stateCounts, product};
+ghost use Rattle.product.specs.ProductGraph.{startNode};
 ghost use Rattle.labels.specs.LabelCost.{costOf};
 ghost use Rattle.tables.specs.Places.{sixPlaces, markNumber, SixPlaces};
-ghost use Rattle.tables.specs.JointNumbers.{ended, endingFrom};
+ghost use Rattle.tables.specs.JointNumbers.{jointEnded, endingFrom};
 ghost use Rattle.tables.specs.Endings.{endingCost};
 ghost use Rattle.tables.specs.Tables.{CountsOfSome, HoldsRows, JointPre, Joins, EndingPre};
 ghost use Rattle.tables.specs.FillingRows.{RowsPre, RowFilled};
 ghost use Rattle.tables.specs.FillingCheapest.{NotePre, Noted, Blank, FillPre, FilledFrom, FilledCheapest};
+use basics::index;
 use labels::Label;
 use machine::Ending;
 use machine::Position;
@@ -29,13 +33,6 @@ pub enum Joint {
 pub enum JointEnding {
     Marks(u32),
     NotFinal,
-}
-
-// A byte as a number to index with.
-fn index(x: u8) -> usize
-    ensures { λ r. ⌜ (r ≡ x) × (r < 256) ⌝ }
-{
-    x as usize
 }
 
 // A 16-bit number as a number to index with.
@@ -72,6 +69,20 @@ pub fn joint_states(counts: &[u8]) -> usize
         m += 1;
     }
     states
+}
+
+// The start node: the first position, whose nodes are the codes, with every machine in its start state.
+pub fn start_node(counts: &[u8]) -> usize
+    ensures { λ r. ⌜ ((ms : List Machine) → now (counts .entry) ≡ stateCounts ms → r ≡ startNode ms) ⌝ }
+{
+    let start = index(Position::start().state);
+    let mut code = 0;
+    let mut m = 0;
+    while m < counts.len() {
+        code = code * index(counts[m]) + start;
+        m += 1;
+    }
+    code
 }
 
 // The rows of the states of one code.
@@ -173,7 +184,7 @@ pub fn joint_step(
 // Ends in the states of a code on all machines.
 pub fn joint_ending(card: &[u8], rows: &[u16], places: &[u8; 6], code: usize) -> JointEnding
     requires { ⌜ EndingPre (now card) (now rows) (now places) code ⌝ }
-    ensures { λ r. ⌜ ended r ≡ endingFrom (now (places .entry)) (machinesOf (now (card .entry))) code ⌝ }
+    ensures { λ r. ⌜ jointEnded r ≡ endingFrom (now (places .entry)) (machinesOf (now (card .entry))) code ⌝ }
 {
     let mut marks = [0u8; 8];
     let machines = card::machine_count(card);

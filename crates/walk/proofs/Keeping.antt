@@ -13,7 +13,7 @@ use Rattle.product.specs.ProductGraph.{Move}
 use Rattle.product.specs.Codes.{codeStep}
 use Rattle.product.specs.Laws.JointStep.{AllSound}
 use Rattle.product.specs.Laws.Codes.{code-step-below}
-use Rattle.labels.specs.Marks.{marksOf}
+use Rattle.labels.specs.Marks.{marksCost}
 use Rattle.labels.specs.Work.{costAt, labelOf}
 use Rattle.tables.specs.declared.Joint as joint
 use Rattle.tables.specs.declared.Joint.the-variants as joints
@@ -45,10 +45,10 @@ module _ (xs : List ℕ) (u base : ℕ) (found : joint.Joint) where
     pub unreached : labelOf xs (base + c) ≡ none → Keeps xs u base found No
     unreached l = kept-no (λ d k. let q : c ≡ d = cc (e, k .leads) in let r : labelOf xs (base + c) ≡ some (k .rest) = rw q (k .rest-is) in Option·none-ne-some (k .rest) (sym l ∙ r))
 
-    pub sum-same : (d : Ranked 6) → labelOf xs (base + c) ≡ some d → costAt xs u ≡ add 6 (marksOf m) d → Keeps xs u base found (To c)
+    pub sum-same : (d : Ranked 6) → labelOf xs (base + c) ≡ some d → costAt xs u ≡ add 6 (marksCost m) d → Keeps xs u base found (To c)
     sum-same d l s = record { to = λ b q. let z : c ≡ b = cc in let k : KeepsTo xs u base found c = record { marks = m; leads = e; rest = d; rest-is = l; sum = s } in subst (KeepsTo xs u base found) z k; no = λ q. absurd (not-no c q) }
 
-    pub sum-differs : (d : Ranked 6) → labelOf xs (base + c) ≡ some d → (costAt xs u ≡ add 6 (marksOf m) d → ⊥) → Keeps xs u base found No
+    pub sum-differs : (d : Ranked 6) → labelOf xs (base + c) ≡ some d → (costAt xs u ≡ add 6 (marksCost m) d → ⊥) → Keeps xs u base found No
     sum-differs d l s = kept-no (λ b k.
         let q : c ≡ b = cc (e, k .leads) in
         let t : m ≡ k .marks = cc (e, k .leads) in

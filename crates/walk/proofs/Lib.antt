@@ -1,7 +1,5 @@
-pub mod Numbers
 pub mod Keeping
 pub mod Moves
-pub mod Writing
 pub mod Trying
 pub mod Following
 pub mod Starting

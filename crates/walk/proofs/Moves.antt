@@ -1,22 +1,19 @@
--- The pair of a number, its move, and when it keeps to the labels. Assumes nothing.
+-- A pair at a node, its move, and when it keeps to the labels. Assumes nothing.
 use mathlib.Core.Path.{_≡_, refl, sym, _∙_, ap, subst}
-use mathlib.Core.Bool.{Bool, true, false, _&&_, cond}
+use mathlib.Core.Bool.{and-false}
 use mathlib.Core.Option.{Option, some}
 use mathlib.Core.List.{List, [], _∷_}
-use Prim.Native.Nat.{ℕ, suc, _+_, _*_, _<_, _≤_}
-use native.Mathlib.Nat.{mul-le-mul, mul-le-mul-right, suc-mul}
+use Prim.Native.Nat.{ℕ, _+_, _*_, _<_, _≤_}
+use native.Mathlib.Nat.{mul-le-mul-right}
+use native.Mathlib.Decide.{ℕ-discrete}
 use native.Mathlib.Omega.{arith}
-use lib.Dec.{eqb, leb}
-use lib.ListN.{length, getD}
-use borrow.Author.Tests.{leb-true, eqb-true, eqb-false, eq-eqb, ne-eqb}
-use Rattle.basics.proofs.Bools.{left}
-use Rattle.basics.proofs.Search.{all-at}
+use lib.ListN.{length}
+use borrow.Author.Tests.{eq-eqb, ne-eqb}
 use Rattle.machine.specs.declared.Pair.{Pair}
 use Rattle.machine.specs.Symbols.{emptySymbol}
 use Rattle.machine.specs.Machine.{Machine}
 use Rattle.card.specs.Layout.{symbolCount}
 use Rattle.card.specs.Card.{machinesOf}
-use Rattle.card.specs.Accepted.{accepted}
 use Rattle.paths.specs.Ranked.{Ranked, letterCount}
 use Rattle.paths.specs.Graph.{Edge, Within}
 use Rattle.paths.specs.Bounds.{Sized, attained-size, attained-count-size}
@@ -24,27 +21,26 @@ use Rattle.paths.specs.Walk.{Tight, tight-sum, no-edge-not-tight}
 use Rattle.product.specs.Nodes.{product, stateCounts}
 use Rattle.product.specs.Prices.{byRanking}
 use Rattle.product.specs.Laws.JointStep.{AllSound}
+use Rattle.product.specs.Laws.Sets.{member-within}
 use Rattle.product.specs.Laws.Edges.{product-within}
-use Rattle.product.specs.Laws.Accepted.{AcceptedMachines, accepted-machines}
-use Rattle.product.specs.Laws.Words.{accepted-word}
-use Rattle.product.specs.Laws.CardGraph.{card-sized, card-counts}
-use Rattle.labels.specs.Marks.{marksOf}
+use Rattle.product.specs.Pairs.{positionAfter}
+use Rattle.product.specs.Laws.CardGraph.{set-sized, set-counts}
+use Rattle.product.specs.Laws.Setting.{machines-sound, few-nodes, node-below}
+use Rattle.labels.specs.Marks.{marksCost}
 use Rattle.labels.specs.LabelCost.{RoomFor}
 use Rattle.labels.specs.Work.{costAt, labelOf}
 use Rattle.labels.proofs.Work.{holds}
 use Rattle.labels.proofs.Room.{room-of}
 use Rattle.tables.specs.declared.Joint as joint
 use Rattle.tables.specs.declared.Joint.the-variants as joints
+use Rattle.tables.specs.Engine.{engineGraph}
 use Rattle.tables.specs.Places.{sixPlaces}
 use Rattle.tables.specs.JointNumbers.{jointFrom, joined}
-use Rattle.tables.specs.Tables.{Tables}
 use Rattle.tables.specs.Laws.Edges.{edgeFrom, insertion-edge, symbol-edge}
 use Rattle.walk.specs.declared.Kept.{Kept}
-use Rattle.walk.specs.declared.Kept.the-variants.{To}
-use Rattle.walk.specs.Pairs.{nthPair, positionAfter}
-use Rattle.walk.specs.Setting.{graphOf, Labelled}
-use Rattle.walk.specs.Keeping.{KeepsTo, Keeps, StepPre, StepKeeps, TryPre, Tries}
-use Rattle.walk.proofs.Numbers.{NthPair, nth-facts}
+use Rattle.walk.specs.declared.Kept.the-variants.{To, No}
+use Rattle.walk.specs.Setting.{Labelled}
+use Rattle.walk.specs.Keeping.{KeepsTo, StepPre, StepKeeps, TightTo, OutputsPre}
 use Rattle.walk.proofs.Keeping.{joint-below}
 
 -- six places are the six places of their list
@@ -60,68 +56,48 @@ six-same (a ∷ b ∷ c ∷ d ∷ e ∷ f ∷ g ∷ r) h = absurd (omega arith)
 
 -- ---- the nodes and their labels
 
-module _ {places card word xs : List ℕ} {size : ℕ} (K : Labelled places card word xs size) where
-  machines : AcceptedMachines card
-  machines = accepted-machines card (K .accepted)
+module _ {places card sets xs : List ℕ} {size : ℕ} (K : Labelled places card sets xs size) where
+  pub node-within : (i c : ℕ) → i ≤ length sets → c < size → i * size + c < (length sets + 1) * size
+  node-within i c h k = node-below (K .setting) i (i * size + c) h (omega arith)
 
-  pub small-size : size ≤ 128
-  small-size = omega (arith, K .states, machines .states, machines .few-states)
+  pub node-small : (i c : ℕ) → i ≤ length sets → c < size → i * size + c < 3200
+  node-small i c h k = omega (arith, node-within i c h k, few-nodes (K .setting))
 
-  pub some-state : 0 < size
-  some-state = omega (arith, K .states, machines .states, accepted card (K .accepted) .some-state)
-
-  pub short-word : length word ≤ 24
-  short-word = accepted-word (symbolCount card) word (K .sound-word) .short
-
-  -- a symbol of the word is not empty
-  pub some-symbol : (i : ℕ) → i < length word → 1 ≤ getD word i emptySymbol
-  some-symbol i h =
-      let x = getD word i 0 in
-      leb-true 1 x (left (leb 1 x) (leb x (symbolCount card)) (all-at (λ x. leb 1 x && leb x (symbolCount card)) word 0 (accepted-word (symbolCount card) word (K .sound-word) .symbols) i h))
-
-  pub few-nodes : (length word + 1) * size ≤ 3200
-  few-nodes = let n : length word + 1 ≤ 25 = omega (arith, short-word) in mul-le-mul n small-size
-
-  pub node-within : (i c : ℕ) → i ≤ length word → c < size → i * size + c < (length word + 1) * size
-  node-within i c h k =
-      let m : suc i * size ≤ (length word + 1) * size = mul-le-mul-right size (omega arith) in
-      omega (arith, suc-mul i size)
-
-  pub has-node : (i c : ℕ) → i ≤ length word → c < size → (i * size + c) * 8 + 7 < length xs
+  pub has-node : (i c : ℕ) → i ≤ length sets → c < size → (i * size + c) * 8 + 7 < length xs
   has-node i c h k = omega (arith, node-within i c h k, K .room)
 
   -- its label leaves room for a pair more
-  pub label-room : (u : ℕ) → u < (length word + 1) * size → (d : Ranked 6) → labelOf xs u ≡ some d → RoomFor 1 6 d
+  pub label-room : (u : ℕ) → u < (length sets + 1) * size → (d : Ranked 6) → labelOf xs u ≡ some d → RoomFor 1 6 d
   label-room u h d l =
       room-of 1 6 (15 * letterCount 6 d + 15) d
-      (λ j. attained-count-size (graphOf places card word) within (K .attained) u d below l sized (card-counts card (sixPlaces places) word (K .accepted) j))
-      (omega (arith, few, few-nodes)) (omega (arith, few, few-nodes))
+      (λ j. attained-count-size (engineGraph card places sets) within (K .attained) u d below l sized (set-counts card (sixPlaces places) sets (K .setting .accepted) j))
+      (omega (arith, few, few-nodes (K .setting))) (omega (arith, few, few-nodes (K .setting)))
     where
-      within : Within (graphOf places card word) ((length word + 1) * product (stateCounts (machinesOf card)))
-      within = product-within (byRanking (sixPlaces places)) word (machinesOf card) (machines .sound)
+      within : Within (engineGraph card places sets) ((length sets + 1) * product (stateCounts (machinesOf card)))
+      within = product-within (byRanking (sixPlaces places)) sets (machinesOf card) (machines-sound (K .setting))
 
-      sized : Sized (graphOf places card word) (letterCount 6)
-      sized = card-sized card (sixPlaces places) word (K .accepted)
+      sized : Sized (engineGraph card places sets) (letterCount 6)
+      sized = set-sized card (sixPlaces places) sets (K .setting .accepted)
 
-      below : u < (length word + 1) * product (stateCounts (machinesOf card))
-      below = rw (← (K .states)) h
+      below : u < (length sets + 1) * product (stateCounts (machinesOf card))
+      below = rw (← (K .setting .states)) h
 
-      few : letterCount 6 d < (length word + 1) * size
-      few = rw (K .states) (attained-size (graphOf places card word) within (K .attained) u d below l sized)
+      few : letterCount 6 d < (length sets + 1) * size
+      few = rw (K .setting .states) (attained-size (engineGraph card places sets) within (K .attained) u d below l sized)
 
 -- ---- an edge that the tables tell
 
-module _ (places card word xs : List ℕ) (u base : ℕ) (p : Pair) (found : joint.Joint) (e : graphOf places card word .edge u p ≡ edgeFrom base (joined found)) {d : Ranked 6} (l : labelOf xs u ≡ some d) where
-  to-edge : (c m : ℕ) → found ≡ joints.To c m → graphOf places card word .edge u p ≡ some (record { target = base + c; cost = marksOf m })
+module _ (places card sets xs : List ℕ) (u base : ℕ) (p : Pair) (found : joint.Joint) (e : engineGraph card places sets .edge u p ≡ edgeFrom base (joined found)) {d : Ranked 6} (l : labelOf xs u ≡ some d) where
+  to-edge : (c m : ℕ) → found ≡ joints.To c m → engineGraph card places sets .edge u p ≡ some (record { target = base + c; cost = marksCost m })
   to-edge c m q = e ∙ ap (λ (f : joint.Joint). edgeFrom base (joined f)) q
 
   cost-is : d ≡ costAt xs u
   cost-is = sym (holds xs u d l .cost)
 
-  pub keeps-tight : (c : ℕ) → KeepsTo xs u base found c → (t : Tight (graphOf places card word) (labelOf xs) u p) × (t .to .target ≡ base + c)
+  pub keeps-tight : (c : ℕ) → KeepsTo xs u base found c → (t : Tight (engineGraph card places sets) (labelOf xs) u p) × (t .to .target ≡ base + c)
   keeps-tight c k = (
     record {
-      to = record { target = base + c; cost = marksOf (k .marks) };
+      to = record { target = base + c; cost = marksCost (k .marks) };
       rest = k .rest;
       edge-is = to-edge c (k .marks) (k .leads);
       rest-is = k .rest-is;
@@ -130,120 +106,89 @@ module _ (places card word xs : List ℕ) (u base : ℕ) (p : Pair) (found : joi
     refl,
   )
 
-  pub tight-keeps : Tight (graphOf places card word) (labelOf xs) u p → (c : ℕ) × KeepsTo xs u base found c
+  pub tight-keeps : Tight (engineGraph card places sets) (labelOf xs) u p → (c : ℕ) × KeepsTo xs u base found c
   tight-keeps t = go found refl
     where
       go : (f : joint.Joint) → found ≡ f → (c : ℕ) × KeepsTo xs u base found c
-      go joints.Nothing q = absurd (no-edge-not-tight (graphOf places card word) (labelOf xs) (e ∙ ap (λ (f : joint.Joint). edgeFrom base (joined f)) q) t)
+      go joints.Nothing q = absurd (no-edge-not-tight (engineGraph card places sets) (labelOf xs) (e ∙ ap (λ (f : joint.Joint). edgeFrom base (joined f)) q) t)
       go (joints.To c m) q =
           let h = to-edge c m q in
-          let z : t .to ≡ record { target = base + c; cost = marksOf m } = cc (t .edge-is, h) in
+          let z : t .to ≡ record { target = base + c; cost = marksCost m } = cc (t .edge-is, h) in
           let r : labelOf xs (base + c) ≡ some (t .rest) = ap (λ (f : Edge (Ranked 6)). labelOf xs (f .target)) (sym z) ∙ t .rest-is in
-          (c, record { marks = m; leads = q; rest = t .rest; rest-is = r; sum = sym cost-is ∙ tight-sum (graphOf places card word) (labelOf xs) h r l t })
+          (c, record { marks = m; leads = q; rest = t .rest; rest-is = r; sum = sym cost-is ∙ tight-sum (engineGraph card places sets) (labelOf xs) h r l t })
 
--- ---- the pair of a number
+-- ---- the pairs with the in x at a node
 
-module _ {xs card word insertions steps rows counts places : List ℕ} {size i code k : ℕ} (pre : TryPre xs card word insertions steps rows counts places size i code k) where
+module _ {xs card sets table rows counts places : List ℕ} {size i x code : ℕ} (pre : OutputsPre xs card sets table rows counts places size i x code) where
   abbrev ms : List Machine
   ms = machinesOf card
 
-  abbrev p : Pair
-  p = nthPair (symbolCount card) word i k
-
   sound : AllSound (symbolCount card) ms
-  sound = accepted-machines card (pre .labels .accepted) .sound
-
-  facts : NthPair (symbolCount card) word i k
-  facts = nth-facts (symbolCount card) word i (some-symbol (pre .labels) i) k (pre .number)
+  sound = machines-sound (pre .labels .setting)
 
   code-below : code < product (stateCounts ms)
-  code-below = rw (← (pre .labels .states)) (pre .state)
+  code-below = rw (← (pre .labels .setting .states)) (pre .state)
 
   counts-size : product counts ≡ size
-  counts-size = ap product (pre .tables .for-insertions .holds-counts) ∙ sym (pre .labels .states)
+  counts-size = ap product (pre .tables .holds-counts) ∙ sym (pre .labels .setting .states)
 
-  -- what looking the step up needs
-  step-pre : (x : ℕ) (table : List ℕ) → Tables (symbolCount card) ms x table rows counts → (j : ℕ) → j ≤ length word → (y : ℕ) → y ≡ p .output → StepPre xs table rows counts places (i * size + code) (j * size) code y
-  step-pre x table T j h y q = record {
-    joint = record {
-      tables = record { symbols = symbolCount card; machines = ms; input = x; tables = T };
-      six = pre .tables .six;
-      state = omega (arith, counts-size, pre .state);
-      output = omega (arith, facts .output, T .machines .symbols);
-    };
-    from = has-node (pre .labels) i code (pre .position) (pre .state);
-    node = λ c b. has-node (pre .labels) j c h (omega (arith, counts-size));
-    fits = λ c b. label-room (pre .labels) (j * size + c) (node-within (pre .labels) j c h (omega (arith, counts-size)));
-  }
-
-  -- by the step found it is known whether the pair keeps to the labels
-  by-step : (j : ℕ) → positionAfter i p ≡ j → j ≤ length word → (found : joint.Joint) → joined found ≡ jointFrom places ms code p
-      → graphOf places card word .edge (i * size + code) p ≡ edgeFrom (j * size) (jointFrom (sixPlaces places) ms code p)
-      → (r : Kept) → Keeps xs (i * size + code) (j * size) found r → Tries xs card word places size i code k r
-  by-step j a h found f e r K = record {
-    to = λ c q.
-        let b = K .to c q in
-        let t = keeps-tight places card word xs (i * size + code) (j * size) p found edge (pre .label-is) c b in
-        record {
-          tight = t .0;
-          target = t .1 ∙ ap (λ (n : ℕ). n * size + c) (sym a);
-          state = rw (pre .labels .states) (joint-below sound places code p c (b .marks) (sym f ∙ ap joined (b .leads)));
-          position = rw a h;
-        };
-    no = λ q t. let b = tight-keeps places card word xs (i * size + code) (j * size) p found edge (pre .label-is) t in K .no q (b .0) (b .1);
-  }
+  -- the position after them is there
+  pub next-within : positionAfter i x ≤ length sets
+  next-within = go (ℕ-discrete x emptySymbol)
     where
-      edge : graphOf places card word .edge (i * size + code) p ≡ edgeFrom (j * size) (joined found)
-      edge = e ∙ ap (λ (l : List ℕ). edgeFrom (j * size) (jointFrom l ms code p)) (six-same places (pre .tables .six .size)) ∙ ap (edgeFrom (j * size)) (sym f)
+      go : Dec (x ≡ emptySymbol) → positionAfter i x ≤ length sets
+      go (yes e) = rw (eq-eqb x 0 e) (pre .position)
+      go (no n) = rw (ne-eqb x 0 n) (omega (arith, member-within sets i x (pre .reads n)))
 
-  -- the numbers of nodes at the next position are small, where there is one
-  pub next-small : i < length word → (i + 1) * size ≤ 3200
-  next-small h = let m : (i + 1) * size ≤ (length word + 1) * size = mul-le-mul-right size (omega arith) in omega (arith, few-nodes (pre .labels))
+  pub next-small : positionAfter i x * size ≤ 3200
+  next-small = let m : positionAfter i x * size ≤ (length sets + 1) * size = mul-le-mul-right size (omega (arith, next-within)) in omega (arith, few-nodes (pre .labels .setting))
 
-  -- the tests are of the pair that `nth_pair` gives
-  module _ (q : Pair) (is : q ≡ p) (y : ℕ) (out : y ≡ q .output) where
-    out-is : y ≡ p .output
-    out-is = out ∙ ap (λ (q : Pair). q .output) is
+  module _ (y : ℕ) (few : y ≤ symbolCount card) where
+    abbrev p : Pair
+    p = record { input = x; output = y }
 
-    in-is : q .input ≡ p .input
-    in-is = ap (λ (q : Pair). q .input) is
+    -- what looking the step up needs
+    step-pre : StepPre xs table rows counts places (i * size + code) (positionAfter i x * size) code y
+    step-pre = record {
+      joint = record {
+        tables = record { symbols = symbolCount card; machines = ms; input = x; tables = pre .tables };
+        six = pre .six;
+        state = omega (arith, counts-size, pre .state);
+        output = omega (arith, few, pre .tables .machines .symbols);
+      };
+      from = has-node (pre .labels) i code (pre .position) (pre .state);
+      node = λ c b. has-node (pre .labels) (positionAfter i x) c next-within (omega (arith, counts-size));
+      fits = λ c b. label-room (pre .labels) (positionAfter i x * size + c) (node-within (pre .labels) (positionAfter i x) c next-within (omega (arith, counts-size)));
+    }
 
-    pair-is : (x : ℕ) → x ≡ p .input → _≡_ {A = Pair} (record { input = x; output = y }) p
-    pair-is x e = λ n. record { input = e n; output = out-is n }
+    -- the step is an edge of the graph
+    edge-here : (x ≡ emptySymbol → 1 ≤ y) → engineGraph card places sets .edge (i * size + code) p ≡ edgeFrom (positionAfter i x * size) (jointFrom (sixPlaces places) ms code p)
+    edge-here o =
+        subst (λ (s : ℕ). engineGraph card places sets .edge (i * s + code) p ≡ edgeFrom (positionAfter i x * s) (jointFrom (sixPlaces places) ms code p)) (sym (pre .labels .setting .states))
+        (go (ℕ-discrete x emptySymbol))
+      where
+        go : Dec (x ≡ emptySymbol) → engineGraph card places sets .edge (i * product (stateCounts ms) + code) p ≡ edgeFrom (positionAfter i x * product (stateCounts ms)) (jointFrom (sixPlaces places) ms code p)
+        go (yes e) = rw (eq-eqb x 0 e) (insertion-edge places sets sound i code code-below p (pre .position) (rw (ne-eqb y 0 (omega (arith, o e)), and-false)) e)
+        go (no n) = rw (ne-eqb x 0 n) (symbol-edge places sets sound i code code-below p n (pre .reads n))
 
-    module _ (t : eqb (q .input) emptySymbol ≡ true) where
-      empty : p .input ≡ emptySymbol
-      empty = sym in-is ∙ eqb-true (q .input) 0 t
+    -- the code has a number for the position after
+    module _ (n : ℕ) (at : n ≡ positionAfter i x) where
+      pub step-pre-at : StepPre xs table rows counts places (i * size + code) (n * size) code y
+      step-pre-at = rw at step-pre
 
-      pub insertion-pre : StepPre xs insertions rows counts places (i * size + code) (i * size) code y
-      insertion-pre = step-pre emptySymbol insertions (pre .tables .for-insertions) i (pre .position) y out-is
+      module _ (o : x ≡ emptySymbol → 1 ≤ y) {r : Kept} (K : StepKeeps xs table rows counts places (i * size + code) (n * size) code y r) where
+        joins : joined (K .found) ≡ jointFrom places ms code p
+        joins = K .joins (symbolCount card) ms x (pre .tables)
 
-      pub insertion-tries : (r : Kept) → StepKeeps xs insertions rows counts places (i * size + code) (i * size) code y r → Tries xs card word places size i code k r
-      insertion-tries r K =
-          by-step i (ap (λ (b : Bool). cond b i (i + 1)) (eq-eqb (p .input) 0 empty)) (pre .position) (K .found)
-          (K .joins (symbolCount card) ms emptySymbol (pre .tables .for-insertions) ∙ ap (jointFrom places ms code) (pair-is emptySymbol (sym empty)))
-          (subst (λ (s : ℕ). graphOf places card word .edge (i * s + code) p ≡ edgeFrom (i * s) (jointFrom (sixPlaces places) ms code p)) (sym (pre .labels .states)) (insertion-edge places word sound i code code-below p (pre .position) (facts .is-pair) empty))
-          r (K .keeps)
+        edge : engineGraph card places sets .edge (i * size + code) p ≡ edgeFrom (n * size) (joined (K .found))
+        edge = rw at (edge-here o ∙ ap (λ (l : List ℕ). edgeFrom (positionAfter i x * size) (jointFrom l ms code p)) (six-same places (pre .six .size)) ∙ ap (edgeFrom (positionAfter i x * size)) (sym joins))
 
-    module _ (t : eqb (q .input) emptySymbol ≡ false) where
-      filled : p .input ≡ emptySymbol → ⊥
-      filled e = eqb-false (q .input) 0 t (in-is ∙ e)
+        -- by the step found it is known whether the pair keeps to the labels
+        pub kept-tight : (c : ℕ) → r ≡ To c → TightTo xs card sets places size i code p c
+        kept-tight c q =
+            let b = K .keeps .to c q in
+            let t = keeps-tight places card sets xs (i * size + code) (n * size) p (K .found) edge (pre .label-is) c b in
+            record { tight = t .0; target = t .1 ∙ ap (λ (n : ℕ). n * size + c) at; state = rw (pre .labels .setting .states) (joint-below sound places code p c (b .marks) (sym joins ∙ ap joined (b .leads))); position = next-within }
 
-      pub reads : i < length word
-      reads = facts .symbol filled .0
-
-      for-symbol : Tables (symbolCount card) ms (getD word i emptySymbol) steps rows counts
-      for-symbol = let T = pre .tables .for-insertions in record { machines = T .machines; holds-steps = pre .tables .for-symbol reads; holds-rows = T .holds-rows; holds-counts = T .holds-counts }
-
-      symbol-is : getD word i emptySymbol ≡ p .input
-      symbol-is = facts .symbol filled .1
-
-      pub symbol-pre : StepPre xs steps rows counts places (i * size + code) ((i + 1) * size) code y
-      symbol-pre = step-pre (getD word i emptySymbol) steps for-symbol (i + 1) (omega (arith, reads)) y out-is
-
-      pub symbol-tries : (r : Kept) → StepKeeps xs steps rows counts places (i * size + code) ((i + 1) * size) code y r → Tries xs card word places size i code k r
-      symbol-tries r K =
-          by-step (i + 1) (ap (λ (b : Bool). cond b i (i + 1)) (ne-eqb (p .input) 0 filled)) (omega (arith, reads)) (K .found)
-          (K .joins (symbolCount card) ms (getD word i emptySymbol) for-symbol ∙ ap (jointFrom places ms code) (pair-is (getD word i emptySymbol) symbol-is))
-          (subst (λ (s : ℕ). graphOf places card word .edge (i * s + code) p ≡ edgeFrom ((i + 1) * s) (jointFrom (sixPlaces places) ms code p)) (sym (pre .labels .states)) (symbol-edge places word sound i code code-below p reads filled symbol-is))
-          r (K .keeps)
+        pub kept-not : r ≡ No → ¬ (Tight (engineGraph card places sets) (labelOf xs) (i * size + code) p)
+        kept-not q t = let b = tight-keeps places card sets xs (i * size + code) (n * size) p (K .found) edge (pre .label-is) t in K .keeps .no q (b .0) (b .1)

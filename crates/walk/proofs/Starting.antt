@@ -1,22 +1,14 @@
--- What the walk starts from: its tables, and the node of the start. Assumes nothing.
+-- What the walk starts from: its tables. Assumes nothing.
 use mathlib.Core.Path.{_≡_, refl, sym, _∙_, ap, subst}
-use mathlib.Core.Bool.{true, _&&_}
-use mathlib.Core.List.{List, [], _∷_, map}
-use Prim.Native.Nat.{ℕ, zero, suc, _*_, _≤_, _<_}
+use mathlib.Core.List.{List, [], _∷_}
+use Prim.Native.Nat.{ℕ, zero, suc, _*_, _≤_}
 use native.Mathlib.Omega.{arith}
-use lib.Dec.{leb}
-use lib.ListN.{length, getD, take, replicate, length-map, length-replicate}
-use borrow.Author.Tests.{leb-true}
-use Rattle.basics.specs.Search.{allOf}
-use Rattle.basics.proofs.Bools.{left}
+use lib.ListN.{length, take, replicate, length-map, length-replicate}
 use Rattle.machine.specs.Symbols.{emptySymbol}
-use Rattle.machine.specs.Machine.{Machine, startState}
 use Rattle.card.specs.Layout.{machineCount}
 use Rattle.card.specs.Card.{machinesOf}
 use Rattle.card.specs.Accepted.{accepted}
-use Rattle.candidate.specs.Optimizing.{soundWord}
-use Rattle.product.specs.Nodes.{stateCountOf, stateCounts, product, codeOf}
-use Rattle.product.specs.ProductGraph.{startNode}
+use Rattle.product.specs.Nodes.{stateCountOf, stateCounts, product}
 use Rattle.steps.specs.StepTable.{HoldsSteps}
 use Rattle.card.specs.Laws.Machines.{length-machines}
 use Rattle.tables.specs.Places.{sixPlaces, SixPlaces}
@@ -26,23 +18,6 @@ use Rattle.tables.specs.Laws.Harmony.{six-places}
 use Rattle.tables.specs.Laws.Cards.{card-counts, card-tables}
 use Rattle.walk.specs.Setting.{Labelled}
 use Rattle.walk.specs.Walked.{WalkPre, TablesLent, FollowPre, Walked}
-
--- the start is the node 0: the position is 0, and each machine's start state is 0
-start-code : (ms : List Machine) → codeOf (stateCounts ms) (map (λ m. startState) ms) ≡ 0
-unfolding codeOf
-start-code [] = refl
-start-code (m ∷ ms) = omega (arith, start-code ms)
-
-pub start-is-zero : (ms : List Machine) → startNode ms ≡ 0
-start-is-zero ms = omega (arith, start-code ms)
-
--- an accepted word has a symbol
-pub some-word : (S : ℕ) (word : List ℕ) → soundWord S word ≡ true → 0 < length word
-unfolding soundWord
-some-word S word t =
-    let a = leb 1 (length word) in
-    let b = leb (length word) 24 in
-    leb-true 1 (length word) (left a b (left (a && b) (allOf (λ x. leb 1 x && leb x S) word) t))
 
 take-short : (m : ℕ) (l : List ℕ) → length (take m l) ≡ m → m ≤ length l
 take-short zero l h = omega arith
@@ -60,24 +35,23 @@ module _ (card : List ℕ) (m : ℕ) (counts : List ℕ) (e : m ≡ machineCount
   pub counts-within : m ≤ length counts
   counts-within = take-short m counts (sym counts-length)
 
-module _ {ranking card word work : List ℕ} {size room : ℕ} (pre : WalkPre ranking card word work size room) where
+module _ {ranking card sets work : List ℕ} {size room : ℕ} (pre : WalkPre ranking card sets work size room) where
   pub rows-pre : (counts rows : List ℕ) → counts ≡ stateCounts (machinesOf card) → length rows ≡ 1024 → RowsPre counts rows size
-  rows-pre counts rows e h = record { counts-of = card-counts card (pre .labels .accepted) e; states = pre .labels .states ∙ ap product (sym e); room = h }
+  rows-pre counts rows e h = record { counts-of = card-counts card (pre .labels .setting .accepted) e; states = pre .labels .setting .states ∙ ap product (sym e); room = h }
 
   -- by the six places of the ranking the graph is the same
-  by-places : Labelled (sixPlaces ranking) card word work size
-  by-places = let L = pre .labels in record { accepted = L .accepted; sound-word = L .sound-word; states = L .states; room = L .room; closed = L .closed; attained = L .attained }
+  by-places : Labelled (sixPlaces ranking) card sets work size
+  by-places = let L = pre .labels in record { setting = L .setting; room = L .room; closed = L .closed; attained = L .attained }
 
-  pub follow-pre : (places insertions steps rows counts : List ℕ) → places ≡ sixPlaces ranking → HoldsSteps (machinesOf card) emptySymbol insertions → HoldsSteps (machinesOf card) (getD word 0 emptySymbol) steps → length steps ≡ length insertions → HoldsRows counts rows
-      → counts ≡ stateCounts (machinesOf card) → FollowPre places card word work insertions steps rows counts size room
-  follow-pre places insertions steps rows counts p i s z r e = record {
-    labels = subst (λ (l : List ℕ). Labelled l card word work size) (sym p) by-places;
+  pub follow-pre : (places insertions steps rows counts : List ℕ) → places ≡ sixPlaces ranking → HoldsSteps (machinesOf card) emptySymbol insertions → machineCount card * 2048 ≤ length steps → HoldsRows counts rows
+      → counts ≡ stateCounts (machinesOf card) → FollowPre places card sets work insertions steps rows counts size room
+  follow-pre places insertions steps rows counts p i z r e = record {
+    labels = subst (λ (l : List ℕ). Labelled l card sets work size) (sym p) by-places;
     tables = record {
-      six = subst SixPlaces (sym p) (six-places (machineCount card) ranking (omega (arith, accepted card (pre .labels .accepted) .head .counts)) (pre .is-ranking));
-      for-insertions = card-tables card (pre .labels .accepted) i r e;
-      for-symbol = λ h. s;
-      steps-size = z;
+      six = subst SixPlaces (sym p) (six-places (machineCount card) ranking (omega (arith, accepted card (pre .labels .setting .accepted) .head .counts)) (pre .is-ranking));
+      for-insertions = card-tables card (pre .labels .setting .accepted) i r e;
     };
+    steps-room = z;
     start = pre .start;
   }
 
@@ -86,7 +60,7 @@ pub tables-lent : (card : List ℕ) (n : ℕ) → machineCount card * 2048 ≤ n
 tables-lent card n h = record { room = rw (length-replicate {A = ℕ} n 0) h; alike = refl }
 
 -- and so is the best path
-pub walked-by-ranking : {ranking card word work before after : List ℕ} {r : ℕ} (places : List ℕ) → places ≡ sixPlaces ranking → Walked places card word work before after r → Walked ranking card word work before after r
-walked-by-ranking {ranking} {card} {word} {work} {before} {after} {r} places p W =
-    let six : Walked (sixPlaces ranking) card word work before after r = subst (λ (l : List ℕ). Walked l card word work before after r) p W in
+pub walked-by-ranking : {ranking card sets work before after : List ℕ} {r : ℕ} (places : List ℕ) → places ≡ sixPlaces ranking → Walked places card sets work before after r → Walked ranking card sets work before after r
+walked-by-ranking {ranking} {card} {sets} {work} {before} {after} {r} places p W =
+    let six : Walked (sixPlaces ranking) card sets work before after r = subst (λ (l : List ℕ). Walked l card sets work before after r) p W in
     record { best = six .best; count = six .count; written = six .written; is-best = six .is-best; costs = six .costs }

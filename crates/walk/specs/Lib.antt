@@ -1,5 +1,4 @@
 -- definitions that the contracts cite
-pub mod Pairs
 pub mod Setting
 pub mod Keeping
 pub mod Walked

@@ -1,12 +1,15 @@
 // The walk from the start along the labels, which writes the pairs of the best candidate.
 ghost use mathlib.Core.Path.{_≡_};
-ghost use Prim.Native.Nat.{_+_, _*_, _<_, _≤_};
-ghost use lib.ListN.{length, set};
-ghost use Rattle.card.specs.Layout.{machineCount, symbolCount};
-ghost use Rattle.card.specs.Card.{cardRefusal};
-ghost use Rattle.walk.specs.Pairs.{nthPair, IsNumber};
-ghost use Rattle.walk.specs.Keeping.{KeepsPre, Keeps, StepPre, StepKeeps, TryPre, Tries};
-ghost use Rattle.walk.specs.Walked.{PassPre, Passed, FollowPre, TablesLent, WalkPre, Walked};
+ghost use mathlib.Core.Bool.{_||_};
+ghost use Prim.Native.Nat.{ℕ, _+_, _*_, _<_, _≤_};
+ghost use lib.Dec.{eqb};
+ghost use lib.ListN.{length, getD, set};
+ghost use Rattle.basics.specs.Sets.{member};
+ghost use Rattle.card.specs.Layout.{machineCount};
+ghost use Rattle.machine.specs.Symbols.{emptySymbol};
+ghost use Rattle.product.specs.Pairs.{positionAfter, firstOutput};
+ghost use Rattle.walk.specs.Keeping.{KeepsPre, Keeps, StepPre, StepKeeps, OutputsPre, TryPre, Tries};
+ghost use Rattle.walk.specs.Walked.{FollowPre, TablesLent, WalkPre, Walked};
 use machine::Pair;
 use tables::Joint;
 
@@ -16,30 +19,20 @@ pub enum Kept {
     No,
 }
 
-// A byte as a number to index with.
-fn index(x: u8) -> usize
-    ensures { λ r. ⌜ (r ≡ x) × (r < 256) ⌝ }
-{
-    x as usize
+// A pair, and the code that it leads to.
+pub struct Step {
+    pub pair: Pair,
+    pub code: usize,
 }
 
-// The pair of a number at a position: the insertions first, then the pairs of the symbol there.
-fn nth_pair(card: &[u8], word: &[u8], position: usize, number: u8) -> Pair
-    requires { ⌜ (cardRefusal (now card) ≡ 0) × IsNumber (symbolCount (now card)) (now word) position number ⌝ }
-    ensures { λ r. ⌜ r ≡ nthPair (symbolCount (now (card .entry))) (now (word .entry)) position number ⌝ }
-{
-    let symbols = card::symbol_count(card);
-    if number <= symbols {
-        return Pair {
-            input: Pair::EMPTY,
-            output: number,
-        };
-    }
-    Pair {
-        input: word[position],
-        output: number - symbols - 1,
-    }
+// The least of some pairs that keeps to the labels.
+pub enum Tried {
+    Least(Step),
+    Without,
 }
+
+// The set of the empty symbol alone, the in of an insertion.
+const INSERTION: u64 = 1;
 
 // Whether a joint step from the node u to the nodes from base on keeps to the labels.
 fn keeps(work: &[u16], u: usize, base: usize, found: Joint) -> Kept
@@ -78,51 +71,114 @@ fn keeps_by(
     keeps(work, u, base, found)
 }
 
-// Whether the pair of a number keeps to the labels.
-fn try_pair(
+// The least pair with an in that keeps to the labels, by the table of the steps with that in, out by out.
+fn try_outputs(
     work: &[u16],
     card: &[u8],
-    word: &[u8],
+    sets: &[u64],
+    table: &[u16],
+    rows: &[u16],
+    counts: &[u8],
+    places: &[u8; 6],
+    size: usize,
+    position: usize,
+    next: usize,
+    input: u8,
+    code: usize,
+    first: usize,
+) -> Tried
+    requires { ⌜ OutputsPre (now work) (now card) (now sets) (now table) (now rows) (now counts) (now places) size position input code × (next ≡ positionAfter position input) × (first ≡ firstOutput input) ⌝ }
+    ensures { λ r. ⌜ Tries (now (work .entry)) (now (card .entry)) (now (sets .entry)) (now (places .entry)) size position input code r ⌝ }
+{
+    let symbols = card::symbol_count(card) as usize;
+    let mut output = first;
+    while output <= symbols {
+        let kept = keeps_by(
+            work,
+            table,
+            rows,
+            counts,
+            places,
+            position * size + code,
+            next * size,
+            code,
+            output,
+        );
+        if let Kept::To(to) = kept {
+            return Tried::Least(Step {
+                pair: Pair {
+                    input,
+                    output: output as u8,
+                },
+                code: to,
+            });
+        }
+        output += 1;
+    }
+    Tried::Without
+}
+
+// The least pair with an in that keeps to the labels. The table of the insertions is filled; that of a symbol is filled here.
+fn try_input(
+    work: &[u16],
+    card: &[u8],
+    sets: &[u64],
     insertions: &[u16],
-    steps: &[u16],
     rows: &[u16],
     counts: &[u8],
     places: &[u8; 6],
     size: usize,
     position: usize,
     code: usize,
-    number: u8,
-) -> Kept
-    requires { ⌜ TryPre (now work) (now card) (now word) (now insertions) (now steps) (now rows) (now counts) (now places) size position code number ⌝ }
-    ensures { λ r. ⌜ Tries (now (work .entry)) (now (card .entry)) (now (word .entry)) (now (places .entry)) size position code number r ⌝ }
+    input: u8,
+    steps: &mut [u16],
+) -> Tried
+    requires { ⌜ TryPre (now work) (now card) (now sets) (now insertions) (now steps) (now rows) (now counts) (now places) size position input code ⌝ }
+    ensures { λ r. ⌜ Tries (now (work .entry)) (now (card .entry)) (now (sets .entry)) (now (places .entry)) size position input code r ⌝ }
 {
-    let pair = nth_pair(card, word, position, number);
-    let output = index(pair.output);
-    let u = position * size + code;
-    if pair.inserts() {
-        return keeps_by(
+    if input == Pair::EMPTY {
+        return try_outputs(
             work,
+            card,
+            sets,
             insertions,
             rows,
             counts,
             places,
-            u,
-            position * size,
+            size,
+            position,
+            position,
+            input,
             code,
-            output,
+            1,
         );
     }
-    keeps_by(
+    steps::fill_steps(card, input, steps);
+    try_outputs(
         work,
+        card,
+        sets,
         steps,
         rows,
         counts,
         places,
-        u,
-        (position + 1) * size,
+        size,
+        position,
+        position + 1,
+        input,
         code,
-        output,
+        0,
     )
+}
+
+// The ins of the pairs at a position: the empty symbol, and the symbols of the set there.
+fn inputs_at(sets: &[u64], position: usize) -> u64
+    ensures { λ r. ⌜ ((x : ℕ) → member r x ≡ (eqb x emptySymbol || member (getD (now (sets .entry)) position 0) x)) ⌝ }
+{
+    if position < sets.len() {
+        return INSERTION | sets[position];
+    }
+    INSERTION
 }
 
 // Writes a pair after as many pairs.
@@ -134,26 +190,22 @@ fn write_pair(answer: &mut [u8], pairs: usize, pair: Pair)
     answer[2 * pairs + 1] = pair.output;
 }
 
-// Moves on from a position by a pair: the position after it. The table then has the steps of the symbol there, if there is one.
-fn pass(card: &[u8], word: &[u8], position: usize, pair: Pair, steps: &mut [u16]) -> usize
-    requires { ⌜ PassPre (now card) (now word) (now steps) position ⌝ }
-    ensures { λ r. ⌜ Passed (now (card .entry)) (now (word .entry)) (now (steps .entry)) (now (steps .exit)) position pair r ⌝ }
+// The position after a pair: an insertion stays.
+fn pass(position: usize, pair: Pair) -> usize
+    requires { ⌜ position ≤ 24 ⌝ }
+    ensures { λ r. ⌜ r ≡ positionAfter position (pair .input) ⌝ }
 {
     if pair.inserts() {
         return position;
     }
-    let next = position + 1;
-    if next < word.len() {
-        steps::fill_steps(card, word[next], steps);
-    }
-    next
+    position + 1
 }
 
-// Walks from the start along the labels, each time by the least pair that keeps to them, and writes the pairs: their number.
+// Walks from the start along the labels, each time by the least pair that keeps to them, in by in, and writes the pairs: their number.
 fn follow(
     work: &[u16],
     card: &[u8],
-    word: &[u8],
+    sets: &[u64],
     insertions: &[u16],
     rows: &[u16],
     counts: &[u8],
@@ -162,41 +214,42 @@ fn follow(
     steps: &mut [u16],
     answer: &mut [u8],
 ) -> usize
-    requires { ⌜ FollowPre (now places) (now card) (now word) (now work) (now insertions) (now steps) (now rows) (now counts) size (length (now answer)) ⌝ }
-    ensures { λ r. ⌜ Walked (now (places .entry)) (now (card .entry)) (now (word .entry)) (now (work .entry)) (now (answer .entry)) (now (answer .exit)) r ⌝ }
+    requires { ⌜ FollowPre (now places) (now card) (now sets) (now work) (now insertions) (now steps) (now rows) (now counts) size (length (now answer)) ⌝ }
+    ensures { λ r. ⌜ Walked (now (places .entry)) (now (card .entry)) (now (sets .entry)) (now (work .entry)) (now (answer .entry)) (now (answer .exit)) r ⌝ }
 {
     let mut position = 0;
-    let mut code = 0;
+    let mut code = tables::start_node(counts);
     let mut pairs = 0;
     loop {
         let label = labels::load(work, position * size + code);
         if label.pairs == 0 {
             break pairs;
         }
-        let mut number: u8 = 1;
-        code = 'least: loop {
-            let kept = try_pair(
+        let mut left = inputs_at(sets, position);
+        let step = 'least: loop {
+            let input = machine::sets::least(left) as u8;
+            let tried = try_input(
                 work,
                 card,
-                word,
+                sets,
                 insertions,
-                steps,
                 rows,
                 counts,
                 places,
                 size,
                 position,
                 code,
-                number,
+                input,
+                steps,
             );
-            if let Kept::To(to) = kept {
-                break 'least to;
+            if let Tried::Least(found) = tried {
+                break 'least found;
             }
-            number += 1;
+            left = machine::sets::without_least(left);
         };
-        let pair = nth_pair(card, word, position, number);
-        write_pair(answer, pairs, pair);
-        position = pass(card, word, position, pair, steps);
+        write_pair(answer, pairs, step.pair);
+        position = pass(position, step.pair);
+        code = step.code;
         pairs += 1;
     }
 }
@@ -206,14 +259,14 @@ fn walk_by(
     work: &[u16],
     card: &[u8],
     ranking: &[u8],
-    word: &[u8],
+    sets: &[u64],
     size: usize,
     insertions: &mut [u16],
     steps: &mut [u16],
     answer: &mut [u8],
 ) -> usize
-    requires { ⌜ WalkPre (now ranking) (now card) (now word) (now work) size (length (now answer)) × TablesLent (now card) (now insertions) (now steps) ⌝ }
-    ensures { λ r. ⌜ Walked (now (ranking .entry)) (now (card .entry)) (now (word .entry)) (now (work .entry)) (now (answer .entry)) (now (answer .exit)) r ⌝ }
+    requires { ⌜ WalkPre (now ranking) (now card) (now sets) (now work) size (length (now answer)) × TablesLent (now card) (now insertions) (now steps) ⌝ }
+    ensures { λ r. ⌜ Walked (now (ranking .entry)) (now (card .entry)) (now (sets .entry)) (now (work .entry)) (now (answer .entry)) (now (answer .exit)) r ⌝ }
 {
     let places = tables::six_places(ranking);
     let counts = tables::state_counts(card);
@@ -221,11 +274,10 @@ fn walk_by(
     let mut rows = [0u16; 1024];
     tables::fill_rows(&counts[..machines], size, &mut rows);
     steps::fill_steps(card, Pair::EMPTY, insertions);
-    steps::fill_steps(card, word[0], steps);
     follow(
         work,
         card,
-        word,
+        sets,
         insertions,
         &rows,
         &counts[..machines],
@@ -241,12 +293,12 @@ fn walk_few(
     work: &[u16],
     card: &[u8],
     ranking: &[u8],
-    word: &[u8],
+    sets: &[u64],
     size: usize,
     answer: &mut [u8],
 ) -> usize
-    requires { ⌜ WalkPre (now ranking) (now card) (now word) (now work) size (length (now answer)) × (machineCount (now card) ≤ 3) ⌝ }
-    ensures { λ r. ⌜ Walked (now (ranking .entry)) (now (card .entry)) (now (word .entry)) (now (work .entry)) (now (answer .entry)) (now (answer .exit)) r ⌝ }
+    requires { ⌜ WalkPre (now ranking) (now card) (now sets) (now work) size (length (now answer)) × (machineCount (now card) ≤ 3) ⌝ }
+    ensures { λ r. ⌜ Walked (now (ranking .entry)) (now (card .entry)) (now (sets .entry)) (now (work .entry)) (now (answer .entry)) (now (answer .exit)) r ⌝ }
 {
     let mut insertions = [0u16; 6144];
     let mut steps = [0u16; 6144];
@@ -254,7 +306,7 @@ fn walk_few(
         work,
         card,
         ranking,
-        word,
+        sets,
         size,
         &mut insertions,
         &mut steps,
@@ -267,12 +319,12 @@ fn walk_many(
     work: &[u16],
     card: &[u8],
     ranking: &[u8],
-    word: &[u8],
+    sets: &[u64],
     size: usize,
     answer: &mut [u8],
 ) -> usize
-    requires { ⌜ WalkPre (now ranking) (now card) (now word) (now work) size (length (now answer)) ⌝ }
-    ensures { λ r. ⌜ Walked (now (ranking .entry)) (now (card .entry)) (now (word .entry)) (now (work .entry)) (now (answer .entry)) (now (answer .exit)) r ⌝ }
+    requires { ⌜ WalkPre (now ranking) (now card) (now sets) (now work) size (length (now answer)) ⌝ }
+    ensures { λ r. ⌜ Walked (now (ranking .entry)) (now (card .entry)) (now (sets .entry)) (now (work .entry)) (now (answer .entry)) (now (answer .exit)) r ⌝ }
 {
     let mut insertions = [0u16; 12288];
     let mut steps = [0u16; 12288];
@@ -280,7 +332,7 @@ fn walk_many(
         work,
         card,
         ranking,
-        word,
+        sets,
         size,
         &mut insertions,
         &mut steps,
@@ -294,16 +346,16 @@ pub fn walk(
     work: &[u16],
     card: &[u8],
     ranking: &[u8],
-    word: &[u8],
+    sets: &[u64],
     size: usize,
     answer: &mut [u8],
 ) -> usize
-    requires { ⌜ WalkPre (now ranking) (now card) (now word) (now work) size (length (now answer)) ⌝ }
-    ensures { λ r. ⌜ Walked (now (ranking .entry)) (now (card .entry)) (now (word .entry)) (now (work .entry)) (now (answer .entry)) (now (answer .exit)) r ⌝ }
+    requires { ⌜ WalkPre (now ranking) (now card) (now sets) (now work) size (length (now answer)) ⌝ }
+    ensures { λ r. ⌜ Walked (now (ranking .entry)) (now (card .entry)) (now (sets .entry)) (now (work .entry)) (now (answer .entry)) (now (answer .exit)) r ⌝ }
 {
     if card::machine_count(card) <= 3 {
-        walk_few(work, card, ranking, word, size, answer)
+        walk_few(work, card, ranking, sets, size, answer)
     } else {
-        walk_many(work, card, ranking, word, size, answer)
+        walk_many(work, card, ranking, sets, size, answer)
     }
 }

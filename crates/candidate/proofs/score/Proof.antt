@@ -23,18 +23,18 @@ abbrev μ-loop : tie.MeasureT-loop
 
 loop-holds : tie.Need-loop-holds Inv-loop μ-loop
 loop-holds c =
-    let s = c .before .before .before .before in
+    let s = c .before .before .before .before .before in
     (search needs, omega (arith, c .before .machine-count .ensures, accepted (s .args .card .now) (s .pre .0) .head), scored-start (s .args .card .now) (pairsOf (s .args .candidate .now)))
 
 part-requires : tie.Need-part-requires Inv-loop μ-loop
 part-requires c κs =
-    let s = c .before .before .before .before .before .before in
+    let s = c .before .before .before .before .before .before .before in
     (s .pre .0, omega (arith, c .before .before .before .machine-count .ensures))
 
 run-requires : tie.Need-run-requires Inv-loop μ-loop
 run-requires c κs =
     let k = c .before .before in
-    let s = k .before .before .before .before .before in
+    let s = k .before .before .before .before .before .before in
     let a = accepted (s .args .card .now) (s .pre .0) in
     let m : k .loop .machine < machineCount (s .args .card .now) = omega (arith, k .before .before .machine-count .ensures) in
     let e = k .before .symbol-count .ensures in
@@ -44,7 +44,7 @@ run-requires c κs =
 returns : tie.Need-returns Inv-loop μ-loop
 returns c =
     let k = c .before .before .before .before .before .before in
-    let s = k .before .before .before .before .before in
+    let s = k .before .before .before .before .before .before in
     let l = s .args .card .now in
     let f = not-complete l (pairsOf (s .args .candidate .now)) (k .loop .machine) (omega (arith, k .before .before .machine-count .ensures))
     (ap (λ (part : List ℕ). marksOf (pairsOf (s .args .candidate .now)) (machineOf part)) (sym (c .before .before .before .before .part .ensures))
@@ -60,7 +60,7 @@ array-write-counts c = omega arith
 loop-again : tie.Need-loop-again Inv-loop μ-loop
 loop-again c =
     let k = c .before .before .before .before .before .before in
-    let s = k .before .before .before .before .before in
+    let s = k .before .before .before .before .before .before in
     let l = s .args .card .now in (
       omega arith,
       omega arith,
@@ -72,7 +72,7 @@ loop-again c =
 returns-2 : tie.Need-returns-2 Inv-loop μ-loop
 returns-2 c =
     let k = c .before in
-    let s = k .before .before .before .before .before in
+    let s = k .before .before .before .before .before .before in
     let l = s .args .card .now in
     let e : k .loop .machine ≡ machineCount l = omega (arith, k .before .before .machine-count .ensures) in
     let S = rw e at (k .loop .inv .2) in

@@ -2,7 +2,7 @@ use native.Mathlib.Omega.{arith}
 use mathlib.Core.Path.{_≡_, sym, _∙_}
 use Prim.Native.Nat.{_+_, _*_, _<_, _≤_}
 use lib.ListN.{length}
-use Rattle.card.specs.Layout.{Bytes}
+use Rattle.layout.specs.Layout.{Bytes}
 use Rattle.card.specs.Packing.{packingRefusal}
 use Rattle.card.specs.Laws.Layout.{Counted, counts-told}
 use Rattle.card.specs.Laws.Packed.{packed-length}

@@ -1,8 +1,9 @@
 use native.Mathlib.Omega.{arith}
 use mathlib.Core.Path.{_≡_, sym, _∙_}
 use mathlib.Core.List.{[], _∷_}
-use Prim.Native.Nat.{_<_}
+use Prim.Native.Nat.{_+_, _*_, _<_, _≤_}
 use lib.Dec.{ltb, lit<}
+use lib.ListN.{length}
 use borrow.Author.Tests.{ltb-true}
 use Rattle.basics.specs.Refusals.{refuse}
 use Rattle.basics.proofs.Refusals.{passed}
@@ -10,6 +11,7 @@ use Rattle.card.specs.Layout.{machineCount}
 use Rattle.card.specs.Card.{cardRefusal}
 use Rattle.card.specs.Reading.{readingRefusal}
 use Rattle.card.specs.Laws.Search.{first-passed, rest-passed}
+use Rattle.card.specs.Accepted.{accepted}
 use Rattle.card.proofs.Stages.{passed-number, refused-number}
 use Rattle.card.proofs.Answers.{read-refused, read-accepted}
 use borrow.Author.Needs.{needs}
@@ -28,6 +30,11 @@ readable c =
     let f = first-passed (refuse 17 t) [] (rest-passed (cardRefusal (a .card .now)) (refuse 17 t ∷ []) e) in
     (first-passed (cardRefusal (a .card .now)) (refuse 17 t ∷ []) e, omega (arith, ltb-true (a .machine) (machineCount (a .card .now)) (passed 17 t (lit< tt) f)))
 
+placed : (c : tie.After-index) → 6 + 4 * c .index .result ≤ length (c .before .before .before .before .before .args .card .now)
+placed c =
+    let r = readable c in
+    omega (arith, accepted (c .before .before .before .before .before .args .card .now) (r .0) .within (c .index .result) (r .1))
+
 returns : tie.Need-returns
 returns c =
     let a = c .before .before .before .before .before .args in
@@ -35,10 +42,10 @@ returns c =
     sym (read-refused (a .card .now) (a .machine) (c .number .result) e (refused-number (c .before .enum-told2 .given .1) (sym (c .number .ensures))))
 
 part-offset-requires : tie.Need-part-offset-requires
-part-offset-requires c κs = readable c
+part-offset-requires c κs = placed c
 
 part-length-requires : tie.Need-part-length-requires
-part-length-requires c κs = readable (c .before)
+part-length-requires c κs = placed (c .before)
 
 returns-2 : tie.Need-returns-2
 returns-2 c =

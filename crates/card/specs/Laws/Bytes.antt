@@ -6,7 +6,7 @@ use native.Mathlib.Omega.{arith}
 use lib.Dec.{lit<}
 use lib.ListN.{getD, take, drop}
 use lib.Seq.{getD-drop}
-use Rattle.card.specs.Layout.{Bytes, shortAt}
+use Rattle.layout.specs.Layout.{Bytes, shortAt}
 
 -- the bytes that a number was read from
 pub low-byte : (l : List ℕ) → Bytes l → (at : ℕ) → shortAt l at % 256 ≡ getD l at 0

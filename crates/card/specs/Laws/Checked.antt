@@ -6,10 +6,11 @@ use native.Mathlib.Nat.{mul-le-mul}
 use native.Mathlib.Omega.{arith}
 use lib.ListN.{length, getD, take, drop, length-drop}
 use lib.Seq.{length-take-le}
-use Rattle.machine.specs.Part.{partRefusal}
+use Rattle.basics.specs.Products.{product}
+use Rattle.machine.specs.Part.{stateCount, partRefusal}
 use Rattle.machine.specs.Accepted.{Shaped, shape-facts, accepted}
-use Rattle.card.specs.Layout.{Bytes}
-use Rattle.card.specs.Card.{stateProduct, partsRefusal}
+use Rattle.layout.specs.Layout.{Bytes}
+use Rattle.card.specs.Card.{partsRefusal}
 use Rattle.card.specs.Packing.{total, split}
 use Rattle.card.specs.Laws.Search.{first-passed, rest-passed}
 use Rattle.card.specs.Laws.Bytes.{bytes-take, bytes-drop}
@@ -26,8 +27,8 @@ part-passed S (p ∷ ps) zero h e d = first-passed (partRefusal S p) (map (partR
 part-passed S (p ∷ ps) (suc i) h e d = part-passed S ps i (omega arith) (rest-passed (partRefusal S p) (map (partRefusal S) ps) e) d
 
 -- a product of state counts is 1 at least
-pub some-state : (S : ℕ) (parts : List (List ℕ)) → partsRefusal S parts ≡ 0 → 1 ≤ stateProduct parts
-unfolding partsRefusal stateProduct
+pub some-state : (S : ℕ) (parts : List (List ℕ)) → partsRefusal S parts ≡ 0 → 1 ≤ product (map stateCount parts)
+unfolding partsRefusal product
 some-state S [] e = omega arith
 some-state S (p ∷ ps) e =
     mul-le-mul (part-shaped S p (first-passed (partRefusal S p) (map (partRefusal S) ps) e) .some-state)

@@ -5,9 +5,10 @@ use Prim.Native.Nat.{ℕ, _<_}
 use lib.ListN.{length, getD, length-map}
 use Rattle.machine.specs.Machine.{Machine}
 use Rattle.machine.specs.Part.{machineOf}
-use Rattle.card.specs.Layout.{machineCount, partOf, partsOf}
+use Rattle.layout.specs.Layout.{partOf}
+use Rattle.card.specs.Layout.{machineCount, partsOf}
 use Rattle.card.specs.Card.{machinesOf}
-use Rattle.card.specs.Laws.Search.{map-at}
+use Rattle.basics.proofs.Search.{map-at}
 use Rattle.card.specs.Laws.Layout.{length-parts, part-at}
 
 pub length-machines : (card : List ℕ) → length (machinesOf card) ≡ machineCount card

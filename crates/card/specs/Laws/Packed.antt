@@ -6,12 +6,13 @@ use native.Mathlib.Omega.{arith}
 use lib.ListN.{length, getD, take, drop, length-append}
 use lib.Seq.{take-suc, take-length, drop-append-add}
 use Rattle.basics.specs.Search.{numbersBelow}
-use Rattle.card.specs.Layout.{machineCount, symbolCount, offsetOf, lengthOf, dueOffset, partOf, partsOf}
+use Rattle.layout.specs.Layout.{offsetOf, lengthOf, dueOffset, partOf, partsIn}
+use Rattle.card.specs.Layout.{machineCount, symbolCount, partsOf}
 use Rattle.card.specs.Packing.{total, split, places, table, packed}
 use Rattle.card.specs.Laws.Search.{map-snoc}
 use Rattle.card.specs.Laws.Parts.{total-next, split-snoc}
 use Rattle.card.specs.Laws.Places.{length-places, PlaceAt, place-at}
-use Rattle.card.specs.Laws.Layout.{LaidOut}
+use Rattle.layout.specs.LaidOut.{LaidOut}
 
 pub length-table : (S : ℕ) (lengths : List ℕ) → length (table S lengths) ≡ 2 + 4 * length lengths
 length-table S lengths = omega (arith, length-places (2 + 4 * length lengths) lengths)
@@ -65,17 +66,17 @@ module _ (S : ℕ) (lengths bytes : List ℕ) where
   pub packed-part : (i : ℕ) → i < length lengths → partOf (packed S lengths bytes) i ≡ take (getD lengths i 0) (drop (total (take i lengths)) bytes)
   packed-part i h = rw (packed-offset i h, packed-length-of i h, packed-bytes (total (take i lengths)))
 
-  packed-due : (i : ℕ) → i ≤ length lengths → dueOffset (packed S lengths bytes) i ≡ 2 + 4 * length lengths + total (take i lengths)
+  packed-due : (i : ℕ) → i ≤ length lengths → dueOffset (length lengths) (packed S lengths bytes) i ≡ 2 + 4 * length lengths + total (take i lengths)
   unfolding dueOffset total
-  packed-due zero h = rw packed-machines (omega arith)
+  packed-due zero h = omega arith
   packed-due (suc i) h = omega (arith, packed-offset i (omega arith), packed-length-of i (omega arith), total-next lengths i (omega arith))
 
-  pub packed-laid-out : total lengths ≡ length bytes → LaidOut (packed S lengths bytes)
+  pub packed-laid-out : total lengths ≡ length bytes → LaidOut (length lengths) (packed S lengths bytes)
   packed-laid-out e =
       record {
-        table = rw packed-machines (omega (arith, packed-length));
-        offsets = λ i h. rw (packed-offset i (rw packed-machines at h), packed-due i (omega (arith, rw packed-machines at h)));
-        end = rw packed-machines (packed-due (length lengths) (omega arith) ∙ rw (take-length lengths, e) (sym packed-length));
+        table = omega (arith, packed-length);
+        offsets = λ i h. packed-offset i h ∙ sym (packed-due i (omega arith));
+        end = packed-due (length lengths) (omega arith) ∙ rw (take-length lengths, e) (sym packed-length);
       }
 
   first-packed : (n : ℕ) → n ≤ length lengths → map (partOf (packed S lengths bytes)) (numbersBelow n) ≡ split (take n lengths) bytes
@@ -89,5 +90,5 @@ module _ (S : ℕ) (lengths bytes : List ℕ) where
 
   -- the parts of the packed card are the parts that were packed
   pub packed-parts : partsOf (packed S lengths bytes) ≡ split lengths bytes
-  unfolding partsOf
+  unfolding partsOf partsIn
   packed-parts = rw packed-machines (first-packed (length lengths) (omega arith) ∙ ap (λ (ns : List ℕ). split ns bytes) (take-length lengths))

@@ -6,7 +6,7 @@ use native.Mathlib.Nat.{not-suc-le-zero}
 use native.Mathlib.Omega.{arith}
 use lib.ListN.{length, getD, take, drop}
 use lib.Seq.{drop-cons, getD-drop}
-use Rattle.card.specs.Layout.{Bytes}
+use Rattle.layout.specs.Layout.{Bytes}
 use Rattle.card.specs.Packing.{total, places}
 use Rattle.card.specs.Laws.Bytes.{bytes-none, bytes-cons}
 

@@ -6,14 +6,17 @@ use native.Mathlib.Omega.{arith}
 use lib.ListN.{length, getD, take, drop, length-map, length-drop}
 use lib.Seq.{take-add, drop-cons, take-length, drop-at, length-take-le, ext-getD}
 use Rattle.basics.specs.Search.{numbersBelow, joined}
-use Rattle.card.specs.Layout.{Bytes, machineCount, symbolCount, offsetOf, lengthOf, dueOffset, partOf, partsOf}
+use Rattle.layout.specs.Layout.{Bytes, offsetOf, lengthOf, dueOffset, partOf, partsIn}
+use Rattle.card.specs.Layout.{machineCount, symbolCount, partsOf}
 use Rattle.card.specs.Packing.{total, split, places, packed}
-use Rattle.card.specs.Laws.Search.{map-snoc, joined-snoc, map-at}
+use Rattle.basics.proofs.Search.{map-at}
+use Rattle.card.specs.Laws.Search.{map-snoc, joined-snoc}
 use Rattle.basics.proofs.Below.{length-numbers}
 use Rattle.card.specs.Laws.Bytes.{low-byte, high-byte}
 use Rattle.card.specs.Laws.Parts.{total-snoc, joined-split, joined-total}
 use Rattle.card.specs.Laws.Places.{places-snoc}
-use Rattle.card.specs.Laws.Layout.{LaidOut, due-next, part-length, length-parts, part-at}
+use Rattle.layout.specs.LaidOut.{LaidOut, due-next, part-length}
+use Rattle.card.specs.Laws.Layout.{length-parts, part-at}
 
 -- the first n parts
 abbrev pub firstParts : List ℕ → ℕ → List (List ℕ)
@@ -35,9 +38,9 @@ take-four l at next e h =
     let e3 : next + 1 ≡ suc (suc (suc at)) = omega arith in
     rw (drop-cons l at 0 (omega arith), drop-cons l (suc at) 0 (omega arith), drop-cons l (suc (suc at)) 0 (omega arith), drop-cons l (suc (suc (suc at))) 0 (omega arith), e1, e3, e2)
 
-module _ (card : List ℕ) (l : LaidOut card) where
+module _ (card : List ℕ) (l : LaidOut (machineCount card) card) where
   -- the first n parts, behind what stands before the first, are the card's front up to where the next has to start
-  joined-front : (n : ℕ) → n ≤ machineCount card → take (2 + 4 * machineCount card) card ++ joined (λ part. part) (firstParts card n) ≡ take (dueOffset card n) card
+  joined-front : (n : ℕ) → n ≤ machineCount card → take (2 + 4 * machineCount card) card ++ joined (λ part. part) (firstParts card n) ≡ take (dueOffset (machineCount card) card n) card
   unfolding dueOffset numbersBelow joined
   joined-front zero h = append-nil (take (2 + 4 * machineCount card) card)
   joined-front (suc n) h =
@@ -46,23 +49,23 @@ module _ (card : List ℕ) (l : LaidOut card) where
       ∙ ap (λ (bytes : List ℕ). head ++ bytes) (joined-snoc (λ part. part) (firstParts card n) (partOf card n))
       ∙ sym (append-assoc head (joined (λ part. part) (firstParts card n)) (partOf card n))
       ∙ ap (λ (bytes : List ℕ). bytes ++ partOf card n) (joined-front n (omega arith))
-      ∙ ap (λ (at : ℕ). take (dueOffset card n) card ++ take (lengthOf card n) (drop at card)) (l .offsets n (omega arith))
-      ∙ sym (take-add (dueOffset card n) (lengthOf card n) card)
-      ∙ ap (λ (at : ℕ). take at card) (sym (due-next card l n (omega arith)))
+      ∙ ap (λ (at : ℕ). take (dueOffset (machineCount card) card n) card ++ take (lengthOf card n) (drop at card)) (l .offsets n (omega arith))
+      ∙ sym (take-add (dueOffset (machineCount card) card n) (lengthOf card n) card)
+      ∙ ap (λ (at : ℕ). take at card) (sym (due-next (machineCount card) card l n (omega arith)))
 
   lengths-next : (n : ℕ) → n < machineCount card → map length (firstParts card (suc n)) ≡ map length (firstParts card n) ++ (lengthOf card n ∷ [])
   lengths-next n h =
       ap (map length) (first-next card n)
       ∙ map-snoc length (firstParts card n) (partOf card n)
-      ∙ ap (λ (m : ℕ). map length (firstParts card n) ++ (m ∷ [])) (part-length card l n h)
+      ∙ ap (λ (m : ℕ). map length (firstParts card n) ++ (m ∷ [])) (part-length (machineCount card) card l n h)
 
-  lengths-front : (n : ℕ) → n ≤ machineCount card → 2 + 4 * machineCount card + total (map length (firstParts card n)) ≡ dueOffset card n
+  lengths-front : (n : ℕ) → n ≤ machineCount card → 2 + 4 * machineCount card + total (map length (firstParts card n)) ≡ dueOffset (machineCount card) card n
   unfolding dueOffset numbersBelow total
   lengths-front zero h = omega arith
   lengths-front (suc n) h =
       let ns = map length (firstParts card n) in
       let e = ap total (lengths-next n (omega arith)) ∙ total-snoc ns (lengthOf card n) in
-      omega (arith, e, lengths-front n (omega arith), due-next card l n (omega arith))
+      omega (arith, e, lengths-front n (omega arith), due-next (machineCount card) card l n (omega arith))
 
   -- the counts and the places of the first n parts are the card's front up to the next place
   places-front : Bytes card → (n : ℕ) → n ≤ machineCount card
@@ -85,7 +88,7 @@ module _ (card : List ℕ) (l : LaidOut card) where
 
   -- the card is what its parts are packed to
   pub repacked : Bytes card → packed (symbolCount card) (map length (partsOf card)) (joined (λ part. part) (partsOf card)) ≡ card
-  unfolding packed partsOf
+  unfolding packed partsOf partsIn
   repacked b =
       let K = machineCount card in
       let parts = firstParts card K in
@@ -98,7 +101,7 @@ module _ (card : List ℕ) (l : LaidOut card) where
 
   -- what stands behind the table is the parts joined
   pub parts-joined : joined (λ part. part) (partsOf card) ≡ drop (2 + 4 * machineCount card) card
-  unfolding partsOf
+  unfolding partsOf partsIn
   parts-joined =
       let K = machineCount card in
       let bytes = joined (λ part. part) (firstParts card K) in
@@ -110,7 +113,7 @@ module _ (card : List ℕ) (l : LaidOut card) where
   table-lengths ns e f =
       let parts = partsOf card in
       ext-getD 0 ns (map length parts) (e ∙ sym (length-map parts length ∙ length-parts card))
-      (λ i h. f i (omega arith) ∙ sym (map-at length parts i (omega (arith, length-parts card)) 0 [] ∙ ap length (part-at card i (omega arith) []) ∙ part-length card l i (omega arith)))
+      (λ i h. f i (omega arith) ∙ sym (map-at length parts i (omega (arith, length-parts card)) 0 [] ∙ ap length (part-at card i (omega arith) []) ∙ part-length (machineCount card) card l i (omega arith)))
 
   -- split by them, what stands behind the table is the parts
   pub table-parts : (ns : List ℕ) → ns ≡ map length (partsOf card) → split ns (drop (2 + 4 * machineCount card) card) ≡ partsOf card

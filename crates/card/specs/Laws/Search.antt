@@ -1,9 +1,8 @@
 -- Laws of refusals and of lists with one element more. Assumes nothing.
 use mathlib.Core.Path.{_≡_, refl, ap, sym, _∙_}
 use mathlib.Core.List.{List, [], _∷_, _++_, map, append-nil, append-assoc}
-use Prim.Native.Nat.{ℕ, zero, suc, _<_}
+use Prim.Native.Nat.{ℕ, zero, suc}
 use native.Mathlib.Omega.{arith}
-use lib.ListN.{length, getD}
 use Rattle.basics.specs.Refusals.{firstOf}
 use Rattle.basics.specs.Search.{joined}
 
@@ -26,9 +25,3 @@ module _ {A B : Type 0} where
   unfolding joined
   joined-snoc f [] x = append-nil (f x)
   joined-snoc f (y ∷ ys) x = ap (λ (l : List B). f y ++ l) (joined-snoc f ys x) ∙ sym (append-assoc (f y) (joined f ys) (f x))
-
-  -- an element of a map
-  pub map-at : (f : A → B) (xs : List A) (i : ℕ) → i < length xs → (d : B) (a : A) → getD (map f xs) i d ≡ f (getD xs i a)
-  map-at f [] i h d a = absurd (omega arith)
-  map-at f (x ∷ xs) zero h d a = refl
-  map-at f (x ∷ xs) (suc i) h d a = map-at f xs i (omega arith) d a

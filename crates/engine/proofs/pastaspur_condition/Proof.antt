@@ -1,19 +1,19 @@
 use mathlib.Core.Path.{_≡_, ap, sym, _∙_}
 use Rattle.ranking.specs.declared.Profile.{Profile}
 use Rattle.ranking.specs.Conditions.{DerivedCondition, derived, derivedFrom}
-use Rattle.engine.specs.Results.{profileOf, conditionNumbers}
+use Rattle.engine.specs.Results.{asProfile, conditionNumbers}
 use borrow.Author.Needs.{needs}
 use Rattle.engine.proofs.pastaspur_condition.Statement.{statement}
 use Rattle.engine.proofs.pastaspur_condition.Tie as tie
 
 -- the condition, by the slices lent
 agreed : (c : tie.After-derive) → let a = c .before .before .before .args in
-    derived (c .derive .result) ≡ derivedFrom (a .machines) (profileOf (a .first .now)) (profileOf (a .second .now))
+    derived (c .derive .result) ≡ derivedFrom (a .machines) (asProfile (a .first .now)) (asProfile (a .second .now))
 agreed c =
     let a = c .before .before .before .args in
     c .derive .ensures
     ∙ ap (λ (p : Profile). derivedFrom (a .machines) p (c .before .profile-of2 .result)) (c .before .before .profile-of .ensures)
-    ∙ ap (derivedFrom (a .machines) (profileOf (a .first .now))) (c .before .profile-of2 .ensures)
+    ∙ ap (derivedFrom (a .machines) (asProfile (a .first .now))) (c .before .profile-of2 .ensures)
 
 returns : tie.Need-returns
 returns c =

@@ -1,4 +1,4 @@
-use mathlib.Core.Path.{_≡_, ap, _∙_}
+use mathlib.Core.Path.{ap, _∙_}
 use Rattle.candidate.specs.declared.Evaluation.{Evaluation}
 use Rattle.engine.specs.Results.{evaluationNumbers}
 use borrow.Author.Needs.{needs}

@@ -1,4 +1,4 @@
-use mathlib.Core.Path.{_≡_, ap}
+use mathlib.Core.Path.{ap}
 use Rattle.ranking.specs.declared.Finding.{Finding}
 use borrow.Author.Needs.{needs}
 use Rattle.engine.proofs.pastaspur_find_ranking.Statement.{statement}

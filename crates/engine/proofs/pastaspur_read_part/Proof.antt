@@ -1,4 +1,4 @@
-use mathlib.Core.Path.{_≡_, ap}
+use mathlib.Core.Path.{ap}
 use Rattle.card.specs.declared.PartPlace.{PartPlace}
 use Rattle.engine.specs.Results.{placeNumbers}
 use borrow.Author.Needs.{needs}

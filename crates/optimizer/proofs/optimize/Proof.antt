@@ -3,11 +3,12 @@ use Prim.Native.Nat.{_≤_, _<_, _+_, _*_}
 use native.Mathlib.Omega.{arith}
 use lib.ListN.{length}
 use borrow.Author.Needs.{needs}
-use Rattle.candidate.specs.Optimizing.{inputRefusal}
-use Rattle.optimizer.specs.Refusals.{stageNumber}
-use Rattle.optimizer.specs.AcceptedInput.{AcceptedInput, accepted-input}
-use Rattle.optimizer.proofs.Refusals.{number-positive}
-use Rattle.optimizer.proofs.Answers.{refused-result, refused-answer, searched-result, searched-answer, node-room, nodes-few, front-room, same-room}
+use Rattle.product.specs.Optimizing.{inputRefusal}
+use Rattle.input.specs.Refusals.{stageNumber}
+use Rattle.input.specs.AcceptedInput.{AcceptedInput, accepted-input}
+use Rattle.input.proofs.Refusals.{number-positive}
+use Rattle.input.proofs.Nodes.{node-room, nodes-few}
+use Rattle.optimizer.proofs.Answers.{refused-result, refused-answer, searched-result, searched-answer, front-room, same-room}
 use Rattle.optimizer.proofs.optimize.Statement.{statement}
 use Rattle.optimizer.proofs.optimize.Tie as tie
 

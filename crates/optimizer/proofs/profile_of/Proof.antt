@@ -1,8 +1,9 @@
-use mathlib.Core.Path.{refl}
+use mathlib.Core.Path.{refl, ap}
 use Prim.Native.Nat.{_-_, _<_}
 use native.Mathlib.Omega.{arith}
 use borrow.Author.Needs.{needs}
 use lib.ListN.{length}
+use Rattle.ranking.specs.declared.Profile.{Profile}
 use Rattle.optimizer.specs.Searching.{RankingOfSome}
 use Rattle.optimizer.proofs.Places.{Placed, placed-start, placed-next, placed-end, place-below}
 use Rattle.optimizer.proofs.profile_of.Statement.{statement}
@@ -15,7 +16,7 @@ abbrev μ-loop : tie.MeasureT-loop
 μ-loop ranking ranked counts₀ place₀ counts place = length ranking - place
 
 loop-holds : tie.Need-loop-holds Inv-loop μ-loop
-loop-holds c = (c .before .pre, placed-start _ _)
+loop-holds c = (c .before .before .before .pre, placed-start _ _ _ (ap (λ (p : Profile). p .counts) (c .before .zero .ensures)))
 
 mul-counts : tie.Need-mul-counts Inv-loop μ-loop
 mul-counts c = omega arith
@@ -30,7 +31,7 @@ shared-slice-read-index c = search needs
 machine-below : (c : tie.After-index Inv-loop μ-loop) → c .index .result < 6
 machine-below c =
     let l = c .before .before .before in
-    let q = place-below (l .before .before .args .ranking .now) (l .loop .inv .0) (l .loop .place) (omega arith) in
+    let q = place-below (l .before .before .before .before .args .ranking .now) (l .loop .inv .0) (l .loop .place) (omega arith) in
     let e = c .index .ensures .0 in
     omega (arith, q, e)
 
@@ -54,7 +55,7 @@ loop-again c =
 returns : tie.Need-returns Inv-loop μ-loop
 returns c =
     let l = c .before in
-    placed-end _ (l .loop .inv .0) (l .before .before .args .label) (l .loop .place) (l .loop .counts) (l .loop .inv .1) (omega arith)
+    placed-end _ (l .loop .inv .0) (l .before .before .before .before .args .label) (l .loop .place) (l .loop .counts) (l .loop .inv .1) (omega arith)
 
 pub profile-of-spec : {M : Type 1} → statement M
 profile-of-spec =
@@ -62,6 +63,7 @@ profile-of-spec =
     (tie.spec
     Inv-loop
     μ-loop
+    (λ c κs. search needs)
     loop-holds
     shared-slice-read-index
     (λ c κs. search needs)

@@ -9,10 +9,10 @@ use Rattle.positions.proofs.enter_last.Statement.{statement}
 use Rattle.positions.proofs.enter_last.Tie as tie
 
 abbrev Inv-loop : tie.InvT-loop
-Inv-loop work₀ card ranking word rows counts places size code₀ work code = (code ≤ size) × EndsTried card ranking word work₀ work (lib.ListN.length word * size) (lib.ListN.length word * size + code)
+Inv-loop work₀ card ranking sets rows counts places size code₀ work code = (code ≤ size) × EndsTried card ranking sets work₀ work (lib.ListN.length sets * size) (lib.ListN.length sets * size + code)
 
 abbrev μ-loop : tie.MeasureT-loop
-μ-loop work₀ card ranking word rows counts places size code₀ work code = size - code
+μ-loop work₀ card ranking sets rows counts places size code₀ work code = size - code
 
 loop-holds : tie.Need-loop-holds Inv-loop μ-loop
 loop-holds c = (omega arith, ends-first)

@@ -4,17 +4,17 @@ use Prim.Native.Nat.{_+_, _*_, _-_, _≤_}
 use native.Mathlib.Omega.{arith}
 use Rattle.card.specs.Layout.{symbolCount}
 use Rattle.positions.specs.Entering.{FrontOf, Tried}
-use Rattle.positions.proofs.Edges.{few-nodes, symbols-few}
+use Rattle.product.specs.Laws.Setting.{few-nodes, symbols-few}
 use Rattle.positions.proofs.Entering.{tried-start, tried-trans, tried-node, node-next, code-there}
 use Rattle.positions.proofs.enter_node.Statement.{statement}
 use Rattle.positions.proofs.enter_node.Tie as tie
 
 abbrev Inv-loop : tie.InvT-loop
-Inv-loop work₀ card ranking word joint fronts size position code symbols own₀ output₀ work own output =
-    (output ≤ symbols + 1) × (symbols ≡ symbolCount card) × Tried card ranking word work₀ work position (position * size + code) 0 (position * size + code) output × FrontOf work (position * size + code) own
+Inv-loop work₀ card ranking sets joint fronts size position symbol code symbols own₀ output₀ work own output =
+    (output ≤ symbols + 1) × (symbols ≡ symbolCount card) × Tried card ranking sets work₀ work position symbol (position * size + code) 0 (position * size + code) output × FrontOf work (position * size + code) own
 
 abbrev μ-loop : tie.MeasureT-loop
-μ-loop work₀ card ranking word joint fronts size position code symbols own₀ output₀ work own output = symbols + 1 - output
+μ-loop work₀ card ranking sets joint fronts size position symbol code symbols own₀ output₀ work own output = symbols + 1 - output
 
 symbol-count-requires : tie.Need-symbol-count-requires Inv-loop μ-loop
 symbol-count-requires c κs = c .before .before .before .before .before .before .pre .0 .enter .setting .accepted
@@ -55,7 +55,7 @@ same-length c = c .before .loop .inv .2 .size
 returns : tie.Need-returns Inv-loop μ-loop
 returns c =
     let t = c .before .before .before .before .before .before .before .before .before .before .before in
-    tried-node (t .pre .0 .enter .setting) _ _ _ _ (c .before .loop .output) (t .pre .1) (omega (arith, c .before .loop .inv .1, c .loop-test .left)) (c .before .loop .inv .2)
+    tried-node (t .pre .0 .enter .setting) _ _ _ _ _ (c .before .loop .output) (omega (arith, c .before .loop .inv .1, c .loop-test .left)) (c .before .loop .inv .2)
 
 pub enter-node-spec : {M : Type 1} → statement M
 enter-node-spec =

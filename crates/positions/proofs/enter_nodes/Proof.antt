@@ -2,22 +2,22 @@ use borrow.Author.Needs.{needs}
 use Prim.Native.Nat.{_+_, _*_, _-_, _≤_}
 use native.Mathlib.Omega.{arith}
 use Rattle.positions.specs.Entering.{Tried}
-use Rattle.positions.proofs.Edges.{few-nodes, few-codes, word-sound}
+use Rattle.product.specs.Laws.Setting.{few-nodes, few-codes}
 use Rattle.positions.proofs.Entering.{tried-first, tried-trans, tried-whole, node-next, next-there}
 use Rattle.positions.proofs.enter_nodes.Statement.{statement}
 use Rattle.positions.proofs.enter_nodes.Tie as tie
 
 abbrev Inv-loop : tie.InvT-loop
-Inv-loop work₀ card ranking word joint size position fronts code₀ work code = (code ≤ size) × Tried card ranking word work₀ work position (position * size) 0 (position * size + code) 0
+Inv-loop work₀ card ranking sets joint size position symbol fronts code₀ work code = (code ≤ size) × Tried card ranking sets work₀ work position symbol (position * size) 0 (position * size + code) 0
 
 abbrev μ-loop : tie.MeasureT-loop
-μ-loop work₀ card ranking word joint size position fronts code₀ work code = size - code
+μ-loop work₀ card ranking sets joint size position symbol fronts code₀ work code = size - code
 
 add-fill-fronts : tie.Need-add-fill-fronts Inv-loop μ-loop
-add-fill-fronts c = let t = c .before .before .before .before .before .before in omega (arith, few-nodes (t .pre .setting), next-there (t .pre), t .pre .below, word-sound (t .pre .setting) .few)
+add-fill-fronts c = let t = c .before .before .before .before .before .before in omega (arith, few-nodes (t .pre .setting), next-there (t .pre), t .pre .below, t .pre .setting .few)
 
 mul-fill-fronts : tie.Need-mul-fill-fronts Inv-loop μ-loop
-mul-fill-fronts c = let t = c .before .before .before .before .before .before in omega (arith, few-nodes (t .pre .setting), next-there (t .pre), t .pre .below, word-sound (t .pre .setting) .few)
+mul-fill-fronts c = let t = c .before .before .before .before .before .before in omega (arith, few-nodes (t .pre .setting), next-there (t .pre), t .pre .below, t .pre .setting .few)
 
 fill-fronts-requires : tie.Need-fill-fronts-requires Inv-loop μ-loop
 fill-fronts-requires c κs = let t = c .before .before .before .before .before .before .before in (omega (arith, next-there (t .pre), t .pre .room), few-codes (t .pre .setting))

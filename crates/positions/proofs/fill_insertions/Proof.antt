@@ -9,7 +9,7 @@ fill-requires : tie.Need-fill-requires
 fill-requires c κs =
     let t = c .before .before .before .before .before .before .before .before .before in
     let i = t .pre .0 in
-    joint-ready (t .args .card .now) (t .args .ranking .now) (i .accepted) (i .counts) (i .places) (i .ranks) (i .size) (omega arith) (c .before .before .symbol-count .ensures) (record { stretch = t .pre .1 .stretch; joint = t .pre .1 .joint })
+    joint-ready (t .args .card .now) (t .args .ranking .now) (i .accepted) (i .counts) (i .places) (i .six) (i .states) (omega arith) (c .before .before .symbol-count .ensures) (record { stretch = t .pre .1 .stretch; joint = t .pre .1 .joint })
 
 fill-cheapest-requires : tie.Need-fill-cheapest-requires
 fill-cheapest-requires c κs =

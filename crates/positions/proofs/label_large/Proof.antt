@@ -1,12 +1,12 @@
 use borrow.Author.Needs.{needs}
 use native.Mathlib.Omega.{arith}
-use Rattle.positions.proofs.Edges.{few-codes}
+use Rattle.product.specs.Laws.Setting.{few-codes}
 use Rattle.positions.proofs.Labelling.{tables-fit}
 use Rattle.positions.proofs.label_large.Statement.{statement}
 use Rattle.positions.proofs.label_large.Tie as tie
 
 label-with-requires : tie.Need-label-with-requires
-label-with-requires c κs = let t = c .before .before .before .before .before .before .before in (record { setting = t .pre .setting; room = t .pre .room }, tables-fit (t .args .size) 128 8192 16384 (few-codes (t .pre .setting)) (omega arith) (omega arith))
+label-with-requires c κs = let t = c .before .before .before .before .before .before .before in (record { setting = t .pre .setting; ranks = t .pre .ranks; room = t .pre .room }, tables-fit (t .args .size) 128 8192 16384 (few-codes (t .pre .setting)) (omega arith) (omega arith))
 
 pub label-large-spec : {M : Type 1} → statement M
 label-large-spec =

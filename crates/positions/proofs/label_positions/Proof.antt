@@ -1,22 +1,22 @@
 use mathlib.Core.Path.{_≡_, refl, _∙_}
-use Prim.Native.Nat.{_+_, _-_, _≤_}
+use Prim.Native.Nat.{_+_, _≤_}
 use native.Mathlib.Omega.{arith}
 use lib.ListN.{length}
 use Rattle.positions.specs.Labelling.{PositionsDone}
-use Rattle.positions.proofs.Edges.{few-nodes, word-sound}
+use Rattle.product.specs.Laws.Setting.{few-nodes}
 use Rattle.positions.proofs.Labelling.{cleared-pre, positions-start, position-ready, position-passed, positions-end}
 use Rattle.positions.proofs.label_positions.Statement.{statement}
 use Rattle.positions.proofs.label_positions.Tie as tie
 
 abbrev Inv-loop : tie.InvT-loop
-Inv-loop work₀ card ranking word rows counts places insertions stretch₀ joint₀ size left₀ work stretch joint left =
-    (left ≤ length word + 1) × PositionsDone card ranking word work₀ work left × (length stretch ≡ length stretch₀) × (length joint ≡ length joint₀)
+Inv-loop work₀ card ranking sets rows counts places insertions stretch₀ joint₀ size left₀ work stretch joint left =
+    (left ≤ length sets + 1) × PositionsDone card ranking sets work₀ work left × (length stretch ≡ length stretch₀) × (length joint ≡ length joint₀)
 
 abbrev μ-loop : tie.MeasureT-loop
-μ-loop work₀ card ranking word rows counts places insertions stretch₀ joint₀ size left₀ work stretch joint left = left
+μ-loop work₀ card ranking sets rows counts places insertions stretch₀ joint₀ size left₀ work stretch joint left = left
 
 add-clear : tie.Need-add-clear Inv-loop μ-loop
-add-clear c = omega (arith, word-sound (c .before .before .before .before .before .before .before .before .before .before .pre .0 .setting) .few)
+add-clear c = omega (arith, c .before .before .before .before .before .before .before .before .before .before .pre .0 .setting .few)
 
 mul-clear : tie.Need-mul-clear Inv-loop μ-loop
 mul-clear c = omega (arith, few-nodes (c .before .before .before .before .before .before .before .before .before .before .pre .0 .setting))
@@ -25,7 +25,7 @@ clear-requires : tie.Need-clear-requires Inv-loop μ-loop
 clear-requires c κs = omega (arith, c .before .before .before .before .before .before .before .before .before .before .pre .0 .room)
 
 add-left : tie.Need-add-left Inv-loop μ-loop
-add-left c = omega (arith, word-sound (c .before .before .before .before .before .before .before .before .before .before .before .before .before .pre .0 .setting) .few)
+add-left c = omega (arith, c .before .before .before .before .before .before .before .before .before .before .before .before .before .pre .0 .setting .few)
 
 loop-holds : tie.Need-loop-holds Inv-loop μ-loop
 loop-holds c = (omega arith, positions-start (c .before .before .before .before .before .before .before .before .before .before .before .before .before .pre .0) (c .before .before .clear .ensures), refl, refl)

@@ -5,7 +5,7 @@ use Rattle.positions.proofs.label_tiny.Statement.{statement}
 use Rattle.positions.proofs.label_tiny.Tie as tie
 
 label-with-requires : tie.Need-label-with-requires
-label-with-requires c κs = let t = c .before .before .before .before .before .before .before in (record { setting = t .pre .0 .setting; room = t .pre .0 .room }, tables-fit (t .args .size) 8 512 64 (t .pre .1) (omega arith) (omega arith))
+label-with-requires c κs = let t = c .before .before .before .before .before .before .before in (record { setting = t .pre .0 .setting; ranks = t .pre .0 .ranks; room = t .pre .0 .room }, tables-fit (t .args .size) 8 512 64 (t .pre .1) (omega arith) (omega arith))
 
 pub label-tiny-spec : {M : Type 1} → statement M
 label-tiny-spec =

@@ -3,7 +3,7 @@ use borrow.Author.Needs.{needs}
 use mathlib.Core.Path.{sym, _∙_}
 use native.Mathlib.Omega.{arith}
 use borrow.Author.Tests.{ltb-true}
-use Rattle.positions.proofs.Edges.{few-nodes}
+use Rattle.product.specs.Laws.Setting.{few-nodes}
 use Rattle.positions.proofs.Trying.{edge-skipped}
 use Rattle.positions.proofs.Entering.{entry-in, entry-few, joint-nothing, code-led-to, marks-few, node-is-there, target-is-there, joint-ready, joint-tried}
 use Rattle.positions.proofs.try_pair.Statement.{statement}

@@ -1,21 +1,20 @@
 -- What an accepted card promises of its machines and of P.
-use mathlib.Core.Path.{_≡_, refl, _∙_, ap₂}
+use mathlib.Core.Path.{_≡_, refl, _∙_, ap, ap₂}
 use mathlib.Core.List.{List, [], _∷_, map}
-use Prim.Native.Nat.{ℕ, _+_, _*_, _≤_}
+use Prim.Native.Nat.{ℕ, _+_, _≤_}
 use native.Mathlib.Omega.{arith}
 use lib.Dec.{eqb}
 use lib.ListN.{length, length-map}
 use lib.Seq.{length-slice}
 use borrow.Author.Tests.{le-leb}
-use Rattle.basics.specs.Search.{numbersBelow}
 use Rattle.basics.proofs.Bools.{both}
-use Rattle.basics.proofs.Below.{length-numbers}
 use Rattle.basics.proofs.Refusals.{none-first}
 use Rattle.machine.specs.Part.{machineOf, stateCount, stateBytes, partRefusal}
 use Rattle.machine.specs.Accepted.{shape-facts, accepted}
 use Rattle.machine.specs.Steps.{step-bounds, ending-bounds}
-use Rattle.card.specs.Layout.{machineCount, symbolCount, partOf, partsOf}
-use Rattle.card.specs.Card.{machinesOf, stateProduct, partsRefusal, cardRefusal}
+use Rattle.card.specs.Layout.{machineCount, symbolCount, partsOf}
+use Rattle.card.specs.Card.{machinesOf, partsRefusal, cardRefusal}
+use Rattle.card.specs.Laws.Machines.{length-machines}
 use Rattle.card.specs.Accepted.{accepted as card-accepted}
 use Rattle.product.specs.Nodes.{stateCountOf, stateCounts, product}
 use Rattle.product.specs.Laws.JointStep.{Sound, AllSound, all-none, all-next}
@@ -45,29 +44,31 @@ parts-sound S (part ∷ parts) e =
     let h = none-first (partRefusal S part) (map (partRefusal S) parts) e in
     all-next (part-sound S part (h .0)) (parts-sound S parts (h .1))
 
-pub parts-product : (S : ℕ) (parts : List (List ℕ)) → partsRefusal S parts ≡ 0 → product (stateCounts (map machineOf parts)) ≡ stateProduct parts
-unfolding partsRefusal product stateProduct
-parts-product S [] e = refl
-parts-product S (part ∷ parts) e =
+-- so the product that the card's check computes from the parts is P
+parts-states : (S : ℕ) (parts : List (List ℕ)) → partsRefusal S parts ≡ 0 → stateCounts (map machineOf parts) ≡ map stateCount parts
+unfolding partsRefusal
+parts-states S [] e = refl
+parts-states S (part ∷ parts) e =
     let h = none-first (partRefusal S part) (map (partRefusal S) parts) e in
-    ap₂ (λ a b. a * b) (part-states S part (h .0)) (parts-product S parts (h .1))
+    ap₂ (λ q qs. q ∷ qs) (part-states S part (h .0)) (parts-states S parts (h .1))
 
--- the machines of an accepted card: each sound; K of them, 1 at least; P is the product of their state counts, 128 at most
+-- the machines of an accepted card: each sound; K of them, 1 at least; P is 1 to 128
 pub record AcceptedMachines (card : List ℕ) : Type 0 where
   pub sound : AllSound (symbolCount card) (machinesOf card)
   pub count : length (machinesOf card) ≡ machineCount card
   pub some-machine : 1 ≤ machineCount card
-  pub states : product (stateCounts (machinesOf card)) ≡ stateProduct (partsOf card)
-  pub few-states : stateProduct (partsOf card) ≤ 128
+  pub some-state : 1 ≤ product (stateCounts (machinesOf card))
+  pub few-states : product (stateCounts (machinesOf card)) ≤ 128
 
 pub accepted-machines : (card : List ℕ) → cardRefusal card ≡ 0 → AcceptedMachines card
-unfolding machinesOf partsOf
+unfolding machinesOf
 accepted-machines card e =
     let a = card-accepted card e in
+    let q = ap product (parts-states (symbolCount card) (partsOf card) (a .all-parts)) in
     record {
       sound = parts-sound (symbolCount card) (partsOf card) (a .all-parts);
-      count = length-map (partsOf card) machineOf ∙ length-map (numbersBelow (machineCount card)) (partOf card) ∙ length-numbers (machineCount card);
+      count = length-machines card;
       some-machine = omega (arith, a);
-      states = parts-product (symbolCount card) (partsOf card) (a .all-parts);
-      few-states = omega (arith, a);
+      some-state = rw q (a .some-state);
+      few-states = rw q (a .states);
     }

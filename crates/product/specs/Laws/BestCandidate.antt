@@ -1,94 +1,110 @@
 -- The best candidate is the best path from the start node.
-use mathlib.Core.Path.{_≡_, refl, sym, _∙_}
-use mathlib.Core.Logic.{_⊎_, inl, inr, _≢_}
-use mathlib.Core.Bool.{true, _&&_, false≢true}
+use mathlib.Core.Path.{_≡_, sym, _∙_, ap}
+use mathlib.Core.Logic.{_≢_}
+use mathlib.Core.Bool.{true}
 use mathlib.Core.List.{List}
 use mathlib.Core.Option.{some}
 use Prim.Native.Nat.{ℕ}
 use lib.ListN.{length, length-map}
 use lib.Seq.{ext-getD}
-use lib.Dec.{eqb, ltb}
-use borrow.Author.Tests.{eqb-true, ltb-true, eq-eqb, lt-ltb}
-use Rattle.basics.proofs.Bools.{both, left, right, either}
 use Rattle.machine.specs.declared.Pair.{Pair}
 use Rattle.machine.specs.Machine.{Machine}
-use Rattle.ranking.specs.declared.Order.{Order}
-use Rattle.ranking.specs.declared.Order.the-variants.{Better, Equal, Worse}
 use Rattle.ranking.specs.Rankings.{isRanking}
-use Rattle.ranking.specs.Harmony.{harmony}
-use Rattle.ranking.specs.HarmonicInequality.{better-worse, equal-means, itself}
-use Rattle.candidate.specs.Candidates.{bytesOf, marksOf, countOf, profileOf, IsCandidate}
-use Rattle.ranking.specs.ByteStrings.{smaller}
-use Rattle.candidate.specs.Best.{shorter, preferred}
-use Rattle.paths.specs.Ranked.{Ranked, rankedCosts}
-use Rattle.paths.specs.ByRanking.{ranked}
+use Rattle.ranking.specs.Harmony.{isBetter}
+use Rattle.ranking.specs.HarmonicInequality.{better-worse, neither-way, equal-means, itself}
+use Rattle.candidate.specs.Candidates.{marksOf, countOf, profileOf, IsCandidate}
+use Rattle.product.specs.Sets.{singletons, IsCandidateOf}
+use Rattle.product.specs.Best.{contenderOf, ProfileOrder, harmonic}
+use Rattle.paths.specs.Costs.{Costs}
 use Rattle.paths.specs.Graph.{pathCost}
 use Rattle.paths.specs.Best.{Before, IsBest}
-use Rattle.product.specs.Prices.{byRanking}
+use Rattle.product.specs.Prices.{Price, Alike, Agrees, byRanking, ranking-agrees}
 use Rattle.product.specs.ProductGraph.{pairs, startNode, productGraph}
-use Rattle.product.specs.BestCandidate.{Beats, better-profile, fewer-pairs, smaller-bytes, IsBestCandidate}
+use Rattle.product.specs.BestCandidate.{BeatsIn, by-profile, by-pairs, by-bytes, IsBestIn, Beats, better-profile, fewer-pairs, smaller-bytes, IsBestCandidate, IsBestOfSets}
 use Rattle.product.specs.Laws.JointStep.{AllSound}
-use Rattle.product.specs.Laws.Candidates.{candidate-cost, CostOfCandidate, cost-candidate}
-use Rattle.product.specs.Laws.Preference.{or-right, preferred-earlier, earlier-preferred}
-use Rattle.product.specs.Laws.Listing.{formOf}
+use Rattle.product.specs.Laws.Candidates.{fitting-cost, CostOfFitting, cost-fitting, as-sets, as-word}
+use Rattle.product.specs.Laws.Preference.{beats-earlier, earlier-beats}
 
 -- a profile has one count per machine
 pub profile-length : (ms : List Machine) (c : List Pair) → length (profileOf ms c) ≡ length ms
 unfolding profileOf
 profile-length ms c = length-map ms (λ m. countOf (marksOf c m))
 
--- ---- beating is being preferred
+-- ---- under a ranking the best candidate is the best in harmony
 
 module _ (r : List ℕ) (ms : List Machine) (c d : List Pair) where
-  shorter-preferred : profileOf ms d ≡ profileOf ms c → shorter c d ≡ true → preferred r (formOf ms c) (formOf ms d) ≡ true
-  unfolding preferred
-  shorter-preferred e h = rw (e, itself r (profileOf ms c)) h
-
-  pub beats-preferred : Beats r ms c d → preferred r (formOf ms c) (formOf ms d) ≡ true
-  unfolding preferred shorter
-  beats-preferred (better-profile h) = rw (better-worse r (profileOf ms c) (profileOf ms d) .1 h)
-  beats-preferred (fewer-pairs e h) = shorter-preferred e (rw (lt-ltb (length c) (length d) h))
-  beats-preferred (smaller-bytes e h k) = shorter-preferred e (or-right (ltb (length c) (length d)) (both (eq-eqb (length c) (length d) (sym h)) k))
-
-  pub preferred-beats : isRanking (length ms) r ≡ true → preferred r (formOf ms c) (formOf ms d) ≡ true → Beats r ms c d
-  unfolding preferred shorter
-  preferred-beats is h = go (harmony r (profileOf ms c) (profileOf ms d)) refl
+  beats-harmonic : Beats r ms c d → BeatsIn (harmonic r) (contenderOf ms c) (contenderOf ms d)
+  beats-harmonic = go
     where
-      same : harmony r (profileOf ms c) (profileOf ms d) ≡ Equal → profileOf ms d ≡ profileOf ms c
+      same : profileOf ms d ≡ profileOf ms c → Alike (harmonic r) (profileOf ms c) (profileOf ms d)
+      same e = let q = ap isBetter (itself r (profileOf ms c)) in (rw e q, rw e q)
+
+      go : Beats r ms c d → BeatsIn (harmonic r) (contenderOf ms c) (contenderOf ms d)
+      go (better-profile h) = by-profile (sym (better-worse r (profileOf ms c) (profileOf ms d)) ∙ h)
+      go (fewer-pairs e h) = by-pairs (same e) h
+      go (smaller-bytes e h k) = by-bytes (same e) (sym h) k
+
+  harmonic-beats : isRanking (length ms) r ≡ true → BeatsIn (harmonic r) (contenderOf ms c) (contenderOf ms d) → Beats r ms c d
+  harmonic-beats is = go
+    where
+      same : Alike (harmonic r) (profileOf ms c) (profileOf ms d) → profileOf ms d ≡ profileOf ms c
       same e =
-          let agree = equal-means (length ms) r is (profileOf ms c) (profileOf ms d) .0 e in
+          let agree = equal-means (length ms) r is (profileOf ms c) (profileOf ms d) .0 (neither-way r (profileOf ms c) (profileOf ms d) (e .0) (e .1)) in
           ext-getD 0 (profileOf ms d) (profileOf ms c) (profile-length ms d ∙ sym (profile-length ms c)) (λ i k. sym (agree i (rw profile-length at k)))
 
-      next : profileOf ms d ≡ profileOf ms c → (ltb (length c) (length d) ≡ true) ⊎ ((eqb (length c) (length d) && smaller (bytesOf c) (bytesOf d)) ≡ true) → Beats r ms c d
-      next e (inl k) = fewer-pairs e (ltb-true (length c) (length d) k)
-      next e (inr k) =
-          smaller-bytes e (sym (eqb-true (length c) (length d) (left (eqb (length c) (length d)) (smaller (bytesOf c) (bytesOf d)) k)))
-          (right (eqb (length c) (length d)) (smaller (bytesOf c) (bytesOf d)) k)
+      go : BeatsIn (harmonic r) (contenderOf ms c) (contenderOf ms d) → Beats r ms c d
+      go (by-profile e) = better-profile (better-worse r (profileOf ms c) (profileOf ms d) ∙ e)
+      go (by-pairs e h) = fewer-pairs (same e) h
+      go (by-bytes e h k) = smaller-bytes (same e) (sym h) k
 
-      go : (o : Order) → harmony r (profileOf ms c) (profileOf ms d) ≡ o → Beats r ms c d
-      go Better e = better-profile (better-worse r (profileOf ms c) (profileOf ms d) .0 e)
-      go Equal e = next (same e) (either (ltb (length c) (length d)) (eqb (length c) (length d) && smaller (bytesOf c) (bytesOf d)) (rw e at h))
-      go Worse e = absurd (false≢true (rw e at h))
+module _ (r : List ℕ) (ms : List Machine) (word : List ℕ) (c : List Pair) where
+  pub best-harmonic : IsBestCandidate r ms word c → IsBestIn (harmonic r) ms (IsCandidate ms word) c
+  best-harmonic a = record { candidate = a .candidate; rivals = λ d h n. beats-harmonic r ms c d (a .rivals d h n) }
 
--- ---- and the best candidate is the best path
+  pub harmonic-best : isRanking (length ms) r ≡ true → IsBestIn (harmonic r) ms (IsCandidate ms word) c → IsBestCandidate r ms word c
+  harmonic-best is a = record { candidate = a .candidate; rivals = λ d h n. harmonic-beats r ms c d is (a .rivals d h n) }
 
-module _ {S : ℕ} {ms : List Machine} (sound : AllSound S ms) (r word : List ℕ) where
-  pub best-path-candidate : isRanking (length ms) r ≡ true → (c : List Pair) → IsBest (productGraph (byRanking r) word ms) (startNode ms) c → IsBestCandidate r ms word c
-  best-path-candidate is c a = record { candidate = k .is; rivals = rivals }
-    where
-      k : CostOfCandidate (byRanking r) word sound c (a .cost)
-      k = cost-candidate (byRanking r) word sound c (a .cost) (a .is)
+module _ (r : List ℕ) (ms : List Machine) (sets : List ℕ) (c : List Pair) where
+  pub sets-harmonic : IsBestOfSets r ms sets c → IsBestIn (harmonic r) ms (IsCandidateOf ms sets) c
+  sets-harmonic a = record { candidate = a .candidate; rivals = λ d h n. beats-harmonic r ms c d (a .rivals d h n) }
 
-      rivals : (d : List Pair) → IsCandidate ms word d → d ≢ c → Beats r ms c d
-      rivals d h n =
-          preferred-beats r ms c d is
-          (earlier-preferred r (formOf ms c) (formOf ms d) (rw (k .cost) at (a .first d (ranked r (profileOf ms d) (length d)) n (candidate-cost (byRanking r) word sound d h))))
+  pub harmonic-sets : isRanking (length ms) r ≡ true → IsBestIn (harmonic r) ms (IsCandidateOf ms sets) c → IsBestOfSets r ms sets c
+  harmonic-sets is a = record { candidate = a .candidate; rivals = λ d h n. harmonic-beats r ms c d is (a .rivals d h n) }
 
-  pub best-candidate-path : (c : List Pair) → IsBestCandidate r ms word c → IsBest (productGraph (byRanking r) word ms) (startNode ms) c
-  best-candidate-path c a = record { cost = ranked r (profileOf ms c) (length c); is = candidate-cost (byRanking r) word sound c (a .candidate); first = first }
-    where
-      first : (d : List Pair) (x : Ranked (length r)) → d ≢ c → pathCost (productGraph (byRanking r) word ms) (startNode ms) d ≡ some x
-          → Before (rankedCosts (length r)) pairs (ranked r (profileOf ms c) (length c), c) (x, d)
-      first d x n h =
-          let k = cost-candidate (byRanking r) word sound d x h in
-          rw (k .cost) (preferred-earlier r (formOf ms c) (formOf ms d) (beats-preferred r ms c d (a .rivals d (k .is) n)))
+-- ---- the best candidate is the best path
+
+module _ {costs : Costs} {price : Price costs} {better : ProfileOrder} (agrees : Agrees price better) {S : ℕ} {ms : List Machine} (sound : AllSound S ms) where
+  -- over sets
+  module _ (sets : List ℕ) where
+    pub path-best-of-sets : (c : List Pair) → IsBest (productGraph price sets ms) (startNode ms) c → IsBestIn better ms (IsCandidateOf ms sets) c
+    path-best-of-sets c a = record { candidate = k .is; rivals = rivals }
+      where
+        k : CostOfFitting price sets sound c (a .cost)
+        k = cost-fitting price sets sound c (a .cost) (a .is)
+
+        rivals : (d : List Pair) → IsCandidateOf ms sets d → d ≢ c → BeatsIn better (contenderOf ms c) (contenderOf ms d)
+        rivals d h n =
+            earlier-beats agrees (contenderOf ms c) (contenderOf ms d) (rw (k .cost) at (a .first d (price .of (profileOf ms d) (length d)) n (fitting-cost price sets sound d h)))
+
+    pub best-of-sets-path : (c : List Pair) → IsBestIn better ms (IsCandidateOf ms sets) c → IsBest (productGraph price sets ms) (startNode ms) c
+    best-of-sets-path c a = record { cost = price .of (profileOf ms c) (length c); is = fitting-cost price sets sound c (a .candidate); first = first }
+      where
+        first : (d : List Pair) (x : costs .Cost) → d ≢ c → pathCost (productGraph price sets ms) (startNode ms) d ≡ some x
+            → Before costs pairs (price .of (profileOf ms c) (length c), c) (x, d)
+        first d x n h =
+            let k = cost-fitting price sets sound d x h in
+            rw (k .cost) (beats-earlier agrees (contenderOf ms c) (contenderOf ms d) (a .rivals d (k .is) n))
+
+  -- for a word
+  module _ (word : List ℕ) where
+    pub path-best-in : (c : List Pair) → IsBest (productGraph price (singletons word) ms) (startNode ms) c → IsBestIn better ms (IsCandidate ms word) c
+    path-best-in c a =
+        let b = path-best-of-sets (singletons word) c a in
+        record { candidate = as-word word c (b .candidate); rivals = λ d h. b .rivals d (as-sets word d h) }
+
+    pub best-in-path : (c : List Pair) → IsBestIn better ms (IsCandidate ms word) c → IsBest (productGraph price (singletons word) ms) (startNode ms) c
+    best-in-path c a = best-of-sets-path (singletons word) c (record { candidate = as-sets word c (a .candidate); rivals = λ d h. a .rivals d (as-word word d h) })
+
+-- under a ranking
+pub best-sets-path : {S : ℕ} {ms : List Machine} (sound : AllSound S ms) (r sets : List ℕ) (c : List Pair) → IsBestOfSets r ms sets c → IsBest (productGraph (byRanking r) sets ms) (startNode ms) c
+best-sets-path {ms = ms} sound r sets c a = best-of-sets-path (ranking-agrees r) sound sets c (sets-harmonic r ms sets c a)

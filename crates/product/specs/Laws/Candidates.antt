@@ -14,12 +14,14 @@ use Rattle.machine.specs.declared.Pair.{Pair}
 use Rattle.machine.specs.Symbols.{isPair}
 use Rattle.machine.specs.Machine.{Machine, startState}
 use Rattle.candidate.specs.Candidates.{spelled, marksOf, isSome, countOf, isComplete, profileOf, IsCandidate}
-use Rattle.candidate.specs.Best.{sameWord}
+use Rattle.product.specs.Best.{sameWord}
+use Rattle.product.specs.Sets.{fitsSets, singletons, IsCandidateOf}
 use Rattle.paths.specs.Costs.{Costs}
 use Rattle.paths.specs.Graph.{pathCost}
 use Rattle.product.specs.JointStep.{andThose, ofEach}
 use Rattle.product.specs.Prices.{Price}
 use Rattle.product.specs.ProductGraph.{startNode, productGraph}
+use Rattle.product.specs.Laws.Sets.{fits-singletons}
 use Rattle.product.specs.Laws.JointStep.{jointMarks, AllSound, starts-below}
 use Rattle.product.specs.Laws.PathCost.{spells, costOf, path-cost-is}
 
@@ -73,23 +75,23 @@ marks-complete (m ∷ ms) c xs h = go (marksOf c m) refl (jointMarks ms (starts 
         let q : xs ≡ n ∷ ys = cc in
         record { complete = rw e (r .complete); profile = q ∙ (λ i. n ∷ r .profile i) ∙ (rw e) }
 
-module _ {costs : Costs} (price : Price costs) (word : List ℕ) {ms : List Machine} {S : ℕ} (sound : AllSound S ms) where
-  -- ---- from the start node a candidate costs the price of its profile and its pair count, and what has a cost is a candidate
+-- ---- from the start node a candidate costs the price of its profile and its pair count, and what has a cost is a candidate
 
-  at-start : (c : List Pair) → pathCost (productGraph price word ms) (startNode ms) c ≡ costOf price word ms (length c) (spells word 0 c) (jointMarks ms (starts ms) c)
-  at-start c = path-cost-is price word ms sound c 0 (starts ms) (omega arith) (starts-below sound)
+module _ {costs : Costs} (price : Price costs) (sets : List ℕ) {ms : List Machine} {S : ℕ} (sound : AllSound S ms) where
+  at-start : (c : List Pair) → pathCost (productGraph price sets ms) (startNode ms) c ≡ costOf price sets ms (length c) (spells sets 0 c) (jointMarks ms (starts ms) c)
+  at-start c = path-cost-is price sets ms sound c 0 (starts ms) (omega arith) (starts-below sound)
 
-  pub candidate-cost : (c : List Pair) → IsCandidate ms word c → pathCost (productGraph price word ms) (startNode ms) c ≡ some (price .of (profileOf ms c) (length c))
-  candidate-cost c h = at-start c ∙ (rw (complete-marks ms c (h .complete), both (h .pairs) (word-same (spelled c) word (h .spells))))
+  pub fitting-cost : (c : List Pair) → IsCandidateOf ms sets c → pathCost (productGraph price sets ms) (startNode ms) c ≡ some (price .of (profileOf ms c) (length c))
+  fitting-cost c h = let k = h .is in at-start c ∙ (rw (complete-marks ms c (k .complete), both (k .pairs) (ap (fitsSets sets) (k .spells) ∙ h .fits)))
 
-  pub record CostOfCandidate (c : List Pair) (x : costs .Cost) : Type 0 where
-    pub is : IsCandidate ms word c
+  pub record CostOfFitting (c : List Pair) (x : costs .Cost) : Type 0 where
+    pub is : IsCandidateOf ms sets c
     pub cost : x ≡ price .of (profileOf ms c) (length c)
 
-  pub cost-candidate : (c : List Pair) (x : costs .Cost) → pathCost (productGraph price word ms) (startNode ms) c ≡ some x → CostOfCandidate c x
-  cost-candidate c x h = go (spells word 0 c) refl (jointMarks ms (starts ms) c) refl (sym (at-start c) ∙ h)
+  pub cost-fitting : (c : List Pair) (x : costs .Cost) → pathCost (productGraph price sets ms) (startNode ms) c ≡ some x → CostOfFitting c x
+  cost-fitting c x h = go (spells sets 0 c) refl (jointMarks ms (starts ms) c) refl (sym (at-start c) ∙ h)
     where
-      go : (t : Bool) → spells word 0 c ≡ t → (o : Option (List ℕ)) → jointMarks ms (starts ms) c ≡ o → costOf price word ms (length c) t o ≡ some x → CostOfCandidate c x
+      go : (t : Bool) → spells sets 0 c ≡ t → (o : Option (List ℕ)) → jointMarks ms (starts ms) c ≡ o → costOf price sets ms (length c) t o ≡ some x → CostOfFitting c x
       go false t o e k = absurd (Option·none-ne-some x k)
       go true t none e k = absurd (Option·none-ne-some x k)
       go true t (some xs) e k =
@@ -97,9 +99,30 @@ module _ {costs : Costs} (price : Price costs) (word : List ℕ) {ms : List Mach
           let q : x ≡ price .of xs (length c) = cc in
           record {
             is = record {
-              pairs = left (allOf isPair c) (sameWord (spelled c) word) t;
-              spells = same-word (spelled c) word (right (allOf isPair c) (sameWord (spelled c) word) t);
-              complete = r .complete;
+              word = spelled c;
+              fits = right (allOf isPair c) (fitsSets sets (spelled c)) t;
+              is = record { pairs = left (allOf isPair c) (fitsSets sets (spelled c)) t; spells = refl; complete = r .complete };
             };
             cost = q ∙ ap (λ ys. price .of ys (length c)) (r .profile);
           }
+
+-- ---- a candidate for a word is one for its sets of one symbol each
+
+pub as-sets : {ms : List Machine} (word : List ℕ) (c : List Pair) → IsCandidate ms word c → IsCandidateOf ms (singletons word) c
+as-sets word c h = record { word = word; fits = fits-singletons word word ∙ word-same word word refl; is = h }
+
+pub as-word : {ms : List Machine} (word : List ℕ) (c : List Pair) → IsCandidateOf ms (singletons word) c → IsCandidate ms word c
+as-word word c h =
+    let k = h .is in
+    record { pairs = k .pairs; spells = k .spells ∙ same-word (h .word) word (sym (fits-singletons word (h .word)) ∙ h .fits); complete = k .complete }
+
+module _ {costs : Costs} (price : Price costs) (word : List ℕ) {ms : List Machine} {S : ℕ} (sound : AllSound S ms) where
+  pub candidate-cost : (c : List Pair) → IsCandidate ms word c → pathCost (productGraph price (singletons word) ms) (startNode ms) c ≡ some (price .of (profileOf ms c) (length c))
+  candidate-cost c h = fitting-cost price (singletons word) sound c (as-sets word c h)
+
+  pub record CostOfCandidate (c : List Pair) (x : costs .Cost) : Type 0 where
+    pub is : IsCandidate ms word c
+    pub cost : x ≡ price .of (profileOf ms c) (length c)
+
+  pub cost-candidate : (c : List Pair) (x : costs .Cost) → pathCost (productGraph price (singletons word) ms) (startNode ms) c ≡ some x → CostOfCandidate c x
+  cost-candidate c x h = let k = cost-fitting price (singletons word) sound c x h in record { is = as-word word c (k .is); cost = k .cost }

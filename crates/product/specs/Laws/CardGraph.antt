@@ -1,23 +1,25 @@
 -- The graph of an accepted card, as the theory of paths and an engine ask for it.
-use mathlib.Core.Path.{_≡_, ap}
+use mathlib.Core.Path.{_≡_}
 use mathlib.Core.Bool.{true}
 use mathlib.Core.List.{List}
 use mathlib.Core.Option.{some}
-use Prim.Native.Nat.{ℕ, _+_, _*_, _<_, _≤_}
+use Prim.Native.Nat.{ℕ, _<_, _≤_}
 use native.Mathlib.Omega.{arith}
 use lib.ListN.{length}
 use Rattle.machine.specs.declared.Pair.{Pair}
 use Rattle.machine.specs.Symbols.{withinSymbols}
 use Rattle.card.specs.Layout.{symbolCount}
 use Rattle.card.specs.Card.{machinesOf, cardRefusal}
-use Rattle.candidate.specs.Best.{nodeCount}
-use Rattle.paths.specs.Ranked.{Ranked, letterCount, countAt}
+use Rattle.product.specs.Sets.{singletons}
+use Rattle.paths.specs.Costs.{Costs}
+use Rattle.paths.specs.Ranked.{letterCount, countAt}
 use Rattle.paths.specs.Graph.{Edge, Within}
 use Rattle.paths.specs.Bounds.{Sized, BoundedCount}
 use Rattle.paths.specs.Positions.{Positioned}
-use Rattle.product.specs.Nodes.{stateCounts, product, positionAt}
-use Rattle.product.specs.Prices.{byRanking}
-use Rattle.product.specs.ProductGraph.{cardGraph, cardStart}
+use Rattle.product.specs.Nodes.{stateCounts, nodeCount, positionAt}
+use Rattle.product.specs.Prices.{Price}
+use Rattle.product.specs.ProductGraph.{pricedGraph, setGraph, cardStart}
+use Rattle.product.specs.Laws.Sets.{as-many}
 use Rattle.product.specs.Laws.Nodes.{node-below}
 use Rattle.product.specs.Laws.JointStep.{starts-below}
 use Rattle.product.specs.Laws.Candidates.{starts}
@@ -27,30 +29,32 @@ use Rattle.product.specs.Laws.Accepted.{accepted-machines}
 pub some-machine : (card : List ℕ) → cardRefusal card ≡ 0 → 1 ≤ length (machinesOf card)
 some-machine card ok = let a = accepted-machines card ok in omega (arith, a .count, a .some-machine)
 
-module _ (card word : List ℕ) (ok : cardRefusal card ≡ 0) where
-  -- it has (n + 1) × P nodes, and the start node is one of them
-  pub card-nodes : (length word + 1) * product (stateCounts (machinesOf card)) ≡ nodeCount card word
-  card-nodes = ap (λ P. (length word + 1) * P) (accepted-machines card ok .states)
+module _ (card sets : List ℕ) (ok : cardRefusal card ≡ 0) where
+  -- the start node is one of its (n + 1) × P nodes
+  pub start-within : cardStart card < nodeCount (machinesOf card) (length sets)
+  start-within = node-below (stateCounts (machinesOf card)) 0 (starts (machinesOf card)) (starts-below (accepted-machines card ok .sound)) (length sets) (omega arith)
 
-  pub start-within : cardStart card < nodeCount card word
-  start-within = rw (← card-nodes) (node-below (stateCounts (machinesOf card)) 0 (starts (machinesOf card)) (starts-below (accepted-machines card ok .sound)) (length word) (omega arith))
+  -- at any price: edges lead to its nodes, at the same position or at the next one, by pairs of the card's symbols
+  module _ {costs : Costs} (price : Price costs) where
+    pub priced-within : Within (pricedGraph price card sets) (nodeCount (machinesOf card) (length sets))
+    priced-within = product-within price sets (machinesOf card) (accepted-machines card ok .sound)
 
-module _ (card r word : List ℕ) (ok : cardRefusal card ≡ 0) where
-  -- edges lead to its nodes, at the same position or at the next one, by pairs of the card's symbols
-  pub card-within : Within (cardGraph card r word) (nodeCount card word)
-  card-within = rw (← card-nodes card word ok) (product-within (byRanking r) word (machinesOf card) (accepted-machines card ok .sound))
+    pub priced-positioned : Positioned (pricedGraph price card sets) (positionAt (stateCounts (machinesOf card))) (length sets)
+    priced-positioned = product-positioned price sets (machinesOf card) (accepted-machines card ok .sound)
 
-  pub card-positioned : Positioned (cardGraph card r word) (positionAt (stateCounts (machinesOf card))) (length word)
-  card-positioned = product-positioned (byRanking r) word (machinesOf card) (accepted-machines card ok .sound)
+    pub priced-symbols : (u : ℕ) (p : Pair) (e : Edge (costs .Cost)) → pricedGraph price card sets .edge u p ≡ some e → withinSymbols (symbolCount card) p ≡ true
+    priced-symbols u p e h =
+        let k = edge-of price sets (machinesOf card) u p e h in
+        move-symbols (accepted-machines card ok .sound) (some-machine card ok) sets u p (k .by) (k .is)
 
-  pub card-symbols : (u : ℕ) (p : Pair) (e : Edge (Ranked (length r))) → cardGraph card r word .edge u p ≡ some e → withinSymbols (symbolCount card) p ≡ true
-  card-symbols u p e h =
-      let k = edge-of (byRanking r) word (machinesOf card) u p e h in
-      move-symbols (accepted-machines card ok .sound) (some-machine card ok) word u p (k .by) (k .is)
+-- under a ranking the pair count of a path is the number of its pairs, and a count of it is at most 15 a pair, and 15 at the end
+module _ (card r sets : List ℕ) (ok : cardRefusal card ≡ 0) where
+  pub set-sized : Sized (setGraph card r sets) (letterCount (length r))
+  set-sized = product-sized r sets (machinesOf card)
 
-  -- the pair count of a path is the number of its pairs, and a count of it is at most 15 a pair, and 15 at the end
-  pub card-sized : Sized (cardGraph card r word) (letterCount (length r))
-  card-sized = product-sized r word (machinesOf card)
+  pub set-counts : (i : ℕ) → BoundedCount (setGraph card r sets) (countAt (length r) i) 15 15
+  set-counts i = product-counts r sets (machinesOf card) (accepted-machines card ok .sound) i
 
-  pub card-counts : (i : ℕ) → BoundedCount (cardGraph card r word) (countAt (length r) i) 15 15
-  card-counts i = product-counts r word (machinesOf card) (accepted-machines card ok .sound) i
+-- a word has as many symbols as it has sets
+pub word-within : (card word : List ℕ) → cardRefusal card ≡ 0 → {costs : Costs} (price : Price costs) → Within (pricedGraph price card (singletons word)) (nodeCount (machinesOf card) (length word))
+word-within card word ok price = rw (as-many word) at (priced-within card (singletons word) ok price)

@@ -1,61 +1,84 @@
 -- Laws for an engine: a node's moves and ending by its position and its code, and the step by codes machine by machine.
-use mathlib.Core.Path.{_≡_, refl, _∙_}
-use mathlib.Core.Bool.{true, false}
+use mathlib.Core.Path.{_≡_, refl, _∙_, ap}
+use mathlib.Core.Bool.{true}
 use mathlib.Core.List.{List, [], _∷_, map}
 use mathlib.Core.Option.{Option, some, none, Option·none-ne-some}
 use Prim.Native.Nat.{ℕ, _+_, _*_, _/_, _%_, _<_, _≤_}
 use lib.ListN.{length, getD}
 use borrow.Author.Tests.{eq-eqb, ne-eqb}
+use Rattle.basics.specs.Sets.{member}
 use Rattle.machine.specs.declared.Pair.{Pair}
 use Rattle.machine.specs.Symbols.{emptySymbol, isPair}
-use Rattle.machine.specs.Machine.{Machine, stepOf, endingOf}
+use Rattle.machine.specs.Machine.{Machine, stepOf}
 use Rattle.product.specs.Nodes.{product, stateCounts, codeOf, statesOf}
 use Rattle.product.specs.JointStep.{andThose, ofEach, jointStep}
-use Rattle.product.specs.ProductGraph.{advance, Move, moveBy, move, ending}
+use Rattle.paths.specs.Costs.{Costs}
+use Rattle.paths.specs.Graph.{Edge}
+use Rattle.product.specs.Prices.{Price}
+use Rattle.product.specs.ProductGraph.{advance, Move, moveBy, move, ending, pricedMove, pricedEnding, productGraph}
 use Rattle.product.specs.Codes.{coded, codeStep, codeEnding, movedBy}
 use Rattle.product.specs.Laws.Nodes.{position-at, states-at, code-below}
 use Rattle.product.specs.Laws.JointStep.{AllSound, joint-below}
-use Rattle.product.specs.Laws.PathCost.{advance-insertion, advance-symbol, advance-other}
+use Rattle.product.specs.Laws.PathCost.{advance-insertion, advance-symbol}
 
 -- a pair with an in is a pair
 pub symbol-pair : (p : Pair) → (p .input ≡ emptySymbol → ⊥) → isPair p ≡ true
 symbol-pair p n = rw (ne-eqb (p .input) 0 n)
 
-module _ (word : List ℕ) (ms : List Machine) where
+module _ (sets : List ℕ) (ms : List Machine) where
   by-code : (j : ℕ) (o : Option (List (ℕ × ℕ))) → moveBy (stateCounts ms) (some j) o ≡ movedBy (j * product (stateCounts ms)) (coded (stateCounts ms) o)
   by-code j none = refl
   by-code j (some steps) = refl
 
   -- a move at the node of a position and a code
   at-node : (i c : ℕ) → c < product (stateCounts ms) → (p : Pair) → isPair p ≡ true
-      → move word ms (i * product (stateCounts ms) + c) p ≡ moveBy (stateCounts ms) (advance word i p) (jointStep ms (statesOf (stateCounts ms) c) p)
+      → move sets ms (i * product (stateCounts ms) + c) p ≡ moveBy (stateCounts ms) (advance sets i p) (jointStep ms (statesOf (stateCounts ms) c) p)
   unfolding move
   at-node i c h p t = rw (t, move, position-at (stateCounts ms) i c h, states-at (stateCounts ms) i c h)
 
   module _ (i c : ℕ) (h : c < product (stateCounts ms)) (p : Pair) where
     -- insertions are the same at every position, 0 to n
-    pub insertion-move : i ≤ length word → isPair p ≡ true → p .input ≡ emptySymbol → move word ms (i * product (stateCounts ms) + c) p ≡ movedBy (i * product (stateCounts ms)) (codeStep ms c p)
-    insertion-move k t e = at-node i c h p t ∙ (rw (advance-insertion word i p e k) (by-code i (jointStep ms (statesOf (stateCounts ms) c) p)))
+    pub insertion-move : i ≤ length sets → isPair p ≡ true → p .input ≡ emptySymbol → move sets ms (i * product (stateCounts ms) + c) p ≡ movedBy (i * product (stateCounts ms)) (codeStep ms c p)
+    insertion-move k t e = at-node i c h p t ∙ (rw (advance-insertion sets i p e k) (by-code i (jointStep ms (statesOf (stateCounts ms) c) p)))
 
-    -- any other pair reads the symbol at the position
-    pub symbol-move : i < length word → (p .input ≡ emptySymbol → ⊥) → getD word i emptySymbol ≡ p .input → move word ms (i * product (stateCounts ms) + c) p ≡ movedBy ((i + 1) * product (stateCounts ms)) (codeStep ms c p)
-    symbol-move k n e = at-node i c h p (symbol-pair p n) ∙ (rw (advance-symbol word i p n k e) (by-code (i + 1) (jointStep ms (statesOf (stateCounts ms) c) p)))
+    -- any other pair reads a symbol of the set at the position
+    pub symbol-move : (p .input ≡ emptySymbol → ⊥) → member (getD sets i 0) (p .input) ≡ true → move sets ms (i * product (stateCounts ms) + c) p ≡ movedBy ((i + 1) * product (stateCounts ms)) (codeStep ms c p)
+    symbol-move n e = at-node i c h p (symbol-pair p n) ∙ (rw (advance-symbol sets i p n e) (by-code (i + 1) (jointStep ms (statesOf (stateCounts ms) c) p)))
 
-    pub other-move : (p .input ≡ emptySymbol → ⊥) → (getD word i emptySymbol ≡ p .input → ⊥) → move word ms (i * product (stateCounts ms) + c) p ≡ none
-    other-move n e = at-node i c h p (symbol-pair p n) ∙ (rw (advance-other word i p n e))
-
-    pub no-pair-move : isPair p ≡ false → move word ms (i * product (stateCounts ms) + c) p ≡ none
-    unfolding move
-    no-pair-move t = rw (t, move)
-
-  -- an ending is at the end of the word
-  pub ending-at : (c : ℕ) → c < product (stateCounts ms) → ending word ms (length word * product (stateCounts ms) + c) ≡ codeEnding ms c
+  -- an ending is past the last set
+  pub ending-at : (c : ℕ) → c < product (stateCounts ms) → ending sets ms (length sets * product (stateCounts ms) + c) ≡ codeEnding ms c
   unfolding ending
-  ending-at c h = rw (position-at (stateCounts ms) (length word) c h, eq-eqb (length word) (length word) refl, ending, states-at (stateCounts ms) (length word) c h)
+  ending-at c h = rw (position-at (stateCounts ms) (length sets) c h, eq-eqb (length sets) (length sets) refl, ending, states-at (stateCounts ms) (length sets) c h)
 
-  pub ending-before : (i c : ℕ) → c < product (stateCounts ms) → (i ≡ length word → ⊥) → ending word ms (i * product (stateCounts ms) + c) ≡ none
+  pub ending-before : (i c : ℕ) → c < product (stateCounts ms) → (i ≡ length sets → ⊥) → ending sets ms (i * product (stateCounts ms) + c) ≡ none
   unfolding ending
-  ending-before i c h n = rw (position-at (stateCounts ms) i c h, ne-eqb i (length word) n, ending)
+  ending-before i c h n = rw (position-at (stateCounts ms) i c h, ne-eqb i (length sets) n, ending)
+
+-- ---- the same as edges and endings, at any price
+
+-- a step by codes as an edge to the nodes from a number on
+abbrev pub pricedStep : {costs : Costs} (price : Price costs) (base : ℕ) → Option Move → Option (Edge (costs .Cost))
+pricedStep price base none = none
+pricedStep price base (some m) = some (record { target = base + m .target; cost = price .of (m .marks) 1 })
+
+module _ {costs : Costs} (price : Price costs) (sets : List ℕ) (ms : List Machine) where
+  by-step : (base : ℕ) (o : Option Move) → pricedMove price sets ms (movedBy base o) ≡ pricedStep price base o
+  by-step base none = refl
+  by-step base (some m) = refl
+
+  module _ (i c : ℕ) (h : c < product (stateCounts ms)) (p : Pair) where
+    pub insertion-edge : i ≤ length sets → isPair p ≡ true → p .input ≡ emptySymbol → productGraph price sets ms .edge (i * product (stateCounts ms) + c) p ≡ pricedStep price (i * product (stateCounts ms)) (codeStep ms c p)
+    insertion-edge k t e = ap (pricedMove price sets ms) (insertion-move sets ms i c h p k t e) ∙ by-step (i * product (stateCounts ms)) (codeStep ms c p)
+
+    pub symbol-edge : (p .input ≡ emptySymbol → ⊥) → member (getD sets i 0) (p .input) ≡ true → productGraph price sets ms .edge (i * product (stateCounts ms) + c) p ≡ pricedStep price ((i + 1) * product (stateCounts ms)) (codeStep ms c p)
+    symbol-edge n e = ap (pricedMove price sets ms) (symbol-move sets ms i c h p n e) ∙ by-step ((i + 1) * product (stateCounts ms)) (codeStep ms c p)
+
+  module _ (c : ℕ) (h : c < product (stateCounts ms)) where
+    pub ending-edge : productGraph price sets ms .ending (length sets * product (stateCounts ms) + c) ≡ pricedEnding price sets ms (codeEnding ms c)
+    ending-edge = ap (pricedEnding price sets ms) (ending-at sets ms c h)
+
+    pub no-ending : (i : ℕ) → (i ≡ length sets → ⊥) → productGraph price sets ms .ending (i * product (stateCounts ms) + c) ≡ none
+    no-ending i n = ap (pricedEnding price sets ms) (ending-before sets ms i c h n)
 
 -- ---- machine by machine, the first one's state being the quotient of the code by the product of the other counts
 
@@ -77,15 +100,6 @@ step-next-machine m ms c p = go (stepOf m (c / product (stateCounts ms)) p) (joi
     go none j = refl
     go (some r) none = refl
     go (some r) (some steps) = refl
-
-pub ending-no-machine : (c : ℕ) → codeEnding [] c ≡ some []
-unfolding ofEach statesOf
-ending-no-machine c = refl
-
-pub ending-next-machine : (m : Machine) (ms : List Machine) (c : ℕ)
-    → codeEnding (m ∷ ms) c ≡ andThose (endingOf m (c / product (stateCounts ms))) (codeEnding ms (c % product (stateCounts ms)))
-unfolding ofEach statesOf
-ending-next-machine m ms c = refl
 
 -- it leads to a code
 pub code-step-below : {S : ℕ} {ms : List Machine} → AllSound S ms → (c : ℕ) (p : Pair) (m : Move) → codeStep ms c p ≡ some m → m .target < product (stateCounts ms)

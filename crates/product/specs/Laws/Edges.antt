@@ -1,20 +1,20 @@
 -- Laws of the edges: where a move leads, what it costs, and what the theory of paths asks of the product.
 use mathlib.Core.Path.{_≡_, refl, _∙_, ap}
 use mathlib.Core.Logic.{_⊎_, inl, inr}
-use mathlib.Core.Bool.{Bool, true, false, _&&_, cond}
+use mathlib.Core.Bool.{Bool, true, false, cond}
 use mathlib.Core.List.{List, [], _∷_, map}
 use mathlib.Core.Option.{Option, some, none, Option·none-ne-some}
 use Prim.Native.Nat.{ℕ, zero, suc, _+_, _*_, _<_, _≤_}
 use native.Mathlib.Omega.{arith}
 use lib.ListN.{length, getD}
-use lib.Dec.{eqb, ltb, leb}
-use borrow.Author.Tests.{eqb-true, eqb-false, ltb-true, leb-true}
-use Rattle.basics.proofs.Bools.{left, right}
+use lib.Dec.{eqb, leb}
+use borrow.Author.Tests.{eqb-true, eqb-false, leb-true}
+use Rattle.basics.specs.Sets.{member}
 use Rattle.machine.specs.declared.Pair.{Pair}
 use Rattle.machine.specs.Symbols.{emptySymbol, isPair, withinSymbols}
 use Rattle.machine.specs.Machine.{Machine, endingOf}
 use Rattle.paths.specs.Costs.{Costs}
-use Rattle.paths.specs.Ranked.{Ranked, letterCount, countAt}
+use Rattle.paths.specs.Ranked.{Ranked, rankedCosts, letterCount, countAt}
 use Rattle.paths.specs.ByRanking.{ranked, ranked-letters}
 use Rattle.paths.specs.Graph.{Edge, Within}
 use Rattle.paths.specs.Bounds.{Sized, BoundedCount}
@@ -24,85 +24,84 @@ use Rattle.product.specs.Nodes.{product, stateCounts, nodeOf, positionAt
 use Rattle.product.specs.JointStep.{andThose, ofEach, jointStep, jointEnding}
 use Rattle.product.specs.Prices.{Price, byRanking}
 use Rattle.product.specs.ProductGraph.{advance, Move, moveBy, move, ending, pricedMove, pricedEnding, productGraph}
+use Rattle.product.specs.Laws.Sets.{member-within}
 use Rattle.product.specs.Laws.Nodes.{position-of-node, node-below}
 use Rattle.product.specs.Laws.JointStep.{AllSound, all-none, all-next, step-of-each, no-states-left, joint-below}
 
--- where a pair leads in the word
-pub data Advanced (word : List ℕ) (i : ℕ) (p : Pair) (j : ℕ) : Type 0 where
-  stays : p .input ≡ emptySymbol → j ≡ i → i ≤ length word → Advanced word i p j
-  goes-on : (p .input ≡ emptySymbol → ⊥) → j ≡ i + 1 → i < length word → getD word i emptySymbol ≡ p .input → Advanced word i p j
+-- where a pair leads
+pub data Advanced (sets : List ℕ) (i : ℕ) (p : Pair) (j : ℕ) : Type 0 where
+  stays : p .input ≡ emptySymbol → j ≡ i → i ≤ length sets → Advanced sets i p j
+  goes-on : (p .input ≡ emptySymbol → ⊥) → j ≡ i + 1 → i < length sets → member (getD sets i 0) (p .input) ≡ true → Advanced sets i p j
 
-pub advanced : (word : List ℕ) (i : ℕ) (p : Pair) (j : ℕ) → advance word i p ≡ some j → Advanced word i p j
+pub advanced : (sets : List ℕ) (i : ℕ) (p : Pair) (j : ℕ) → advance sets i p ≡ some j → Advanced sets i p j
 unfolding advance
-advanced word i p j h = go (eqb (p .input) emptySymbol) refl
+advanced sets i p j h = go (eqb (p .input) emptySymbol) refl
   where
-    insertion : p .input ≡ emptySymbol → (t : Bool) → leb i (length word) ≡ t → cond t (some i) none ≡ some j → Advanced word i p j
-    insertion e true t k = let q : j ≡ i = cc in stays e q (leb-true i (length word) t)
+    insertion : p .input ≡ emptySymbol → (t : Bool) → leb i (length sets) ≡ t → cond t (some i) none ≡ some j → Advanced sets i p j
+    insertion e true t k = let q : j ≡ i = cc in stays e q (leb-true i (length sets) t)
     insertion e false t k = absurd (Option·none-ne-some j k)
 
-    symbol : (p .input ≡ emptySymbol → ⊥) → (t : Bool) → (ltb i (length word) && eqb (getD word i emptySymbol) (p .input)) ≡ t → cond t (some (i + 1)) none ≡ some j → Advanced word i p j
-    symbol e true t k =
-        let q : j ≡ i + 1 = cc in
-        goes-on e q (ltb-true i (length word) (left (ltb i (length word)) (eqb (getD word i 0) (p .input)) t)) (eqb-true (getD word i 0) (p .input) (right (ltb i (length word)) (eqb (getD word i 0) (p .input)) t))
+    symbol : (p .input ≡ emptySymbol → ⊥) → (t : Bool) → member (getD sets i 0) (p .input) ≡ t → cond t (some (i + 1)) none ≡ some j → Advanced sets i p j
+    symbol e true t k = let q : j ≡ i + 1 = cc in goes-on e q (member-within sets i (p .input) t) t
     symbol e false t k = absurd (Option·none-ne-some j k)
 
-    go : (t : Bool) → eqb (p .input) emptySymbol ≡ t → Advanced word i p j
-    go true t = insertion (eqb-true (p .input) 0 t) (leb i (length word)) refl (rw (t, advance) at h)
-    go false t = symbol (eqb-false (p .input) 0 t) (ltb i (length word) && eqb (getD word i 0) (p .input)) refl (rw (t, advance) at h)
+    go : (t : Bool) → eqb (p .input) emptySymbol ≡ t → Advanced sets i p j
+    go true t = insertion (eqb-true (p .input) 0 t) (leb i (length sets)) refl (rw (t, advance) at h)
+    go false t = symbol (eqb-false (p .input) 0 t) (member (getD sets i 0) (p .input)) refl (rw (t, advance) at h)
 
--- a move is a pair that leads on in the word, and a joint step
-pub record Moved (word : List ℕ) (ms : List Machine) (u : ℕ) (p : Pair) (m : Move) : Type 0 where
+-- a move is a pair that leads on, and a joint step
+pub record Moved (sets : List ℕ) (ms : List Machine) (u : ℕ) (p : Pair) (m : Move) : Type 0 where
   pub is-pair : isPair p ≡ true
   pub position : ℕ
-  pub advances : advance word (positionAt (stateCounts ms) u) p ≡ some position
+  pub advances : advance sets (positionAt (stateCounts ms) u) p ≡ some position
   pub steps : List (ℕ × ℕ)
   pub steps-are : jointStep ms (statesAt (stateCounts ms) u) p ≡ some steps
   pub target-is : m .target ≡ nodeOf (stateCounts ms) position (map (λ r. r .0) steps)
   pub marks-are : m .marks ≡ map (λ r. r .1) steps
 
-pub moved : (word : List ℕ) (ms : List Machine) (u : ℕ) (p : Pair) (m : Move) → move word ms u p ≡ some m → Moved word ms u p m
+pub moved : (sets : List ℕ) (ms : List Machine) (u : ℕ) (p : Pair) (m : Move) → move sets ms u p ≡ some m → Moved sets ms u p m
 unfolding move
-moved word ms u p m h = pair (isPair p) refl
+moved sets ms u p m h = pair (isPair p) refl
   where
     qs : List ℕ
     qs = stateCounts ms
 
-    parts : isPair p ≡ true → (o : Option ℕ) → advance word (positionAt qs u) p ≡ o → (j : Option (List (ℕ × ℕ))) → jointStep ms (statesAt qs u) p ≡ j → moveBy qs o j ≡ some m → Moved word ms u p m
+    parts : isPair p ≡ true → (o : Option ℕ) → advance sets (positionAt qs u) p ≡ o → (j : Option (List (ℕ × ℕ))) → jointStep ms (statesAt qs u) p ≡ j → moveBy qs o j ≡ some m → Moved sets ms u p m
     parts e none a j k q = absurd (Option·none-ne-some m q)
     parts e (some i) a none k q = absurd (Option·none-ne-some m q)
     parts e (some i) a (some steps) k q =
         let z : m ≡ record { target = nodeOf qs i (map (λ r. r .0) steps); marks = map (λ r. r .1) steps } = cc in
         record { is-pair = e; position = i; advances = a; steps = steps; steps-are = k; target-is = ap (λ (m : Move). m .target) z; marks-are = ap (λ (m : Move). m .marks) z }
 
-    pair : (t : Bool) → isPair p ≡ t → Moved word ms u p m
-    pair true t = parts t (advance word (positionAt qs u) p) refl (jointStep ms (statesAt qs u) p) refl (rw (t, move) at h)
+    pair : (t : Bool) → isPair p ≡ t → Moved sets ms u p m
+    pair true t = parts t (advance sets (positionAt qs u) p) refl (jointStep ms (statesAt qs u) p) refl (rw (t, move) at h)
     pair false t = let z : _≡_ {A = Option Move} none (some m) = rw (t, move) at h in absurd (Option·none-ne-some m z)
 
--- an ending is at the end of the word
-pub record Ended (word : List ℕ) (ms : List Machine) (u : ℕ) (xs : List ℕ) : Type 0 where
-  pub at-end : positionAt (stateCounts ms) u ≡ length word
+-- an ending is past the last set
+pub record WordEnded (sets : List ℕ) (ms : List Machine) (u : ℕ) (xs : List ℕ) : Type 0 where
+  pub at-end : positionAt (stateCounts ms) u ≡ length sets
   pub ends : jointEnding ms (statesAt (stateCounts ms) u) ≡ some xs
 
-pub ended : (word : List ℕ) (ms : List Machine) (u : ℕ) (xs : List ℕ) → ending word ms u ≡ some xs → Ended word ms u xs
+pub word-ended : (sets : List ℕ) (ms : List Machine) (u : ℕ) (xs : List ℕ) → ending sets ms u ≡ some xs → WordEnded sets ms u xs
 unfolding ending
-ended word ms u xs h = go (eqb (positionAt (stateCounts ms) u) (length word)) refl
+word-ended sets ms u xs h = go (eqb (positionAt (stateCounts ms) u) (length sets)) refl
   where
-    go : (t : Bool) → eqb (positionAt (stateCounts ms) u) (length word) ≡ t → Ended word ms u xs
-    go true t = record { at-end = eqb-true (positionAt (stateCounts ms) u) (length word) t; ends = rw (t, ending) at h }
+    go : (t : Bool) → eqb (positionAt (stateCounts ms) u) (length sets) ≡ t → WordEnded sets ms u xs
+    go true t = record { at-end = eqb-true (positionAt (stateCounts ms) u) (length sets) t; ends = rw (t, ending) at h }
     go false t = let z : _≡_ {A = Option (List ℕ)} none (some xs) = rw (t, ending) at h in absurd (Option·none-ne-some xs z)
 
-module _ {costs : Costs} (price : Price costs) (word : List ℕ) (ms : List Machine) where
+module _ {costs : Costs} (price : Price costs) (sets : List ℕ) (ms : List Machine) where
   -- an edge of the graph is a move at its price, and an ending of the graph an ending at its price
   pub record EdgeOf (u : ℕ) (p : Pair) (e : Edge (costs .Cost)) : Type 0 where
     pub by : Move
-    pub is : move word ms u p ≡ some by
+    pub is : move sets ms u p ≡ some by
     pub target-is : e .target ≡ by .target
     pub cost-is : e .cost ≡ price .of (by .marks) 1
 
-  pub edge-of : (u : ℕ) (p : Pair) (e : Edge (costs .Cost)) → productGraph price word ms .edge u p ≡ some e → EdgeOf u p e
-  edge-of u p e h = go (move word ms u p) refl h
+  pub edge-of : (u : ℕ) (p : Pair) (e : Edge (costs .Cost)) → productGraph price sets ms .edge u p ≡ some e → EdgeOf u p e
+  edge-of u p e h = go (move sets ms u p) refl h
     where
-      go : (o : Option Move) → move word ms u p ≡ o → pricedMove price word ms o ≡ some e → EdgeOf u p e
+      go : (o : Option Move) → move sets ms u p ≡ o → pricedMove price sets ms o ≡ some e → EdgeOf u p e
       go none k h = absurd (Option·none-ne-some e h)
       go (some m) k h =
           let q : e ≡ record { target = m .target; cost = price .of (m .marks) 1 } = cc in
@@ -110,65 +109,58 @@ module _ {costs : Costs} (price : Price costs) (word : List ℕ) (ms : List Mach
 
   pub record EndingOf (u : ℕ) (c : costs .Cost) : Type 0 where
     pub marks : List ℕ
-    pub is : ending word ms u ≡ some marks
+    pub is : ending sets ms u ≡ some marks
     pub cost-is : c ≡ price .of marks 0
 
-  pub ending-of : (u : ℕ) (c : costs .Cost) → productGraph price word ms .ending u ≡ some c → EndingOf u c
-  ending-of u c h = go (ending word ms u) refl h
+  pub ending-of : (u : ℕ) (c : costs .Cost) → productGraph price sets ms .ending u ≡ some c → EndingOf u c
+  ending-of u c h = go (ending sets ms u) refl h
     where
-      go : (o : Option (List ℕ)) → ending word ms u ≡ o → pricedEnding price word ms o ≡ some c → EndingOf u c
+      go : (o : Option (List ℕ)) → ending sets ms u ≡ o → pricedEnding price sets ms o ≡ some c → EndingOf u c
       go none k h = absurd (Option·none-ne-some c h)
       go (some xs) k h = record { marks = xs; is = k; cost-is = cc }
 
   module _ {S : ℕ} (sound : AllSound S ms) where
-    -- the target of a move: its position is where the pair leads in the word, and it is one of the (n + 1) × P nodes
-    pub move-position : (u : ℕ) (p : Pair) (m : Move) (k : Moved word ms u p m) → positionAt (stateCounts ms) (m .target) ≡ k .position
+    -- the target of a move: its position is where the pair leads, and it is one of the (n + 1) × P nodes
+    pub move-position : (u : ℕ) (p : Pair) (m : Move) (k : Moved sets ms u p m) → positionAt (stateCounts ms) (m .target) ≡ k .position
     move-position u p m k =
         ap (positionAt (stateCounts ms)) (k .target-is)
         ∙ position-of-node (stateCounts ms) (k .position) (map (λ r. r .0) (k .steps)) (joint-below sound (statesAt (stateCounts ms) u) p (k .steps) (k .steps-are))
 
-    pub advanced-within : (i : ℕ) (p : Pair) (j : ℕ) → Advanced word i p j → j ≤ length word
+    pub advanced-within : (i : ℕ) (p : Pair) (j : ℕ) → Advanced sets i p j → j ≤ length sets
     advanced-within i p j (stays e q h) = omega arith
     advanced-within i p j (goes-on e q h k) = omega arith
 
-    pub move-within : (u : ℕ) (p : Pair) (m : Move) → move word ms u p ≡ some m → m .target < (length word + 1) * product (stateCounts ms)
+    pub move-within : (u : ℕ) (p : Pair) (m : Move) → move sets ms u p ≡ some m → m .target < (length sets + 1) * product (stateCounts ms)
     move-within u p m h =
-        let k = moved word ms u p m h in
+        let k = moved sets ms u p m h in
         rw (k .target-is)
-        (node-below (stateCounts ms) (k .position) (map (λ r. r .0) (k .steps)) (joint-below sound (statesAt (stateCounts ms) u) p (k .steps) (k .steps-are)) (length word)
-        (advanced-within (positionAt (stateCounts ms) u) p (k .position) (advanced word (positionAt (stateCounts ms) u) p (k .position) (k .advances))))
+        (node-below (stateCounts ms) (k .position) (map (λ r. r .0) (k .steps)) (joint-below sound (statesAt (stateCounts ms) u) p (k .steps) (k .steps-are)) (length sets)
+        (advanced-within (positionAt (stateCounts ms) u) p (k .position) (advanced sets (positionAt (stateCounts ms) u) p (k .position) (k .advances))))
 
-    pub product-within : Within (productGraph price word ms) ((length word + 1) * product (stateCounts ms))
+    pub product-within : Within (productGraph price sets ms) ((length sets + 1) * product (stateCounts ms))
     product-within u p e h = let k = edge-of u p e h in rw (k .target-is) (move-within u p (k .by) (k .is))
 
-    -- a move stays at its position if it is an insertion, and leads to the next one if not
-    pub insertion-stays : (u : ℕ) (p : Pair) (m : Move) → move word ms u p ≡ some m → p .input ≡ emptySymbol → positionAt (stateCounts ms) (m .target) ≡ positionAt (stateCounts ms) u
-    insertion-stays u p m h z = let k = moved word ms u p m h in move-position u p m k ∙ go (advanced word (positionAt (stateCounts ms) u) p (k .position) (k .advances))
+    -- a pair that is no insertion leads to the next position
+    pub symbol-moves-on : (u : ℕ) (p : Pair) (m : Move) → move sets ms u p ≡ some m → (p .input ≡ emptySymbol → ⊥) → positionAt (stateCounts ms) (m .target) ≡ positionAt (stateCounts ms) u + 1
+    symbol-moves-on u p m h z = let k = moved sets ms u p m h in move-position u p m k ∙ go (advanced sets (positionAt (stateCounts ms) u) p (k .position) (k .advances))
       where
-        go : {j : ℕ} → Advanced word (positionAt (stateCounts ms) u) p j → j ≡ positionAt (stateCounts ms) u
-        go (stays e q h) = q
-        go (goes-on e q h k) = absurd (e z)
-
-    pub symbol-moves-on : (u : ℕ) (p : Pair) (m : Move) → move word ms u p ≡ some m → (p .input ≡ emptySymbol → ⊥) → positionAt (stateCounts ms) (m .target) ≡ positionAt (stateCounts ms) u + 1
-    symbol-moves-on u p m h z = let k = moved word ms u p m h in move-position u p m k ∙ go (advanced word (positionAt (stateCounts ms) u) p (k .position) (k .advances))
-      where
-        go : {j : ℕ} → Advanced word (positionAt (stateCounts ms) u) p j → j ≡ positionAt (stateCounts ms) u + 1
+        go : {j : ℕ} → Advanced sets (positionAt (stateCounts ms) u) p j → j ≡ positionAt (stateCounts ms) u + 1
         go (stays e q h) = absurd (z e)
         go (goes-on e q h k) = q
 
-    pub product-positioned : Positioned (productGraph price word ms) (positionAt (stateCounts ms)) (length word)
-    product-positioned = record { next = next; ends = λ u c h. let k = ending-of u c h in ended word ms u (k .marks) (k .is) .at-end }
+    pub product-positioned : Positioned (productGraph price sets ms) (positionAt (stateCounts ms)) (length sets)
+    product-positioned = record { next = next; ends = λ u c h. let k = ending-of u c h in word-ended sets ms u (k .marks) (k .is) .at-end }
       where
-        go : (u : ℕ) (p : Pair) (j : ℕ) → Advanced word (positionAt (stateCounts ms) u) p j → (j ≡ positionAt (stateCounts ms) u) ⊎ (j ≡ suc (positionAt (stateCounts ms) u))
+        go : (u : ℕ) (p : Pair) (j : ℕ) → Advanced sets (positionAt (stateCounts ms) u) p j → (j ≡ positionAt (stateCounts ms) u) ⊎ (j ≡ suc (positionAt (stateCounts ms) u))
         go u p j (stays e q h) = inl q
         go u p j (goes-on e q h k) = inr (omega arith)
 
-        next : (u : ℕ) (p : Pair) (e : Edge (costs .Cost)) → productGraph price word ms .edge u p ≡ some e
+        next : (u : ℕ) (p : Pair) (e : Edge (costs .Cost)) → productGraph price sets ms .edge u p ≡ some e
             → (positionAt (stateCounts ms) (e .target) ≡ positionAt (stateCounts ms) u) ⊎ (positionAt (stateCounts ms) (e .target) ≡ suc (positionAt (stateCounts ms) u))
         next u p e h =
             let k = edge-of u p e h in
-            let l = moved word ms u p (k .by) (k .is) in
-            rw (k .target-is, move-position u p (k .by) l) (go u p (l .position) (advanced word (positionAt (stateCounts ms) u) p (l .position) (l .advances)))
+            let l = moved sets ms u p (k .by) (k .is) in
+            rw (k .target-is, move-position u p (k .by) l) (go u p (l .position) (advanced sets (positionAt (stateCounts ms) u) p (l .position) (l .advances)))
 
 -- ---- a joint step, and so a move, is by a pair of the card's symbols
 
@@ -177,8 +169,8 @@ step-symbols all-none h ss p steps e = absurd (omega arith)
 step-symbols (all-next {m} {ms} a b) h [] p steps e = absurd (no-states-left m ms p steps e)
 step-symbols (all-next {m} {ms} a b) h (s ∷ ss) p steps e = let k = step-of-each m ms s ss p steps e in a .symbols s p (k .first) (k .first-is)
 
-pub move-symbols : {S : ℕ} {ms : List Machine} → AllSound S ms → 1 ≤ length ms → (word : List ℕ) (u : ℕ) (p : Pair) (m : Move) → move word ms u p ≡ some m → withinSymbols S p ≡ true
-move-symbols {ms = ms} sound h word u p m e = let k = moved word ms u p m e in step-symbols sound h (statesAt (stateCounts ms) u) p (k .steps) (k .steps-are)
+pub move-symbols : {S : ℕ} {ms : List Machine} → AllSound S ms → 1 ≤ length ms → (sets : List ℕ) (u : ℕ) (p : Pair) (m : Move) → move sets ms u p ≡ some m → withinSymbols S p ≡ true
+move-symbols {ms = ms} sound h sets u p m e = let k = moved sets ms u p m e in step-symbols sound h (statesAt (stateCounts ms) u) p (k .steps) (k .steps-are)
 
 -- ---- the marks of a step and of an ending are at most 15 a machine
 
@@ -206,26 +198,33 @@ ranked-upto [] xs n b h i = omega arith
 ranked-upto (m ∷ r) xs n b h zero = h m
 ranked-upto (m ∷ r) xs n b h (suc i) = ranked-upto r xs n b h i
 
--- ---- the ranked product: the pair count is the number of pairs, and each count is bounded
+-- ---- where a price tells the number of pairs, the pair count of a path is the number of its pairs
 
-module _ (r word : List ℕ) (ms : List Machine) where
-  pub product-sized : Sized (productGraph (byRanking r) word ms) (letterCount (length r))
-  product-sized =
-      ranked-sized (length r) (productGraph (byRanking r) word ms)
-      (λ u p e h. let k = edge-of (byRanking r) word ms u p e h in rw (k .cost-is) (ranked-letters r (k .by .marks) 1))
-      (λ u c h. let k = ending-of (byRanking r) word ms u c h in rw (k .cost-is) (ranked-letters r (k .marks) 0))
+pub priced-sized : (k : ℕ) (price : Price (rankedCosts k)) → ((xs : List ℕ) (n : ℕ) → letterCount k (price .of xs n) ≡ n) → (sets : List ℕ) (ms : List Machine) → Sized (productGraph price sets ms) (letterCount k)
+priced-sized k price letters sets ms =
+    ranked-sized k (productGraph price sets ms)
+    (λ u p e h. let l = edge-of price sets ms u p e h in rw (l .cost-is) (letters (l .by .marks) 1))
+    (λ u c h. let l = ending-of price sets ms u c h in rw (l .cost-is) (letters (l .marks) 0))
 
-  pub product-counts : {S : ℕ} → AllSound S ms → (i : ℕ) → BoundedCount (productGraph (byRanking r) word ms) (countAt (length r) i) 15 15
-  product-counts sound i = ranked-counts (length r) (productGraph (byRanking r) word ms) i 15 15 edges ends
-    where
-      edges : (u : ℕ) (p : Pair) (e : Edge (Ranked (length r))) → productGraph (byRanking r) word ms .edge u p ≡ some e → countAt (length r) i (e .cost) ≤ 15
-      edges u p e h =
-          let k = edge-of (byRanking r) word ms u p e h in
-          let l = moved word ms u p (k .by) (k .is) in
-          rw (k .cost-is, l .marks-are) (ranked-upto r (map (λ r. r .1) (l .steps)) 1 15 (step-marks-bound sound (statesAt (stateCounts ms) u) p (l .steps) (l .steps-are)) i)
+-- ---- the ranked product: that, and each count is bounded
 
-      ends : (u : ℕ) (c : Ranked (length r)) → productGraph (byRanking r) word ms .ending u ≡ some c → countAt (length r) i c ≤ 15
-      ends u c h =
-          let k = ending-of (byRanking r) word ms u c h in
-          let l = ended word ms u (k .marks) (k .is) in
-          rw (k .cost-is) (ranked-upto r (k .marks) 0 15 (ending-marks-bound sound (statesAt (stateCounts ms) u) (k .marks) (l .ends)) i)
+module _ (r sets : List ℕ) (ms : List Machine) where
+  pub product-sized : Sized (productGraph (byRanking r) sets ms) (letterCount (length r))
+  product-sized = priced-sized (length r) (byRanking r) (ranked-letters r) sets ms
+
+  module _ {S : ℕ} (sound : AllSound S ms) where
+    -- a count of an edge and of an ending is at most 15
+    pub edge-counts : (u : ℕ) (p : Pair) (e : Edge (Ranked (length r))) → productGraph (byRanking r) sets ms .edge u p ≡ some e → (i : ℕ) → countAt (length r) i (e .cost) ≤ 15
+    edge-counts u p e h i =
+        let k = edge-of (byRanking r) sets ms u p e h in
+        let l = moved sets ms u p (k .by) (k .is) in
+        rw (k .cost-is, l .marks-are) (ranked-upto r (map (λ r. r .1) (l .steps)) 1 15 (step-marks-bound sound (statesAt (stateCounts ms) u) p (l .steps) (l .steps-are)) i)
+
+    pub ending-counts : (u : ℕ) (c : Ranked (length r)) → productGraph (byRanking r) sets ms .ending u ≡ some c → (i : ℕ) → countAt (length r) i c ≤ 15
+    ending-counts u c h i =
+        let k = ending-of (byRanking r) sets ms u c h in
+        let l = word-ended sets ms u (k .marks) (k .is) in
+        rw (k .cost-is) (ranked-upto r (k .marks) 0 15 (ending-marks-bound sound (statesAt (stateCounts ms) u) (k .marks) (l .ends)) i)
+
+    pub product-counts : (i : ℕ) → BoundedCount (productGraph (byRanking r) sets ms) (countAt (length r) i) 15 15
+    product-counts i = ranked-counts (length r) (productGraph (byRanking r) sets ms) i 15 15 (λ u p e h. edge-counts u p e h i) (λ u c h. ending-counts u c h i)

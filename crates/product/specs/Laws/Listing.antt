@@ -17,17 +17,18 @@ use Rattle.basics.proofs.Below.{member-numbers}
 use Rattle.machine.specs.declared.Pair.{Pair}
 use Rattle.machine.specs.Symbols.{isPair, withinSymbols}
 use Rattle.machine.specs.Machine.{Machine}
-use Rattle.candidate.specs.Candidates.{spelled, isComplete, profileOf}
-use Rattle.candidate.specs.Best.{Form, preferred, sameWord, pairsOver, listsBelow, formsAmong, leastOf}
+use Rattle.candidate.specs.Candidates.{spelled, isComplete}
+use Rattle.product.specs.Best.{Contender, contenderOf, ProfileOrder, preferred, sameWord, pairsOver, listsBelow, contendersAmong, leastOf}
 use Rattle.paths.specs.Total.{Upto, upto-trans, not-less-upto}
-use Rattle.paths.specs.Ranked.{rankedCosts}
+use Rattle.paths.specs.Costs.{Costs}
 use Rattle.paths.specs.Best.{Before, before-total}
+use Rattle.product.specs.Prices.{Price, Agrees}
 use Rattle.product.specs.ProductGraph.{pairs}
-use Rattle.product.specs.Laws.Preference.{keyOf, preferred-earlier, earlier-preferred}
+use Rattle.product.specs.Laws.Preference.{preferred-beats, beats-preferred, keyOf, beats-earlier, earlier-beats}
 
 -- the elements of a mapped list
 module _ {A B : Type 0} (f : A → B) where
-  map-member : {y : B} (xs : List A) → List·Memᴰ y (map f xs) → (x : A) × List·Memᴰ x xs × (y ≡ f x)
+  pub map-member : {y : B} (xs : List A) → List·Memᴰ y (map f xs) → (x : A) × List·Memᴰ x xs × (y ≡ f x)
   map-member [] m = absurd (List·Memᴰ·not-nil m)
   map-member {y} (x ∷ xs) m = go (map-member xs) (List·Memᴰ·cases-cons m)
     where
@@ -35,7 +36,7 @@ module _ {A B : Type 0} (f : A → B) where
       go rec (inl e) = (x, List·Memᴰ·head refl, e)
       go rec (inr k) = let q = rec k in (q .0, List·Memᴰ·tail (q .1), q .2)
 
-  member-map : {x : A} {xs : List A} → List·Memᴰ x xs → List·Memᴰ (f x) (map f xs)
+  pub member-map : {x : A} {xs : List A} → List·Memᴰ x xs → List·Memᴰ (f x) (map f xs)
   member-map (List·Memᴰ·head e) = List·Memᴰ·head (ap f e)
   member-map (List·Memᴰ·tail m) = List·Memᴰ·tail (member-map m)
 
@@ -102,119 +103,117 @@ from-pairs S (from-next m k) = both (pairs-over S m) (from-pairs S k)
 
 -- ---- those of them that are complete candidates for the word
 
-abbrev pub formOf : List Machine → List Pair → Form
-formOf ms c = record { candidate = c; profile = profileOf ms c }
-
 module _ (ms : List Machine) (word : List ℕ) where
   -- the test on a list
   abbrev pub fitting : List Pair → Bool
   fitting c = sameWord (spelled c) word && isComplete ms c
 
-  forms-none : formsAmong ms word [] ≡ []
-  unfolding formsAmong
-  forms-none = refl
+  contenders-none : contendersAmong ms word [] ≡ []
+  unfolding contendersAmong
+  contenders-none = refl
 
-  forms-next : (c : List Pair) (cs : List (List Pair)) → fitting c ≡ true → formsAmong ms word (c ∷ cs) ≡ formOf ms c ∷ formsAmong ms word cs
-  unfolding formsAmong
-  forms-next c cs e = rw (e, formsAmong)
+  contenders-next : (c : List Pair) (cs : List (List Pair)) → fitting c ≡ true → contendersAmong ms word (c ∷ cs) ≡ contenderOf ms c ∷ contendersAmong ms word cs
+  unfolding contendersAmong
+  contenders-next c cs e = rw (e, contendersAmong)
 
-  forms-skip : (c : List Pair) (cs : List (List Pair)) → fitting c ≡ false → formsAmong ms word (c ∷ cs) ≡ formsAmong ms word cs
-  unfolding formsAmong
-  forms-skip c cs e = rw (e, formsAmong)
+  contenders-skip : (c : List Pair) (cs : List (List Pair)) → fitting c ≡ false → contendersAmong ms word (c ∷ cs) ≡ contendersAmong ms word cs
+  unfolding contendersAmong
+  contenders-skip c cs e = rw (e, contendersAmong)
 
-  pub record Listed (cs : List (List Pair)) (a : Form) : Type 0 where
+  pub record ListedContender (cs : List (List Pair)) (a : Contender) : Type 0 where
     pub listed : List·Memᴰ (a .candidate) cs
     pub fits : fitting (a .candidate) ≡ true
-    pub is : a ≡ formOf ms (a .candidate)
+    pub is : a ≡ contenderOf ms (a .candidate)
 
-  pub forms-listed : (cs : List (List Pair)) (a : Form) → List·Memᴰ a (formsAmong ms word cs) → Listed cs a
-  forms-listed [] a m = absurd (List·Memᴰ·not-nil (rw forms-none at m))
-  forms-listed (c ∷ cs) a m = go (fitting c) refl (forms-listed cs a)
+  pub contenders-listed : (cs : List (List Pair)) (a : Contender) → List·Memᴰ a (contendersAmong ms word cs) → ListedContender cs a
+  contenders-listed [] a m = absurd (List·Memᴰ·not-nil (rw contenders-none at m))
+  contenders-listed (c ∷ cs) a m = go (fitting c) refl (contenders-listed cs a)
     where
-      more : Listed cs a → Listed (c ∷ cs) a
+      more : ListedContender cs a → ListedContender (c ∷ cs) a
       more l = record { listed = List·Memᴰ·tail (l .listed); fits = l .fits; is = l .is }
 
-      here : fitting c ≡ true → (List·Memᴰ a (formsAmong ms word cs) → Listed cs a) → (a ≡ formOf ms c) ⊎ List·Memᴰ a (formsAmong ms word cs) → Listed (c ∷ cs) a
+      here : fitting c ≡ true → (List·Memᴰ a (contendersAmong ms word cs) → ListedContender cs a) → (a ≡ contenderOf ms c) ⊎ List·Memᴰ a (contendersAmong ms word cs) → ListedContender (c ∷ cs) a
       here t rec (inl e) = rw e (record { listed = List·Memᴰ·head refl; fits = t; is = refl })
       here t rec (inr k) = more (rec k)
 
-      go : (b : Bool) → fitting c ≡ b → (List·Memᴰ a (formsAmong ms word cs) → Listed cs a) → Listed (c ∷ cs) a
-      go true t rec = here t rec (List·Memᴰ·cases-cons (rw (forms-next c cs t) at m))
-      go false t rec = more (rec (rw (forms-skip c cs t) at m))
+      go : (b : Bool) → fitting c ≡ b → (List·Memᴰ a (contendersAmong ms word cs) → ListedContender cs a) → ListedContender (c ∷ cs) a
+      go true t rec = here t rec (List·Memᴰ·cases-cons (rw (contenders-next c cs t) at m))
+      go false t rec = more (rec (rw (contenders-skip c cs t) at m))
 
-  pub listed-forms : {c : List Pair} {cs : List (List Pair)} → List·Memᴰ c cs → fitting c ≡ true → List·Memᴰ (formOf ms c) (formsAmong ms word cs)
-  listed-forms {c} (List·Memᴰ·head {x = d} {xs = cs} e) t =
+  pub listed-contenders : {c : List Pair} {cs : List (List Pair)} → List·Memᴰ c cs → fitting c ≡ true → List·Memᴰ (contenderOf ms c) (contendersAmong ms word cs)
+  listed-contenders {c} (List·Memᴰ·head {x = d} {xs = cs} e) t =
       let q : fitting d ≡ true = rw e at t in
-      rw (forms-next d cs q) (List·Memᴰ·head (ap (formOf ms) e))
-  listed-forms {c} (List·Memᴰ·tail {x = d} {xs = cs} m) t = go (fitting d) refl (listed-forms m t)
+      rw (contenders-next d cs q) (List·Memᴰ·head (ap (contenderOf ms) e))
+  listed-contenders {c} (List·Memᴰ·tail {x = d} {xs = cs} m) t = go (fitting d) refl (listed-contenders m t)
     where
-      go : (b : Bool) → fitting d ≡ b → List·Memᴰ (formOf ms c) (formsAmong ms word cs) → List·Memᴰ (formOf ms c) (formsAmong ms word (d ∷ cs))
-      go true u k = rw (forms-next d cs u) (List·Memᴰ·tail k)
-      go false u k = rw (forms-skip d cs u) k
+      go : (b : Bool) → fitting d ≡ b → List·Memᴰ (contenderOf ms c) (contendersAmong ms word cs) → List·Memᴰ (contenderOf ms c) (contendersAmong ms word (d ∷ cs))
+      go true u k = rw (contenders-next d cs u) (List·Memᴰ·tail k)
+      go false u k = rw (contenders-skip d cs u) k
 
 -- ---- the least of them
 
-module _ (r : List ℕ) where
-  least-alone : (a : Form) (rest : List Form) → leastOf r rest ≡ none → leastOf r (a ∷ rest) ≡ some a
+module _ (better : ProfileOrder) where
+  least-alone : (a : Contender) (rest : List Contender) → leastOf better rest ≡ none → leastOf better (a ∷ rest) ≡ some a
   unfolding leastOf
   least-alone a rest e = rw (e, leastOf)
 
-  least-stays : (a b : Form) (rest : List Form) → leastOf r rest ≡ some b → preferred r b a ≡ true → leastOf r (a ∷ rest) ≡ some b
+  least-stays : (a b : Contender) (rest : List Contender) → leastOf better rest ≡ some b → preferred better b a ≡ true → leastOf better (a ∷ rest) ≡ some b
   unfolding leastOf
   least-stays a b rest e t = rw (e, t, leastOf)
 
-  least-falls : (a b : Form) (rest : List Form) → leastOf r rest ≡ some b → preferred r b a ≡ false → leastOf r (a ∷ rest) ≡ some a
+  least-falls : (a b : Contender) (rest : List Contender) → leastOf better rest ≡ some b → preferred better b a ≡ false → leastOf better (a ∷ rest) ≡ some a
   unfolding leastOf
   least-falls a b rest e t = rw (e, t, leastOf)
 
-  least-none : leastOf r [] ≡ none
+  least-none : leastOf better [] ≡ none
   unfolding leastOf
   least-none = refl
 
   -- it is one of them
-  pub least-member : (fs : List Form) (b : Form) → leastOf r fs ≡ some b → List·Memᴰ b fs
+  pub least-member : (fs : List Contender) (b : Contender) → leastOf better fs ≡ some b → List·Memᴰ b fs
   least-member [] b e = absurd (Option·none-ne-some b (sym least-none ∙ e))
-  least-member (a ∷ rest) b e = go (leastOf r rest) refl (λ d. least-member rest d)
+  least-member (a ∷ rest) b e = go (leastOf better rest) refl (λ d. least-member rest d)
     where
       Rest : Type 0
-      Rest = (d : Form) → leastOf r rest ≡ some d → List·Memᴰ d rest
+      Rest = (d : Contender) → leastOf better rest ≡ some d → List·Memᴰ d rest
 
-      two : (d : Form) → leastOf r rest ≡ some d → (t : Bool) → preferred r d a ≡ t → Rest → List·Memᴰ b (a ∷ rest)
+      two : (d : Contender) → leastOf better rest ≡ some d → (t : Bool) → preferred better d a ≡ t → Rest → List·Memᴰ b (a ∷ rest)
       two d k true t rec = let q : b ≡ d = cc (e, least-stays a d rest k t) in List·Memᴰ·tail (Memᴰ·cast q (rec d k))
       two d k false t rec = let q : b ≡ a = cc (e, least-falls a d rest k t) in List·Memᴰ·head q
 
-      go : (o : Option Form) → leastOf r rest ≡ o → Rest → List·Memᴰ b (a ∷ rest)
+      go : (o : Option Contender) → leastOf better rest ≡ o → Rest → List·Memᴰ b (a ∷ rest)
       go none k rec = let q : b ≡ a = cc (e, least-alone a rest k) in List·Memᴰ·head q
-      go (some d) k rec = two d k (preferred r d a) refl rec
+      go (some d) k rec = two d k (preferred better d a) refl rec
 
-  -- and none of them comes before it
-  pub record LeastUpto (fs : List Form) (a : Form) : Type 0 where
-    pub least : Form
-    pub is : leastOf r fs ≡ some least
-    pub upto : Upto (Before (rankedCosts (length r)) pairs) (keyOf r least) (keyOf r a)
+-- and none of them comes before it
+pub record LeastUpto {costs : Costs} (price : Price costs) (better : ProfileOrder) (fs : List Contender) (a : Contender) : Type 0 where
+  pub least : Contender
+  pub is : leastOf better fs ≡ some least
+  pub upto : Upto (Before costs pairs) (keyOf price least) (keyOf price a)
 
-  not-preferred : (a b : Form) → preferred r a b ≡ false → Upto (Before (rankedCosts (length r)) pairs) (keyOf r b) (keyOf r a)
-  not-preferred a b t = not-less-upto (before-total (rankedCosts (length r)) pairs) (keyOf r b) (keyOf r a) (λ h. clash (earlier-preferred r a b h) t)
+module _ {costs : Costs} {price : Price costs} {better : ProfileOrder} (agrees : Agrees price better) where
+  not-preferred : (a b : Contender) → preferred better a b ≡ false → Upto (Before costs pairs) (keyOf price b) (keyOf price a)
+  not-preferred a b t = not-less-upto (before-total costs pairs) (keyOf price b) (keyOf price a) (λ h. clash (beats-preferred a b (earlier-beats agrees a b h)) t)
 
-  pub least-upto : {fs : List Form} {a : Form} → List·Memᴰ a fs → LeastUpto fs a
-  least-upto {a = a} (List·Memᴰ·head {x = b} {xs = rest} e) = go (leastOf r rest) refl
+  pub least-upto : {fs : List Contender} {a : Contender} → List·Memᴰ a fs → LeastUpto price better fs a
+  least-upto {a = a} (List·Memᴰ·head {x = b} {xs = rest} e) = go (leastOf better rest) refl
     where
-      two : (d : Form) → leastOf r rest ≡ some d → (t : Bool) → preferred r d b ≡ t → LeastUpto (b ∷ rest) a
-      two d k true t = record { least = d; is = least-stays b d rest k t; upto = rw e (inl (preferred-earlier r d b t)) }
-      two d k false t = record { least = b; is = least-falls b d rest k t; upto = inr (ap (keyOf r) (sym e)) }
+      two : (d : Contender) → leastOf better rest ≡ some d → (t : Bool) → preferred better d b ≡ t → LeastUpto price better (b ∷ rest) a
+      two d k true t = record { least = d; is = least-stays better b d rest k t; upto = rw e (inl (beats-earlier agrees d b (preferred-beats d b t))) }
+      two d k false t = record { least = b; is = least-falls better b d rest k t; upto = inr (ap (keyOf price) (sym e)) }
 
-      go : (o : Option Form) → leastOf r rest ≡ o → LeastUpto (b ∷ rest) a
-      go none k = record { least = b; is = least-alone b rest k; upto = inr (ap (keyOf r) (sym e)) }
-      go (some d) k = two d k (preferred r d b) refl
+      go : (o : Option Contender) → leastOf better rest ≡ o → LeastUpto price better (b ∷ rest) a
+      go none k = record { least = b; is = least-alone better b rest k; upto = inr (ap (keyOf price) (sym e)) }
+      go (some d) k = two d k (preferred better d b) refl
   least-upto {a = a} (List·Memᴰ·tail {x = b} {xs = rest} m) = go (least-upto m)
     where
-      two : (l : LeastUpto rest a) (t : Bool) → preferred r (l .least) b ≡ t → LeastUpto (b ∷ rest) a
-      two l true t = record { least = l .least; is = least-stays b (l .least) rest (l .is) t; upto = l .upto }
+      two : (l : LeastUpto price better rest a) (t : Bool) → preferred better (l .least) b ≡ t → LeastUpto price better (b ∷ rest) a
+      two l true t = record { least = l .least; is = least-stays better b (l .least) rest (l .is) t; upto = l .upto }
       two l false t = record {
         least = b;
-        is = least-falls b (l .least) rest (l .is) t;
-        upto = upto-trans (before-total (rankedCosts (length r)) pairs) (not-preferred (l .least) b t) (l .upto);
+        is = least-falls better b (l .least) rest (l .is) t;
+        upto = upto-trans (before-total costs pairs) (not-preferred (l .least) b t) (l .upto);
       }
 
-      go : LeastUpto rest a → LeastUpto (b ∷ rest) a
-      go l = two l (preferred r (l .least) b) refl
+      go : LeastUpto price better rest a → LeastUpto price better (b ∷ rest) a
+      go l = two l (preferred better (l .least) b) refl

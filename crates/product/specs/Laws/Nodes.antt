@@ -77,11 +77,3 @@ module _ (qs : List ℕ) where
     node-below n k =
         let m : suc i * product qs ≤ (n + 1) * product qs = mul-le-mul-right (product qs) (omega arith) in
         omega (arith, suc-mul i (product qs), code-below qs ss h)
-
-  pub node-of-states : Positive qs → (u : ℕ) → nodeOf qs (positionAt qs u) (statesAt qs u) ≡ u
-  node-of-states p u =
-      let b = product-positive qs p in
-      ap (λ x. positionAt qs u * product qs + x) (code-of-states qs p (u % product qs) (mod-lt u b)) ∙ div-add-mod' u (product qs)
-
-  pub states-at-below : Positive qs → (u : ℕ) → Below qs (statesAt qs u)
-  states-at-below p u = states-below qs p (u % product qs) (mod-lt u (product-positive qs p))

@@ -1,63 +1,48 @@
--- The cost of a list of pairs from a node: it is there exactly when they are pairs that spell the rest of the word and every machine takes them
--- all and ends, and it is the price of the marks and of the number of pairs.
+-- The cost of a list of pairs from a node: it is there exactly when they are pairs that spell a word with one symbol from each set that is left and
+-- every machine takes them all and ends, and it is the price of the marks and of the number of pairs.
 use mathlib.Core.Path.{_≡_, refl, sym, _∙_, ap}
-use mathlib.Core.Bool.{Bool, true, false, _&&_, cond, and-false}
+use mathlib.Core.Bool.{Bool, true, false, _&&_, and-false}
 use mathlib.Core.List.{List, [], _∷_, map}
 use mathlib.Core.Option.{Option, some, none}
-use Prim.Native.Nat.{ℕ, suc, _+_, _<_, _≤_}
+use Prim.Native.Nat.{ℕ, suc, _+_, _≤_}
 use native.Mathlib.Omega.{arith}
-use native.Mathlib.Numerals.{add-one}
-use lib.ListN.{length, getD, drop, drop-of-length-le}
-use lib.Seq.{drop-cons}
-use lib.Dec.{eqb, ltb}
-use borrow.Author.Tests.{eqb-true, eqb-false, ltb-true, ltb-false, eq-eqb, ne-eqb, lt-ltb, le-ltb, le-leb}
+use lib.ListN.{length, getD, drop}
+use lib.Dec.{eqb}
+use borrow.Author.Tests.{eqb-true, eqb-false, eq-eqb, ne-eqb, le-leb}
 use Rattle.basics.specs.Search.{allOf}
+use Rattle.basics.specs.Sets.{member}
 use Rattle.machine.specs.declared.Pair.{Pair}
 use Rattle.machine.specs.Symbols.{emptySymbol, isPair}
 use Rattle.machine.specs.Machine.{Machine}
 use Rattle.ranking.specs.Profiles.{merge}
 use Rattle.candidate.specs.Candidates.{spelled}
-use Rattle.candidate.specs.Best.{sameWord}
+use Rattle.product.specs.Sets.{fitsSets}
 use Rattle.paths.specs.Costs.{Costs}
 use Rattle.paths.specs.Graph.{pathCost, addTo, follow}
 use Rattle.product.specs.Nodes.{stateCounts, nodeOf}
 use Rattle.product.specs.JointStep.{jointStep, jointEnding}
 use Rattle.product.specs.Prices.{Price}
 use Rattle.product.specs.ProductGraph.{advance, moveBy, move, ending, pricedMove, pricedEnding, productGraph}
+use Rattle.product.specs.Laws.Sets.{member-within, fits-end, fits-more, fits-next}
 use Rattle.product.specs.Laws.Nodes.{Below, position-of-node, states-of-node}
 use Rattle.product.specs.Laws.JointStep.{jointMarks, joint-marks-end, joint-marks-next, addToEach, onward, AllSound, joint-below}
 
--- where a pair leads in the word, case by case
-pub advance-insertion : (word : List ℕ) (i : ℕ) (p : Pair) → p .input ≡ emptySymbol → i ≤ length word → advance word i p ≡ some i
+-- where a pair leads, case by case
+pub advance-insertion : (sets : List ℕ) (i : ℕ) (p : Pair) → p .input ≡ emptySymbol → i ≤ length sets → advance sets i p ≡ some i
 unfolding advance
-advance-insertion word i p e h = rw (eq-eqb (p .input) 0 e, advance, le-leb i (length word) h)
+advance-insertion sets i p e h = rw (eq-eqb (p .input) 0 e, advance, le-leb i (length sets) h)
 
-pub advance-symbol : (word : List ℕ) (i : ℕ) (p : Pair) → (p .input ≡ emptySymbol → ⊥) → i < length word → getD word i emptySymbol ≡ p .input → advance word i p ≡ some (i + 1)
+pub advance-symbol : (sets : List ℕ) (i : ℕ) (p : Pair) → (p .input ≡ emptySymbol → ⊥) → member (getD sets i 0) (p .input) ≡ true → advance sets i p ≡ some (i + 1)
 unfolding advance
-advance-symbol word i p n h e = rw (ne-eqb (p .input) 0 n, advance, lt-ltb i (length word) h, eq-eqb (getD word i 0) (p .input) e)
+advance-symbol sets i p n e = rw (ne-eqb (p .input) 0 n, advance, e)
 
-pub advance-other : (word : List ℕ) (i : ℕ) (p : Pair) → (p .input ≡ emptySymbol → ⊥) → (getD word i emptySymbol ≡ p .input → ⊥) → advance word i p ≡ none
+pub advance-other : (sets : List ℕ) (i : ℕ) (p : Pair) → (p .input ≡ emptySymbol → ⊥) → member (getD sets i 0) (p .input) ≡ false → advance sets i p ≡ none
 unfolding advance
-advance-other word i p n e = rw (ne-eqb (p .input) 0 n, advance, ne-eqb (getD word i 0) (p .input) e) (go (ltb i (length word)))
-  where
-    go : (b : Bool) → cond (b && false) (some (i + 1)) none ≡ none
-    go true = refl
-    go false = refl
+advance-other sets i p n e = rw (ne-eqb (p .input) 0 n, advance, e)
 
-pub advance-past : (word : List ℕ) (i : ℕ) (p : Pair) → (p .input ≡ emptySymbol → ⊥) → length word ≤ i → advance word i p ≡ none
-unfolding advance
-advance-past word i p n h = rw (ne-eqb (p .input) 0 n, advance, le-ltb i (length word) h)
-
--- a word of which a part is read
-pub rest-at : (word : List ℕ) (i : ℕ) → i < length word → drop i word ≡ getD word i emptySymbol ∷ drop (i + 1) word
-rest-at word i h = rw add-one (drop-cons word i 0 h)
-
-pub rest-past : (word : List ℕ) (i : ℕ) → length word ≤ i → drop i word ≡ []
-rest-past word i h = drop-of-length-le word h
-
--- the elements are pairs, and they spell the rest of the word from a position on
+-- the elements are pairs, and they spell a word with one symbol from each set from a position on
 abbrev pub spells : List ℕ → ℕ → List Pair → Bool
-spells word i c = allOf isPair c && sameWord (spelled c) (drop i word)
+spells sets i c = allOf isPair c && fitsSets (drop i sets) (spelled c)
 
 pub spelled-insertion : (p : Pair) (ps : List Pair) → p .input ≡ emptySymbol → spelled (p ∷ ps) ≡ spelled ps
 unfolding spelled
@@ -67,28 +52,23 @@ pub spelled-symbol : (p : Pair) (ps : List Pair) → (p .input ≡ emptySymbol �
 unfolding spelled
 spelled-symbol p ps n = rw (ne-eqb (p .input) 0 n, spelled)
 
-module _ (word : List ℕ) (i : ℕ) (p : Pair) (ps : List Pair) where
-  spells-no-pair : isPair p ≡ false → spells word i (p ∷ ps) ≡ false
+module _ (sets : List ℕ) (i : ℕ) (p : Pair) (ps : List Pair) where
+  spells-no-pair : isPair p ≡ false → spells sets i (p ∷ ps) ≡ false
   unfolding allOf
   spells-no-pair e = rw e
 
-  spells-insertion : isPair p ≡ true → p .input ≡ emptySymbol → spells word i (p ∷ ps) ≡ spells word i ps
+  spells-insertion : isPair p ≡ true → p .input ≡ emptySymbol → spells sets i (p ∷ ps) ≡ spells sets i ps
   unfolding allOf
   spells-insertion e z = rw (e, spelled-insertion p ps z)
 
-  spells-symbol : isPair p ≡ true → (p .input ≡ emptySymbol → ⊥) → i < length word → getD word i emptySymbol ≡ p .input → spells word i (p ∷ ps) ≡ spells word (i + 1) ps
-  unfolding allOf sameWord
-  spells-symbol e z h q = rw (e, spelled-symbol p ps z, rest-at word i h, eq-eqb (p .input) (getD word i 0) (sym q))
+  spells-symbol : isPair p ≡ true → (p .input ≡ emptySymbol → ⊥) → member (getD sets i 0) (p .input) ≡ true → spells sets i (p ∷ ps) ≡ spells sets (i + 1) ps
+  unfolding allOf
+  spells-symbol e z q = rw (e, spelled-symbol p ps z, fits-next sets i (p .input) (spelled ps), q)
 
-  spells-other : (p .input ≡ emptySymbol → ⊥) → i < length word → (getD word i emptySymbol ≡ p .input → ⊥) → spells word i (p ∷ ps) ≡ false
-  unfolding sameWord
-  spells-other z h q = rw (spelled-symbol p ps z, rest-at word i h, ne-eqb (p .input) (getD word i 0) (λ r. q (sym r)), and-false)
+  spells-other : (p .input ≡ emptySymbol → ⊥) → member (getD sets i 0) (p .input) ≡ false → spells sets i (p ∷ ps) ≡ false
+  spells-other z q = rw (spelled-symbol p ps z, fits-next sets i (p .input) (spelled ps), q, and-false)
 
-  spells-past : (p .input ≡ emptySymbol → ⊥) → length word ≤ i → spells word i (p ∷ ps) ≡ false
-  unfolding sameWord
-  spells-past z h = rw (spelled-symbol p ps z, rest-past word i h, and-false)
-
-module _ {costs : Costs} (price : Price costs) (word : List ℕ) (ms : List Machine) where
+module _ {costs : Costs} (price : Price costs) (sets : List ℕ) (ms : List Machine) where
   -- the price of marks and a number of pairs, where a test passes
   abbrev pub costOf : ℕ → Bool → Option (List ℕ) → Option (costs .Cost)
   costOf n false o = none
@@ -99,91 +79,81 @@ module _ {costs : Costs} (price : Price costs) (word : List ℕ) (ms : List Mach
   cost-of-none n true = refl
   cost-of-none n false = refl
 
-  cost-of-ending : (o : Option (List ℕ)) → pricedEnding price word ms o ≡ costOf 0 true o
+  cost-of-ending : (o : Option (List ℕ)) → pricedEnding price sets ms o ≡ costOf 0 true o
   cost-of-ending none = refl
   cost-of-ending (some xs) = refl
 
-  cost-of-next : (xs : List ℕ) (n : ℕ) (b : Bool) (o : Option (List ℕ)) → addTo (productGraph price word ms) (price .of xs 1) (costOf n b o) ≡ costOf (suc n) b (addToEach xs o)
+  cost-of-next : (xs : List ℕ) (n : ℕ) (b : Bool) (o : Option (List ℕ)) → addTo (productGraph price sets ms) (price .of xs 1) (costOf n b o) ≡ costOf (suc n) b (addToEach xs o)
   cost-of-next xs n true none = refl
   cost-of-next xs n true (some ys) = let e : 1 + n ≡ suc n = omega arith in ap {B = Option (costs .Cost)} some (sym (price .adds xs ys 1 n) ∙ ap (price .of (merge xs ys)) e)
   cost-of-next xs n false o = refl
 
   module _ {S : ℕ} (sound : AllSound S ms) where
     -- a move, and an ending, at the node of a position and states
-    pub move-pair : (i : ℕ) (ss : List ℕ) → Below (stateCounts ms) ss → (p : Pair) → isPair p ≡ true → move word ms (nodeOf (stateCounts ms) i ss) p ≡ moveBy (stateCounts ms) (advance word i p) (jointStep ms ss p)
+    pub move-pair : (i : ℕ) (ss : List ℕ) → Below (stateCounts ms) ss → (p : Pair) → isPair p ≡ true → move sets ms (nodeOf (stateCounts ms) i ss) p ≡ moveBy (stateCounts ms) (advance sets i p) (jointStep ms ss p)
     unfolding move
     move-pair i ss b p h = rw (h, move, position-of-node (stateCounts ms) i ss b, states-of-node (stateCounts ms) i ss b)
 
-    pub move-no-pair : (u : ℕ) (p : Pair) → isPair p ≡ false → move word ms u p ≡ none
+    pub move-no-pair : (u : ℕ) (p : Pair) → isPair p ≡ false → move sets ms u p ≡ none
     unfolding move
     move-no-pair u p h = rw (h, move)
 
-    pub ending-here : (i : ℕ) (ss : List ℕ) → Below (stateCounts ms) ss → i ≡ length word → ending word ms (nodeOf (stateCounts ms) i ss) ≡ jointEnding ms ss
+    pub ending-here : (i : ℕ) (ss : List ℕ) → Below (stateCounts ms) ss → i ≡ length sets → ending sets ms (nodeOf (stateCounts ms) i ss) ≡ jointEnding ms ss
     unfolding ending
-    ending-here i ss b h = rw (position-of-node (stateCounts ms) i ss b, eq-eqb i (length word) h, ending, states-of-node (stateCounts ms) i ss b)
+    ending-here i ss b h = rw (position-of-node (stateCounts ms) i ss b, eq-eqb i (length sets) h, ending, states-of-node (stateCounts ms) i ss b)
 
-    pub ending-early : (i : ℕ) (ss : List ℕ) → Below (stateCounts ms) ss → (i ≡ length word → ⊥) → ending word ms (nodeOf (stateCounts ms) i ss) ≡ none
+    pub ending-early : (i : ℕ) (ss : List ℕ) → Below (stateCounts ms) ss → (i ≡ length sets → ⊥) → ending sets ms (nodeOf (stateCounts ms) i ss) ≡ none
     unfolding ending
-    ending-early i ss b h = rw (position-of-node (stateCounts ms) i ss b, ne-eqb i (length word) h, ending)
+    ending-early i ss b h = rw (position-of-node (stateCounts ms) i ss b, ne-eqb i (length sets) h, ending)
 
     -- a pair that leads to the position j
     after : (ss : List ℕ) (p : Pair) (ps : List Pair) (t : Bool) (j : ℕ)
-        → ((ss′ : List ℕ) → Below (stateCounts ms) ss′ → pathCost (productGraph price word ms) (nodeOf (stateCounts ms) j ss′) ps ≡ costOf (length ps) t (jointMarks ms ss′ ps))
-        → follow (productGraph price word ms) (pricedMove price word ms (moveBy (stateCounts ms) (some j) (jointStep ms ss p))) (λ v. pathCost (productGraph price word ms) v ps) ≡ costOf (suc (length ps)) t (jointMarks ms ss (p ∷ ps))
+        → ((ss′ : List ℕ) → Below (stateCounts ms) ss′ → pathCost (productGraph price sets ms) (nodeOf (stateCounts ms) j ss′) ps ≡ costOf (length ps) t (jointMarks ms ss′ ps))
+        → follow (productGraph price sets ms) (pricedMove price sets ms (moveBy (stateCounts ms) (some j) (jointStep ms ss p))) (λ v. pathCost (productGraph price sets ms) v ps) ≡ costOf (suc (length ps)) t (jointMarks ms ss (p ∷ ps))
     after ss p ps t j rec = rw (joint-marks-next ms ss p ps) (go (jointStep ms ss p) refl)
       where
         go : (o : Option (List (ℕ × ℕ))) → jointStep ms ss p ≡ o
-            → follow (productGraph price word ms) (pricedMove price word ms (moveBy (stateCounts ms) (some j) o)) (λ v. pathCost (productGraph price word ms) v ps)
+            → follow (productGraph price sets ms) (pricedMove price sets ms (moveBy (stateCounts ms) (some j) o)) (λ v. pathCost (productGraph price sets ms) v ps)
             ≡ costOf (suc (length ps)) t (onward o (λ steps. addToEach (map (λ r. r .1) steps) (jointMarks ms (map (λ r. r .0) steps) ps)))
         go none e = sym (cost-of-none (suc (length ps)) t)
         go (some steps) e = rw (rec (map (λ r. r .0) steps) (joint-below sound ss p steps e)) (cost-of-next (map (λ r. r .1) steps) (length ps) t (jointMarks ms (map (λ r. r .0) steps) ps))
 
     -- ---- the cost, from a node of an input position
 
-    pub path-cost-is : (c : List Pair) (i : ℕ) (ss : List ℕ) → i ≤ length word → Below (stateCounts ms) ss
-        → pathCost (productGraph price word ms) (nodeOf (stateCounts ms) i ss) c ≡ costOf (length c) (spells word i c) (jointMarks ms ss c)
-    unfolding pathCost allOf spelled sameWord
-    path-cost-is [] i ss h b = go (eqb i (length word)) refl
+    pub path-cost-is : (c : List Pair) (i : ℕ) (ss : List ℕ) → i ≤ length sets → Below (stateCounts ms) ss
+        → pathCost (productGraph price sets ms) (nodeOf (stateCounts ms) i ss) c ≡ costOf (length c) (spells sets i c) (jointMarks ms ss c)
+    unfolding pathCost allOf spelled
+    path-cost-is [] i ss h b = go (eqb i (length sets)) refl
       where
-        go : (t : Bool) → eqb i (length word) ≡ t → pathCost (productGraph price word ms) (nodeOf (stateCounts ms) i ss) [] ≡ costOf 0 (spells word i []) (jointMarks ms ss [])
+        go : (t : Bool) → eqb i (length sets) ≡ t → pathCost (productGraph price sets ms) (nodeOf (stateCounts ms) i ss) [] ≡ costOf 0 (spells sets i []) (jointMarks ms ss [])
         go true t =
-            let e = eqb-true i (length word) t in
-            rw (ending-here i ss b e, rest-past word i (omega arith), joint-marks-end) (cost-of-ending (jointEnding ms ss))
+            let e = eqb-true i (length sets) t in
+            rw (ending-here i ss b e, fits-end sets i (omega arith), joint-marks-end) (cost-of-ending (jointEnding ms ss))
         go false t =
-            let n = eqb-false i (length word) t in
-            rw (ending-early i ss b n, rest-at word i (omega arith))
+            let n = eqb-false i (length sets) t in
+            rw (ending-early i ss b n, fits-more sets i (omega arith))
     path-cost-is (p ∷ ps) i ss h b = pair (isPair p) refl (λ j ss′ k d. path-cost-is ps j ss′ k d)
       where
         Goal : Type 0
-        Goal = pathCost (productGraph price word ms) (nodeOf (stateCounts ms) i ss) (p ∷ ps) ≡ costOf (suc (length ps)) (spells word i (p ∷ ps)) (jointMarks ms ss (p ∷ ps))
+        Goal = pathCost (productGraph price sets ms) (nodeOf (stateCounts ms) i ss) (p ∷ ps) ≡ costOf (suc (length ps)) (spells sets i (p ∷ ps)) (jointMarks ms ss (p ∷ ps))
 
         Rest : Type 0
-        Rest = (j : ℕ) (ss′ : List ℕ) → j ≤ length word → Below (stateCounts ms) ss′ → pathCost (productGraph price word ms) (nodeOf (stateCounts ms) j ss′) ps ≡ costOf (length ps) (spells word j ps) (jointMarks ms ss′ ps)
+        Rest = (j : ℕ) (ss′ : List ℕ) → j ≤ length sets → Below (stateCounts ms) ss′ → pathCost (productGraph price sets ms) (nodeOf (stateCounts ms) j ss′) ps ≡ costOf (length ps) (spells sets j ps) (jointMarks ms ss′ ps)
 
-        -- in is the word's symbol here, or another one
-        symbol : (t : Bool) → eqb (getD word i emptySymbol) (p .input) ≡ t → isPair p ≡ true → (p .input ≡ emptySymbol → ⊥) → i < length word → Rest → Goal
-        symbol true t e n k rec =
-            let q = eqb-true (getD word i 0) (p .input) t in
-            rw (move-pair i ss b p e, advance-symbol word i p n k q, spells-symbol word i p ps e n k q)
-            (after ss p ps (spells word (i + 1) ps) (i + 1) (λ ss′ d. rec (i + 1) ss′ (omega arith) d))
-        symbol false t e n k rec =
-            let q = eqb-false (getD word i 0) (p .input) t in
-            rw (move-pair i ss b p e, advance-other word i p n q, spells-other word i p ps n k q)
-
-        -- the word is read, or not
-        place : (t : Bool) → ltb i (length word) ≡ t → isPair p ≡ true → (p .input ≡ emptySymbol → ⊥) → Rest → Goal
-        place true t e n rec = symbol (eqb (getD word i emptySymbol) (p .input)) refl e n (ltb-true i (length word) t) rec
-        place false t e n rec =
-            let k = ltb-false i (length word) t in
-            rw (move-pair i ss b p e, advance-past word i p n k, spells-past word i p ps n k)
+        -- in is in the set here, or not
+        symbol : (t : Bool) → member (getD sets i 0) (p .input) ≡ t → isPair p ≡ true → (p .input ≡ emptySymbol → ⊥) → Rest → Goal
+        symbol true t e n rec =
+            rw (move-pair i ss b p e, advance-symbol sets i p n t, spells-symbol sets i p ps e n t)
+            (after ss p ps (spells sets (i + 1) ps) (i + 1) (λ ss′ d. rec (i + 1) ss′ (omega (arith, member-within sets i (p .input) t)) d))
+        symbol false t e n rec = rw (move-pair i ss b p e, advance-other sets i p n t, spells-other sets i p ps n t)
 
         insertion : (t : Bool) → eqb (p .input) emptySymbol ≡ t → isPair p ≡ true → Rest → Goal
         insertion true t e rec =
             let z = eqb-true (p .input) 0 t in
-            rw (move-pair i ss b p e, advance-insertion word i p z h, spells-insertion word i p ps e z)
-            (after ss p ps (spells word i ps) i (λ ss′ d. rec i ss′ h d))
-        insertion false t e rec = place (ltb i (length word)) refl e (eqb-false (p .input) 0 t) rec
+            rw (move-pair i ss b p e, advance-insertion sets i p z h, spells-insertion sets i p ps e z)
+            (after ss p ps (spells sets i ps) i (λ ss′ d. rec i ss′ h d))
+        insertion false t e rec = symbol (member (getD sets i 0) (p .input)) refl e (eqb-false (p .input) 0 t) rec
 
         pair : (t : Bool) → isPair p ≡ t → Rest → Goal
         pair true e rec = insertion (eqb (p .input) emptySymbol) refl e rec
-        pair false e rec = rw (move-no-pair (nodeOf (stateCounts ms) i ss) p e, spells-no-pair word i p ps e)
+        pair false e rec = rw (move-no-pair (nodeOf (stateCounts ms) i ss) p e, spells-no-pair sets i p ps e)

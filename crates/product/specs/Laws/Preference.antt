@@ -1,28 +1,28 @@
--- The order of preference on candidates is the order of the product's paths: the ranked cost, then the letters.
-use mathlib.Core.Path.{_≡_, refl, sym, _∙_}
+-- The order of preference on candidates is the order of the product's paths, for a price that agrees with the order on profiles: the cost, then
+-- the letters.
+use mathlib.Core.Path.{_≡_, refl, _∙_, ap}
 use mathlib.Core.Logic.{_⊎_, inl, inr}
-use mathlib.Core.Bool.{Bool, true, _&&_, _||_, false≢true, or-true}
+use mathlib.Core.Bool.{Bool, true, false, not, _&&_, _||_, false≢true, or-true}
 use mathlib.Core.List.{List, [], _∷_}
-use Prim.Native.Nat.{ℕ, _*_, _<_}
+use Prim.Native.Nat.{ℕ, zero, suc, _+_, _*_, _<_}
 use native.Mathlib.Omega.{arith}
-use lib.ListN.{length, getD}
+use lib.ListN.{length}
 use lib.Dec.{eqb, ltb}
 use borrow.Author.Tests.{eqb-true, ltb-true, eq-eqb, lt-ltb}
-use Rattle.basics.proofs.Bools.{both, left, right, either}
+use Rattle.basics.proofs.Bools.{clash, both, left, right, either}
 use Rattle.machine.specs.declared.Pair.{Pair}
-use Rattle.ranking.specs.declared.Order.the-variants.{Better, Equal, Worse}
-use Rattle.ranking.specs.Harmony.{harmony}
-use Rattle.ranking.specs.HarmonicInequality.{better-worse}
-use Rattle.ranking.specs.Lemmas.Harmony.{Standing, fewer, same, more, standing, harmony-end, at-fewer, at-same}
-use Rattle.candidate.specs.Candidates.{bytesOf}
+use Rattle.ranking.specs.Profiles.{merge}
 use Rattle.ranking.specs.ByteStrings.{smaller}
-use Rattle.candidate.specs.Best.{Form, shorter, preferred}
-use Rattle.paths.specs.Total.{Lex}
+use Rattle.ranking.specs.Lemmas.Harmony.{Standing, fewer, same, more, standing}
+use Rattle.candidate.specs.Candidates.{bytesOf}
+use Rattle.product.specs.Best.{Contender, winsTie, ProfileOrder, preferred}
+use Rattle.paths.specs.Total.{Lex, asym, less-not-same}
 use Rattle.paths.specs.Strings.{string, lex-string}
-use Rattle.paths.specs.Ranked.{Ranked, rankedCosts}
-use Rattle.paths.specs.ByRanking.{ranked, Better as Lower, Alike, ranked-less, ranked-same}
-use Rattle.paths.specs.Best.{Before}
+use Rattle.paths.specs.Costs.{Costs}
+use Rattle.paths.specs.Best.{Before, before-total}
+use Rattle.product.specs.Prices.{Price, Alike, Agrees}
 use Rattle.product.specs.ProductGraph.{pairs}
+use Rattle.product.specs.BestCandidate.{BeatsIn, by-profile, by-pairs, by-bytes}
 
 -- ---- byte strings of one length: the order of their pairs, by in and then by out
 
@@ -74,75 +74,123 @@ before-bytes c d e h =
     lex-smaller (bytesOf c) (bytesOf d) (omega (arith, length-bytes c, length-bytes d))
     (rw (bytes-string c, bytes-string d) (lex-string (λ (p : Pair). p .input) (λ p. p .output) pair-of c d .0 h))
 
--- ---- profiles: harmony is the order of the ranked counts
+-- ---- being preferred, case by case
 
-pub better-harmony : (r xs ys : List ℕ) → Lower r xs ys → harmony r xs ys ≡ Better
-better-harmony (i ∷ r) xs ys (inl h) = at-fewer i r xs ys h
-better-harmony (i ∷ r) xs ys (inr h) = at-same i r xs ys (h .0) ∙ better-harmony r xs ys (h .1)
+abbrev WinsTie : List Pair → List Pair → Type 0
+WinsTie c d = (length c < length d) ⊎ ((length c ≡ length d) × (smaller (bytesOf c) (bytesOf d) ≡ true))
 
-pub worse-harmony : (r xs ys : List ℕ) → Lower r xs ys → harmony r ys xs ≡ Worse
-worse-harmony r xs ys h = better-worse r xs ys .0 (better-harmony r xs ys h)
-
-pub equal-harmony : (r xs ys : List ℕ) → Alike r xs ys → harmony r xs ys ≡ Equal
-equal-harmony [] xs ys h = harmony-end xs ys refl
-equal-harmony (i ∷ r) xs ys h = at-same i r xs ys (h .0) ∙ equal-harmony r xs ys (h .1)
-
--- one of them is lower at the highest ranked machine where they differ, or they are alike
-pub data Stands (r xs ys : List ℕ) : Type 0 where
-  lower : Lower r xs ys → Stands r xs ys
-  alike : Alike r xs ys → Stands r xs ys
-  higher : Lower r ys xs → Stands r xs ys
-
-pub stands : (r xs ys : List ℕ) → Stands r xs ys
-stands [] xs ys = alike tt
-stands (i ∷ r) xs ys = go (standing (getD xs i 0) (getD ys i 0)) (stands r xs ys)
+tie-cases : (c d : List Pair) → winsTie c d ≡ true → WinsTie c d
+unfolding winsTie
+tie-cases c d h = go (either (ltb (length c) (length d)) (eqb (length c) (length d) && smaller (bytesOf c) (bytesOf d)) h)
   where
-    go : Standing (getD xs i 0) (getD ys i 0) → Stands r xs ys → Stands (i ∷ r) xs ys
-    go (fewer h) s = lower (inl h)
-    go (same e) (lower h) = lower (inr (e, h))
-    go (same e) (alike h) = alike (e, h)
-    go (same e) (higher h) = higher (inr (sym e, h))
-    go (more h) s = higher (inl h)
+    go : (ltb (length c) (length d) ≡ true) ⊎ ((eqb (length c) (length d) && smaller (bytesOf c) (bytesOf d)) ≡ true) → WinsTie c d
+    go (inl k) = inl (ltb-true (length c) (length d) k)
+    go (inr k) = inr (eqb-true (length c) (length d) (left (eqb (length c) (length d)) (smaller (bytesOf c) (bytesOf d)) k), right (eqb (length c) (length d)) (smaller (bytesOf c) (bytesOf d)) k)
 
--- ---- candidates with their profiles
+cases-tie : (c d : List Pair) → WinsTie c d → winsTie c d ≡ true
+unfolding winsTie
+cases-tie c d (inl k) = or-left (eqb (length c) (length d) && smaller (bytesOf c) (bytesOf d)) (lt-ltb (length c) (length d) k)
+cases-tie c d (inr k) = or-right (ltb (length c) (length d)) (both (eq-eqb (length c) (length d) (k .0)) (k .1))
 
-module _ (r : List ℕ) where
-  -- the ranked cost, and the letters
-  abbrev pub keyOf : Form → Ranked (length r) × List Pair
-  keyOf a = (ranked r (a .profile) (length (a .candidate)), a .candidate)
+-- a test passes or fails
+decided : (a : Bool) → (a ≡ true) ⊎ (a ≡ false)
+decided true = inl refl
+decided false = inr refl
 
-  abbrev pub Earlier : Form → Form → Type 0
-  Earlier a b = Before (rankedCosts (length r)) pairs (keyOf a) (keyOf b)
+not-true : (a : Bool) → not a ≡ true → a ≡ false
+not-true true e = absurd (false≢true e)
+not-true false e = refl
 
-  pub preferred-earlier : (a b : Form) → preferred r a b ≡ true → Earlier a b
-  unfolding preferred shorter
-  preferred-earlier a b h = go (stands r (a .profile) (b .profile))
+module _ {better : ProfileOrder} (a b : Contender) where
+  pub preferred-beats : preferred better a b ≡ true → BeatsIn better a b
+  unfolding preferred
+  preferred-beats h = go (decided here) (either here (not there && next) h)
     where
-      n : ℕ
-      n = length (a .candidate)
+      here : Bool
+      here = better (a .profile) (b .profile)
 
-      m : ℕ
-      m = length (b .candidate)
+      there : Bool
+      there = better (b .profile) (a .profile)
 
-      next : Alike r (a .profile) (b .profile) → (ltb n m ≡ true) ⊎ ((eqb n m && smaller (bytesOf (a .candidate)) (bytesOf (b .candidate))) ≡ true) → Earlier a b
-      next k (inl q) = inl (ranked-less r (a .profile) n (b .profile) m .1 (inr (k, ltb-true n m q)))
-      next k (inr q) =
-          let e = eqb-true n m (left (eqb n m) (smaller (bytesOf (a .candidate)) (bytesOf (b .candidate))) q) in
-          inr (ranked-same r (a .profile) n (b .profile) m .1 (k, e), bytes-before (a .candidate) (b .candidate) (right (eqb n m) (smaller (bytesOf (a .candidate)) (bytesOf (b .candidate))) q))
+      next : Bool
+      next = winsTie (a .candidate) (b .candidate)
 
-      go : Stands r (a .profile) (b .profile) → Earlier a b
-      go (lower k) = inl (ranked-less r (a .profile) n (b .profile) m .1 (inl k))
-      go (alike k) = next k (either (ltb n m) (eqb n m && smaller (bytesOf (a .candidate)) (bytesOf (b .candidate))) (rw (equal-harmony r (a .profile) (b .profile) k) at h))
-      go (higher k) = absurd (false≢true (rw (worse-harmony r (b .profile) (a .profile) k) at h))
+      by-tie : Alike better (a .profile) (b .profile) → WinsTie (a .candidate) (b .candidate) → BeatsIn better a b
+      by-tie e (inl k) = by-pairs e k
+      by-tie e (inr k) = by-bytes e (k .0) (k .1)
 
-  pub earlier-preferred : (a b : Form) → Earlier a b → preferred r a b ≡ true
-  unfolding preferred shorter
-  earlier-preferred a b (inl h) = go (ranked-less r (a .profile) (length (a .candidate)) (b .profile) (length (b .candidate)) .0 h)
+      go : (here ≡ true) ⊎ (here ≡ false) → (here ≡ true) ⊎ ((not there && next) ≡ true) → BeatsIn better a b
+      go (inl e) k = by-profile e
+      go (inr e) (inl k) = absurd (clash k e)
+      go (inr e) (inr k) = by-tie (e, not-true there (left (not there) next k)) (tie-cases (a .candidate) (b .candidate) (right (not there) next k))
+
+  pub beats-preferred : BeatsIn better a b → preferred better a b ≡ true
+  unfolding preferred
+  beats-preferred = go
     where
-      go : Lower r (a .profile) (b .profile) ⊎ (Alike r (a .profile) (b .profile) × (length (a .candidate) < length (b .candidate))) → preferred r a b ≡ true
-      go (inl k) = rw (better-harmony r (a .profile) (b .profile) k)
-      go (inr k) = rw (equal-harmony r (a .profile) (b .profile) (k .0), lt-ltb (length (a .candidate)) (length (b .candidate)) (k .1))
-  earlier-preferred a b (inr h) =
-      let k = ranked-same r (a .profile) (length (a .candidate)) (b .profile) (length (b .candidate)) .0 (h .0) in
-      rw (equal-harmony r (a .profile) (b .profile) (k .0))
-      (or-right (ltb (length (a .candidate)) (length (b .candidate))) (both (eq-eqb (length (a .candidate)) (length (b .candidate)) (k .1)) (before-bytes (a .candidate) (b .candidate) (k .1) (h .1))))
+      alike : Alike better (a .profile) (b .profile) → WinsTie (a .candidate) (b .candidate) → preferred better a b ≡ true
+      alike e k = or-right (better (a .profile) (b .profile)) (both (ap not (e .1)) (cases-tie (a .candidate) (b .candidate) k))
+
+      go : BeatsIn better a b → preferred better a b ≡ true
+      go (by-profile e) = or-left (not (better (b .profile) (a .profile)) && winsTie (a .candidate) (b .candidate)) e
+      go (by-pairs e k) = alike e (inl k)
+      go (by-bytes e k s) = alike e (inr (k, s))
+
+-- ---- and as the order of the costs
+
+module _ {costs : Costs} (price : Price costs) where
+  -- the cost, and the letters
+  abbrev pub keyOf : Contender → costs .Cost × List Pair
+  keyOf a = (price .of (a .profile) (length (a .candidate)), a .candidate)
+
+  abbrev pub Earlier : Contender → Contender → Type 0
+  Earlier a b = Before costs pairs (keyOf a) (keyOf b)
+
+  -- of one profile, fewer pairs cost less
+  one-pair-more : (xs : List ℕ) (n : ℕ) → costs ._≺_ (price .of xs n) (price .of xs (suc n))
+  unfolding merge
+  one-pair-more xs n =
+      let k : suc n ≡ 1 + n = omega arith in
+      let e : price .of xs (suc n) ≡ costs ._⊕_ (price .of [] 1) (price .of xs n) = ap (price .of xs) k ∙ price .adds [] xs 1 n in
+      rw e (price .positive [] (price .of xs n))
+
+  pub fewer-cost-less : (xs : List ℕ) (n m : ℕ) → n < m → costs ._≺_ (price .of xs n) (price .of xs m)
+  fewer-cost-less xs n zero h = absurd (omega arith)
+  fewer-cost-less xs n (suc m) h = go (standing n m) (fewer-cost-less xs n m)
+    where
+      go : Standing n m → (n < m → costs ._≺_ (price .of xs n) (price .of xs m)) → costs ._≺_ (price .of xs n) (price .of xs (suc m))
+      go (fewer k) rec = costs .total .trans (price .of xs n) (price .of xs m) (price .of xs (suc m)) (rec k) (one-pair-more xs m)
+      go (same k) rec = rw k (one-pair-more xs m)
+      go (more k) rec = absurd (omega arith)
+
+module _ {costs : Costs} {price : Price costs} {better : ProfileOrder} (agrees : Agrees price better) (a b : Contender) where
+  -- profiles of which neither is better, with as many pairs, cost the same
+  same-cost : Alike better (a .profile) (b .profile) → length (a .candidate) ≡ length (b .candidate) → keyOf price a .0 ≡ keyOf price b .0
+  same-cost e k = agrees .alike (a .profile) (b .profile) (length (a .candidate)) e ∙ ap (price .of (b .profile)) k
+
+  pub beats-earlier : BeatsIn better a b → Earlier price a b
+  beats-earlier (by-profile e) = inl (agrees .less (a .profile) (b .profile) (length (a .candidate)) (length (b .candidate)) e)
+  beats-earlier (by-pairs e k) =
+      inl (rw (agrees .alike (a .profile) (b .profile) (length (a .candidate)) e) (fewer-cost-less price (b .profile) (length (a .candidate)) (length (b .candidate)) k))
+  beats-earlier (by-bytes e k s) = inr (same-cost e k, bytes-before (a .candidate) (b .candidate) s)
+
+  pub earlier-beats : Earlier price a b → BeatsIn better a b
+  earlier-beats h = go (decided (better (a .profile) (b .profile))) (decided (better (b .profile) (a .profile)))
+    where
+      not-later : ¬ (costs ._≺_ (keyOf price b .0) (keyOf price a .0))
+      not-later k = asym (before-total costs pairs) (keyOf price a) (keyOf price b) h (inl k)
+
+      last : Alike better (a .profile) (b .profile) → length (a .candidate) ≡ length (b .candidate) → Earlier price a b → BeatsIn better a b
+      last e k (inl l) = absurd (less-not-same (costs .total) l (same-cost e k))
+      last e k (inr l) = by-bytes e k (before-bytes (a .candidate) (b .candidate) k (l .1))
+
+      next : Alike better (a .profile) (b .profile) → Standing (length (a .candidate)) (length (b .candidate)) → BeatsIn better a b
+      next e (fewer k) = by-pairs e k
+      next e (same k) = last e k h
+      next e (more k) =
+          absurd (not-later (rw (agrees .alike (a .profile) (b .profile) (length (a .candidate)) e) (fewer-cost-less price (b .profile) (length (b .candidate)) (length (a .candidate)) k)))
+
+      go : (better (a .profile) (b .profile) ≡ true) ⊎ (better (a .profile) (b .profile) ≡ false) → (better (b .profile) (a .profile) ≡ true) ⊎ (better (b .profile) (a .profile) ≡ false) → BeatsIn better a b
+      go (inl e) k = by-profile e
+      go (inr e) (inl k) = absurd (not-later (agrees .less (b .profile) (a .profile) (length (b .candidate)) (length (a .candidate)) k))
+      go (inr e) (inr k) = next (e, k) (standing (length (a .candidate)) (length (b .candidate)))

@@ -8,7 +8,7 @@ use lib.ListN.{length}
 use borrow.Author.Tests.{leb-true}
 use Rattle.basics.specs.Search.{allOf}
 use Rattle.basics.proofs.Bools.{left, right}
-use Rattle.candidate.specs.Optimizing.{soundWord}
+use Rattle.product.specs.Optimizing.{soundWord}
 
 pub record AcceptedWord (S : ℕ) (word : List ℕ) : Type 0 where
   pub short : length word ≤ 24
@@ -17,7 +17,6 @@ pub record AcceptedWord (S : ℕ) (word : List ℕ) : Type 0 where
 pub accepted-word : (S : ℕ) (word : List ℕ) → soundWord S word ≡ true → AcceptedWord S word
 unfolding soundWord
 accepted-word S word t =
-    let a = leb 1 (length word) in
     let b = leb (length word) 24 in
     let d = allOf (λ x. leb 1 x && leb x S) word in
-    record { short = leb-true (length word) 24 (right a b (left (a && b) d t)); symbols = right (a && b) d t }
+    record { short = leb-true (length word) 24 (left b d t); symbols = right b d t }

@@ -8,7 +8,7 @@ use lib.Dec.{eqb, ltb}
 use lib.ListN.{length}
 use borrow.Author.Tests.{eq-eqb, ne-eqb, ltb-true, ltb-false}
 use Rattle.basics.specs.Search.{those, numbersBelow, occurrences}
-use Rattle.basics.proofs.Bools.{both, left}
+use Rattle.basics.proofs.Bools.{both}
 use Rattle.basics.proofs.Search.{joined-member, member-joined}
 use Rattle.basics.proofs.Below.{each-below, length-numbers}
 use Rattle.basics.proofs.Occurrences.{occurs-none, occurs-here, occurs-later, occurrences-append, its-place, member-occurs, occurs-member}

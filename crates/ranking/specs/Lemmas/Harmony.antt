@@ -16,11 +16,11 @@ unfolding harmony
 harmony-end v w e = rw e
 
 module _ {r rest : List ℕ} {m : ℕ} (v w : List ℕ) (e : r ≡ m ∷ rest) where
-  pub harmony-better : getD v m 0 < getD w m 0 → harmony r v w ≡ Better
+  pub harmony-better : getD v m 0 < getD w m 0 → harmony r v w ≡ Better m
   unfolding harmony
   harmony-better h = rw (e, lt-ltb _ _ h, harmony)
 
-  pub harmony-worse : getD w m 0 < getD v m 0 → harmony r v w ≡ Worse
+  pub harmony-worse : getD w m 0 < getD v m 0 → harmony r v w ≡ Worse m
   unfolding harmony
   harmony-worse h = rw (e, le-ltb _ _ (le-of-lt h), lt-ltb _ _ h, harmony)
 
@@ -44,10 +44,10 @@ standing a b = go (ltb a b) refl (ltb b a) refl
 
 -- the same three cases at the head of a ranking
 module _ (m : ℕ) (r v w : List ℕ) where
-  pub at-fewer : getD v m 0 < getD w m 0 → harmony (m ∷ r) v w ≡ Better
+  pub at-fewer : getD v m 0 < getD w m 0 → harmony (m ∷ r) v w ≡ Better m
   at-fewer h = harmony-better v w refl h
 
-  pub at-more : getD w m 0 < getD v m 0 → harmony (m ∷ r) v w ≡ Worse
+  pub at-more : getD w m 0 < getD v m 0 → harmony (m ∷ r) v w ≡ Worse m
   at-more h = harmony-worse v w refl h
 
   pub at-same : getD v m 0 ≡ getD w m 0 → harmony (m ∷ r) v w ≡ harmony r v w

@@ -11,7 +11,7 @@ use Rattle.basics.specs.Search.{everyBelow, occurrences}
 use Rattle.basics.proofs.Bools.{left, right, both}
 use Rattle.basics.proofs.Below.{every-at, one-below-fails}
 use Rattle.basics.proofs.Occurrences.{its-place, one-place}
-use Rattle.ranking.specs.Refusals.{machineCount}
+use Rattle.ranking.specs.Refusals.{isMachineCount}
 use Rattle.ranking.specs.Rankings.{isRanking}
 
 -- 1 to 6 machines
@@ -19,7 +19,7 @@ pub record MachineCount (K : ℕ) : Type 0 where
   pub least : 1 ≤ K
   pub most : K ≤ 6
 
-pub machine-count : (K : ℕ) → machineCount K ≡ true → MachineCount K
+pub machine-count : (K : ℕ) → isMachineCount K ≡ true → MachineCount K
 machine-count K t = record { least = leb-true 1 K (left (leb 1 K) (leb K 6) t); most = leb-true K 6 (right (leb 1 K) (leb K 6) t) }
 
 -- how many elements of a list are below K, counted along the list, and number by number
@@ -118,7 +118,7 @@ module _ (K : ℕ) (r : List ℕ) where
   each-once e t = both (eq-eqb (length r) K e) t
 
 -- what harmonic comparison requires, from the checks 1 and 7
-pub comparable : (K : ℕ) (r : List ℕ) → machineCount K ≡ true → isRanking K r ≡ true → (isRanking (length r) r ≡ true) × (length r ≤ 6)
+pub comparable : (K : ℕ) (r : List ℕ) → isMachineCount K ≡ true → isRanking K r ≡ true → (isRanking (length r) r ≡ true) × (length r ≤ 6)
 comparable K r k t =
     let f = ranking-facts K r t in
     (rw (f .places) t, omega (arith, f .places, machine-count K k .most))

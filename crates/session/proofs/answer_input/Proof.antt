@@ -6,7 +6,7 @@ use Rattle.session.proofs.answer_input.Statement.{statement}
 use Rattle.session.proofs.answer_input.Tie as tie
 
 slice-aggregate-print-answer : tie.Need-slice-aggregate-print-answer
-slice-aggregate-print-answer c = sym (length-take-le _ _ (omega (arith, c .before .before .before .answer-pieces .kept .1 .0)))
+slice-aggregate-print-answer c = sym (length-take-le _ _ (omega (arith, c .before .before .before .before .answer-pieces .kept .1 .0)))
 
 pub answer-input-spec : {M : Type 1} → statement M
 answer-input-spec =

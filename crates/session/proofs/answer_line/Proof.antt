@@ -1,13 +1,11 @@
 use lib.ListN.{replicate}
 use Rattle.lines.specs.Parsing.{parsedLine}
-use mathlib.Core.Path.{refl}
 use Rattle.session.proofs.Replies.{prints, bad-reply, good-reply}
-use mathlib.Core.Path.{ap, sym, _∙_}
+use mathlib.Core.Path.{sym, _∙_}
 use Prim.Native.Nat.{_≤_}
 use native.Mathlib.Omega.{arith}
 use lib.Seq.{length-take-le}
 use Rattle.lines.proofs.Bounds.{parsed-bounds}
-use lib.ListN.{length, length-append, length-drop}
 use borrow.Author.Needs.{needs}
 use Rattle.session.proofs.answer_line.Statement.{statement}
 use Rattle.session.proofs.answer_line.Tie as tie

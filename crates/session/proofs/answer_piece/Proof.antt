@@ -1,7 +1,9 @@
 use mathlib.Core.Path.{_≡_, ap, sym, _∙_}
+use mathlib.Core.Bool.{false≢true}
 use Prim.Native.Nat.{_-_, _<_, _≤_}
 use native.Mathlib.Omega.{arith}
 use lib.Seq.{length-take-le, take-at}
+use lib.Dec.{lit≤}
 use borrow.Author.Needs.{needs}
 use lib.ListN.{take, drop}
 use Rattle.lines.specs.Taking.{heldAfter}
@@ -33,32 +35,41 @@ slice-aggregate-print-answer : tie.Need-slice-aggregate-print-answer Inv-loop μ
 slice-aggregate-print-answer c = sym (length-take-le _ _ (omega (arith, bounds (c .before .before) .0, c .before .before .before .before .before .before .next-line .kept .1 .1 .0)))
 
 loop-less : tie.Need-loop-less Inv-loop μ-loop
-loop-less c = omega (arith, bounds (c .before .before .before))
+loop-less c = omega (arith, bounds (c .before .before .before .before))
 
 loop-again : tie.Need-loop-again Inv-loop μ-loop
 loop-again c =
-    let k = c .before .before .before .before .before .before .before in
+    let k = c .before .before .before .before .before .before .before .before in
     let l = k .before .before .loop in
-    let e = sym (k .next-line .ensures .0) ∙ c .before .before .before .next .given .1 in (
-      bounds (c .before .before .before) .2,
+    let e = sym (k .next-line .ensures .0) ∙ c .before .before .before .before .next .given .1 in (
+      bounds (c .before .before .before .before) .2,
       omega arith,
       omega (arith, k .next-line .kept .1 .1 .0),
-      held-ended (l .line) (c .before .before .before .before .before .before .before .before .before .before .before .before .before .args .piece .now) (l .length) (l .at) (l .inv .1) _ _ e
+      held-ended (l .line) (c .before .before .before .before .before .before .before .before .before .before .before .before .before .before .args .piece .now) (l .length) (l .at) (l .inv .1) _ _ e
           ∙ l .inv .3,
     )
 
+-- a write failed
 same-length : tie.Need-same-length Inv-loop μ-loop
-same-length c = omega (arith, c .before .before .before .before .before .next-line .kept .1 .1 .0, c .before .before .before .before .before .before .before .before .before .before .before .pre .1)
+same-length c = omega (arith, c .before .before .before .before .before .before .before .before .next-line .kept .1 .1 .0, c .before .before .before .before .before .before .before .before .before .before .before .before .before .before .pre .1)
 
 returns : tie.Need-returns Inv-loop μ-loop
-returns c =
+returns c = record { few = lit≤ tt; bytes = λ e. absurd (false≢true e) }
+
+-- the piece ends
+same-length-2 : tie.Need-same-length-2 Inv-loop μ-loop
+same-length-2 c = omega (arith, c .before .before .before .before .before .next-line .kept .1 .1 .0, c .before .before .before .before .before .before .before .before .before .before .before .pre .1)
+
+returns-2 : tie.Need-returns-2 Inv-loop μ-loop
+returns-2 c =
     let k = c .before .before .before .before .before in
     let l = k .before .before .loop in
     let e = sym (k .next-line .ensures .0) ∙ c .before .next2 .given .1 in
-    let o = held-open (l .line) (c .before .before .before .before .before .before .before .before .before .before .before .args .piece .now) (l .length) (l .at) (l .inv .1) _ e in (
-      next-bounds _ _ _ (l .inv .0) .open-length _ e,
-      ap (take (c .before .next2 .given .0 .0)) (k .next-line .ensures .1) ∙ take-at _ _ _ (sym (o .0)) ∙ o .1 ∙ l .inv .3,
-    )
+    let o = held-open (l .line) (c .before .before .before .before .before .before .before .before .before .before .before .args .piece .now) (l .length) (l .at) (l .inv .1) _ e in
+    record {
+      few = next-bounds _ _ _ (l .inv .0) .open-length _ e;
+      bytes = λ _. ap (take (c .before .next2 .given .0 .0)) (k .next-line .ensures .1) ∙ take-at _ _ _ (sym (o .0)) ∙ o .1 ∙ l .inv .3;
+    }
 
 pub answer-piece-spec : {M : Type 1} → statement M
 answer-piece-spec =
@@ -72,8 +83,10 @@ answer-piece-spec =
     slice-reshare-prefix-print-answer
     slice-aggregate-print-answer
     (λ c κs. search needs)
+    same-length
+    returns
     loop-less
     loop-again
     (λ c. search needs)
-    same-length
-    returns)
+    same-length-2
+    returns-2)

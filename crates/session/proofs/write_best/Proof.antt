@@ -2,9 +2,7 @@ use Prim.Native.Nat.{ℕ}
 use mathlib.Core.Path.{refl}
 use lib.ListN.{length-replicate}
 use Rattle.session.proofs.Replies.{prints, best-line}
-use mathlib.Core.Path.{ap}
 use native.Mathlib.Omega.{arith}
-use lib.ListN.{length, length-append, length-drop}
 use borrow.Author.Needs.{needs}
 use Rattle.session.proofs.write_best.Statement.{statement}
 use Rattle.session.proofs.write_best.Tie as tie

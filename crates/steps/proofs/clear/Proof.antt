@@ -1,10 +1,10 @@
 use borrow.Author.Needs.{needs}
-use borrow.Author.Fill.{fill-none, fill-more}
-use mathlib.Core.Path.{_≡_, ap, sym, _∙_}
+use borrow.Author.Fill.{fill-more}
+use mathlib.Core.Path.{_≡_, ap, _∙_}
 use mathlib.Core.List.{_++_, append-nil}
 use native.Mathlib.Omega.{arith}
-use Prim.Native.Nat.{ℕ, _+_, _-_, _≤_}
-use lib.ListN.{length, set, length-set, drop, replicate, length-append, length-drop, length-replicate, drop-of-length-le}
+use Prim.Native.Nat.{_-_, _≤_}
+use lib.ListN.{length, set, length-set, drop, replicate, drop-of-length-le}
 use Rattle.steps.proofs.clear.Statement.{statement}
 use Rattle.steps.proofs.clear.Tie as tie
 

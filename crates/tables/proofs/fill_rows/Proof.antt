@@ -1,6 +1,5 @@
 use Prim.Native.Nat.{_-_}
 use native.Mathlib.Omega.{arith}
-use borrow.Author.Needs.{needs}
 use Rattle.tables.proofs.Rows.{RowsFilled, rows-start, row-pre, rows-next, rows-end}
 use Rattle.tables.proofs.fill_rows.Statement.{statement}
 use Rattle.tables.proofs.fill_rows.Tie as tie

@@ -8,7 +8,7 @@ use Rattle.machine.specs.Part.{machineOf}
 use Rattle.machine.specs.Accepted.{accepted as part-accepted}
 use Rattle.card.specs.Layout.{machineCount, symbolCount, partOf}
 use Rattle.card.specs.Accepted.{accepted}
-use Rattle.tables.proofs.Ending.{EndingOf, ending-start, code-few, rows-size, machine-few, row-state, ending-stuck, ending-few, ending-step, ending-end}
+use Rattle.tables.proofs.Ending.{EndingOf, ending-start, code-few, rows-size, machine-few, row-state, ending-stuck, ending-step, ending-end}
 use Rattle.tables.proofs.joint_ending.Statement.{statement}
 use Rattle.tables.proofs.joint_ending.Tie as tie
 

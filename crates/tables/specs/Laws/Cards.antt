@@ -1,21 +1,24 @@
 -- What an accepted card promises of its machines, for the tables.
-use mathlib.Core.Path.{_≡_, refl, sym, _∙_, ap}
-use mathlib.Core.List.{List, []}
+use mathlib.Core.Path.{_≡_, _∙_, ap}
+use mathlib.Core.List.{List, [], map}
 use Prim.Native.Nat.{ℕ, _<_, _≤_}
 use native.Mathlib.Decide.{decLt}
 use native.Mathlib.Omega.{arith}
-use lib.ListN.{length, getD, List·getD-eq-default, List·getD-map}
-use Rattle.machine.specs.Machine.{Machine}
+use lib.ListN.{List·getD-eq-default}
+use Rattle.machine.specs.Machine.{Machine, startState}
 use Rattle.machine.specs.Part.{stateCount}
 use Rattle.machine.specs.Accepted.{shape-facts, accepted as part-accepted}
 use Rattle.card.specs.Layout.{machineCount, symbolCount, partOf}
 use Rattle.card.specs.Card.{machinesOf, cardRefusal}
 use Rattle.card.specs.Accepted.{accepted}
-use Rattle.product.specs.Nodes.{stateCountOf, stateCounts}
+use Rattle.product.specs.Nodes.{stateCountOf, stateCounts, product}
+use Rattle.product.specs.ProductGraph.{cardStart}
+use Rattle.product.specs.Laws.Nodes.{code-below}
+use Rattle.product.specs.Laws.JointStep.{starts-below}
 use Rattle.product.specs.Laws.Accepted.{part-states, accepted-machines}
 use Rattle.steps.specs.StepTable.{noMachine, machineAt, HoldsSteps}
 use Rattle.card.specs.Laws.Machines.{length-machines, machine-at}
-use Rattle.tables.specs.Tables.{CardMachines, CountsOfSome, HoldsRows, Tables, TablesOfSome}
+use Rattle.tables.specs.Tables.{CardMachines, CountsOfSome, HoldsRows, Tables}
 
 module _ (card : List ℕ) (ok : cardRefusal card ≡ 0) where
   -- a machine has as many states as its part says, 1 to 32
@@ -38,9 +41,13 @@ module _ (card : List ℕ) (ok : cardRefusal card ≡ 0) where
         machines = omega (arith, b .count, a .head .counts);
         sound = b .sound;
         states = λ m. few-states m (decLt m (machineCount card));
-        joint-states = omega (arith, b .states, b .few-states);
+        joint-states = b .few-states;
         symbols = omega (arith, a .head .counts);
       }
+
+  -- the start node is one of the first position's
+  pub start-below : cardStart card < product (stateCounts (machinesOf card))
+  start-below = omega (arith, code-below (stateCounts (machinesOf card)) (map (λ m. startState) (machinesOf card)) (starts-below (accepted-machines card ok .sound)))
 
   pub card-counts : {counts : List ℕ} → counts ≡ stateCounts (machinesOf card) → CountsOfSome counts
   card-counts e = record { symbols = symbolCount card; machines = machinesOf card; card = card-machines; are = e }
@@ -49,6 +56,3 @@ module _ (card : List ℕ) (ok : cardRefusal card ≡ 0) where
   module _ {x : ℕ} {steps rows counts : List ℕ} where
     pub card-tables : HoldsSteps (machinesOf card) x steps → HoldsRows counts rows → counts ≡ stateCounts (machinesOf card) → Tables (symbolCount card) (machinesOf card) x steps rows counts
     card-tables s r e = record { machines = card-machines; holds-steps = s; holds-rows = rw (← e) r; holds-counts = e }
-
-    pub some-tables : Tables (symbolCount card) (machinesOf card) x steps rows counts → TablesOfSome steps rows counts
-    some-tables t = record { symbols = symbolCount card; machines = machinesOf card; input = x; tables = t }

@@ -1,43 +1,33 @@
 -- The joint step by numbers is an edge of the product, and the table of the cheapest insertions has its cheapest edges within a position.
 use mathlib.Core.Path.{_≡_, refl, sym, _∙_, ap}
-use mathlib.Core.Logic.{_⊎_, inl, inr}
-use mathlib.Core.Bool.{Bool, true, false, _&&_, cond}
-use mathlib.Core.List.{List, [], _∷_, map}
+use mathlib.Core.Bool.{true}
+use mathlib.Core.List.{List, map}
 use mathlib.Core.Option.{Option, some, none, Option·none-ne-some}
-use Prim.Native.Nat.{ℕ, zero, suc, _+_, _*_, _^_, _<_, _≤_}
-use native.Mathlib.Decide.{decLt, ℕ-discrete}
-use native.Mathlib.Omega.{arith}
-use lib.Dec.{eqb, ltb, leb}
+use Prim.Native.Nat.{ℕ, _+_, _*_, _<_, _≤_}
 use lib.ListN.{length, getD}
-use borrow.Author.Tests.{eq-eqb, ne-eqb, lt-ltb, le-ltb, leb-true}
-use Rattle.basics.proofs.Bools.{left, right}
+use Rattle.basics.specs.Sets.{member}
 use Rattle.machine.specs.declared.Pair.{Pair}
-use Rattle.machine.specs.Symbols.{emptySymbol, isPair, withinSymbols}
-use Rattle.machine.specs.Machine.{Machine, stepOf}
-use Rattle.paths.specs.Costs.{Lowers}
-use Rattle.paths.specs.Ranked.{Ranked, Less, rankedCosts}
-use Rattle.paths.specs.ByRanking.{ranked}
+use Rattle.machine.specs.Symbols.{emptySymbol, isPair}
+use Rattle.machine.specs.Machine.{Machine}
+use Rattle.paths.specs.Ranked.{Ranked, rankedCosts}
 use Rattle.paths.specs.Graph.{Edge, Graph}
-use Rattle.paths.specs.Cheapest.{CheapestAmong, Cheapest, cheapest-start, cheapest-skip, cheapest-step, cheapest-end}
-use Rattle.labels.specs.Marks.{marksOf, pairCost, noPair}
-use Rattle.labels.specs.MarksLaws.{pair-none, pair-taken, pair-left}
+use Rattle.labels.specs.Marks.{marksCost}
 use Rattle.product.specs.Nodes.{stateCounts, product, statesOf}
 use Rattle.product.specs.JointStep.{jointStep}
 use Rattle.product.specs.Prices.{byRanking}
-use Rattle.product.specs.ProductGraph.{Move, move, pairs, pricedMove, productGraph}
+use Rattle.product.specs.ProductGraph.{Move, pairs, pricedMove, productGraph}
 use Rattle.product.specs.Codes.{coded, codeStep, movedBy}
 use Rattle.product.specs.Laws.JointStep.{AllSound}
 use Rattle.product.specs.Laws.Edges.{step-marks-bound}
-use Rattle.product.specs.Laws.Codes.{insertion-move, symbol-move, code-step-below}
-use Rattle.tables.specs.Places.{sixPlaces, markNumber}
+use Rattle.product.specs.Laws.Codes.{insertion-move, symbol-move}
+use Rattle.tables.specs.Places.{sixPlaces}
 use Rattle.tables.specs.JointNumbers.{numbered, jointFrom}
-use Rattle.tables.specs.Insertions.{cheaper, cheapestInsertion}
-use Rattle.tables.specs.Laws.Packing.{six-cost, six-below}
+use Rattle.tables.specs.Laws.Packing.{six-cost}
 
 -- a step by numbers as an edge to the nodes from a number on
 abbrev pub edgeFrom : ℕ → Option (ℕ × ℕ) → Option (Edge (Ranked 6))
 edgeFrom base none = none
-edgeFrom base (some r) = some (record { target = base + r .0; cost = marksOf (r .1) })
+edgeFrom base (some r) = some (record { target = base + r .0; cost = marksCost (r .1) })
 
 -- the marks of a step by codes are at most 15 a machine
 pub code-step-few : {S : ℕ} {ms : List Machine} → AllSound S ms → (c : ℕ) (p : Pair) (m : Move) → codeStep ms c p ≡ some m → (i : ℕ) → getD (m .marks) i 0 ≤ 15
@@ -50,30 +40,30 @@ code-step-few {ms = ms} sound c p m h = go (jointStep ms (statesOf (stateCounts 
         rw (← z) (step-marks-bound sound (statesOf (stateCounts ms) c) p steps k i)
 
 -- the product under a ranking of six places
-abbrev pub sixGraph : (ranking word : List ℕ) (ms : List Machine) → Graph (rankedCosts 6) pairs
-sixGraph ranking word ms = productGraph (byRanking (sixPlaces ranking)) word ms
+abbrev pub sixGraph : (ranking sets : List ℕ) (ms : List Machine) → Graph (rankedCosts 6) pairs
+sixGraph ranking sets ms = productGraph (byRanking (sixPlaces ranking)) sets ms
 
 -- the node of a position and a code
 abbrev pub nodeAt : List Machine → ℕ → ℕ → ℕ
 nodeAt ms i c = i * product (stateCounts ms) + c
 
-module _ (ranking word : List ℕ) {S : ℕ} {ms : List Machine} (sound : AllSound S ms) where
+module _ (ranking sets : List ℕ) {S : ℕ} {ms : List Machine} (sound : AllSound S ms) where
   priced : (base : ℕ) (o : Option Move) → ((m : Move) → o ≡ some m → (i : ℕ) → getD (m .marks) i 0 ≤ 15)
-      → pricedMove (byRanking (sixPlaces ranking)) word ms (movedBy base o) ≡ edgeFrom base (numbered (sixPlaces ranking) o)
+      → pricedMove (byRanking (sixPlaces ranking)) sets ms (movedBy base o) ≡ edgeFrom base (numbered (sixPlaces ranking) o)
   priced base none f = refl
   priced base (some m) f = let e = six-cost (m .marks) (f m refl) ranking in λ i. some (record { target = base + m .target; cost = sym e i })
 
   module _ (i a : ℕ) (h : a < product (stateCounts ms)) (p : Pair) where
     -- an insertion, at every position
-    pub insertion-edge : i ≤ length word → isPair p ≡ true → p .input ≡ emptySymbol
-        → sixGraph ranking word ms .edge (nodeAt ms i a) p ≡ edgeFrom (i * product (stateCounts ms)) (jointFrom (sixPlaces ranking) ms a p)
+    pub insertion-edge : i ≤ length sets → isPair p ≡ true → p .input ≡ emptySymbol
+        → sixGraph ranking sets ms .edge (nodeAt ms i a) p ≡ edgeFrom (i * product (stateCounts ms)) (jointFrom (sixPlaces ranking) ms a p)
     insertion-edge k t e =
-        ap (pricedMove (byRanking (sixPlaces ranking)) word ms) (insertion-move word ms i a h p k t e)
+        ap (pricedMove (byRanking (sixPlaces ranking)) sets ms) (insertion-move sets ms i a h p k t e)
         ∙ priced (i * product (stateCounts ms)) (codeStep ms a p) (code-step-few sound a p)
 
-    -- a pair that reads the symbol at the position
-    pub symbol-edge : i < length word → (p .input ≡ emptySymbol → ⊥) → getD word i emptySymbol ≡ p .input
-        → sixGraph ranking word ms .edge (nodeAt ms i a) p ≡ edgeFrom ((i + 1) * product (stateCounts ms)) (jointFrom (sixPlaces ranking) ms a p)
-    symbol-edge k n e =
-        ap (pricedMove (byRanking (sixPlaces ranking)) word ms) (symbol-move word ms i a h p k n e)
+    -- a pair that reads a symbol of the set at the position
+    pub symbol-edge : (p .input ≡ emptySymbol → ⊥) → member (getD sets i 0) (p .input) ≡ true
+        → sixGraph ranking sets ms .edge (nodeAt ms i a) p ≡ edgeFrom ((i + 1) * product (stateCounts ms)) (jointFrom (sixPlaces ranking) ms a p)
+    symbol-edge n e =
+        ap (pricedMove (byRanking (sixPlaces ranking)) sets ms) (symbol-move sets ms i a h p n e)
         ∙ priced ((i + 1) * product (stateCounts ms)) (codeStep ms a p) (code-step-few sound a p)

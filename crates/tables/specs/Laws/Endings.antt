@@ -14,10 +14,10 @@ use Rattle.product.specs.ProductGraph.{pricedEnding}
 use Rattle.product.specs.Codes.{codeEnding}
 use Rattle.product.specs.Laws.JointStep.{AllSound}
 use Rattle.product.specs.Laws.Edges.{ending-marks-bound}
-use Rattle.product.specs.Laws.Codes.{ending-at, ending-before}
+use Rattle.product.specs.Laws.Codes.{ending-at}
 use Rattle.tables.specs.Places.{sixPlaces, markNumber}
 use Rattle.tables.specs.JointNumbers.{endingNumber, endingFrom}
-use Rattle.tables.specs.Endings.{withoutPairs, endingCost, endingCosts}
+use Rattle.tables.specs.Endings.{withoutPairs, endingCosts}
 use Rattle.tables.specs.Laws.Packing.{six-cost, six-below}
 use Rattle.tables.specs.Laws.Edges.{sixGraph, nodeAt}
 
@@ -37,19 +37,15 @@ ranked-without : (places marks : List ℕ) (n : ℕ) → withoutPairs (length pl
 ranked-without [] marks n = refl
 ranked-without (m ∷ places) marks n = let r = ranked-without places marks n in λ i. (getD marks m 0, r i)
 
-module _ (ranking word : List ℕ) {S : ℕ} {ms : List Machine} (sound : AllSound S ms) (a : ℕ) (h : a < product (stateCounts ms)) where
-  -- at the end of the word
-  pub ending-edge : sixGraph ranking word ms .ending (nodeAt ms (length word) a) ≡ endingCosts (endingFrom (sixPlaces ranking) ms a)
-  ending-edge = ap (pricedEnding (byRanking (sixPlaces ranking)) word ms) (ending-at word ms a h) ∙ go (codeEnding ms a) (ending-marks-bound sound (statesOf (stateCounts ms) a))
+module _ (ranking sets : List ℕ) {S : ℕ} {ms : List Machine} (sound : AllSound S ms) (a : ℕ) (h : a < product (stateCounts ms)) where
+  -- past the last set
+  pub ending-edge : sixGraph ranking sets ms .ending (nodeAt ms (length sets) a) ≡ endingCosts (endingFrom (sixPlaces ranking) ms a)
+  ending-edge = ap (pricedEnding (byRanking (sixPlaces ranking)) sets ms) (ending-at sets ms a h) ∙ go (codeEnding ms a) (ending-marks-bound sound (statesOf (stateCounts ms) a))
     where
       go : (o : Option (List ℕ)) → ((xs : List ℕ) → o ≡ some xs → (i : ℕ) → getD xs i 0 ≤ 15)
-          → pricedEnding (byRanking (sixPlaces ranking)) word ms o ≡ endingCosts (endingNumber (sixPlaces ranking) o)
+          → pricedEnding (byRanking (sixPlaces ranking)) sets ms o ≡ endingCosts (endingNumber (sixPlaces ranking) o)
       go none f = refl
       go (some xs) f = ap {B = Option (Ranked 6)} some (sym (ap (withoutPairs 6) (six-cost xs (f xs refl) ranking) ∙ ranked-without (sixPlaces ranking) xs 1))
-
-  -- and nowhere else
-  pub no-ending : (i : ℕ) → (i ≡ length word → ⊥) → sixGraph ranking word ms .ending (nodeAt ms i a) ≡ none
-  no-ending i n = ap (pricedEnding (byRanking (sixPlaces ranking)) word ms) (ending-before word ms i a h n)
 
 -- the number of an ending stands for marks
 pub ending-below : (ranking : List ℕ) {S : ℕ} {ms : List Machine} → AllSound S ms → (a e : ℕ) → endingFrom (sixPlaces ranking) ms a ≡ some e → e < 16 ^ 6

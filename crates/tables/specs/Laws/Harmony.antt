@@ -2,13 +2,13 @@
 use mathlib.Core.Path.{_≡_, refl, sym, _∙_, ap}
 use mathlib.Core.Bool.{true}
 use mathlib.Core.List.{List, [], _∷_, _++_}
-use Prim.Native.Nat.{ℕ, zero, suc, _+_, _-_, _<_, _≤_}
+use Prim.Native.Nat.{ℕ, zero, suc, _-_, _<_, _≤_}
 use native.Mathlib.Decide.{decLt}
 use native.Mathlib.Omega.{arith}
 use lib.ListN.{length, getD, replicate, List·getD-eq-default}
 use Rattle.ranking.specs.Harmony.{harmony}
 use Rattle.ranking.specs.Rankings.{isRanking}
-use Rattle.ranking.specs.Lemmas.Harmony.{Standing, fewer, same, more, standing, harmony-end, at-fewer, at-more, at-same}
+use Rattle.ranking.specs.Lemmas.Harmony.{Standing, fewer, same, more, standing, at-fewer, at-more, at-same}
 use Rattle.ranking.specs.Lemmas.Rankings.{ranking-facts}
 use Rattle.tables.specs.Places.{sixPlaces, SixPlaces}
 

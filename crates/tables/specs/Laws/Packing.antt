@@ -1,14 +1,13 @@
 -- Marks as one number: what it stands for is their ranked cost.
-use mathlib.Core.Path.{_≡_, refl, sym, _∙_, ap, ap₂}
+use mathlib.Core.Path.{_≡_, refl, ap}
 use mathlib.Core.List.{List, [], _∷_}
-use mathlib.Core.Option.{Option, some}
 use Prim.Native.Nat.{ℕ, zero, suc, _+_, _*_, _^_, _<_, _≤_}
 use native.Mathlib.Omega.{arith}
 use lib.ListN.{length, getD}
-use Rattle.paths.specs.Ranked.{Ranked, add, countAt}
+use Rattle.paths.specs.Ranked.{countAt}
 use Rattle.paths.specs.ByRanking.{ranked, ranked-letters}
-use Rattle.labels.specs.Marks.{nibbles, packed, marksOf, pairCost}
-use Rattle.labels.specs.MarksLaws.{packed-below, nibbles-packed, pair-some}
+use Rattle.labels.specs.Marks.{nibbles, fromNibbles, marksCost}
+use Rattle.labels.specs.MarksLaws.{from-nibbles-below, nibbles-back}
 use Rattle.tables.specs.Places.{sixPlaces, markNumber}
 
 module _ (marks : List ℕ) (few : (i : ℕ) → getD marks i 0 ≤ 15) where
@@ -18,24 +17,21 @@ module _ (marks : List ℕ) (few : (i : ℕ) → getD marks i 0 ≤ 15) where
   counts-few (m ∷ places) n (suc i) = counts-few places n i
 
   pub number-below : (places : List ℕ) → markNumber places marks < 16 ^ length places
-  number-below places = packed-below (length places) (ranked places marks 1) (counts-few places 1)
+  number-below places = from-nibbles-below (length places) (ranked places marks 1) (counts-few places 1)
 
   -- the number stands for the ranked cost of the marks and one pair
   pub number-marks : (places : List ℕ) → nibbles (length places) (markNumber places marks) ≡ ranked places marks 1
-  number-marks places = nibbles-packed (length places) (ranked places marks 1) (counts-few places 1) (ranked-letters places marks 1)
+  number-marks places = nibbles-back (length places) (ranked places marks 1) (counts-few places 1) (ranked-letters places marks 1)
 
-  pub six-cost : (ranking : List ℕ) → marksOf (markNumber (sixPlaces ranking) marks) ≡ ranked (sixPlaces ranking) marks 1
+  pub six-cost : (ranking : List ℕ) → marksCost (markNumber (sixPlaces ranking) marks) ≡ ranked (sixPlaces ranking) marks 1
   six-cost ranking = number-marks (sixPlaces ranking)
 
   pub six-below : (ranking : List ℕ) → markNumber (sixPlaces ranking) marks < 16 ^ 6
   six-below ranking = number-below (sixPlaces ranking)
 
-  pub six-pair : (ranking : List ℕ) → pairCost (markNumber (sixPlaces ranking) marks) ≡ some (ranked (sixPlaces ranking) marks 1)
-  six-pair ranking = pair-some (markNumber (sixPlaces ranking) marks) (six-below ranking) ∙ ap some (six-cost ranking)
-
 -- only the counts matter
 pub number-same : (places xs ys : List ℕ) → ((i : ℕ) → getD xs i 0 ≡ getD ys i 0) → markNumber places xs ≡ markNumber places ys
-number-same places xs ys h = ap (packed (length places)) (same places)
+number-same places xs ys h = ap (fromNibbles (length places)) (same places)
   where
     same : (places : List ℕ) → ranked places xs 1 ≡ ranked places ys 1
     same [] = refl
@@ -47,7 +43,7 @@ pub six-number : (places marks : List ℕ) → length places ≡ 6
     ≡ getD marks (getD places 0 0) 0 * 1048576
     + (getD marks (getD places 1 0) 0 * 65536
     + (getD marks (getD places 2 0) 0 * 4096 + (getD marks (getD places 3 0) 0 * 256 + (getD marks (getD places 4 0) 0 * 16 + getD marks (getD places 5 0) 0))))
-unfolding packed
+unfolding fromNibbles
 six-number (a ∷ b ∷ c ∷ d ∷ e ∷ f ∷ []) marks h = omega arith
 six-number [] marks h = absurd (omega arith)
 six-number (a ∷ []) marks h = absurd (omega arith)

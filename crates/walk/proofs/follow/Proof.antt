@@ -1,39 +1,41 @@
--- `walk::follow`: the outer loop's invariant is `Following`, the inner one's `Trying`. Assumes nothing.
-use mathlib.Core.Path.{sym, _∙_, ap}
-use Prim.Native.Nat.{_+_, _*_, _-_, _<_}
+-- `walk::follow`: the outer loop's invariant is `Following`, the inner one's `Finding`. Assumes nothing.
+use mathlib.Core.Path.{_≡_, refl, sym, _∙_, ap}
+use mathlib.Core.Bool.{_&&_, not}
+use Prim.Native.Nat.{ℕ, _+_, _*_, _<_}
 use native.Mathlib.Omega.{arith}
-use Rattle.card.specs.Laws.Machines.{length-machines}
+use lib.Dec.{eqb}
+use lib.ListN.{length}
 use borrow.Author.Needs.{needs}
-use Rattle.card.specs.Layout.{symbolCount}
+use Rattle.basics.specs.Sets.{member}
 use Rattle.paths.specs.Ranked.{letterCount}
 use Rattle.labels.specs.Work.{costAt}
-use Rattle.walk.specs.Keeping.{TightTo}
-use Rattle.walk.specs.Pairs.{nthPair, IsNumber}
-use Rattle.walk.proofs.Moves.{few-nodes, node-within, has-node}
-use Rattle.walk.proofs.Trying.{Trying, trying-number, trying-next}
-use Rattle.walk.proofs.Following.{Following, following-start, following-end, following-tries, following-try, following-few, following-room, following-falls, following-next}
+use Rattle.product.specs.Laws.LeastPair.{Finding, some-left}
+use Rattle.walk.specs.Keeping.{KeepsAt}
+use Rattle.walk.proofs.Moves.{node-small, has-node}
+use Rattle.walk.proofs.Trying.{found-least, found-none}
+use Rattle.walk.proofs.Following.{WalkedTo, walked-start, walked-end, walked-finding, walked-try, walked-few, walked-room, walked-falls, walked-next}
 use Rattle.walk.proofs.follow.Statement.{statement}
 use Rattle.walk.proofs.follow.Tie as tie
 
 abbrev Inv-least : tie.InvT-least
-Inv-least work card word insertions rows counts places size steps answer position code pairs number₀ number = Trying places card word work size position code number
+Inv-least work card sets insertions rows counts places size steps₀ answer position code pairs left₀ steps left = Finding sets (KeepsAt work card sets places size position code) position left × (length steps ≡ length steps₀)
 
 abbrev μ-least : tie.MeasureT-least
-μ-least work card word insertions rows counts places size steps answer position code pairs number₀ number = 128 - number
+μ-least work card sets insertions rows counts places size steps₀ answer position code pairs left₀ steps left = left
 
 abbrev Inv-loop : tie.InvT-loop
-Inv-loop work card word insertions rows counts places size steps₀ answer₀ position₀ code₀ pairs₀ steps answer position code pairs =
-    Following places card word work insertions rows counts answer₀ size steps answer position code pairs
+Inv-loop work card sets insertions rows counts places size steps₀ answer₀ position₀ code₀ pairs₀ steps answer position code pairs =
+    WalkedTo places card sets work insertions rows counts answer₀ size answer position code pairs × (length steps ≡ length steps₀)
 
 abbrev μ-loop : tie.MeasureT-loop
-μ-loop work card word insertions rows counts places size steps₀ answer₀ position₀ code₀ pairs₀ steps answer position code pairs = letterCount 6 (costAt work (position * size + code))
+μ-loop work card sets insertions rows counts places size steps₀ answer₀ position₀ code₀ pairs₀ steps answer position code pairs = letterCount 6 (costAt work (position * size + code))
 
 loop-holds : tie.Need-loop-holds Inv-least μ-least Inv-loop μ-loop
-loop-holds c = following-start (c .before .before .before .before .before .before .before .before .pre)
+loop-holds c = (walked-start (c .before .before .before .before .before .before .before .before .before .pre) (c .start-node .result) (c .start-node .ensures), refl)
 
 -- the node's number is small
-small : (c : tie.At-loop Inv-least μ-least Inv-loop μ-loop) → c .loop .position * c .before .before .before .before .before .before .before .before .before .args .size + c .loop .code < 3200
-small c = let F = c .loop .inv in omega (arith, few-nodes (F .labels), node-within (F .labels) (c .loop .position) (c .loop .code) (F .position) (F .state))
+small : (c : tie.At-loop Inv-least μ-least Inv-loop μ-loop) → c .loop .position * c .before .before .before .before .before .before .before .before .before .before .args .size + c .loop .code < 3200
+small c = let F = c .loop .inv .0 in node-small (F .labels) (c .loop .position) (c .loop .code) (F .position) (F .state)
 
 mul-load : tie.Need-mul-load Inv-least μ-least Inv-loop μ-loop
 mul-load c = omega (arith, small c)
@@ -42,61 +44,73 @@ add-load : tie.Need-add-load Inv-least μ-least Inv-loop μ-loop
 add-load c = omega (arith, small c)
 
 load-requires : tie.Need-load-requires Inv-least μ-least Inv-loop μ-loop
-load-requires c κs = has-node (c .loop .inv .labels) _ _ (c .loop .inv .position) (c .loop .inv .state)
+load-requires c κs = let F = c .loop .inv .0 in has-node (F .labels) _ _ (F .position) (F .state)
+
+inputs-at-requires : tie.Need-inputs-at-requires Inv-least μ-least Inv-loop μ-loop
+inputs-at-requires c κs = tt
 
 least-holds : tie.Need-least-holds Inv-least μ-least Inv-loop μ-loop
-least-holds c = following-tries (c .before .before .before .loop .inv) (λ z. c .if1 .left (ap (letterCount 6) (c .before .before .load .ensures) ∙ z))
+least-holds c = (walked-finding (c .before .before .before .before .loop .inv .0) (λ z. c .before .if1 .left (ap (letterCount 6) (c .before .before .before .load .ensures) ∙ z)) _ (c .inputs-at .ensures), refl)
 
--- the number tried is that of a pair
-number : (c : tie.At-least Inv-least μ-least Inv-loop μ-loop) → let s = c .before .before .before .before .before .before .before .before .before .before .before .before .before in IsNumber (symbolCount (s .args .card .now)) (s .args .word .now) (c .before .before .before .before .loop .position) (c .least .number)
-number c = let F = c .before .before .before .before .loop .inv in trying-number (F .labels) (F .state) (c .least .inv)
+least-requires : tie.Need-least-requires Inv-least μ-least Inv-loop μ-loop
+least-requires c κs = some-left (c .least .inv .0)
 
-low : (c : tie.At-least Inv-least μ-least Inv-loop μ-loop) → c .least .number < 128
-low c = let F = c .before .before .before .before .loop .inv in omega (arith, number c .high, F .tables .for-insertions .machines .symbols)
+cast-input : tie.Need-cast-input Inv-least μ-least Inv-loop μ-loop
+cast-input c = omega (arith, c .least2 .ensures .1)
 
-try-pair-requires : tie.Need-try-pair-requires Inv-least μ-least Inv-loop μ-loop
-try-pair-requires c κs = following-try (c .before .before .before .before .before .loop .inv) (number (c .before))
+try-input-requires : tie.Need-try-input-requires Inv-least μ-least Inv-loop μ-loop
+try-input-requires c κs =
+    let t = c .before .before .before .before .before .before .before in
+    let l = c .before .least2 .ensures in
+    walked-try (t .loop .inv .0) _ (omega (arith, t .before .before .before .before .before .before .before .before .before .before .pre .steps-room, t .loop .inv .1, c .before .before .least .inv .1)) (c .before .before .least .inv .0) _ (l .1) (l .2)
 
-add-number : tie.Need-add-number Inv-least μ-least Inv-loop μ-loop
-add-number c = omega (arith, low (c .before .before .before .before))
+enum-known-tried : tie.Need-enum-known-tried Inv-least μ-least Inv-loop μ-loop
+enum-known-tried c = search needs
+
+enum-told : tie.Need-enum-told Inv-least μ-least Inv-loop μ-loop
+enum-told c = search needs
+
+without-least-requires : tie.Need-without-least-requires Inv-least μ-least Inv-loop μ-loop
+without-least-requires c κs = some-left (c .before .before .before .before .before .before .before .least .inv .0)
 
 least-less : tie.Need-least-less Inv-least μ-least Inv-loop μ-loop
-least-less c = omega (arith, low (c .before .before .before .before))
+least-less c = c .without-least .ensures .0
 
 least-again : tie.Need-least-again Inv-least μ-least Inv-loop μ-loop
-least-again c = let F = c .before .before .before .before .before .before .before .before .loop .inv in trying-next (F .labels) (F .state) (c .before .before .before .before .least .inv) (c .before .before .try-pair .ensures .no (c .enum-told .given .1))
-
--- the pair found keeps to the labels
-tight : (c : tie.After-known-told Inv-least μ-least Inv-loop μ-loop) → let s = c .before .before .before .before .before .before .before .before .before .before .before .before .before .before .before .before .before .before in let l = c .before .before .before .before .before .before .before .before .before .loop in
-    TightTo (s .args .work .now) (s .args .card .now) (s .args .word .now) (s .args .places .now) (s .args .size) (l .position) (l .code) (nthPair (symbolCount (s .args .card .now)) (s .args .word .now) (l .position) (c .before .before .before .before .before .least .number)) (c .before .kept .given .0 .0)
-tight c = c .before .before .before .try-pair .ensures .to _ (c .before .kept .given .1)
-
-nth-pair-requires : tie.Need-nth-pair-requires Inv-least μ-least Inv-loop μ-loop
-nth-pair-requires c κs = (c .before .before .before .before .before .before .before .before .before .loop .inv .labels .accepted, number (c .before .before .before .before .before))
+least-again c =
+    let v = c .before .before .before .before .before .before .before .before .least in
+    let l = c .before .before .before .before .before .before .before .least2 in
+    let t = c .before .before .before .before .before .try-input in (
+      found-none (v .inv .0) _ (t .ensures) (c .before .enum-told .given .1) _ (λ n. c .without-least .ensures .1 n ∙ ap (λ (x : ℕ). member (v .left) n && not (eqb n x)) (sym (l .ensures .0))),
+      t .kept .1 .1 .1 .1 .1 .1 .1 .1 .1 .1 .1 .0 ∙ v .inv .1,
+    )
 
 write-pair-requires : tie.Need-write-pair-requires Inv-least μ-least Inv-loop μ-loop
-write-pair-requires c κs = let k = c .before .before in following-room (k .before .before .before .before .before .before .before .before .before .loop .inv) (k .before .before .before .before .before .least .inv) _ (c .before .nth-pair .ensures) _ (tight k)
+write-pair-requires c κs = walked-room (c .before .before .before .before .before .before .before .before .before .before .before .before .before .before .loop .inv .0) (found-least (c .before .before .before .before .before .before .before .before .before .least .inv .0) _ (c .before .before .before .before .before .before .try-input .ensures) (c .before .before .before .before .before .before .before .before .least2 .ensures .0) _ (c .before .before .tried .given .1))
 
 pass-requires : tie.Need-pass-requires Inv-least μ-least Inv-loop μ-loop
-pass-requires c κs = let F = c .before .before .before .before .before .before .before .before .before .before .before .before .before .before .before .loop .inv in record { accepted = F .labels .accepted; sound-word = F .labels .sound-word; size = omega (arith, F .tables .steps-size, F .tables .for-insertions .holds-steps .size, length-machines (c .before .before .before .before .before .before .before .before .before .before .before .before .before .before .before .before .before .before .before .before .before .before .before .before .args .card .now)); position = F .position }
+pass-requires c κs = let F = c .before .before .before .before .before .before .before .before .before .before .before .before .before .before .before .before .before .loop .inv .0 in omega (arith, F .position, F .labels .setting .few)
 
 add-pairs : tie.Need-add-pairs Inv-least μ-least Inv-loop μ-loop
-add-pairs c = omega (arith, following-few (c .before .before .before .before .before .before .before .before .before .before .before .before .before .before .before .before .before .before .loop .inv))
+add-pairs c = omega (arith, walked-few (c .before .before .before .before .before .before .before .before .before .before .before .before .before .before .before .before .before .before .loop .inv .0))
 
 loop-less : tie.Need-loop-less Inv-least μ-least Inv-loop μ-loop
-loop-less c = let k = c .before .before .before .before .before .before .before .before .before in following-falls (k .before .before .before .before .before .before .before .before .before .loop .inv) (k .before .before .before .before .before .least .inv) _ (c .before .before .before .before .before .before .before .before .nth-pair .ensures) _ (tight k) _ _ (c .before .before .pass .ensures)
+loop-less c = walked-falls (c .before .before .before .before .before .before .before .before .before .before .before .before .before .before .before .before .before .before .loop .inv .0) (found-least (c .before .before .before .before .before .before .before .before .before .before .before .before .before .least .inv .0) _ (c .before .before .before .before .before .before .before .before .before .before .try-input .ensures) (c .before .before .before .before .before .before .before .before .before .before .before .before .least2 .ensures .0) _ (c .before .before .before .before .before .before .tried .given .1)) _ (c .pass .ensures)
 
 loop-again : tie.Need-loop-again Inv-least μ-least Inv-loop μ-loop
-loop-again c = let k = c .before .before .before .before .before .before .before .before .before in following-next (k .before .before .before .before .before .before .before .before .before .loop .inv) (k .before .before .before .before .before .least .inv) _ (c .before .before .before .before .before .before .before .before .nth-pair .ensures) _ (tight k) _ _ (c .before .before .pass .ensures) _ (c .before .before .before .before .before .before .write-pair .ensures)
+loop-again c = (
+  walked-next (c .before .before .before .before .before .before .before .before .before .before .before .before .before .before .before .before .before .before .loop .inv .0) (found-least (c .before .before .before .before .before .before .before .before .before .before .before .before .before .least .inv .0) _ (c .before .before .before .before .before .before .before .before .before .before .try-input .ensures) (c .before .before .before .before .before .before .before .before .before .before .before .before .least2 .ensures .0) _ (c .before .before .before .before .before .before .tried .given .1)) _ (c .pass .ensures) _ (c .before .before .before .write-pair .ensures),
+  c .before .before .before .before .before .before .before .before .before .before .try-input .kept .1 .1 .1 .1 .1 .1 .1 .1 .1 .1 .1 .0 ∙ c .before .before .before .before .before .before .before .before .before .before .before .before .before .least .inv .1 ∙ c .before .before .before .before .before .before .before .before .before .before .before .before .before .before .before .before .before .before .loop .inv .1,
+)
 
 same-length : tie.Need-same-length Inv-least μ-least Inv-loop μ-loop
-same-length c = c .before .before .before .loop .inv .tables .steps-size ∙ sym (c .before .before .before .before .before .before .before .before .before .before .before .before .pre .tables .steps-size)
+same-length c = c .before .before .before .loop .inv .1
 
 same-length-2 : tie.Need-same-length-2 Inv-least μ-least Inv-loop μ-loop
-same-length-2 c = c .before .before .before .loop .inv .answer-size
+same-length-2 c = c .before .before .before .loop .inv .0 .follows .answer-size
 
 returns : tie.Need-returns Inv-least μ-least Inv-loop μ-loop
-returns c = following-end (c .before .before .before .loop .inv) (ap (letterCount 6) (sym (c .before .before .load .ensures)) ∙ c .if1 .taken)
+returns c = walked-end (c .before .before .before .loop .inv .0) (ap (letterCount 6) (sym (c .before .before .load .ensures)) ∙ c .if1 .taken)
 
 pub follow-spec : {M : Type 1} → statement M
 follow-spec =
@@ -106,18 +120,21 @@ follow-spec =
     μ-least
     Inv-loop
     μ-loop
+    (λ c κs. search needs)
     loop-holds
     mul-load
     add-load
     load-requires
+    inputs-at-requires
     least-holds
-    try-pair-requires
-    (λ c. search needs)
-    (λ c. search needs)
-    add-number
+    least-requires
+    cast-input
+    try-input-requires
+    enum-known-tried
+    enum-told
+    without-least-requires
     least-less
     least-again
-    nth-pair-requires
     write-pair-requires
     pass-requires
     add-pairs

@@ -8,7 +8,7 @@ use borrow.Author.Tests.{not-true, not-false}
 use native.Mathlib.Omega.{arith}
 use Rattle.tables.specs.declared.Joint.the-variants as joints
 use Rattle.paths.specs.Ranked.{Ranked, add}
-use Rattle.labels.specs.Marks.{marksOf}
+use Rattle.labels.specs.Marks.{marksCost}
 use Rattle.labels.specs.LabelCost.{costOf, isSame, RoomFor}
 use Rattle.labels.specs.Work.{costAt, labelOf}
 use Rattle.labels.proofs.Comparing.{same-true, same-false}
@@ -30,14 +30,14 @@ label c = c .before .before .reached .ensures .label (not-false _ (c .before .if
 
 -- the test is whether u's label is the sum
 sums : (c : tie.After-same) → let k = c .before .before .before .before .before .before in let s = k .before .before .before .before in
-    c .same .result ≡ isSame 6 (costAt (s .args .work .now) (s .args .u)) (add 6 (marksOf (k .before .found .given .0 .1 .0)) (costAt (s .args .work .now) (s .args .base + k .before .found .given .0 .0)))
+    c .same .result ≡ isSame 6 (costAt (s .args .work .now) (s .args .u)) (add 6 (marksCost (k .before .found .given .0 .1 .0)) (costAt (s .args .work .now) (s .args .base + k .before .found .given .0 .0)))
 sums c =
     let k = c .before .before .before .before .before .before in
     let s = k .before .before .before .before in
     let m = k .before .found .given .0 .1 .0 in
     c .same .ensures
     ∙ ap (λ (x : Ranked 6). isSame 6 x (costOf (c .before .before .plus .result))) (c .before .load2 .ensures)
-    ∙ ap (λ (y : Ranked 6). isSame 6 (costAt (s .args .work .now) (s .args .u)) y) (c .before .before .plus .ensures ∙ ap (add 6 (marksOf m)) (c .before .before .before .load .ensures))
+    ∙ ap (λ (y : Ranked 6). isSame 6 (costAt (s .args .work .now) (s .args .u)) y) (c .before .before .plus .ensures ∙ ap (add 6 (marksCost m)) (c .before .before .before .load .ensures))
 
 returns : tie.Need-returns
 returns c = nothing-found _ _ _ _ (c .enum-told .given .1)

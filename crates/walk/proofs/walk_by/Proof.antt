@@ -1,9 +1,8 @@
 -- `walk::walk_by`: the tables, and then the walk by them. Assumes nothing.
-use mathlib.Core.Path.{refl, sym, _∙_}
+use mathlib.Core.Path.{refl}
 use native.Mathlib.Omega.{arith}
 use borrow.Author.Needs.{needs}
-use Rattle.walk.proofs.Following.{symbol-below}
-use Rattle.walk.proofs.Starting.{some-word, counts-are, counts-length, counts-within, rows-pre, follow-pre, walked-by-ranking}
+use Rattle.walk.proofs.Starting.{counts-are, counts-length, counts-within, rows-pre, follow-pre, walked-by-ranking}
 use Rattle.walk.proofs.walk_by.Statement.{statement}
 use Rattle.walk.proofs.walk_by.Tie as tie
 
@@ -16,25 +15,20 @@ slice-aggregate-fill-rows c = counts-length _ _ _ (c .before .machine-count .ens
 fill-rows-requires : tie.Need-fill-rows-requires
 fill-rows-requires c κs = rows-pre (c .before .before .before .before .before .before .before .before .before .before .before .before .pre .0) _ _ (counts-are _ _ _ (c .before .before .machine-count .ensures) (c .before .before .before .state-counts .ensures)) refl
 
-shared-slice-read-fill-steps : tie.Need-shared-slice-read-fill-steps
-shared-slice-read-fill-steps c = some-word _ _ (c .before .before .before .before .before .before .before .before .before .before .before .before .before .before .before .before .before .before .before .pre .0 .labels .sound-word)
-
-fill-steps-requires-2 : tie.Need-fill-steps-requires-2
-fill-steps-requires-2 c κs = let s = c .before .before .before .before .before .before .before .before .before .before .before .before .before .before .before .before .before .before .before .before in
-    (s .pre .0 .labels .accepted, symbol-below _ _ (s .pre .0 .labels .accepted) (s .pre .0 .labels .sound-word) 0 (some-word _ _ (s .pre .0 .labels .sound-word)), omega (arith, s .pre .1 .room, s .pre .1 .alike))
-
 array-share-prefix-counts-2 : tie.Need-array-share-prefix-counts-2
-array-share-prefix-counts-2 c = counts-within _ _ _ (c .before .before .before .before .before .before .before .before .before .before .before .before .before .before .before .machine-count .ensures) (c .before .before .before .before .before .before .before .before .before .before .before .before .before .before .before .before .state-counts .ensures)
+array-share-prefix-counts-2 c = counts-within _ _ _ (c .before .before .before .before .before .before .before .before .before .before .machine-count .ensures) (c .before .before .before .before .before .before .before .before .before .before .before .state-counts .ensures)
 
 slice-aggregate-follow-2 : tie.Need-slice-aggregate-follow-2
-slice-aggregate-follow-2 c = counts-length _ _ _ (c .before .before .before .before .before .before .before .before .before .before .before .before .before .before .before .before .machine-count .ensures) (c .before .before .before .before .before .before .before .before .before .before .before .before .before .before .before .before .before .state-counts .ensures)
+slice-aggregate-follow-2 c = counts-length _ _ _ (c .before .before .before .before .before .before .before .before .before .before .before .machine-count .ensures) (c .before .before .before .before .before .before .before .before .before .before .before .before .state-counts .ensures)
 
 follow-requires : tie.Need-follow-requires
-follow-requires c κs = let s = c .before .before .before .before .before .before .before .before .before .before .before .before .before .before .before .before .before .before .before .before .before .before .before .before .before .before .before .before .before in
-    follow-pre (s .pre .0) _ _ _ _ _ (c .before .before .before .before .before .before .before .before .before .before .before .before .before .before .before .before .before .before .before .before .before .six-places .ensures) (c .before .before .before .before .before .before .before .before .before .before .before .before .before .fill-steps .ensures) (c .before .before .before .before .before .before .before .before .fill-steps2 .ensures) (c .before .before .before .before .before .before .before .before .fill-steps2 .kept .1 .1 .0 ∙ s .pre .1 .alike ∙ sym (c .before .before .before .before .before .before .before .before .before .before .before .before .before .fill-steps .kept .1 .1 .0)) (c .before .before .before .before .before .before .before .before .before .before .before .before .before .before .before .before .fill-rows .ensures) (counts-are _ _ _ (c .before .before .before .before .before .before .before .before .before .before .before .before .before .before .before .before .before .before .before .machine-count .ensures) (c .before .before .before .before .before .before .before .before .before .before .before .before .before .before .before .before .before .before .before .before .state-counts .ensures))
+follow-requires c κs =
+    let s = c .before .before .before .before .before .before .before .before .before .before .before .before .before .before .before .before .before .before .before .before .before .before .before .before in
+    follow-pre (s .pre .0) _ _ _ _ _ (c .before .before .before .before .before .before .before .before .before .before .before .before .before .before .before .before .six-places .ensures) (c .before .before .before .before .before .before .before .before .fill-steps .ensures) (omega (arith, s .pre .1 .room, s .pre .1 .alike)) (c .before .before .before .before .before .before .before .before .before .before .before .fill-rows .ensures)
+    (counts-are _ _ _ (c .before .before .before .before .before .before .before .before .before .before .before .before .before .before .machine-count .ensures) (c .before .before .before .before .before .before .before .before .before .before .before .before .before .before .before .state-counts .ensures))
 
 returns : tie.Need-returns
-returns c = walked-by-ranking _ (c .before .before .before .before .before .before .before .before .before .before .before .before .before .before .before .before .before .before .before .before .before .before .before .before .before .before .six-places .ensures) (c .before .before .before .before .follow .ensures)
+returns c = walked-by-ranking _ (c .before .before .before .before .before .before .before .before .before .before .before .before .before .before .before .before .before .before .before .before .before .six-places .ensures) (c .before .before .before .before .follow .ensures)
 
 pub walk-by-spec : {M : Type 1} → statement M
 walk-by-spec =
@@ -48,8 +42,6 @@ walk-by-spec =
     (λ c. search needs)
     fill-rows-requires
     (λ c κs. search needs)
-    shared-slice-read-fill-steps
-    fill-steps-requires-2
     (λ c. search needs)
     array-share-prefix-counts-2
     slice-aggregate-follow-2

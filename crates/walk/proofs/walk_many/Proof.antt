@@ -6,7 +6,7 @@ use Rattle.walk.proofs.walk_many.Statement.{statement}
 use Rattle.walk.proofs.walk_many.Tie as tie
 
 walk-by-requires : tie.Need-walk-by-requires
-walk-by-requires c κs = let s = c .before .before .before .before .before .before .before .before in (s .pre, tables-lent (s .args .card .now) 12288 (omega (arith, accepted (s .args .card .now) (s .pre .labels .accepted) .head .counts)))
+walk-by-requires c κs = let s = c .before .before .before .before .before .before .before .before in (s .pre, tables-lent (s .args .card .now) 12288 (omega (arith, accepted (s .args .card .now) (s .pre .labels .setting .accepted) .head .counts)))
 
 pub walk-many-spec : {M : Type 1} → statement M
 walk-many-spec =

@@ -44,11 +44,11 @@ loop-holds c =
 add-end : tie.Need-add-end Inv-loop μ-loop
 add-end c = omega (arith, in-parts (c .before .before), c .wide .ensures .0)
 
-sub-write-part : tie.Need-sub-write-part Inv-loop μ-loop
-sub-write-part c = omega (arith, in-parts (c .before .before), at-loop (c .before .before .before))
+add-next : tie.Need-add-next Inv-loop μ-loop
+add-next c = omega (arith, in-parts (c .before .before), c .wide .ensures .0)
 
-part-write-part-start : tie.Need-part-write-part-start Inv-loop μ-loop
-part-write-part-start c = omega (arith, in-parts (c .before .before), at-loop (c .before .before .before))
+part-write-part-end : tie.Need-part-write-part-end Inv-loop μ-loop
+part-write-part-end c = omega (arith, in-parts (c .before .before), at-loop (c .before .before .before))
 
 part-write-part-end-2 : tie.Need-part-write-part-end-2 Inv-loop μ-loop
 part-write-part-end-2 c = omega (arith, in-parts (c .before .before .before))
@@ -57,11 +57,6 @@ write-part-requires : tie.Need-write-part-requires Inv-loop μ-loop
 write-part-requires c κs =
     let k = c .before .before .before .before in
     simp (length-take, length-drop) (omega (arith, in-parts k, at-loop (k .before)))
-
-add-offset-2 : tie.Need-add-offset-2 Inv-loop μ-loop
-add-offset-2 c =
-    let k = c .before .before .before .before .before .before .before in
-    omega (arith, in-parts k)
 
 loop-again : tie.Need-loop-again Inv-loop μ-loop
 loop-again c =
@@ -107,14 +102,14 @@ write-parts-spec =
     (λ c. search needs)
     (λ c κs. search needs)
     add-end
-    sub-write-part
-    part-write-part-start
+    add-next
     (λ c. search needs)
+    (λ c. search needs)
+    part-write-part-end
     (λ c. search needs)
     (λ c. search needs)
     part-write-part-end-2
     write-part-requires
-    add-offset-2
     (λ c. search needs)
     (λ c. search needs)
     loop-again

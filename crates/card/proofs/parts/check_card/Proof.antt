@@ -8,7 +8,8 @@ use Rattle.basics.specs.Refusals.{refuse, firstOf}
 use Rattle.card.specs.Layout.{machineCount, symbolCount, partsOf}
 use Rattle.card.specs.Card.{partsRefusal, fewStates}
 use Rattle.card.specs.Packing.{split}
-use Rattle.card.specs.Laws.Layout.{Headed, head-told, layout-told}
+use Rattle.layout.specs.LaidOut.{layout-told}
+use Rattle.card.specs.Laws.Layout.{Headed, head-told}
 use Rattle.card.specs.Laws.Repacked.{table-lengths, table-parts, table-total}
 use borrow.Author.Needs.{needs}
 use Rattle.card.proofs.parts.check_card.Statement.{statement}
@@ -26,13 +27,13 @@ lengths c =
     let s = c .before .before .before .before in
     let l = s .args .card .now in
     let r = c .before .before .read-lengths .result in
-    table-lengths l (layout-told l (s .pre .1)) (take (c .index .result) r) (as-many c ∙ c .index .ensures .0)
+    table-lengths l (layout-told (machineCount l) l (s .pre .1)) (take (c .index .result) r) (as-many c ∙ c .index .ensures .0)
     (λ i h. getD-take (c .index .result) r i 0 (omega arith) ∙ c .before .before .read-lengths .ensures .1 i h)
 
 read-lengths-requires : tie.Need-read-lengths-requires
 read-lengths-requires c κs =
     let s = c .before in
-    omega (arith, head-told (s .args .card .now) (s .pre .0), layout-told (s .args .card .now) (s .pre .1) .table)
+    omega (arith, head-told (s .args .card .now) (s .pre .0), layout-told (machineCount (s .args .card .now)) (s .args .card .now) (s .pre .1) .table)
 
 shared-slice-read-index : tie.Need-shared-slice-read-index
 shared-slice-read-index c = let s = c .before .before .before in omega (arith, head-told (s .args .card .now) (s .pre .0))
@@ -51,7 +52,7 @@ check-parts-requires c κs =
     let x = c .before .before in
     let s = x .before .before .before .before in
     let l = s .args .card .now in
-    (omega (arith, table-total l (layout-told l (s .pre .1)) (take (x .index .result) (x .before .before .read-lengths .result)) (lengths x)), omega (arith, head x, as-many x), omega (arith, head x))
+    (omega (arith, table-total l (layout-told (machineCount l) l (s .pre .1)) (take (x .index .result) (x .before .before .read-lengths .result)) (lengths x)), omega (arith, head x, as-many x), omega (arith, head x))
 
 returns : tie.Need-returns
 returns c =
@@ -60,7 +61,7 @@ returns c =
     let l = s .args .card .now in
     let e : x .index .result ≡ machineCount l = x .index .ensures .0 in
     let p = ap (λ k. split (take (x .index .result) (x .before .before .read-lengths .result)) (drop (2 + 4 * k) l)) e
-    ∙ table-parts l (layout-told l (s .pre .1)) (take (x .index .result) (x .before .before .read-lengths .result)) (lengths x) in
+    ∙ table-parts l (layout-told (machineCount l) l (s .pre .1)) (take (x .index .result) (x .before .before .read-lengths .result)) (lengths x) in
     c .check-parts .ensures ∙ ap (λ ps. firstOf (partsRefusal (symbolCount l) ps ∷ refuse 6 (fewStates ps) ∷ [])) p
 
 pub check-card-spec : {M : Type 1} → statement M

@@ -1,40 +1,46 @@
-use mathlib.Core.Path.{_≡_, refl, sym, _∙_}
+use mathlib.Core.Path.{_≡_, refl, ap, sym, _∙_}
 use Prim.Native.Nat.{_≤_}
 use native.Mathlib.Omega.{arith}
 use lib.ListN.{length, length-take, length-drop}
 use lib.Seq.{length-take-le}
 use borrow.Author.Needs.{needs}
 use borrow.Author.Tests.{not-true, not-false}
-use Rattle.lines.specs.Text.{comma}
+use Rattle.basics.specs.Search.{allOf}
+use Rattle.basics.proofs.Search.{all-none}
+use Rattle.lines.specs.Text.{comma, segments}
 use Rattle.lines.specs.Parsing.{isSymbolText, isWordText}
 use Rattle.lines.proofs.Lists.{all-next, all-fails, all-end}
 use Rattle.lines.proofs.Cutting.{segment-first, segment-last, segment-more}
+use Rattle.lines.proofs.Forms.{symbols-none, symbols-some}
 use Rattle.lines.proofs.parsing.is_word_text.Statement.{statement}
 use Rattle.lines.proofs.parsing.is_word_text.Tie as tie
 
 abbrev Inv-loop : tie.InvT-loop
-Inv-loop text rest₀ rest = (length rest ≤ length text) × (isWordText rest ≡ isWordText text)
+Inv-loop text rest₀ rest = (length rest ≤ length text) × (allOf isSymbolText (segments comma rest) ≡ isWordText text)
 
 abbrev μ-loop : tie.MeasureT-loop
 μ-loop text rest₀ rest = length rest
 
+returns : tie.Need-returns Inv-loop μ-loop
+returns c = sym (all-none isSymbolText (symbols-none _ (c .if1 .taken)))
+
 loop-holds : tie.Need-loop-holds Inv-loop μ-loop
-loop-holds c = (search needs, refl)
+loop-holds c = (search needs, ap (allOf isSymbolText) (sym (symbols-some _ (c .if1 .left))))
 
 slice-aggregate-is-symbol-text : tie.Need-slice-aggregate-is-symbol-text Inv-loop μ-loop
 slice-aggregate-is-symbol-text c = sym (length-take-le _ _ (c .before .length-before .ensures .1))
 
-returns : tie.Need-returns Inv-loop μ-loop
-returns c = let k = c .before .before .before in
+returns-2 : tie.Need-returns-2 Inv-loop μ-loop
+returns-2 c = let k = c .before .before .before in
     all-fails isSymbolText (segment-first comma _ _ (k .length-before .ensures .0))
-    (sym (c .before .is-symbol-text .ensures) ∙ not-true _ (c .if1 .taken))
+    (sym (c .before .is-symbol-text .ensures) ∙ not-true _ (c .if2 .taken))
     (k .before .loop .inv .1)
 
-returns-2 : tie.Need-returns-2 Inv-loop μ-loop
-returns-2 c = let k = c .before .before .before .before in
+returns-3 : tie.Need-returns-3 Inv-loop μ-loop
+returns-3 c = let k = c .before .before .before .before in
     all-end isSymbolText refl
-    (all-next isSymbolText (segment-last comma _ _ (k .length-before .ensures .0) (c .if2 .taken))
-    (sym (c .before .before .is-symbol-text .ensures) ∙ not-false _ (c .before .if1 .left))
+    (all-next isSymbolText (segment-last comma _ _ (k .length-before .ensures .0) (c .if3 .taken))
+    (sym (c .before .before .is-symbol-text .ensures) ∙ not-false _ (c .before .if2 .left))
     (k .before .loop .inv .1))
 
 add-rest : tie.Need-add-rest Inv-loop μ-loop
@@ -46,8 +52,8 @@ loop-less c = simp (length-take, length-drop) (omega arith)
 loop-again : tie.Need-loop-again Inv-loop μ-loop
 loop-again c = let k = c .before .before .before .before .before in (
   simp (length-take, length-drop) (omega arith),
-  all-next isSymbolText (segment-more comma _ _ (k .length-before .ensures .0) (c .before .if2 .left))
-      (sym (c .before .before .before .is-symbol-text .ensures) ∙ not-false _ (c .before .before .if1 .left))
+  all-next isSymbolText (segment-more comma _ _ (k .length-before .ensures .0) (c .before .if3 .left))
+      (sym (c .before .before .before .is-symbol-text .ensures) ∙ not-false _ (c .before .before .if2 .left))
       (k .before .loop .inv .1),
 )
 
@@ -57,12 +63,13 @@ is-word-text-spec =
     (tie.spec
     Inv-loop
     μ-loop
+    returns
     loop-holds
     (λ c κs. search needs)
     slice-aggregate-is-symbol-text
     (λ c κs. search needs)
-    returns
     returns-2
+    returns-3
     add-rest
     (λ c. search needs)
     (λ c. search needs)

@@ -1,32 +1,42 @@
 use mathlib.Core.Path.{_≡_, refl, ap, sym, _∙_}
 use mathlib.Core.Bool.{true}
-use mathlib.Core.List.{_∷_, map}
-use Prim.Native.Nat.{_+_, _≤_}
+use mathlib.Core.List.{List, _∷_, map}
+use Prim.Native.Nat.{ℕ, _+_, _≤_}
 use native.Mathlib.Omega.{arith}
 use lib.ListN.{length, take, length-take, length-drop, length-set, length-map}
 use lib.Seq.{length-take-le, sets}
 use borrow.Author.Needs.{needs}
+use Rattle.basics.specs.Search.{allOf}
 use Rattle.lines.specs.Text.{comma, after, segments}
 use Rattle.lines.specs.Decimal.{valueOf}
-use Rattle.lines.specs.Parsing.{isSymbolText, isWordText}
+use Rattle.lines.specs.Parsing.{isSymbolText, symbolsIn}
 use Rattle.lines.proofs.Lists.{all-first, all-rest, sets-next, sets-front}
 use Rattle.lines.proofs.Cutting.{otherSegments, segment-first, segment-last, segment-more}
-use Rattle.lines.proofs.Forms.{symbol-digits, symbol-small}
+use Rattle.lines.proofs.Forms.{symbol-digits, symbol-small, symbols-none, symbols-some}
 use Rattle.lines.proofs.parsing.write_word.Statement.{statement}
 use Rattle.lines.proofs.parsing.write_word.Tie as tie
 
 abbrev Inv-loop : tie.InvT-loop
 Inv-loop text word₀ rest₀ count₀ word rest count = (length rest ≤ length text)
     × (length word ≡ length word₀)
-    × (isWordText rest ≡ true)
-    × (count + length (segments comma rest) ≡ length (segments comma text))
-    × (sets word count (map valueOf (segments comma rest)) ≡ sets word₀ 0 (map valueOf (segments comma text)))
+    × (allOf isSymbolText (segments comma rest) ≡ true)
+    × (count + length (segments comma rest) ≡ length (symbolsIn text))
+    × (sets word count (map valueOf (segments comma rest)) ≡ sets word₀ 0 (map valueOf (symbolsIn text)))
 
 abbrev μ-loop : tie.MeasureT-loop
 μ-loop text word₀ rest₀ count₀ word rest count = length rest
 
+returns : tie.Need-returns Inv-loop μ-loop
+returns c = rw (symbols-none _ (c .if1 .taken)) (refl, refl)
+
 loop-holds : tie.Need-loop-holds Inv-loop μ-loop
-loop-holds c = (search needs, refl, c .before .before .pre .0, search needs, refl)
+loop-holds c = let q = symbols-some _ (c .if1 .left) in (
+  search needs,
+  refl,
+  ap (allOf isSymbolText) (sym q) ∙ c .before .before .before .pre .0,
+  omega (arith, ap length q),
+  ap (λ (s : List (List ℕ)). sets (c .before .before .before .args .word .now) 0 (map valueOf s)) (sym q),
+)
 
 slice-aggregate-value : tie.Need-slice-aggregate-value Inv-loop μ-loop
 slice-aggregate-value c = sym (length-take-le _ _ (c .before .length-before .ensures .1))
@@ -55,13 +65,13 @@ add-count c = omega (arith, ap length (first (c .before .before)))
 same-length : tie.Need-same-length Inv-loop μ-loop
 same-length c = simp length-set (c .before .before .before .before .loop .inv .1)
 
-returns : tie.Need-returns Inv-loop μ-loop
-returns c = let k = c .before .before .before in
-    let a = k .before .before .before .before .args in
-    let p = segment-last comma _ _ (k .length-before .ensures .0) (c .if1 .taken) in (
+returns-2 : tie.Need-returns-2 Inv-loop μ-loop
+returns-2 c = let k = c .before .before .before in
+    let a = k .before .before .before .before .before .args in
+    let p = segment-last comma _ _ (k .length-before .ensures .0) (c .if2 .taken) in (
       omega (arith, ap length p),
       rw (c .before .value .ensures) (sets-next _ _ (ap (map valueOf) p) (k .before .loop .inv .4))
-          ∙ sets-front (map valueOf (segments comma (a .text .now))) (a .word .now) (simp length-map (k .before .before .before .before .pre .1)),
+          ∙ sets-front (map valueOf (symbolsIn (a .text .now))) (a .word .now) (simp length-map (k .before .before .before .before .before .pre .1)),
     )
 
 loop-less : tie.Need-loop-less Inv-loop μ-loop
@@ -69,7 +79,7 @@ loop-less c = simp (length-take, length-drop) (omega arith)
 
 loop-again : tie.Need-loop-again Inv-loop μ-loop
 loop-again c = let k = c .before .before .before .before in
-    let p = segment-more comma _ _ (k .length-before .ensures .0) (c .before .if1 .left) in (
+    let p = segment-more comma _ _ (k .length-before .ensures .0) (c .before .if2 .left) in (
       simp (length-take, length-drop) (omega arith),
       simp length-set (k .before .loop .inv .1),
       all-rest isSymbolText p (k .before .loop .inv .2),
@@ -83,6 +93,7 @@ write-word-spec =
     (tie.spec
     Inv-loop
     μ-loop
+    returns
     loop-holds
     (λ c κs. search needs)
     slice-aggregate-value
@@ -91,7 +102,7 @@ write-word-spec =
     slice-write-word
     add-count
     same-length
-    returns
+    returns-2
     (λ c. search needs)
     (λ c. search needs)
     (λ c. search needs)

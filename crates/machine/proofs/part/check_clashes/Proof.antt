@@ -9,14 +9,14 @@ use Rattle.basics.specs.Refusals.{refuse}
 use Rattle.basics.proofs.Below.{every-start, every-next, every-at}
 use Rattle.machine.specs.Part.{stateCount, arcsOf}
 use Rattle.machine.specs.Accepted.{shape-facts}
-use Rattle.machine.specs.Clashes.{apartFrom}
+use Rattle.machine.specs.Clashes.{clashFreeFrom}
 use Rattle.machine.proofs.Stages.{passed-test, refused-test}
-use Rattle.machine.proofs.Clashes.{state-clash, states-apart}
+use Rattle.machine.proofs.Clashes.{state-clash, states-free}
 use Rattle.machine.proofs.part.check_clashes.Statement.{statement}
 use Rattle.machine.proofs.part.check_clashes.Tie as tie
 
 abbrev Inv-loop : tie.InvT-loop
-Inv-loop part states count from₀ from = (from ≤ states) × (everyBelow (λ s. pairwise (apartFrom s) (arcsOf part)) from ≡ true)
+Inv-loop part states count from₀ from = (from ≤ states) × (everyBelow (λ s. pairwise (clashFreeFrom s) (arcsOf part)) from ≡ true)
 
 abbrev μ-loop : tie.MeasureT-loop
 μ-loop part states count from₀ from = states - from
@@ -28,7 +28,7 @@ index-requires : tie.Need-index-requires Inv-loop μ-loop
 index-requires c κs = tt
 
 loop-holds : tie.Need-loop-holds Inv-loop μ-loop
-loop-holds c = (omega arith, every-start (λ s. pairwise (apartFrom s) (arcsOf _)))
+loop-holds c = (omega arith, every-start (λ s. pairwise (clashFreeFrom s) (arcsOf _)))
 
 check-state-requires : tie.Need-check-state-requires Inv-loop μ-loop
 check-state-requires c κs = (c .before .before .before .before .before .pre .0, c .before .before .index .ensures .0)
@@ -44,14 +44,14 @@ loop-again : tie.Need-loop-again Inv-loop μ-loop
 loop-again c =
     let l = arcsOf (c .before .before .before .before .before .before .before .before .args .part .now) in
     let k = c .before .before .before .before .loop in
-    (search needs, every-next (λ s. pairwise (apartFrom s) l) (k .from) (k .inv .1) (passed-test (c .enum-told .given .1) 5 _ (lit< tt) (c .before .before .check-state .ensures)))
+    (search needs, every-next (λ s. pairwise (clashFreeFrom s) l) (k .from) (k .inv .1) (passed-test (c .enum-told .given .1) 5 _ (lit< tt) (c .before .before .check-state .ensures)))
 
 returns-2 : tie.Need-returns-2 Inv-loop μ-loop
 returns-2 c =
     let s = c .before .before .before .before .before in
     let part = s .args .part .now in
     let k = c .before .loop in
-    ap (refuse 5) (sym (states-apart (stateCount part) (arcsOf part) (s .pre .1) (λ n h. every-at (λ s. pairwise (apartFrom s) (arcsOf part)) (k .from) (k .inv .1) n (omega arith))))
+    ap (refuse 5) (sym (states-free (stateCount part) (arcsOf part) (s .pre .1) (λ n h. every-at (λ s. pairwise (clashFreeFrom s) (arcsOf part)) (k .from) (k .inv .1) n (omega arith))))
 
 pub check-clashes-spec : {M : Type 1} → statement M
 check-clashes-spec =

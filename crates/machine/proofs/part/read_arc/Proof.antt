@@ -5,7 +5,7 @@ use Rattle.machine.proofs.part.read_arc.Tie as tie
 
 returns : tie.Need-returns
 unfolding arcAt
-returns c = rw (c .before .word .ensures, c .word2 .ensures)
+returns c = rw (c .before .eight-bytes .ensures, c .eight-bytes2 .ensures)
 
 pub read-arc-spec : {M : Type 1} → statement M
 read-arc-spec =

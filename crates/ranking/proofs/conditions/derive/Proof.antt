@@ -1,10 +1,11 @@
 use mathlib.Core.Path.{_≡_, refl, sym, _∙_}
 use Prim.Native.Nat.{_≤_}
+use native.Mathlib.Omega.{arith}
 use borrow.Author.Needs.{needs}
 use lib.Dec.{lit<}
 use Rattle.basics.specs.Refusals.{refuse}
 use Rattle.basics.proofs.Refusals.{was-true, accepts, refuses}
-use Rattle.ranking.specs.Refusals.{stageNumber, machineCount}
+use Rattle.ranking.specs.Refusals.{stageNumber, isMachineCount}
 use Rattle.ranking.specs.Conditions.{conditionOf, DerivedCondition, refusedCondition}
 use Rattle.ranking.specs.Lemmas.Refusals.{number-positive}
 use Rattle.ranking.specs.Lemmas.Rankings.{machine-count}
@@ -15,18 +16,18 @@ use Rattle.ranking.proofs.conditions.derive.Tie as tie
 few : (c : tie.After-enum-told) → c .before .before .before .args .machines ≤ 6
 few c =
     let K = c .before .before .before .args .machines in
-    machine-count K (was-true stageNumber (c .enum-told .given .1) 1 (machineCount K) (lit< tt) (c .before .before .check-machine-count .ensures) refl) .most
+    machine-count K (was-true stageNumber (c .enum-told .given .1) 1 (isMachineCount K) (lit< tt) (c .before .before .check-machine-count .ensures) refl) .most
 
 fewer-in-requires : tie.Need-fewer-in-requires
-fewer-in-requires c κs = few c
+fewer-in-requires c κs = omega (arith, few c)
 
 fewer-in-requires-2 : tie.Need-fewer-in-requires-2
-fewer-in-requires-2 c κs = few (c .before)
+fewer-in-requires-2 c κs = omega (arith, few (c .before))
 
 returns : tie.Need-returns
 returns c =
     let a = c .before .before .before .before .before .args in
-    let n = refuse 1 (machineCount (a .machines)) in
+    let n = refuse 1 (isMachineCount (a .machines)) in
     let derived : DerivedCondition = record { number = 0; condition = conditionOf (a .machines) (a .first .counts) (a .second .counts) } in
     let e : record { number = 0; condition = record { fewer = c .before .fewer-in .result; more = c .fewer-in2 .result } } ≡ derived = cc in
     e ∙ sym (accepts stageNumber (c .before .before .enum-told .given .1) n derived refusedCondition (c .before .before .before .before .check-machine-count .ensures) refl)
@@ -34,7 +35,7 @@ returns c =
 returns-2 : tie.Need-returns-2
 returns-2 c =
     let a = c .before .before .before .before .args in
-    let n = refuse 1 (machineCount (a .machines)) in
+    let n = refuse 1 (isMachineCount (a .machines)) in
     let derived : DerivedCondition = record { number = 0; condition = conditionOf (a .machines) (a .first .counts) (a .second .counts) } in
     sym
     (refuses stageNumber (c .before .refusal .given .1) n derived refusedCondition (c .before .before .before .check-machine-count .ensures)

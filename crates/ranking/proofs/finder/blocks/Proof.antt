@@ -5,7 +5,7 @@ use Rattle.ranking.proofs.finder.blocks.Statement.{statement}
 use Rattle.ranking.proofs.finder.blocks.Tie as tie
 
 returns : tie.Need-returns
-returns c = ap₂ _&&_ (c .before .apart .ensures) (c .has .ensures)
+returns c = ap₂ _&&_ (c .before .disjoint .ensures) (c .has .ensures)
 
 pub blocks-spec : {M : Type 1} → statement M
 blocks-spec = tie.close (tie.spec (λ c κs. search needs) (λ c κs. search needs) returns)

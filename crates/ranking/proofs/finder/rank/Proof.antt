@@ -6,7 +6,7 @@ use Rattle.ranking.proofs.FinderPairs.{even-list, demotion-sound}
 use Prim.Native.Nat.{_-_}
 use borrow.Author.Needs.{needs}
 use native.Mathlib.Omega.{arith}
-use Rattle.ranking.specs.Finder.{conditionsOf, answerOf}
+use Rattle.ranking.specs.Finder.{conditionsOf, findingOf}
 use Rattle.ranking.proofs.FinderSteps.{Filled, filled-start, filled-next, filled-stops, filled-answer, next-below}
 use Rattle.ranking.proofs.finder.rank.Statement.{statement}
 use Rattle.ranking.proofs.finder.rank.Tie as tie
@@ -39,7 +39,7 @@ returns c =
     let a = s .args in
     let e : nextMachine (a .machines) (conditionsOf (a .conditions .now)) (k .loop .placed) ≡ none = cc (ap machineOf (c .before .enum-told .given .1)) in
     c .refused .ensures
-    ∙ sym (ap (answerOf (a .machines)) (demotion-sound (a .machines) (a .conditions .now) (s .pre .0) (s .pre .1) ∙ filled-stops (k .loop .inv) (omega arith) e))
+    ∙ sym (ap (findingOf (a .machines)) (demotion-sound (a .machines) (a .conditions .now) (s .pre .0) (s .pre .1) ∙ filled-stops (k .loop .inv) (omega arith) e))
 
 shl-placed : tie.Need-shl-placed Inv-loop μ-loop
 shl-placed c =

@@ -1,9 +1,12 @@
-use mathlib.Core.Path.{_≡_, sym, _∙_}
-use Prim.Native.Nat.{_≤_, _-_}
+use mathlib.Core.Path.{_≡_, sym, _∙_, ap}
+use mathlib.Core.List.{List}
+use Prim.Native.Nat.{ℕ, _≤_, _-_}
 use native.Mathlib.Omega.{arith}
 use borrow.Author.Needs.{needs}
-use lib.ListN.{length, drop}
+use lib.ListN.{length, getD, drop}
 use Rattle.basics.proofs.Search.{left-next, left-none}
+use Rattle.ranking.specs.declared.Order.{Order}
+use Rattle.ranking.specs.declared.Order.the-variants.{Better, Worse}
 use Rattle.ranking.specs.Harmony.{harmony}
 use Rattle.ranking.specs.Lemmas.Rankings.{ranking-facts}
 use Rattle.ranking.specs.Lemmas.Harmony.{harmony-end, harmony-better, harmony-worse, harmony-next}
@@ -18,47 +21,51 @@ Inv-loop ranking first second place₀ place-end place =
 abbrev μ-loop : tie.MeasureT-loop
 μ-loop ranking first second place₀ place-end place = length ranking - place
 
-cast-machine : tie.Need-cast-machine Inv-loop μ-loop
-cast-machine c = omega (arith, c .shared-slice-known2 .given (c .before .before .loop .place))
+-- a count of the machine at the place
+of-machine : (v : List ℕ) {n m k : ℕ} → n ≡ getD v m 0 → m ≡ k → n ≡ getD v k 0
+of-machine v e q = e ∙ ap (λ (i : ℕ). getD v i 0) q
 
 count-requires : tie.Need-count-requires Inv-loop μ-loop
 count-requires c κs =
     let k = c .before .before in
     let s = k .before .before in
     let r = s .args .ranking .now in
-    omega (arith, ranking-facts (length r) r (s .pre .0) .below (k .loop .place) (omega arith))
+    omega (arith, c .machine-at .ensures, ranking-facts (length r) r (s .pre .0) .below (k .loop .place) (omega arith))
 
 count-requires-2 : tie.Need-count-requires-2 Inv-loop μ-loop
 count-requires-2 c κs =
     let k = c .before .before .before in
     let s = k .before .before in
     let r = s .args .ranking .now in
-    omega (arith, ranking-facts (length r) r (s .pre .0) .below (k .loop .place) (omega arith))
+    omega (arith, c .before .machine-at .ensures, ranking-facts (length r) r (s .pre .0) .below (k .loop .place) (omega arith))
 
 returns : tie.Need-returns Inv-loop μ-loop
 returns c =
     let k = c .before .before .before .before .before in
     let a = k .before .before .args in
-    let one = c .before .before .count .ensures in
-    let other = c .before .count2 .ensures in
+    let q = c .before .before .before .machine-at .ensures in
+    let one = of-machine (a .first .counts) (c .before .before .count .ensures) q in
+    let other = of-machine (a .second .counts) (c .before .count2 .ensures) q in
     let n = left-next (a .ranking .now) (k .loop .place) (omega arith) in
-    sym (harmony-better (a .first .counts) (a .second .counts) n (omega arith)) ∙ k .loop .inv .1
+    ap {B = Order} Better q ∙ sym (harmony-better (a .first .counts) (a .second .counts) n (omega arith)) ∙ k .loop .inv .1
 
 returns-2 : tie.Need-returns-2 Inv-loop μ-loop
 returns-2 c =
     let k = c .before .before .before .before .before .before in
     let a = k .before .before .args in
-    let one = c .before .before .before .count .ensures in
-    let other = c .before .before .count2 .ensures in
+    let q = c .before .before .before .before .machine-at .ensures in
+    let one = of-machine (a .first .counts) (c .before .before .before .count .ensures) q in
+    let other = of-machine (a .second .counts) (c .before .before .count2 .ensures) q in
     let n = left-next (a .ranking .now) (k .loop .place) (omega arith) in
-    sym (harmony-worse (a .first .counts) (a .second .counts) n (omega arith)) ∙ k .loop .inv .1
+    ap {B = Order} Worse q ∙ sym (harmony-worse (a .first .counts) (a .second .counts) n (omega arith)) ∙ k .loop .inv .1
 
 loop-again : tie.Need-loop-again Inv-loop μ-loop
 loop-again c =
     let k = c .before .before .before .before .before .before in
     let a = k .before .before .args in
-    let one = c .before .before .before .count .ensures in
-    let other = c .before .before .count2 .ensures in
+    let q = c .before .before .before .before .machine-at .ensures in
+    let one = of-machine (a .first .counts) (c .before .before .before .count .ensures) q in
+    let other = of-machine (a .second .counts) (c .before .before .count2 .ensures) q in
     let n = left-next (a .ranking .now) (k .loop .place) (omega arith) in
     (omega arith, sym (harmony-next (a .first .counts) (a .second .counts) n (omega arith) (omega arith)) ∙ k .loop .inv .1)
 
@@ -76,8 +83,10 @@ harmony-spec =
     μ-loop
     (λ c. search needs)
     (λ c. search needs)
-    cast-machine
+    (λ c κs. search needs)
+    (λ c. search needs)
     count-requires
+    (λ c. search needs)
     count-requires-2
     returns
     returns-2

@@ -1,0 +1,64 @@
+// The front of a card: K, S and the lengths of the parts.
+ghost use mathlib.Core.Path.{_≡_};
+ghost use mathlib.Core.Bool.{true};
+ghost use Prim.Native.Nat.{ℕ, _+_, _*_, _<_, _≤_};
+ghost use lib.ListN.{length, getD};
+ghost use Rattle.basics.specs.Refusals.{refuse};
+ghost use Rattle.card.specs.Refusals.{numberOf, stageNumber};
+ghost use Rattle.layout.specs.Layout.{lengthOf, laidOut};
+ghost use Rattle.card.specs.Layout.{machineCount, soundCounts, counted};
+use crate::Refusal;
+use crate::Stage;
+use basics::index;
+
+// The answer of a stage that is one test.
+pub fn tested(ok: bool, refusal: Refusal) -> Stage
+    ensures { λ r. ⌜ stageNumber r ≡ refuse (numberOf refusal) ok ⌝ }
+{
+    if ok {
+        Stage::Passed
+    } else {
+        Stage::Refused(refusal)
+    }
+}
+
+// Refusal 1: K is 1 to 6 and S is 1 to 63.
+pub fn check_counts(machines: usize, symbols: u8) -> Stage
+    ensures { λ r. ⌜ stageNumber r ≡ refuse 1 (soundCounts machines symbols) ⌝ }
+{
+    tested(
+        (1 <= machines) & (machines <= 6) & (1 <= symbols) & (symbols <= 63),
+        Refusal::Counts,
+    )
+}
+
+// Refusal 1 of a card: it has both counts, and they are in range.
+pub fn check_head(card: &[u8]) -> Stage
+    ensures { λ r. ⌜ stageNumber r ≡ refuse 1 (counted (now (card .entry))) ⌝ }
+{
+    if card.len() < 2 {
+        return Stage::Refused(Refusal::Counts);
+    }
+    check_counts(index(card[0]), card[1])
+}
+
+// Refusal 2: the parts follow one another to the card's end.
+pub fn check_layout(card: &[u8]) -> Stage
+    requires { ⌜ counted (now card) ≡ true ⌝ }
+    ensures { λ r. ⌜ stageNumber r ≡ refuse 2 (laidOut (machineCount (now (card .entry))) (now (card .entry))) ⌝ }
+{
+    tested(layout::is_laid_out(card, card[0]), Refusal::Layout)
+}
+
+// The lengths of a card's parts; places from K on are 0.
+pub fn read_lengths(card: &[u8]) -> [u16; 6]
+    requires { ⌜ (machineCount (now card) ≤ 6) × (2 + 4 * machineCount (now card) ≤ length (now card)) ⌝ }
+    ensures { λ r. ⌜ (length r ≡ 6) × ((i : ℕ) → i < machineCount (now (card .entry)) → getD r i 0 ≡ lengthOf (now (card .entry)) i) ⌝ }
+{
+    let mut lengths = [0u16; 6];
+    let machines = index(card[0]);
+    for i in 0..machines {
+        lengths[i] = layout::part_length(card, i) as u16;
+    }
+    lengths
+}

@@ -1,0 +1,25 @@
+-- The room for the nodes. Assumes nothing.
+use mathlib.Core.Path.{_≡_, ap}
+use mathlib.Core.Bool.{true}
+use mathlib.Core.List.{List}
+use Prim.Native.Nat.{ℕ, _+_, _*_, _≤_}
+use native.Mathlib.Nat.{mul-le-mul}
+use native.Mathlib.Omega.{arith}
+use lib.ListN.{length}
+use Rattle.card.specs.Layout.{symbolCount}
+use Rattle.card.specs.Card.{cardRefusal, machinesOf}
+use Rattle.product.specs.Nodes.{product, stateCounts, nodeCount}
+use Rattle.product.specs.Optimizing.{soundWord}
+use Rattle.product.specs.Laws.Accepted.{accepted-machines}
+use Rattle.input.specs.AcceptedInput.{short-word}
+
+-- of a word of at most 24 symbols and at most 128 joint states
+pub few-nodes : (n P : ℕ) → n ≤ 24 → P ≤ 128 → (n + 1) * P ≤ 3200
+few-nodes n P h k = let q : n + 1 ≤ 25 = omega arith in mul-le-mul q k
+
+module _ (card word : List ℕ) (ok : cardRefusal card ≡ 0) (P : ℕ) (e : P ≡ product (stateCounts (machinesOf card))) where
+  pub node-room : (length word + 1) * P * 8 ≡ 8 * nodeCount (machinesOf card) (length word)
+  node-room = let q : (length word + 1) * P ≡ nodeCount (machinesOf card) (length word) = ap (λ (p : ℕ). (length word + 1) * p) e in omega arith
+
+  pub nodes-few : soundWord (symbolCount card) word ≡ true → (length word + 1) * P ≤ 3200
+  nodes-few t = few-nodes (length word) P (short-word (symbolCount card) word t) (omega (arith, accepted-machines card ok .few-states))

@@ -1,0 +1,43 @@
+-- What input promises that the checks 1 to 9 accept.
+use mathlib.Core.Path.{_≡_}
+use mathlib.Core.Bool.{true}
+use mathlib.Core.List.{List, [], _∷_}
+use Prim.Native.Nat.{ℕ, _*_, _≤_}
+use lib.ListN.{length}
+use lib.Dec.{leb, lit<}
+use borrow.Author.Tests.{leb-true}
+use Rattle.basics.specs.Refusals.{refuse}
+use Rattle.basics.proofs.Refusals.{passed, none-first}
+use Rattle.ranking.specs.Rankings.{isRanking}
+use Rattle.card.specs.Layout.{machineCount, symbolCount}
+use Rattle.card.specs.Card.{cardRefusal, machinesOf}
+use Rattle.product.specs.Nodes.{nodeCount}
+use Rattle.product.specs.Optimizing.{soundWord, inputRefusal}
+use Rattle.product.specs.Laws.Words.{accepted-word}
+
+pub record AcceptedInput (card ranking word : List ℕ) (room : ℕ) : Type 0 where
+  pub accepted : cardRefusal card ≡ 0
+  pub ranks : isRanking (machineCount card) ranking ≡ true
+  pub sound : soundWord (symbolCount card) word ≡ true
+  pub nodes-fit : 8 * nodeCount (machinesOf card) (length word) ≤ room
+
+pub accepted-input : (card ranking word : List ℕ) (room : ℕ) → inputRefusal card ranking word room ≡ 0 → AcceptedInput card ranking word room
+unfolding inputRefusal
+accepted-input card ranking word room e =
+    let r = isRanking (machineCount card) ranking in
+    let w = soundWord (symbolCount card) word in
+    let n = leb (8 * nodeCount (machinesOf card) (length word)) room in
+    let a = none-first (cardRefusal card) (refuse 7 r ∷ refuse 8 w ∷ refuse 9 n ∷ []) e in
+    let b = none-first (refuse 7 r) (refuse 8 w ∷ refuse 9 n ∷ []) (a .1) in
+    let d = none-first (refuse 8 w) (refuse 9 n ∷ []) (b .1) in
+    let f = none-first (refuse 9 n) [] (d .1) in
+    record {
+      accepted = a .0;
+      ranks = passed 7 r (lit< tt) (b .0);
+      sound = passed 8 w (lit< tt) (d .0);
+      nodes-fit = leb-true (8 * nodeCount (machinesOf card) (length word)) room (passed 9 n (lit< tt) (f .0));
+    }
+
+-- a word has at most 24 symbols
+pub short-word : (S : ℕ) (word : List ℕ) → soundWord S word ≡ true → length word ≤ 24
+short-word S word t = accepted-word S word t .short

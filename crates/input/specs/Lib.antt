@@ -1,0 +1,4 @@
+-- definitions
+pub mod Refusals
+-- what accepted input promises
+pub mod AcceptedInput

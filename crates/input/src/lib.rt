@@ -1,0 +1,129 @@
+// The checks of the input that every search shares, 1 to 9: card, ranking, word, work slice.
+ghost use mathlib.Core.Path.{_≡_};
+ghost use mathlib.Core.Bool.{true};
+ghost use Prim.Native.Nat.{_*_};
+ghost use lib.Dec.{leb};
+ghost use lib.ListN.{length};
+ghost use Rattle.basics.specs.Refusals.{refuse};
+ghost use Rattle.ranking.specs.Rankings.{isRanking};
+ghost use Rattle.card.specs.Layout.{machineCount, symbolCount};
+ghost use Rattle.card.specs.Card.{cardRefusal, machinesOf};
+ghost use Rattle.product.specs.Nodes.{product, stateCounts, nodeCount};
+ghost use Rattle.product.specs.Optimizing.{soundWord, inputRefusal};
+ghost use Rattle.input.specs.Refusals.{numberOf, stageNumber};
+
+// Why the input is refused.
+pub enum Refusal {
+    Card(card::Refusal),
+    Ranking(ranking::Refusal),
+    Word(product::Refusal),
+    // The work slice is too short.
+    Work,
+}
+
+impl Refusal {
+    // Its number in the refusal table.
+    pub fn number(self) -> u8
+        ensures { λ r. ⌜ r ≡ numberOf self ⌝ }
+    {
+        match self {
+            Refusal::Card(refusal) => refusal.number(),
+            Refusal::Ranking(refusal) => refusal.number(),
+            Refusal::Word(refusal) => match refusal {
+                product::Refusal::Word => 8,
+            },
+            Refusal::Work => 9,
+        }
+    }
+}
+
+// What a checking stage answers.
+pub enum Stage {
+    Passed,
+    Refused(Refusal),
+}
+
+impl Stage {
+    // Its number: 0 where it passed.
+    pub fn number(self) -> u8
+        ensures { λ r. ⌜ r ≡ stageNumber self ⌝ }
+    {
+        match self {
+            Stage::Passed => 0,
+            Stage::Refused(refusal) => refusal.number(),
+        }
+    }
+}
+
+// P, the product of the state counts of an accepted card's machines.
+pub fn joint_states(card: &[u8]) -> usize
+    requires { ⌜ cardRefusal (now card) ≡ 0 ⌝ }
+    ensures { λ r. ⌜ r ≡ product (stateCounts (machinesOf (now (card .entry)))) ⌝ }
+{
+    let counts = tables::state_counts(card);
+    let machines = card::machine_count(card);
+    tables::joint_states(&counts[..machines])
+}
+
+// Refusals 1 to 6.
+fn check_card(card: &[u8]) -> Stage
+    ensures { λ r. ⌜ stageNumber r ≡ cardRefusal (now (card .entry)) ⌝ }
+{
+    match card::check(card) {
+        card::Stage::Passed => Stage::Passed,
+        card::Stage::Refused(refusal) => Stage::Refused(Refusal::Card(refusal)),
+    }
+}
+
+// Refusal 7, for an accepted card.
+fn check_ranking(card: &[u8], ranking: &[u8]) -> Stage
+    requires { ⌜ cardRefusal (now card) ≡ 0 ⌝ }
+    ensures { λ r. ⌜ stageNumber r ≡ refuse 7 (isRanking (machineCount (now (card .entry))) (now (ranking .entry))) ⌝ }
+{
+    let machines = card::machine_count(card) as u8;
+    match ranking::rankings::check_ranking(machines, ranking) {
+        ranking::Stage::Passed => Stage::Passed,
+        ranking::Stage::Refused(refusal) => Stage::Refused(Refusal::Ranking(refusal)),
+    }
+}
+
+// Refusal 8, for an accepted card.
+fn check_word(card: &[u8], word: &[u8]) -> Stage
+    requires { ⌜ cardRefusal (now card) ≡ 0 ⌝ }
+    ensures { λ r. ⌜ stageNumber r ≡ refuse 8 (soundWord (symbolCount (now (card .entry))) (now (word .entry))) ⌝ }
+{
+    match product::check_word(word, card::symbol_count(card)) {
+        product::Stage::Passed => Stage::Passed,
+        product::Stage::Refused(refusal) => Stage::Refused(Refusal::Word(refusal)),
+    }
+}
+
+// Refusal 9, for an accepted card and word: whether a work slice of `room` numbers has eight for each node.
+fn check_work(card: &[u8], word: &[u8], room: usize) -> Stage
+    requires { ⌜ (cardRefusal (now card) ≡ 0) × (soundWord (symbolCount (now card)) (now word) ≡ true) ⌝ }
+    ensures { λ r. ⌜ stageNumber r ≡ refuse 9 (leb (8 * nodeCount (machinesOf (now (card .entry))) (length (now (word .entry)))) room) ⌝ }
+{
+    if room < (word.len() + 1) * joint_states(card) * 8 {
+        return Stage::Refused(Refusal::Work);
+    }
+    Stage::Passed
+}
+
+// The first of refusals 1 to 9 that the input meets, for a work slice of `room` numbers.
+pub fn check_input(card: &[u8], ranking: &[u8], word: &[u8], room: usize) -> Stage
+    ensures { λ r. ⌜ stageNumber r ≡ inputRefusal (now (card .entry)) (now (ranking .entry)) (now (word .entry)) room ⌝ }
+{
+    let answer = check_card(card);
+    let Stage::Passed = answer else {
+        return answer;
+    };
+    let answer = check_ranking(card, ranking);
+    let Stage::Passed = answer else {
+        return answer;
+    };
+    let answer = check_word(card, word);
+    let Stage::Passed = answer else {
+        return answer;
+    };
+    check_work(card, word, room)
+}

@@ -1,0 +1,46 @@
+-- The checks 10 to 12 by the label of the start. Assumes nothing.
+use mathlib.Core.Path.{_≡_, refl, sym, _∙_, ap}
+use mathlib.Core.List.{List, [], _∷_}
+use mathlib.Core.Option.{Option, some, none}
+use Prim.Native.Nat.{ℕ, _*_, _<_}
+use native.Mathlib.Omega.{arith}
+use lib.Dec.{leb, lit<}
+use borrow.Author.Tests.{leb-true}
+use Rattle.basics.specs.Refusals.{refuse}
+use Rattle.basics.proofs.Refusals.{passed, none-first}
+use Rattle.candidate.specs.Candidates.{isSome}
+use Rattle.paths.specs.Ranked.{Ranked, letterCount}
+use Rattle.product.specs.ProductGraph.{cardStart}
+use Rattle.labels.specs.Work.{labelOf, costAt}
+use Rattle.labels.proofs.Work.{holds}
+use Rattle.walk.specs.Walked.{StartsAt}
+use Rattle.optimizer.specs.Searching.{costFits, labelRefusal}
+
+-- a stage that answered a refusal has a number
+pub above-zero : {S : Type 0} (number : S → ℕ) {s t : S} → s ≡ t → 0 < number t → 0 < number s
+above-zero number e h = let q = ap number e in omega (arith, q)
+
+-- 10 is the first refusal
+pub not-there : (o : Option (Ranked 6)) (room n : ℕ) → n ≡ refuse 10 (isSome o) → 0 < n → n ≡ labelRefusal o room
+not-there none room n e h = e
+not-there (some c) room n e h = absurd (omega arith)
+
+-- where 10 is not met there is a label
+pub is-there : (xs : List ℕ) (u : ℕ) → refuse 10 (isSome (labelOf xs u)) ≡ 0 → labelOf xs u ≡ some (costAt xs u)
+is-there xs u z = go (labelOf xs u) refl z
+  where
+    go : (o : Option (Ranked 6)) → labelOf xs u ≡ o → refuse 10 (isSome o) ≡ 0 → labelOf xs u ≡ some (costAt xs u)
+    go none l z = absurd (omega arith)
+    go (some c) l z = l ∙ ap {B = Option (Ranked 6)} some (sym (holds xs u c l .cost))
+
+-- where none of them is met the walk can start
+pub starts-at : (card xs : List ℕ) (room : ℕ) → labelRefusal (labelOf xs (cardStart card)) room ≡ 0 → StartsAt card xs room
+starts-at card xs room z = go (labelOf xs (cardStart card)) refl z
+  where
+    go : (o : Option (Ranked 6)) → labelOf xs (cardStart card) ≡ o → labelRefusal o room ≡ 0 → StartsAt card xs room
+    go none l z = absurd (omega arith)
+    go (some c) l z =
+        let t = leb (2 * letterCount 6 c) room in
+        let a = none-first (refuse 11 (costFits c)) (refuse 12 t ∷ []) z in
+        let b = none-first (refuse 12 t) [] (a .1) in
+        record { cost = c; label-is = l; fits = leb-true (2 * letterCount 6 c) room (passed 12 t (lit< tt) (b .0)) }

@@ -1,0 +1,114 @@
+-- A word as sets of one symbol each: filling them, and what the search for them says of the word. Assumes nothing.
+use mathlib.Core.Path.{_≡_, refl, _∙_, ap}
+use mathlib.Core.Bool.{true, _&&_}
+use mathlib.Core.List.{List, [], _∷_}
+use mathlib.Core.Option.{Option, some, none}
+use Prim.Native.Nat.{ℕ, suc, _+_, _^_, _<_, _≤_}
+use native.Mathlib.Decide.{ℕ-discrete}
+use native.Mathlib.Omega.{arith}
+use lib.Dec.{leb, ltb}
+use lib.ListN.{length, getD, take, set, length-set}
+use lib.Seq.{getD-set-same, getD-set-other}
+use borrow.Author.Tests.{leb-true, ltb-true, lt-ltb}
+use Rattle.basics.specs.Search.{allOf}
+use Rattle.basics.specs.Refusals.{unlessRefused}
+use Rattle.basics.specs.Sets.{member}
+use Rattle.basics.proofs.Bools.{left, right}
+use Rattle.basics.proofs.Search.{all-at, each-at}
+use Rattle.card.specs.Layout.{symbolCount}
+use Rattle.card.specs.Card.{cardRefusal}
+use Rattle.card.specs.Accepted.{accepted}
+use Rattle.candidate.specs.declared.Evaluation.{Evaluation}
+use Rattle.candidate.specs.Evaluating.{refused}
+use Rattle.product.specs.Best.{Contender, best}
+use Rattle.product.specs.Sets.{singletons, bestOfSets}
+use Rattle.product.specs.Optimizing.{soundWord, evaluationOf}
+use Rattle.product.specs.SetsTheorem.{best-of-one-word}
+use Rattle.product.specs.Laws.Words.{accepted-word}
+use Rattle.product.specs.Laws.Sets.{as-many, reads-word}
+use Rattle.product.specs.Laws.BestOfSets.{singletons-64}
+use Rattle.optimizer.specs.Searching.{searchRefusal, SetsPre, SearchPre, Searched}
+
+-- ---- filling the sets
+
+-- the first n sets are there
+pub record FilledBelow (word sets : List ℕ) (n : ℕ) : Type 0 where
+  pub room : length word ≤ length sets
+  pub filled : (k : ℕ) → k < n → getD sets k 0 ≡ 2 ^ getD word k 0
+
+pub filled-start : {word sets : List ℕ} → length word ≤ length sets → FilledBelow word sets 0
+filled-start h = record { room = h; filled = λ k l. absurd (omega arith) }
+
+pub filled-next : {word sets : List ℕ} {n x : ℕ} → FilledBelow word sets n → n < length word → x ≡ 2 ^ getD word n 0 → FilledBelow word (set sets n x) (n + 1)
+filled-next {word} {sets} {n} {x} F h e = record { room = omega (arith, F .room, length-set sets n x); filled = λ k l. at k l (ℕ-discrete k n) }
+  where
+    at : (k : ℕ) → k < n + 1 → Dec (k ≡ n) → getD (set sets n x) k 0 ≡ 2 ^ getD word k 0
+    at k l (yes q) = rw (q, getD-set-same sets n x 0 (omega (arith, F .room))) e
+    at k l (no q) = rw (getD-set-other sets n k x 0 q) (F .filled k (omega arith))
+
+all-filled : (word sets : List ℕ) → length word ≤ length sets → ((k : ℕ) → k < length word → getD sets k 0 ≡ 2 ^ getD word k 0) → take (length word) sets ≡ singletons word
+all-filled [] sets h f = refl
+all-filled (x ∷ word) [] h f = absurd (omega arith)
+all-filled (x ∷ word) (s ∷ sets) h f =
+    let e : s ≡ 2 ^ x = f 0 (omega arith) in
+    let r = all-filled word sets (omega arith) (λ k l. f (suc k) (omega arith)) in
+    λ i. e i ∷ r i
+
+pub filled-end : {word sets : List ℕ} {n : ℕ} → FilledBelow word sets n → length word ≤ n → take (length word) sets ≡ singletons word
+filled-end {word} {sets} F h = all-filled word sets (F .room) (λ k l. F .filled k (omega arith))
+
+-- ---- an accepted word
+
+module _ (card word : List ℕ) (ok : cardRefusal card ≡ 0) (sound : soundWord (symbolCount card) word ≡ true) where
+  a-symbol : (i : ℕ) → i < length word → (1 ≤ getD word i 0) × (getD word i 0 ≤ symbolCount card)
+  a-symbol i h =
+      let S = symbolCount card in
+      let x = getD word i 0 in
+      let t = all-at (λ x. leb 1 x && leb x S) word 0 (accepted-word S word sound .symbols) i h in
+      (leb-true 1 x (left (leb 1 x) (leb x S) t), leb-true x S (right (leb 1 x) (leb x S) t))
+
+  pub all-small : allOf (λ x. ltb x 64) word ≡ true
+  all-small = each-at (λ x. ltb x 64) word 0 (λ i h. lt-ltb (getD word i 0) 64 (omega (arith, a-symbol i h, accepted card ok .head .counts .symbols)))
+
+  pub of-sets : (i x : ℕ) → member (getD (singletons word) i 0) x ≡ true → (1 ≤ x) × (x ≤ symbolCount card)
+  of-sets i x t =
+      let r = reads-word word i x .0 t in
+      let s = a-symbol i (r .0) in
+      (omega (arith, s, r .1), omega (arith, s, r .1))
+
+pub small-at : (word : List ℕ) → allOf (λ x. ltb x 64) word ≡ true → (i : ℕ) → i < length word → getD word i 0 < 64
+small-at word t i h = ltb-true (getD word i 0) 64 (all-at (λ x. ltb x 64) word 0 t i h)
+
+module _ {card ranking word work : List ℕ} {size : ℕ} (pre : SearchPre card ranking word work size) where
+  pub word-small : allOf (λ x. ltb x 64) word ≡ true
+  word-small = all-small card word (pre .accepted) (pre .sound)
+
+  pub short : length word ≤ 24
+  short = accepted-word (symbolCount card) word (pre .sound) .short
+
+  own-sets : SetsPre card ranking (singletons word) work size
+  own-sets = record {
+    setting = record { accepted = pre .accepted; few = omega (arith, as-many word, short); symbols = of-sets card word (pre .accepted) (pre .sound); states = pre .states };
+    ranks = pre .ranks;
+    bits = singletons-64 word word-small;
+    room = rw (as-many word) (pre .room);
+  }
+
+  -- the search for its sets is the search for the word
+  module _ (sets : List ℕ) (are : sets ≡ singletons word) where
+    pub sets-pre : SetsPre card ranking sets work size
+    sets-pre = rw are own-sets
+
+    pub word-searched : {after answer answerAfter : List ℕ} {r : Evaluation} → Searched (bestOfSets card ranking sets) sets work after answer answerAfter r → Searched (best card ranking word) word work after answer answerAfter r
+    word-searched {after} {answer} {answerAfter} {r} T = record {
+      result = S .result ∙ ap (λ (e : Evaluation). unlessRefused (searchRefusal (best card ranking word) (length answer)) e refused) (evaluated (best card ranking word));
+      answer-slice = S .answer-slice;
+      work-length = S .work-length;
+    }
+      where
+        S : Searched (best card ranking word) (singletons word) work after answer answerAfter r
+        S = rw (are, best-of-one-word card ranking word (pre .accepted) word-small) at T
+
+        evaluated : (o : Option Contender) → evaluationOf o (singletons word) ≡ evaluationOf o word
+        evaluated none = refl
+        evaluated (some b) = rw (as-many word)

@@ -1,0 +1,111 @@
+-- Finding the least of the pairs at a position that pass a test: in by in, the empty symbol first, and out by out. The test of an engine is that a
+-- pair keeps to its labels.
+use mathlib.Core.Path.{_≡_, refl, sym, _∙_, ap, subst}
+use mathlib.Core.Logic.{_⊎_, inl, inr, _≢_}
+use mathlib.Core.Bool.{Bool, true, false, not, _&&_, _||_, cond}
+use mathlib.Core.List.{List}
+use Prim.Native.Nat.{ℕ, _+_, _<_, _≤_}
+use native.Mathlib.Decide.{ℕ-discrete}
+use native.Mathlib.Omega.{arith}
+use lib.Dec.{eqb}
+use lib.ListN.{getD}
+use borrow.Author.Tests.{eqb-true, eq-eqb, ne-eqb}
+use Rattle.basics.specs.Sets.{member}
+use Rattle.basics.proofs.Bools.{left as left-passes, either, left-fails, right-fails, clash}
+use Rattle.basics.proofs.Sets.{no-member}
+use Rattle.machine.specs.declared.Pair.{Pair}
+use Rattle.machine.specs.Symbols.{emptySymbol}
+use Rattle.machine.specs.SymbolSets.{leastSymbol}
+use Rattle.machine.proofs.SymbolSets.{below-least}
+use Rattle.machine.proofs.SetLoops.{with-true}
+use Rattle.card.specs.Layout.{symbolCount}
+use Rattle.product.specs.ProductGraph.{pairs, same-bytes}
+use Rattle.product.specs.Pairs.{firstOutput}
+use Rattle.product.specs.Laws.Letters.{PairAt}
+
+-- no pair with the in x and an out before y passes
+pub record Passing (card : List ℕ) (Passes : Pair → Type 0) (x y : ℕ) : Type 0 where
+  pub from : x ≡ emptySymbol → 1 ≤ y
+  pub upto : y ≤ symbolCount card + 1
+  pub passed : (q : Pair) → q .input ≡ x → q .output < y → ¬ (Passes q)
+
+-- no pair whose in is not left passes, and some pair does
+pub record Finding (sets : List ℕ) (Passes : Pair → Type 0) (i left : ℕ) : Type 0 where
+  pub inside : (x : ℕ) → member left x ≡ true → x ≢ emptySymbol → member (getD sets i 0) x ≡ true
+  pub passed : (q : Pair) → member left (q .input) ≡ false → ¬ (Passes q)
+  pub some-pair : Pair
+  pub passes : Passes some-pair
+
+module _ {card sets : List ℕ} {i : ℕ} {Passes : Pair → Type 0} (there : (q : Pair) → Passes q → PairAt card sets i q) where
+  -- ---- out by out
+
+  pub passing-start : (x first : ℕ) → first ≡ firstOutput x → Passing card Passes x first
+  passing-start x first e = go (ℕ-discrete x emptySymbol)
+    where
+      go : Dec (x ≡ emptySymbol) → Passing card Passes x first
+      go (yes z) =
+          let one : first ≡ 1 = e ∙ ap (λ (b : Bool). cond b 1 0) (eq-eqb x 0 z) in
+          record {
+            from = λ q. omega arith;
+            upto = omega arith;
+            passed = λ q a b t. clash (there q t .is-pair) (rw (eq-eqb (q .input) 0 (a ∙ z), eq-eqb (q .output) 0 (omega arith)));
+          }
+      go (no n) =
+          let none : first ≡ 0 = e ∙ ap (λ (b : Bool). cond b 1 0) (ne-eqb x 0 n) in
+          record { from = λ q. absurd (n q); upto = omega arith; passed = λ q a b t. omega arith }
+
+  pub passing-end : {x y : ℕ} → Passing card Passes x y → symbolCount card < y → (q : Pair) → q .input ≡ x → ¬ (Passes q)
+  passing-end P h q a t = P .passed q a (omega (arith, there q t .output-there)) t
+
+  -- ---- in by in
+
+  pub finding-start : (p : Pair) → Passes p → (left : ℕ) → ((x : ℕ) → member left x ≡ (eqb x emptySymbol || member (getD sets i 0) x)) → Finding sets Passes i left
+  finding-start p t left f = record {
+    inside = λ x m n. inside-set x n (either (eqb x emptySymbol) (member (getD sets i 0) x) (sym (f x) ∙ m));
+    passed = λ q m t. not-passed q m (there q t .input-there);
+    some-pair = p;
+    passes = t;
+  }
+    where
+      inside-set : (x : ℕ) → x ≢ emptySymbol → (eqb x emptySymbol ≡ true) ⊎ (member (getD sets i 0) x ≡ true) → member (getD sets i 0) x ≡ true
+      inside-set x n (inl e) = absurd (n (eqb-true x emptySymbol e))
+      inside-set x n (inr m) = m
+
+      not-passed : (q : Pair) → member left (q .input) ≡ false → (q .input ≡ emptySymbol) ⊎ ((q .input ≢ emptySymbol) × (member (getD sets i 0) (q .input) ≡ true)) → ⊥
+      not-passed q m (inl e) = clash (eq-eqb (q .input) emptySymbol e) (left-fails (eqb (q .input) emptySymbol) (member (getD sets i 0) (q .input)) (sym (f (q .input)) ∙ m))
+      not-passed q m (inr k) = clash (k .1) (right-fails (eqb (q .input) emptySymbol) (member (getD sets i 0) (q .input)) (sym (f (q .input)) ∙ m))
+
+pub passing-next : {card : List ℕ} {Passes : Pair → Type 0} {x y : ℕ} → Passing card Passes x y → y ≤ symbolCount card → ¬ (Passes (record { input = x; output = y })) → Passing card Passes x (y + 1)
+passing-next {Passes = Passes} {x = x} {y = y} P h n = record { from = λ e. omega arith; upto = omega arith; passed = λ q a b t. at q a b t (ℕ-discrete (q .output) y) }
+  where
+    at : (q : Pair) → q .input ≡ x → q .output < y + 1 → Passes q → Dec (q .output ≡ y) → ⊥
+    at q a b t (yes e) = n (subst Passes (same-bytes q (record { input = x; output = y }) (λ j. (a j, e j))) t)
+    at q a b t (no e) = P .passed q a (omega arith) t
+
+module _ {sets : List ℕ} {Passes : Pair → Type 0} {i left : ℕ} (F : Finding sets Passes i left) where
+  -- some in is left
+  pub some-left : 0 < left
+  some-left = go (ℕ-discrete left 0)
+    where
+      go : Dec (left ≡ 0) → 0 < left
+      go (no n) = omega arith
+      go (yes e) = absurd (F .passed (F .some-pair) (rw e (no-member (F .some-pair .input))) (F .passes))
+
+  -- the first pair that passes with the least in that is left is the least that passes
+  pub first-is-least : (p : Pair) → p .input ≡ leastSymbol left → ((q : Pair) → q .input ≡ p .input → q .output < p .output → ¬ (Passes q)) → (q : Pair) → pairs ._◃_ q p → ¬ (Passes q)
+  first-is-least p l f = go
+    where
+      go : (q : Pair) → (q .input < p .input) ⊎ ((q .input ≡ p .input) × (q .output < p .output)) → ¬ (Passes q)
+      go q (inl h) = F .passed q (below-least 64 left (q .input) (omega (arith, l)))
+      go q (inr h) = f q (h .0) (h .1)
+
+  -- no pair with the in x passes
+  pub finding-next : (x : ℕ) → ((q : Pair) → q .input ≡ x → ¬ (Passes q)) → (after : ℕ) → ((n : ℕ) → member after n ≡ (member left n && not (eqb n x))) → Finding sets Passes i after
+  finding-next x none after f = record { inside = λ n m. F .inside n (left-passes (member left n) (not (eqb n x)) (sym (f n) ∙ m)); passed = passed; some-pair = F .some-pair; passes = F .passes }
+    where
+      passed : (q : Pair) → member after (q .input) ≡ false → ¬ (Passes q)
+      passed q n t = go (eqb (q .input) x) refl
+        where
+          go : (b : Bool) → eqb (q .input) x ≡ b → ⊥
+          go true g = none q (eqb-true (q .input) x g) t
+          go false g = F .passed q (sym (f (q .input) ∙ ap (λ (b : Bool). member left (q .input) && not b) g ∙ with-true (member left (q .input))) ∙ n) t

@@ -1,0 +1,47 @@
+-- Words heard only in part: a set of symbols, a 64-bit number, at each position.
+use mathlib.Core.Path.{_≡_}
+use mathlib.Core.Bool.{Bool, true, false, _&&_}
+use mathlib.Core.List.{List, [], _∷_, map}
+use mathlib.Core.Option.{Option, some, none}
+use Prim.Native.Nat.{ℕ, _^_}
+use Rattle.basics.specs.Search.{those, joined, numbersBelow}
+use Rattle.basics.specs.Sets.{member}
+use Rattle.machine.specs.declared.Pair.{Pair}
+use Rattle.machine.specs.Machine.{Machine}
+use Rattle.candidate.specs.Candidates.{IsCandidate}
+use Rattle.product.specs.Best.{Contender, ProfileOrder, leastOf, bestIn, harmonic}
+
+-- the word has one symbol from each set
+unfoldable pub fitsSets : List ℕ → List ℕ → Bool
+fitsSets [] [] = true
+fitsSets [] (x ∷ word) = false
+fitsSets (set ∷ sets) [] = false
+fitsSets (set ∷ sets) (x ∷ word) = member set x && fitsSets sets word
+
+-- a word as sets of one symbol each
+abbrev pub singletons : List ℕ → List ℕ
+singletons word = map (λ x. 2 ^ x) word
+
+-- a list of pairs that is a complete candidate for a word with one symbol from each set
+pub record IsCandidateOf (ms : List Machine) (sets : List ℕ) (c : List Pair) : Type 0 where
+  pub word : List ℕ
+  pub fits : fitsSets sets word ≡ true
+  pub is : IsCandidate ms word c
+
+-- the words with one symbol from each set
+unfoldable pub wordsFrom : List ℕ → List (List ℕ)
+wordsFrom [] = [] ∷ []
+wordsFrom (set ∷ sets) = joined (λ x. map (λ word. x ∷ word) (wordsFrom sets)) (those (member set) (numbersBelow 64))
+
+-- what is there, as a list
+abbrev pub found : Option Contender → List Contender
+found none = []
+found (some b) = b ∷ []
+
+-- the best candidate over all words with one symbol from each set: the least of their best ones in the order of preference
+unfoldable pub bestOfSetsIn : ProfileOrder → List ℕ → List ℕ → Option Contender
+bestOfSetsIn better card sets = leastOf better (joined (λ word. found (bestIn better card word)) (wordsFrom sets))
+
+-- under a ranking
+unfoldable pub bestOfSets : List ℕ → List ℕ → List ℕ → Option Contender
+bestOfSets card ranking sets = bestOfSetsIn (harmonic ranking) card sets
