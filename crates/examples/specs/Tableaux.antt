@@ -6,15 +6,15 @@ use Rattle.basics.specs.Search.{allOf, pairwise, those, firstThat, joined, ever
 use Rattle.machine.specs.Machine.{takes, stepAmong, endingOf, takeOnePair, clash}
 use Rattle.machine.specs.Part.{arcAt, arcsAt, machineOf, soundArc, shaped, partRefusal}
 use Rattle.basics.specs.Products.{product}
-use Rattle.layout.specs.Layout as layout
-use Rattle.card.specs.Layout.{counted, dueOffset, laidOut, partsOf}
+use Rattle.layout.specs.Layout.{dueOffset, laidOut, partsIn}
+use Rattle.card.specs.Layout.{counted, partsOf}
 use Rattle.card.specs.Card.{cardRefusal, partsRefusal, machinesOf}
 use Rattle.ranking.specs.Rankings.{isRanking}
 use Rattle.ranking.specs.Harmony.{harmony}
 use Rattle.ranking.specs.ByteStrings.{smaller}
 use Rattle.candidate.specs.Candidates.{pairsOf, bytesOf, spelled, marksFrom, isComplete, profileOf}
 use Rattle.candidate.specs.Evaluating.{soundCandidate}
-use Rattle.product.specs.Best.{winsTie, preferred, sameWord, pairsOver, listsBelow, contendersAmong, leastOf, bestBelow, bestOf, best}
+use Rattle.product.specs.Best.{winsTie, preferred, sameWord, pairsOver, listsBelow, contendersAmong, leastOf, bestBelow, bestOf, bestIn, best}
 use Rattle.product.specs.Optimizing.{soundWord, inputRefusal}
 use Rattle.tableau.specs.declared.Judged.{Judged}
 use Rattle.tableau.specs.Tableau.{soundRow, soundTableau}
@@ -48,5 +48,5 @@ pub record ThreeVerdicts : Type 0 where
   pub no-row : judge (two 2) ≡ refusedJudging 19
 
 pub the-three-verdicts : ThreeVerdicts
-unfolding allOf pairwise those firstThat joined everyBelow someBelow numbersBelow occurrences takes stepAmong endingOf takeOnePair clash arcAt arcsAt machineOf soundArc shaped partRefusal counted dueOffset laidOut layout.dueOffset layout.laidOut partsOf cardRefusal partsRefusal product machinesOf isRanking harmony pairsOf bytesOf spelled marksFrom isComplete profileOf soundCandidate smaller winsTie preferred sameWord pairsOver listsBelow contendersAmong leastOf bestBelow bestOf best soundWord inputRefusal soundRow soundTableau isForWord sameCounts firstRow verdictOf judgingRefusal judging
+unfolding allOf pairwise those firstThat joined everyBelow someBelow numbersBelow occurrences takes stepAmong endingOf takeOnePair clash arcAt arcsAt machineOf soundArc shaped partRefusal dueOffset laidOut partsIn counted partsOf cardRefusal partsRefusal product machinesOf isRanking harmony pairsOf bytesOf spelled marksFrom isComplete profileOf soundCandidate smaller winsTie preferred sameWord pairsOver listsBelow contendersAmong leastOf bestBelow bestOf bestIn best soundWord inputRefusal soundRow soundTableau isForWord sameCounts firstRow verdictOf judgingRefusal judging
 the-three-verdicts = record { right = refl; another = refl; missing = refl; no-row = refl }

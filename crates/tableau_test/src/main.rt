@@ -1,12 +1,12 @@
 // Tries the call that judges a tableau: the tableaux of document 002 for /tag/, the refusals 19, 20 and 21 with their neighbours that pass, the
 // order of the checks over several rows, ties, and 32 rows. A line for each case: what it is, the number, the verdict, the row; where the number is
 // 1 to 9, how many numbers of the work slice still hold 7.
-mod bytes; // bytes.rt: the card and the tableaux
+mod samples; // samples.rt: the card and the tableaux
 
-use bytes::CARD;
-use bytes::MISSING;
-use bytes::TAG;
-use bytes::TIES;
+use samples::CARD;
+use samples::MISSING;
+use samples::TAG;
+use samples::TIES;
 use tableau::Judged;
 
 fn write(text: &[u8]) {
@@ -152,6 +152,12 @@ fn put_row(tableau: &mut [u8; 794], i: usize, rows: usize) {
     }
 }
 
+fn judge_front(tableau: &[u8; 794], length: usize) {
+    if length <= 794 {
+        on_tag(&tableau[0..length]);
+    }
+}
+
 // That many rows, the last of which wins.
 fn many(rows: usize, claimed: u8) {
     let mut tableau = [0u8; 794];
@@ -165,8 +171,7 @@ fn many(rows: usize, claimed: u8) {
     }
     tableau[0] = rows as u8;
     tableau[1] = claimed;
-    let end = 2 + 24 * rows;
-    on_tag(&tableau[0..end]);
+    judge_front(&tableau, 2 + 24 * rows);
 }
 
 fn verdicts() {
