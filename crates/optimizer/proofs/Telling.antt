@@ -29,10 +29,10 @@ use Rattle.optimizer.proofs.Words.{word-small}
 use Rattle.optimizer.proofs.Found.{FoundAt, not-found, found}
 
 module _ {card ranking sets work : List ℕ} {size : ℕ} (pre : SetsPre card ranking sets work size) {after : List ℕ} (done : PositionsDone card ranking sets work after 0) where
-  closed : Closed (engineGraph card ranking sets) (labelOf after)
+  closed : Closed (engineGraph (machinesOf card) ranking sets) (labelOf after)
   closed u = done .done .closed u (omega arith)
 
-  attained : Attained (engineGraph card ranking sets) (labelOf after)
+  attained : Attained (engineGraph (machinesOf card) ranking sets) (labelOf after)
   attained = done .done .attained
 
   -- where there is a best the start has a label

@@ -19,12 +19,12 @@ slice-aggregate-label-sets c = sym (ap length (c .before .before .fill-sets .ens
 
 label-sets-requires : tie.Need-label-sets-requires
 label-sets-requires c κs =
-    let s = c .before .before .before .before .before .before .before .before .before .before in
-    let e = c .before .before .before .before .fill-sets .ensures in
+    let s = c .before .before .before .before .before .before .before .before .before in
+    let e = c .before .before .before .fill-sets .ensures in
     (sets-pre (s .pre .0) _ e, sets-have-best (s .pre .0) _ e (s .pre .1))
 
 returns : tie.Need-returns
-returns c = word-told (c .before .before .before .before .before .before .before .before .before .before .before .before .before .before .pre .0) _ (c .before .before .before .before .before .before .before .before .fill-sets .ensures) (c .before .before .before .label-sets .ensures)
+returns c = word-told (c .before .before .before .before .before .before .before .before .before .before .before .before .pre .0) _ (c .before .before .before .before .before .before .fill-sets .ensures) (c .before .before .label-sets .ensures)
 
 pub label-best-spec : {M : Type 1} → statement M
 label-best-spec =
@@ -35,6 +35,5 @@ label-best-spec =
     array-share-prefix-sets
     slice-aggregate-label-sets
     label-sets-requires
-    (λ c. search needs)
     (λ c. search needs)
     returns)
