@@ -12,7 +12,7 @@ use Rattle.lines.specs.Taking.{endedLines, heldAfter, lastLine}
 use Rattle.lines.specs.Writing.{refusedLine, closingLines}
 use Rattle.session.specs.declared.Tally.{Tally}
 use Rattle.session.specs.Printed.{printed}
-use Rattle.session.specs.Tally.{lineCounts, noLines, linesTally, linesText, shownMachines, closingText, Fits}
+use Rattle.session.specs.Tally.{lineCounts, linesTally, linesText, shownMachines, closingText, Fits}
 
 -- a line is answered, or refused; a bad line is refused
 abbrev pub isAnswered : List ℕ → List ℕ → Bool

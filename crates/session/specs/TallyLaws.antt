@@ -11,7 +11,7 @@ use borrow.Author.Tests.{le-leb, lt-leb}
 use Rattle.basics.proofs.Bools.{clash}
 use Rattle.session.specs.declared.Tally.{Tally}
 use Rattle.session.specs.Printed.{printed}
-use Rattle.session.specs.Tally.{lineCounts, added, counted, isFull, passed, pastText, lineTally, lineText, linesTally, linesText}
+use Rattle.session.specs.Tally.{lineCounts, added, counted, isFull, passed, pastText, lineTally, lineText, linesTally, linesText, Fits}
 
 -- numbers added place by place
 pub added-length : (ts cs : List ℕ) → length (added ts cs) ≡ length ts
@@ -35,6 +35,10 @@ counted-past t (some counts) = refl
 pub counted-lines : (t : Tally) (o : Option (List ℕ)) → counted t o .answered + counted t o .refused ≡ t .answered + t .refused + 1
 counted-lines t none = omega arith
 counted-lines t (some counts) = omega arith
+
+-- no sum wraps: 32 bits hold each total of a lesson
+pub no-sum-wraps : (t : Tally) → Fits t → (i : ℕ) → getD (t .totals) i 0 ≤ 65535000
+no-sum-wraps t f i = omega (arith, f .few, f .small i)
 
 -- a thousand lines, and fewer
 pub full-at : (t : Tally) → 1000 ≤ t .answered + t .refused → isFull t ≡ true

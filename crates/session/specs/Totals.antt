@@ -17,11 +17,11 @@ use Rattle.card.specs.Accepted.{accepted}
 use Rattle.lines.specs.Parsing.{Request, parsedLine}
 use Rattle.lines.specs.Writing.{refusedLine, closingLines}
 use Rattle.lines.specs.Input.{linesOf, kept}
-use Rattle.lines.specs.Taking.{endedLines, heldAfter, lastLine, linesTaken}
+use Rattle.lines.specs.Taking.{endedLines, heldAfter, linesTaken}
 use Rattle.lines.specs.LinesOfPieces.{lines-of-pieces, kept-parsed}
 use Rattle.session.specs.declared.Tally.{Tally}
 use Rattle.session.specs.Printed.{reply, printed}
-use Rattle.session.specs.Tally.{requestCounts, lineCounts, noLines, added, counted, isFull, pastText, lineTally, lineText, linesTally, linesText, shownMachines, closingText}
+use Rattle.session.specs.Tally.{requestCounts, lineCounts, noLines, counted, isFull, pastText, lineTally, lineText, linesTally, linesText, shownMachines, closingText}
 use Rattle.session.specs.TallyLaws.{added-length, added-at, counted-past, counted-lines, full-at, open-at, tally-full, tally-open, text-full, text-open, passed-tally, passed-text}
 use Rattle.session.specs.Output.{isAnswered, answeredAmong, refusedAmong, countIn, totalOf, totals, closing, pastLine, lessonOutput, output, printedPieces}
 

@@ -1,7 +1,7 @@
 use mathlib.Core.Path.{_≡_, refl, ap, sym, _∙_}
 use mathlib.Core.Bool.{true, false}
-use mathlib.Core.List.{List, []}
-use Prim.Native.Nat.{ℕ, _-_, _<_, _≤_}
+use mathlib.Core.List.{[]}
+use Prim.Native.Nat.{_-_, _<_, _≤_}
 use native.Mathlib.Omega.{arith}
 use lib.Dec.{lit≤}
 use lib.ListN.{take, drop}
@@ -10,7 +10,7 @@ use Rattle.basics.proofs.Bools.{clash, left-fails}
 use Rattle.lines.specs.Taking.{endedLines, heldAfter}
 use Rattle.lines.proofs.Bounds.{next-bounds}
 use Rattle.session.specs.declared.Tally.{Tally}
-use Rattle.session.specs.Tally.{lineTally, linesTally, Fits}
+use Rattle.session.specs.Tally.{linesTally, Fits}
 use Rattle.session.specs.TallyLaws.{nothing-after, tally-cons, tally-none}
 use Rattle.session.proofs.Pieces.{held-ended, held-open, first-ended, none-ended}
 use Rattle.session.proofs.Tallies.{past-written}

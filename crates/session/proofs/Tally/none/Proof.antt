@@ -1,6 +1,5 @@
 use mathlib.Core.Path.{refl}
 use Rattle.session.proofs.Tallies.{none-fits}
-use borrow.Author.Needs.{needs}
 use Rattle.session.proofs.Tally.none.Statement.{statement}
 use Rattle.session.proofs.Tally.none.Tie as tie
 
