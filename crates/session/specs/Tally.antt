@@ -8,7 +8,7 @@ use lib.Dec.{leb}
 use Rattle.card.specs.Layout.{machineCount}
 use Rattle.card.specs.Card.{cardRefusal}
 use Rattle.candidate.specs.declared.Evaluation.{Evaluation}
-use Rattle.candidate.specs.Optimizing.{optimized}
+use Rattle.product.specs.Optimizing.{optimized}
 use Rattle.lines.specs.Parsing.{Request, parsedLine}
 use Rattle.lines.specs.Writing.{refusedLine, closingLines}
 use Rattle.session.specs.declared.Tally.{Tally}

@@ -12,7 +12,7 @@ use Rattle.basics.specs.Search.{joined, those, numbersBelow}
 use Rattle.basics.proofs.Below.{length-numbers, number-at}
 use Rattle.card.specs.Layout.{machineCount}
 use Rattle.card.specs.Card.{cardRefusal}
-use Rattle.card.specs.Laws.Search.{map-at}
+use Rattle.basics.proofs.Search.{map-at}
 use Rattle.card.specs.Accepted.{accepted}
 use Rattle.lines.specs.Parsing.{Request, parsedLine}
 use Rattle.lines.specs.Writing.{refusedLine, closingLines}
