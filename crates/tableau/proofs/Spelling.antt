@@ -10,7 +10,7 @@ use lib.ListN.{length, getD, drop}
 use borrow.Author.Tests.{eq-eqb, ne-eqb, le-leb, lt-leb}
 use Rattle.basics.proofs.Search.{left-next, left-none}
 use Rattle.machine.specs.Symbols.{emptySymbol}
-use Rattle.candidate.specs.Candidates.{pairAt, pairsOf, spelled}
+use Rattle.candidate.specs.Candidates.{pairsOf, spelled}
 use Rattle.product.specs.Best.{sameWord}
 use Rattle.candidate.proofs.Pairs.{pairs-next, pairs-end}
 

@@ -1,15 +1,14 @@
 -- How the verdict is found: the claimed row first, then row by row. Assumes nothing.
-use mathlib.Core.Path.{_≡_, refl, sym, ap, _∙_}
+use mathlib.Core.Path.{_≡_, refl}
 use mathlib.Core.Bool.{Bool, true, false}
 use mathlib.Core.List.{List}
-use mathlib.Core.Option.{Option, some, none}
+use mathlib.Core.Option.{Option, none}
 use Prim.Native.Nat.{ℕ, _+_, _<_}
 use Rattle.basics.specs.Search.{firstThat, numbersBelow}
 use Rattle.ranking.proofs.FinderSteps.{count-on, count-found}
-use Rattle.tableau.specs.declared.Verdict.{Verdict}
 use Rattle.tableau.specs.declared.Verdict.the-variants.{Right, AnotherRow, NotInTable}
 use Rattle.tableau.specs.Tableau.{rowCount, claimedRow, rowOf}
-use Rattle.tableau.specs.Judging.{firstRow, otherwise, verdictOf}
+use Rattle.tableau.specs.Judging.{firstRow, verdictOf}
 
 -- the first of the rows before row n that wins
 abbrev pub firstBefore : (List ℕ → Bool) → List ℕ → ℕ → Option ℕ

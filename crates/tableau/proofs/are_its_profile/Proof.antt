@@ -5,7 +5,7 @@ use Rattle.ranking.specs.declared.Profile.{Profile}
 use Rattle.card.specs.Card.{machinesOf}
 use Rattle.candidate.specs.Candidates.{pairsOf, profileOf}
 use Rattle.candidate.specs.Evaluating.{profileWith}
-use Rattle.tableau.specs.Tableau.{countsOf, candidateOf}
+use Rattle.tableau.specs.Tableau.{candidateOf}
 use Rattle.tableau.specs.Judging.{sameCounts}
 use Rattle.tableau.proofs.Rows.{candidate-bytes}
 use borrow.Author.Needs.{needs}

@@ -1,9 +1,8 @@
 use mathlib.Core.Path.{_≡_, refl, sym, ap, ap₂, _∙_}
 use mathlib.Core.Bool.{true, false}
 use mathlib.Core.List.{List}
-use Prim.Native.Nat.{ℕ, _-_, _%_}
+use Prim.Native.Nat.{ℕ, _-_}
 use lib.Dec.{lit<}
-use lib.ListN.{length}
 use Rattle.basics.specs.Refusals.{refuse}
 use Rattle.basics.proofs.Refusals.{was-true, was-false}
 use Rattle.card.specs.Layout.{symbolCount}

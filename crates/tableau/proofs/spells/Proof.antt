@@ -1,7 +1,7 @@
 use mathlib.Core.Path.{_≡_, sym, ap, _∙_}
 use mathlib.Core.Logic.{⊎-elim}
-use Prim.Native.Nat.{ℕ, _≤_, _+_, _-_, _%_}
-use lib.ListN.{length, getD}
+use Prim.Native.Nat.{_≤_, _+_, _-_, _%_}
+use lib.ListN.{length}
 use borrow.Author.Needs.{needs}
 use native.Mathlib.Omega.{arith}
 use Rattle.tableau.proofs.Spelling.{restSame, same-inserted, same-symbol, other-symbol, too-long, same-end}

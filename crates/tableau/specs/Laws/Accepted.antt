@@ -1,7 +1,7 @@
 -- What input and tableau promise where nothing is refused. Assumes nothing.
-use mathlib.Core.Path.{_≡_, refl, sym, _∙_, ap}
+use mathlib.Core.Path.{_≡_, refl, sym, _∙_}
 use mathlib.Core.Logic.{_↔_}
-use mathlib.Core.Bool.{Bool, true, not, _&&_}
+use mathlib.Core.Bool.{true, not, _&&_}
 use mathlib.Core.List.{List, [], _∷_}
 use mathlib.Core.Option.{Option, some, none}
 use Prim.Native.Nat.{ℕ, _*_, _%_, _<_, _≤_}
@@ -23,7 +23,7 @@ use Rattle.card.specs.Layout.{machineCount, symbolCount}
 use Rattle.card.specs.Card.{cardRefusal, machinesOf}
 use Rattle.card.specs.Accepted.{accepted}
 use Rattle.candidate.specs.Candidates.{pairsOf, spelled, isComplete, profileOf, IsCandidate}
-use Rattle.candidate.specs.Evaluating.{soundPair, soundCandidate, profileWith}
+use Rattle.candidate.specs.Evaluating.{soundPair, soundCandidate}
 use Rattle.product.specs.Best.{Contender, sameWord, best}
 use Rattle.product.specs.Optimizing.{inputRefusal, countsFit}
 use Rattle.product.specs.BestTheorem.{BestOfAll, best-is-best-of-all}
@@ -33,7 +33,7 @@ use Rattle.product.specs.Laws.Candidates.{same-word}
 use Rattle.input.specs.AcceptedInput.{AcceptedInput, accepted-input}
 use Rattle.tableau.specs.Tableau.{rowCount, claimedRow, rowOf, countsOf, candidateOf, everyRow, soundRow, soundTableau}
 use Rattle.tableau.specs.Reading.{Readable, CompleteRow}
-use Rattle.tableau.specs.Judging.{isForWord, sameCounts, countsAreProfile, hasProfileOf, judgingRefusal}
+use Rattle.tableau.specs.Judging.{isForWord, countsAreProfile, hasProfileOf, judgingRefusal}
 use Rattle.tableau.specs.Laws.Winning.{NoneBetter, wins-by-best}
 use Rattle.tableau.specs.Laws.Counts.{equal-counts}
 
