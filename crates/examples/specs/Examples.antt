@@ -70,10 +70,10 @@ the-ten-examples = record {
 
 pub record RequestExamples : Type 0 where
   -- S-5. B with state byte 2 for state 1 of machine 0, `012 1`: `0,0,1 1:0`
-  pub ending-marks : Optimizes cardBWithEnding (0 ∷ 1 ∷ 2 ∷ []) 1 (accepted (0 ∷ 0 ∷ 1 ∷ 0 ∷ 0 ∷ 0 ∷ []) 1 1) (1 ∷ 0 ∷ 9 ∷ 9 ∷ [])
+  pub ending-marks : Gives cardBWithEnding (0 ∷ 1 ∷ 2 ∷ []) 1 (accepted (0 ∷ 0 ∷ 1 ∷ 0 ∷ 0 ∷ 0 ∷ []) 1 1) (1 ∷ 0 ∷ 9 ∷ 9 ∷ [])
   -- and there 1:1 has a mark for ending: 1,0,0; one pair, word length 1
   pub its-profile : evaluating cardBWithEnding (1 ∷ 1 ∷ []) ≡ accepted (1 ∷ 0 ∷ 0 ∷ 0 ∷ 0 ∷ 0 ∷ []) 1 1
 
 pub the-request-examples : RequestExamples
-unfolding allOf pairwise those firstThat joined everyBelow someBelow numbersBelow occurrences setOf takes stepAmong endingOf takeOnePair clash arcAt arcsAt machineOf soundArc shaped partRefusal dueOffset laidOut partsIn counted partsOf cardRefusal partsRefusal stateProduct machinesOf isRanking arrangements harmony highest fits conditionsOf apart soundCondition soundList smallest finding pairsOf bytesOf spelled marksFrom isComplete profileOf soundCandidate evaluating smaller shorter preferred sameWord pairsOver listsBelow formsAmong leastOf bestBelow best soundWord inputRefusal optimizerRefusal optimized optimizedAnswer
+unfolding allOf pairwise those firstThat joined everyBelow someBelow numbersBelow occurrences setOf takes stepAmong endingOf takeOnePair clash arcAt arcsAt machineOf soundArc shaped partRefusal dueOffset laidOut partsIn counted partsOf cardRefusal partsRefusal product machinesOf isRanking arrangements harmony highest fits conditionsOf disjoint soundCondition soundList smallest finding pairsOf bytesOf spelled marksFrom isComplete profileOf soundCandidate evaluating smaller winsTie preferred sameWord pairsOver listsBelow contendersAmong leastOf bestBelow bestOf bestIn best soundWord inputRefusal optimizerRefusal optimized optimizedAnswer
 the-request-examples = record { ending-marks = (refl, refl); its-profile = refl }

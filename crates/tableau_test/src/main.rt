@@ -82,12 +82,25 @@ fn change(at: usize, byte: u8) {
     changed(at, byte, at, byte, at, byte);
 }
 
-// The first tableau's front.
-fn cut(length: usize) {
-    let tableau = TAG;
+fn judge_front(tableau: [u8; 132], length: usize) {
     if length <= 132 {
         on_tag(&tableau[0..length]);
     }
+}
+
+// The first tableau's front.
+fn cut(length: usize) {
+    judge_front(TAG, length);
+}
+
+// The first tableau with a last row of that many bytes, 26 at most.
+fn last_row(length: usize) {
+    let mut tableau = TAG;
+    if length > 26 {
+        return;
+    }
+    tableau[20] = length as u8;
+    judge_front(tableau, 106 + length);
 }
 
 fn tie(claimed: u8) {
@@ -152,7 +165,7 @@ fn put_row(tableau: &mut [u8; 794], i: usize, rows: usize) {
     }
 }
 
-fn judge_front(tableau: &[u8; 794], length: usize) {
+fn judge_rows(tableau: [u8; 794], length: usize) {
     if length <= 794 {
         on_tag(&tableau[0..length]);
     }
@@ -171,11 +184,11 @@ fn many(rows: usize, claimed: u8) {
     }
     tableau[0] = rows as u8;
     tableau[1] = claimed;
-    judge_front(&tableau, 2 + 24 * rows);
+    judge_rows(tableau, 2 + 24 * rows);
 }
 
 fn verdicts() {
-    write(b"as printed in document 002");
+    write(b"the rows of document 002");
     change(1, 0);
     write(b".ta.g[e]. claimed");
     change(1, 1);
@@ -235,9 +248,9 @@ fn layouts() {
     write(b"second offset one less");
     change(6, 41);
     write(b"a row of 11 bytes");
-    changed(16, 11, 18, 97, 20, 35);
-    write(b"a row of 12 bytes");
-    changed(16, 12, 18, 98, 20, 34);
+    last_row(11);
+    write(b"a row of 12 bytes, which spells nothing");
+    last_row(12);
     write(b"an unused count");
     change(28, 1);
     write(b"the last unused count, high byte");
@@ -246,7 +259,7 @@ fn layouts() {
 
 fn candidates() {
     write(b"odd");
-    changed(16, 19, 18, 105, 20, 27);
+    last_row(25);
     write(b"0:0");
     changed(38, 0, 39, 0, 39, 0);
     write(b"symbol over S");
