@@ -13,4 +13,4 @@ returns c =
     )
 
 pub pastaspur-judge-spec : {M : Type 1} → statement M
-pastaspur-judge-spec = tie.close (tie.spec (λ c κs. search needs) (λ c. search needs) returns)
+pastaspur-judge-spec = tie.close (tie.spec (λ c κs. search needs) (λ c. search needs) (λ c. search needs) returns)
