@@ -1,9 +1,9 @@
-use mathlib.Core.Path.{_≡_, sym}
+use mathlib.Core.Path.{sym}
 use Prim.Native.Nat.{_≤_, _+_, _*_}
 use native.Mathlib.Omega.{arith}
 use lib.ListN.{length}
 use borrow.Author.Needs.{needs}
-use Rattle.input.specs.AcceptedInput.{AcceptedInput, accepted-input}
+use Rattle.input.specs.AcceptedInput.{accepted-input}
 use Rattle.input.proofs.Nodes.{node-room, nodes-few}
 use Rattle.optimizer.proofs.Answers.{front-room}
 use Rattle.optimizer.proofs.best_profile.Statement.{statement}
