@@ -156,13 +156,22 @@ class Card:
         by_name = [":".join(names[int(number)] for number in pair.split(":")) for pair in pairs]
         return [int(count) for count in counts.split(",")], by_name
 
+    def closing_lines(self, printed):
+        """The two lines under the answers: how many are answered and refused, and each machine's counts added up."""
+        answered = [self.answer(text)[0] for text in printed if text[0].isdigit()]
+        totals = [sum(counts) for counts in zip([0] * len(self.machines), *answered)]
+        return [f"answered {len(answered)} refused {len(printed) - len(answered)}", "total " + ",".join(map(str, totals))]
+
 
 def check(directory, card):
     wrong = []
     for name, contents in card.files().items():
         if (directory / name).read_bytes() != contents:
             wrong.append(f"{name} is not what card.txt says")
-    printed = dict(zip(card.stdin().splitlines(), (directory / "stdout").read_text().splitlines(), strict=True))
+    printed = (directory / "stdout").read_text().splitlines()
+    if printed[-2:] != card.closing_lines(printed[:-2]):
+        wrong.append(f"{printed[-2:]} are not the totals of the lines above")
+    printed = dict(zip(card.stdin().splitlines(), printed[:-2], strict=True))
     for line, rows in card.tableaux:
         for best, pairs, counts in rows:
             if card.counts(pairs) != counts:
@@ -182,13 +191,15 @@ def check(directory, card):
 
 
 def show(directory, card):
-    for (ranking, word), text in zip(card.lines, (directory / "stdout").read_text().splitlines(), strict=True):
+    *printed, answered, total = (directory / "stdout").read_text().splitlines()
+    for (ranking, word), text in zip(card.lines, printed, strict=True):
         print(f"{card.line(ranking, word)}  ->  {text}")
         if not text.startswith("refused"):
             counts, pairs = card.answer(text)
             by_name = ", ".join(f"{name} {count}" for name, count in zip(card.machines, counts))
             text = f"{by_name};  {' '.join(pairs)}"
         print(f"    {' >> '.join(ranking)}  /{' '.join(word)}/  ->  {text}")
+    print(f"{answered}\n{total}")
 
 
 def main():

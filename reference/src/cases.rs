@@ -36,12 +36,19 @@ fn long_words(rankings: &[&str], symbols: u8) -> Vec<String> {
     rankings.iter().zip(words.into_iter().cycle()).map(|(ranking, word)| line(ranking, word)).collect()
 }
 
+/// More lines than are answered, a bad one among every hundred.
+fn lesson() -> Vec<String> {
+    let lines = (1..).zip(short_words().into_iter().cycle());
+    lines.map(|(number, line)| if number % 100 == 0 { "?".to_string() } else { line }).take(1_002).collect()
+}
+
 pub fn cases() -> Vec<Case> {
     let six = ["012345", "543210", "204153"];
     let case = |name, card, lines| Case { name, card, lines };
     vec![
         case("card_b", samples::card_b(), short_words()),
         case("card_b_ending", samples::card_b_ending(), short_words()),
+        case("lesson", samples::card_b(), lesson()),
         case("chain", samples::chain(), [long_words(&["01", "10"], 3), vec![line("01", [])]].concat()),
         case("chain_ending", samples::chain_ending(), long_words(&["01", "10"], 3)),
         case("chain_full", samples::chain_full(), long_words(&["012345", "543210"], 63)),

@@ -1,6 +1,10 @@
-//! The program's lines.
+//! The program's lines, and the two that close them.
 
+use crate::card::read_card;
 use crate::optimizer::optimize;
+
+/// The most lines that are answered.
+const MOST_LINES: usize = 1_000;
 
 /// A line's ranking and word, or nothing where its form is another. Nothing after the space is the empty word.
 pub fn parse(line: &[u8]) -> Option<(Vec<u8>, Vec<u8>)> {
@@ -43,9 +47,29 @@ pub fn answer(card: &[u8], line: &[u8]) -> String {
     }
 }
 
-/// What the program prints for its whole input.
+/// The counts of a printed line, or nothing where the line was not answered.
+fn printed_counts(line: &str) -> Option<Vec<u64>> {
+    line.split(' ').next()?.split(',').map(|count| count.parse().ok()).collect()
+}
+
+/// The closing lines under these: how many are answered and refused, and each machine's counts added up.
+fn closing_lines(card: &[u8], printed: &[String]) -> [String; 2] {
+    let answered: Vec<Vec<u64>> = printed.iter().filter_map(|line| printed_counts(line)).collect();
+    let refused = printed.len() - answered.len();
+    let machines = read_card(card).map_or(0, |card| card.machines.len());
+    let sum = |machine: usize| answered.iter().map(|counts| counts[machine]).sum::<u64>();
+    let totals: Vec<String> = (0..machines).map(|machine| sum(machine).to_string()).collect();
+    let total = ["total".to_string(), totals.join(",")].join(" ");
+    [format!("answered {} refused {refused}", answered.len()), total.trim_end().to_string()]
+}
+
+/// What the program prints for its whole input. A line past the thousandth ends it, whatever its form, with refusal 22.
 pub fn run(card: &[u8], input: &[u8]) -> String {
     let card = &card[..card.len().min(30_831)];
-    let lines = input.split_inclusive(|&byte| byte == 10);
-    lines.map(|line| answer(card, line.strip_suffix(b"\n").unwrap_or(line)) + "\n").collect()
+    let lines: Vec<&[u8]> = input.split_inclusive(|&byte| byte == 10).collect();
+    let answered = lines.iter().take(MOST_LINES);
+    let printed: Vec<String> = answered.map(|line| answer(card, line.strip_suffix(b"\n").unwrap_or(line))).collect();
+    let too_many = (lines.len() > MOST_LINES).then(|| "refused 22".to_string());
+    let closing = closing_lines(card, &printed);
+    printed.into_iter().chain(too_many).chain(closing).map(|line| line + "\n").collect()
 }

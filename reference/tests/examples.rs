@@ -2,7 +2,7 @@
 
 use reference::candidate::evaluate;
 use reference::card::{lay_out, read_card, read_part};
-use reference::lines::answer;
+use reference::lines::{answer, run};
 use reference::ranking::{condition, find_ranking};
 use reference::samples::{arc, card, card_b, card_b_ending, machine, set, CARD_A};
 
@@ -46,6 +46,13 @@ fn the_empty_word() {
 #[test]
 fn a_final_consonant() {
     assert_eq!(answer(&card_b_ending(), b"012 1"), "0,0,1 1:0");
+}
+
+/// Totals under a lesson's word list.
+#[test]
+fn closing_lines() {
+    let printed = "0,0,1 2:0\n0,1,0 0:1 2:2\nanswered 2 refused 0\ntotal 0,1,1\n";
+    assert_eq!(run(&card_b(), b"012 2\n021 2\n"), printed);
 }
 
 #[test]

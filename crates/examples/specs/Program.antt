@@ -1,4 +1,4 @@
--- The program on card B, input `021 2`: it prints exactly `0,1,0 0:1 2:2`, as the line's reply and as the whole output.
+-- The program on card B: for the line `021 2` it prints exactly `0,1,0 0:1 2:2`; and the whole output of a lesson of two lines.
 use mathlib.Core.Path.{_≡_, refl}
 use Rattle.basics.specs.Search.{allOf, pairwise, those, joined, everyBelow, someBelow, numbersBelow, occurrences}
 use Rattle.basics.specs.Sets.{setOf}
@@ -18,9 +18,10 @@ use Rattle.lines.specs.Text.{textOf, before, after, segments}
 use Rattle.lines.specs.Decimal.{digitsWithin, decimal, valueFrom}
 use Rattle.lines.specs.Parsing.{isRankingText, isSymbolText, symbolsIn, parsedLine}
 use Rattle.lines.specs.Input.{linesOf}
-use Rattle.lines.specs.Writing.{nextCount, withCommas, pairText, pairsText, acceptedLine, lineOf}
+use Rattle.lines.specs.Writing.{nextCount, withCommas, pairText, pairsText, acceptedLine, lineOf, answeredLine, totalLine, closingLines}
 use Rattle.session.specs.Printed.{bestLine, printed}
-use Rattle.session.specs.Output.{output}
+use Rattle.session.specs.Tally.{countsOf, shownMachines}
+use Rattle.session.specs.Output.{totalOf, totals, closing, lessonOutput, output}
 use Rattle.examples.specs.Cards.{cardB}
 
 pub example-printed : printed cardB (textOf "021 2") ≡ textOf "0,1,0 0:1 2:2\n"
@@ -32,6 +33,7 @@ pub example-empty-word : printed cardB (textOf "012 ") ≡ textOf "0,0,0\n"
 unfolding allOf pairwise those joined everyBelow someBelow numbersBelow occurrences setOf takes stepAmong endingOf takeOnePair clash arcAt arcsAt machineOf soundArc shaped partRefusal dueOffset laidOut partsIn counted partsOf cardRefusal partsRefusal product machinesOf isRanking harmony pairsOf bytesOf spelled marksFrom isComplete profileOf smaller winsTie preferred sameWord pairsOver listsBelow contendersAmong leastOf bestBelow bestOf bestIn best soundWord inputRefusal optimizerRefusal optimized optimizedAnswer before after segments digitsWithin decimal valueFrom isRankingText isSymbolText symbolsIn parsedLine nextCount withCommas pairText pairsText acceptedLine lineOf bestLine
 example-empty-word = refl
 
-pub example-output : output cardB (textOf "021 2") ≡ textOf "0,1,0 0:1 2:2\n"
-unfolding allOf pairwise those joined everyBelow someBelow numbersBelow occurrences setOf takes stepAmong endingOf takeOnePair clash arcAt arcsAt machineOf soundArc shaped partRefusal dueOffset laidOut partsIn counted partsOf cardRefusal partsRefusal product machinesOf isRanking harmony pairsOf bytesOf spelled marksFrom isComplete profileOf smaller winsTie preferred sameWord pairsOver listsBelow contendersAmong leastOf bestBelow bestOf bestIn best soundWord inputRefusal optimizerRefusal optimized optimizedAnswer before after segments digitsWithin decimal valueFrom isRankingText isSymbolText symbolsIn parsedLine linesOf nextCount withCommas pairText pairsText acceptedLine lineOf bestLine
-example-output = refl
+-- a lesson of two lines: their lines, how many were answered and refused, the totals
+pub example-lesson : output cardB (textOf "012 2\n021 2") ≡ textOf "0,0,1 2:0\n0,1,0 0:1 2:2\nanswered 2 refused 0\ntotal 0,1,1\n"
+unfolding allOf pairwise those joined everyBelow someBelow numbersBelow occurrences setOf takes stepAmong endingOf takeOnePair clash arcAt arcsAt machineOf soundArc shaped partRefusal dueOffset laidOut partsIn counted partsOf cardRefusal partsRefusal product machinesOf isRanking harmony pairsOf bytesOf spelled marksFrom isComplete profileOf smaller winsTie preferred sameWord pairsOver listsBelow contendersAmong leastOf bestBelow bestOf bestIn best soundWord inputRefusal optimizerRefusal optimized optimizedAnswer before after segments digitsWithin decimal valueFrom isRankingText isSymbolText symbolsIn parsedLine linesOf nextCount withCommas pairText pairsText acceptedLine lineOf answeredLine totalLine closingLines bestLine countsOf shownMachines totalOf totals closing lessonOutput
+example-lesson = refl

@@ -2,16 +2,17 @@
 use mathlib.Core.Path.{_≡_, refl, ap, sym, _∙_}
 use mathlib.Core.Bool.{Bool, true, false}
 use mathlib.Core.List.{List, [], _∷_, _++_}
-use Prim.Native.Nat.{ℕ, suc, _+_, _<_, _≤_, min}
+use Prim.Native.Nat.{ℕ, zero, suc, _+_, _<_, _≤_, min}
 use native.Mathlib.Nat.{add-zero, add-suc, suc-add, zero-add}
 use native.Mathlib.Numerals.{add-one}
 use native.Mathlib.Omega.{arith}
 use lib.Dec.{leb}
 use lib.ListN.{length, getD, take, drop, set}
-use lib.Seq.{drop-cons, take-all, sets, sets-eq}
+use lib.Seq.{drop-cons, take-all, sets, sets-eq, ext-getD}
 use borrow.Author.Tests.{leb-true, leb-false}
 use Rattle.basics.specs.Search.{allOf}
 use Rattle.basics.proofs.Bools.{left, right}
+use Rattle.lines.specs.Buffers.{Below}
 
 -- the element at a place, and the rest
 pub rest-cons : {A : Type 0} (l : List A) (at : ℕ) (d : A) → at < length l → drop at l ≡ getD l at d ∷ drop (at + 1) l
@@ -66,3 +67,32 @@ module _ {A : Type 0} where
   -- stores from the front on
   pub sets-front : (xs l : List A) → length xs ≤ length l → sets l 0 xs ≡ xs ++ drop (length xs) l
   sets-front xs l h = sets-eq xs l 0 (rw zero-add h) ∙ ap (λ (k : ℕ). xs ++ drop k l) (zero-add (length xs))
+
+-- six numbers are a list of six by its places, and each is below a bound
+pub six-numbers : (l : List ℕ) {a b c d e f : ℕ} → length l ≡ 6 → a ≡ getD l 0 0 → b ≡ getD l 1 0 → c ≡ getD l 2 0 → d ≡ getD l 3 0 → e ≡ getD l 4 0 → f ≡ getD l 5 0
+    → (a ∷ b ∷ c ∷ d ∷ e ∷ f ∷ []) ≡ l
+six-numbers l {a} {b} {c} {d} {e} {f} six p q r s t u = ext-getD 0 (a ∷ b ∷ c ∷ d ∷ e ∷ f ∷ []) l (sym six) at-place
+  where
+    at-place : (i : ℕ) → i < 6 → getD (a ∷ b ∷ c ∷ d ∷ e ∷ f ∷ []) i 0 ≡ getD l i 0
+    at-place zero h = p
+    at-place (suc zero) h = q
+    at-place (suc (suc zero)) h = r
+    at-place (suc (suc (suc zero))) h = s
+    at-place (suc (suc (suc (suc zero)))) h = t
+    at-place (suc (suc (suc (suc (suc zero))))) h = u
+    at-place (suc (suc (suc (suc (suc (suc i)))))) h = absurd (omega arith)
+
+pub six-below : (bound : ℕ) {a b c d e f : ℕ} → a < bound → b < bound → c < bound → d < bound → e < bound → f < bound → Below bound (a ∷ b ∷ c ∷ d ∷ e ∷ f ∷ [])
+six-below bound p q r s t u zero = p
+six-below bound p q r s t u (suc zero) = q
+six-below bound p q r s t u (suc (suc zero)) = r
+six-below bound p q r s t u (suc (suc (suc zero))) = s
+six-below bound p q r s t u (suc (suc (suc (suc zero)))) = t
+six-below bound p q r s t u (suc (suc (suc (suc (suc zero))))) = u
+six-below bound p q r s t u (suc (suc (suc (suc (suc (suc i)))))) = omega arith
+
+pub take-below : {bound : ℕ} (n : ℕ) (l : List ℕ) → 0 < bound → Below bound l → Below bound (take n l)
+take-below zero l p h i = p
+take-below (suc n) [] p h i = p
+take-below (suc n) (x ∷ l) p h zero = h 0
+take-below (suc n) (x ∷ l) p h (suc i) = take-below n l p (λ j. h (suc j)) i

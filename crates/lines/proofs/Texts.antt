@@ -1,16 +1,18 @@
 -- Laws of the texts that are printed: their parts, their lengths. Assumes nothing.
-use mathlib.Core.Path.{_≡_, refl, ap, _∙_}
+use mathlib.Core.Path.{_≡_, refl, ap, sym, _∙_}
 use mathlib.Core.List.{List, [], _∷_, _++_}
 use Prim.Native.Nat.{ℕ, zero, suc, _+_, _-_, _*_, _<_, _≤_, zero-le}
-use native.Mathlib.Nat.{suc-ne-zero, not-suc-le-zero, le-of-suc-le-suc}
+use native.Mathlib.Nat.{suc-ne-zero, not-suc-le-zero, le-of-suc-le-suc, mul-suc, mul-le-mul-left}
 use native.Mathlib.Omega.{arith}
 use lib.Dec.{lit≤}
 use lib.ListN.{length, getD, take, drop, length-append, length-drop, drop-of-length-le}
 use Rattle.basics.specs.Search.{joined}
 use Rattle.candidate.specs.declared.Evaluation.{Evaluation}
 use Rattle.candidate.specs.Candidates.{pairsOf}
+use Rattle.lines.specs.Text.{textOf}
+use Rattle.lines.specs.Buffers.{Below}
 use Rattle.lines.specs.Decimal.{decimal}
-use Rattle.lines.specs.Writing.{nextCount, withCommas, pairText, pairsText, refusedLine, acceptedLine, lineOf}
+use Rattle.lines.specs.Writing.{nextCount, withCommas, withLineEnd, pairText, pairsText, refusedLine, acceptedLine, lineOf, answeredLine, totalLine, closingLines}
 use Rattle.lines.proofs.Lists.{rest-cons}
 use Rattle.lines.proofs.Cutting.{part-rest}
 use Rattle.lines.proofs.Decimals.{decimal-length}
@@ -29,12 +31,15 @@ pub refused-length : (n : ℕ) → length (refusedLine n) ≡ 9 + length (decima
 unfolding refusedLine
 refused-length n = simp length-append (omega arith)
 
--- a byte has at most three digits, a 16-bit number at most five
+-- a byte has at most three digits, a 16-bit number at most five, one of 32 bits at most ten
 pub byte-length : (n : ℕ) → n < 256 → length (decimal n) ≤ 3
 byte-length n h = decimal-length 2 n (omega arith)
 
 pub count-length : (n : ℕ) → n < 65536 → length (decimal n) ≤ 5
 count-length n h = decimal-length 4 n (omega arith)
+
+number-length : (n : ℕ) → n < 4294967296 → length (decimal n) ≤ 10
+number-length n h = decimal-length 9 n (omega arith)
 
 pub refused-fits : (n : ℕ) → n < 256 → length (refusedLine n) ≤ 12
 refused-fits n h = omega (arith, refused-length n, byte-length n h)
@@ -94,20 +99,26 @@ module _ (l : List ℕ) (i : ℕ) {next at : ℕ} {out whole old : List ℕ} whe
       → next + length (pairText (getD l i 0) (getD l (i + 1) 0)) ≤ length out
   pairs-room h = ahead-room (pairText (getD l i 0) (getD l (i + 1) 0)) (pairsText (drop (i + 2) l)) (pairs-next l i h)
 
--- the longest line: six counts of five digits with five commas, at most four bytes for each byte of the answer, the line end
-next-counts-fit : (l : List ℕ) → ((i : ℕ) → getD l i 0 < 65536) → length (joined nextCount l) ≤ 6 * length l
+-- numbers of at most so many digits, six at most, with commas between them
+abbrev Digits : ℕ → List ℕ → Type 0
+Digits most l = (i : ℕ) → length (decimal (getD l i 0)) ≤ most
+
+next-counts-fit : (most : ℕ) (l : List ℕ) → Digits most l → length (joined nextCount l) ≤ (most + 1) * length l
 unfolding joined
-next-counts-fit [] h = zero-le
-next-counts-fit (n ∷ ns) h =
-    let rest = next-counts-fit ns (λ i. h (suc i)) in
-    omega (arith, length-append (nextCount n) (joined nextCount ns), next-count-length n, count-length n (h 0))
+next-counts-fit most [] h = zero-le
+next-counts-fit most (n ∷ ns) h =
+    let rest = next-counts-fit most ns (λ i. h (suc i)) in
+    omega (arith, length-append (nextCount n) (joined nextCount ns), next-count-length n, h 0, mul-suc (most + 1) (length ns))
 
-counts-fit : (l : List ℕ) → ((i : ℕ) → getD l i 0 < 65536) → length l ≤ 6 → length (withCommas l) ≤ 35
+counts-fit : (most : ℕ) (l : List ℕ) → Digits most l → length l ≤ 6 → length (withCommas l) ≤ 6 * most + 5
 unfolding withCommas
-counts-fit [] h six = zero-le
-counts-fit (n ∷ ns) h six =
-    omega (arith, length-append (decimal n) (joined nextCount ns), count-length n (h 0), next-counts-fit ns (λ i. h (suc i)))
+counts-fit most [] h six = zero-le
+counts-fit most (n ∷ ns) h six =
+    let rest = next-counts-fit most ns (λ i. h (suc i)) in
+    let five : (most + 1) * length ns ≤ (most + 1) * 5 = mul-le-mul-left (most + 1) (omega arith) in
+    omega (arith, length-append (decimal n) (joined nextCount ns), h 0)
 
+-- the longest line: six counts of five digits with five commas, at most four bytes for each byte of the answer, the line end
 pairs-fit : (l : List ℕ) → ((i : ℕ) → getD l i 0 < 256) → length (pairsText l) ≤ 4 * length l
 pairs-fit [] h = rw (pairs-none [] zero-le) zero-le
 pairs-fit (x ∷ []) h = rw (pairs-none (x ∷ []) (lit≤ tt)) zero-le
@@ -120,9 +131,9 @@ module _ (counts bytes : List ℕ) where
   unfolding acceptedLine
   accepted-length = simp length-append
 
-  pub accepted-fits : ((i : ℕ) → getD counts i 0 < 65536) → ((i : ℕ) → getD bytes i 0 < 256) → length counts ≤ 6
+  pub accepted-fits : Below 65536 counts → ((i : ℕ) → getD bytes i 0 < 256) → length counts ≤ 6
       → length (acceptedLine counts bytes) ≤ 36 + 4 * length bytes
-  accepted-fits c b six = omega (arith, accepted-length, counts-fit counts c six, pairs-fit bytes b)
+  accepted-fits c b six = omega (arith, accepted-length, counts-fit 5 counts (λ i. count-length (getD counts i 0) (c i)) six, pairs-fit bytes b)
 
 -- the line of a refusal, and of an accepted answer
 module _ (K : ℕ) (evaluation : Evaluation) (answer : List ℕ) where
@@ -138,3 +149,54 @@ module _ (K : ℕ) (evaluation : Evaluation) (answer : List ℕ) where
   pub line-accepted : evaluation .number ≡ 0 → lineOf K evaluation answer ≡ acceptedLine (take K (evaluation .profile .counts)) (take (2 * evaluation .pairs) answer)
   unfolding lineOf
   line-accepted h = rw (lineOf, h)
+
+-- the totals: none, or with commas
+module _ (l : List ℕ) where
+  pub total-none : length l ≡ 0 → totalLine l ≡ withLineEnd (textOf "total")
+  unfolding totalLine
+  total-none h = go l h
+    where
+      go : (l : List ℕ) → length l ≡ 0 → totalLine l ≡ withLineEnd (textOf "total")
+      go [] h = refl
+      go (n ∷ ns) h = absurd (suc-ne-zero (length ns) h)
+
+  pub total-some : (length l ≡ 0 → ⊥) → totalLine l ≡ withLineEnd (textOf "total " ++ withCommas l)
+  unfolding totalLine
+  total-some h = go l h
+    where
+      go : (l : List ℕ) → (length l ≡ 0 → ⊥) → totalLine l ≡ withLineEnd (textOf "total " ++ withCommas l)
+      go [] h = absurd (h refl)
+      go (n ∷ ns) h = refl
+
+  pub total-none-length : length l ≡ 0 → length (totalLine l) ≡ 6
+  total-none-length h = ap length (total-none h)
+
+  pub total-some-length : (length l ≡ 0 → ⊥) → length (totalLine l) ≡ 7 + length (withCommas l)
+  total-some-length h = ap length (total-some h) ∙ simp length-append (omega arith)
+
+  -- `total` at least
+  pub total-least : 6 ≤ length (totalLine l)
+  total-least = go l refl
+    where
+      go : (m : List ℕ) → l ≡ m → 6 ≤ length (totalLine l)
+      go [] e = omega (arith, total-none-length (ap length e))
+      go (n ∷ ns) e = omega (arith, total-some-length (λ h. suc-ne-zero (length ns) (sym (ap length e) ∙ h)))
+
+-- the closing lines fit 120 bytes
+pub answered-length : (a r : ℕ) → length (answeredLine a r) ≡ 19 + length (decimal a) + length (decimal r)
+unfolding answeredLine
+answered-length a r = simp length-append (omega arith)
+
+total-fits : (l : List ℕ) → Below 4294967296 l → length l ≤ 6 → length (totalLine l) ≤ 72
+unfolding totalLine
+total-fits [] h six = lit≤ tt
+total-fits (n ∷ ns) h six =
+    omega (arith, total-some-length (n ∷ ns) (suc-ne-zero (length ns)), counts-fit 10 (n ∷ ns) (λ i. number-length (getD (n ∷ ns) i 0) (h i)) six)
+
+pub closing-length : (a r : ℕ) (totals : List ℕ) → length (closingLines a r totals) ≡ length (answeredLine a r) + length (totalLine totals)
+unfolding closingLines
+closing-length a r totals = length-append (answeredLine a r) (totalLine totals)
+
+pub closing-fits : (a r : ℕ) (totals : List ℕ) → a < 4294967296 → r < 4294967296 → Below 4294967296 totals → length totals ≤ 6 → length (closingLines a r totals) ≤ 120
+closing-fits a r totals ha hr h six =
+    omega (arith, closing-length a r totals, answered-length a r, number-length a ha, number-length r hr, total-fits totals h six)

@@ -1,9 +1,13 @@
 -- Texts written in a lent buffer.
 use mathlib.Core.Path.{_≡_}
 use mathlib.Core.List.{List, _++_}
-use Prim.Native.Nat.{ℕ, _+_}
-use lib.ListN.{length, drop}
+use Prim.Native.Nat.{ℕ, _+_, _<_}
+use lib.ListN.{length, getD, drop}
 use lib.Seq.{sets}
+
+-- every number of a list is below a bound
+abbrev pub Below : ℕ → List ℕ → Type 0
+Below bound l = (i : ℕ) → getD l i 0 < bound
 
 -- a text written at the front of a buffer: the other bytes keep their values
 abbrev pub atFront : List ℕ → List ℕ → List ℕ

@@ -175,11 +175,3 @@ kept-parsed l = go (leb (length l) 200) refl
     go false e =
         let long : leb (length (kept l)) 200 ≡ false = lt-leb (length (kept l)) 200 (simp length-take (omega (arith, leb-false (length l) 200 e))) in
         rw (parsedLine, long, e)
-
--- so the lines taken parse as the lines of the input do
-pub requests-of-pieces : (ps : List (List ℕ)) → map parsedLine (linesTaken [] ps) ≡ map parsedLine (linesOf (joined (λ p. p) ps))
-requests-of-pieces ps = ap (map parsedLine) (lines-of-pieces ps) ∙ parsed (linesOf (joined (λ p. p) ps))
-  where
-    parsed : (ls : List (List ℕ)) → map parsedLine (map kept ls) ≡ map parsedLine ls
-    parsed [] = refl
-    parsed (l ∷ ls) = rw (kept-parsed l, parsed ls)

@@ -47,3 +47,16 @@ lineOf K evaluation answer =
       | zero ↦ acceptedLine (take K (evaluation .profile .counts)) (take (2 * evaluation .pairs) answer)
       | suc n ↦ refusedLine (suc n)
     ]
+
+-- `answered a refused r`
+unfoldable pub answeredLine : ℕ → ℕ → List ℕ
+answeredLine answered refused = withLineEnd (textOf "answered " ++ decimal answered ++ textOf " refused " ++ decimal refused)
+
+-- `total` and the totals with commas; where there are none `total` alone
+unfoldable pub totalLine : List ℕ → List ℕ
+totalLine [] = withLineEnd (textOf "total")
+totalLine (n ∷ ns) = withLineEnd (textOf "total " ++ withCommas (n ∷ ns))
+
+-- the two lines under a lesson's lines
+unfoldable pub closingLines : ℕ → ℕ → List ℕ → List ℕ
+closingLines answered refused totals = answeredLine answered refused ++ totalLine totals

@@ -9,6 +9,7 @@ pub use input::next_line;
 pub use parsing::parse;
 pub use writing::write_answer;
 pub use writing::write_bad_line;
+pub use writing::write_closing;
 pub use writing::write_refused;
 
 // What parsing a line answers: that it is a bad line, or how many bytes of ranking and of word stand at the front of the

@@ -4,24 +4,25 @@ use crate::text::least;
 use crate::text::write_byte;
 use crate::text::write_text;
 use candidate::Evaluation;
+use ranking::Profile;
 ghost use mathlib.Core.Path.{_≡_};
-ghost use Prim.Native.Nat.{_+_, _*_, _≤_};
+ghost use Prim.Native.Nat.{_+_, _*_, _<_, _≤_};
 ghost use lib.ListN.{length};
 ghost use Rattle.basics.specs.Search.{joined};
-ghost use Rattle.lines.specs.Buffers.{Written, atFront};
-ghost use Rattle.lines.specs.Writing.{nextCount, withCommas, pairText, pairsText, badLine, refusedLine, acceptedLine, lineOf};
+ghost use Rattle.lines.specs.Buffers.{Written, Below, atFront};
+ghost use Rattle.lines.specs.Writing.{nextCount, withCommas, pairText, pairsText, badLine, refusedLine, acceptedLine, lineOf, totalLine, closingLines};
 
 // Writes a comma and a count from a place on, and answers the place after them.
-fn write_next_count(count: u16, out: &mut [u8], at: usize) -> usize
+fn write_next_count(count: u32, out: &mut [u8], at: usize) -> usize
     requires { ⌜ at + length (nextCount count) ≤ length (now out) ⌝ }
     ensures { λ r. ⌜ Written (nextCount count) at (now (out .entry)) (now (out .exit)) r ⌝ }
 {
     let next = write_byte(b',', out, at);
-    write_number(count as u32, out, next)
+    write_number(count, out, next)
 }
 
 // Writes a comma and a count, for each count, from a place on, and answers the place after them.
-fn write_next_counts(counts: &[u16], out: &mut [u8], at: usize) -> usize
+fn write_next_counts(counts: &[u32], out: &mut [u8], at: usize) -> usize
     requires { ⌜ at + length (joined nextCount (now counts)) ≤ length (now out) ⌝ }
     ensures { λ r. ⌜ Written (joined nextCount (now (counts .entry))) at (now (out .entry)) (now (out .exit)) r ⌝ }
 {
@@ -35,14 +36,14 @@ fn write_next_counts(counts: &[u16], out: &mut [u8], at: usize) -> usize
 }
 
 // Writes counts with commas between them from a place on, and answers the place after them.
-fn write_counts(counts: &[u16], out: &mut [u8], at: usize) -> usize
+fn write_counts(counts: &[u32], out: &mut [u8], at: usize) -> usize
     requires { ⌜ at + length (withCommas (now counts)) ≤ length (now out) ⌝ }
     ensures { λ r. ⌜ Written (withCommas (now (counts .entry))) at (now (out .entry)) (now (out .exit)) r ⌝ }
 {
     if counts.len() == 0 {
         return at;
     }
-    let next = write_number(counts[0] as u32, out, at);
+    let next = write_number(counts[0], out, at);
     write_next_counts(&counts[1..], out, next)
 }
 
@@ -92,14 +93,35 @@ pub fn write_refused(number: u8, out: &mut [u8]) -> usize
 }
 
 // Writes an accepted answer's line to the front of a slice, and answers the line's length.
-fn write_accepted(counts: &[u16], bytes: &[u8], out: &mut [u8]) -> usize
-    requires { ⌜ (length (now counts) ≤ 6) × (36 + 4 * length (now bytes) ≤ length (now out)) ⌝ }
+fn write_accepted(counts: &[u32], bytes: &[u8], out: &mut [u8]) -> usize
+    requires { ⌜ (length (now counts) ≤ 6) × Below 65536 (now counts) × (36 + 4 * length (now bytes) ≤ length (now out)) ⌝ }
     ensures length { λ r. ⌜ r ≡ length (acceptedLine (now (counts .entry)) (now (bytes .entry))) ⌝ }
     ensures out { λ _. ⌜ now (out .exit) ≡ atFront (acceptedLine (now (counts .entry)) (now (bytes .entry))) (now (out .entry)) ⌝ }
 {
     let next = write_counts(counts, out, 0);
     let next = write_pairs(bytes, out, next);
     write_byte(b'\n', out, next)
+}
+
+fn wide(count: u16) -> u32
+    ensures { λ r. ⌜ (r ≡ count) × (r < 65536) ⌝ }
+{
+    count as u32
+}
+
+// A profile's counts as the numbers that are written.
+fn wide_counts(profile: Profile) -> [u32; 6]
+    ensures { λ r. ⌜ (r ≡ profile .counts) × Below 65536 r ⌝ }
+{
+    let counts = profile.counts;
+    [
+        wide(counts[0]),
+        wide(counts[1]),
+        wide(counts[2]),
+        wide(counts[3]),
+        wide(counts[4]),
+        wide(counts[5]),
+    ]
 }
 
 // Writes an answer's line to the front of a slice, and answers the line's length. The counts are those of `machines`
@@ -114,8 +136,36 @@ pub fn write_answer(evaluation: Evaluation, machines: u8, answer: &[u8], out: &m
         return write_refused(number, out);
     }
     let profile = evaluation.profile;
-    let counts = profile.counts;
+    let counts = wide_counts(profile);
     let shown = least(machines as usize, 6);
     let used = least(2 * (evaluation.pairs as usize), answer.len());
     write_accepted(&counts[..shown], &answer[..used], out)
+}
+
+// Writes `total` and the totals, if there are any, from a place on, and answers the place after them.
+fn write_total(totals: &[u32], out: &mut [u8], at: usize) -> usize
+    requires { ⌜ at + length (totalLine (now totals)) ≤ length (now out) ⌝ }
+    ensures { λ r. ⌜ Written (totalLine (now (totals .entry))) at (now (out .entry)) (now (out .exit)) r ⌝ }
+{
+    let next = write_text(b"total", out, at);
+    if totals.len() == 0 {
+        return write_byte(b'\n', out, next);
+    }
+    let next = write_byte(b' ', out, next);
+    let next = write_counts(totals, out, next);
+    write_byte(b'\n', out, next)
+}
+
+// Writes the two lines under a lesson's lines to the front of a slice, and answers their length.
+pub fn write_closing(answered: u32, refused: u32, totals: &[u32], out: &mut [u8]) -> usize
+    requires { ⌜ (length (now totals) ≤ 6) × (120 ≤ length (now out)) ⌝ }
+    ensures length { λ r. ⌜ r ≡ length (closingLines answered refused (now (totals .entry))) ⌝ }
+    ensures out { λ _. ⌜ now (out .exit) ≡ atFront (closingLines answered refused (now (totals .entry))) (now (out .entry)) ⌝ }
+{
+    let next = write_text(b"answered ", out, 0);
+    let next = write_number(answered, out, next);
+    let next = write_text(b" refused ", out, next);
+    let next = write_number(refused, out, next);
+    let next = write_byte(b'\n', out, next);
+    write_total(totals, out, next)
 }

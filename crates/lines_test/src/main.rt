@@ -162,6 +162,36 @@ fn answers() {
     show_answer(evaluation(12, none, 0), 3, &[]);
 }
 
+// Prints the two lines under a lesson's lines.
+fn show_closing(answered: u32, refused: u32, totals: &[u32])
+    requires { ⌜ length (now totals) ≤ 6 ⌝ }
+{
+    let mut out = [0u8; 120];
+    let n = lines::write_closing(answered, refused, totals, &mut out);
+    if n <= 120 {
+        print(&out[..n]);
+    }
+}
+
+// Totals past 16 bits, the largest numbers, and no totals.
+fn closings() {
+    show_closing(2, 0, &[0, 1, 1]);
+    show_closing(2, 998, &[65536, 95970]);
+    show_closing(0, 1000, &[]);
+    show_closing(
+        4294967295,
+        4294967295,
+        &[
+            4294967295,
+            4294967295,
+            4294967295,
+            4294967295,
+            4294967295,
+            4294967295,
+        ],
+    );
+}
+
 // Shows the lines that end in a piece, and answers how many bytes are held of the next.
 fn take_piece(piece: &[u8], line: &mut [u8], held: usize) -> usize
     requires { ⌜ (held ≤ 201) × (length (now line) ≡ 201) ⌝ }
@@ -232,6 +262,7 @@ fn main() {
     show_long(2, 200);
     show_long(3, 201);
     answers();
+    closings();
     pieces();
     overlong();
 }

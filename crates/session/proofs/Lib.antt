@@ -1,3 +1,4 @@
 pub mod First
 pub mod Replies
 pub mod Pieces
+pub mod Tallies

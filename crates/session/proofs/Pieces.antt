@@ -1,15 +1,16 @@
--- What is held of a line after a piece of the input, by the lines that end in it. Assumes nothing.
+-- What ends in a piece of the input, and what is held after it, by the lines that are found in it. Assumes nothing.
 use mathlib.Core.Path.{_≡_, refl, ap, sym, _∙_}
-use mathlib.Core.List.{List, [], _++_}
+use mathlib.Core.List.{List, [], _∷_, _++_}
 use mathlib.Core.Option.{Option, some, none}
 use Prim.Native.Nat.{ℕ, _+_, _≤_}
 use native.Mathlib.Omega.{arith}
 use lib.ListN.{length, drop, take, length-take}
-use lib.Seq.{drop-drop}
+use lib.Seq.{drop-drop, take-at}
 use Rattle.lines.specs.declared.Next.the-variants as next
 use Rattle.lines.specs.Text.{lineEnd, before, after}
 use Rattle.lines.specs.Input.{kept, nextOf}
-use Rattle.lines.specs.Taking.{heldAfter}
+use Rattle.lines.specs.Buffers.{atFront}
+use Rattle.lines.specs.Taking.{endedLines, heldAfter}
 use Rattle.lines.specs.LinesOfPieces.{next-ended, next-open}
 use Rattle.lines.proofs.Cutting.{before-short, after-some}
 
@@ -38,7 +39,18 @@ module _ (line piece : List ℕ) (held from : ℕ) (few : held ≤ 201) where
   unfolding nextOf now-kept
   told-line h = rw (nextOf, h)
 
-  -- where a line ends, nothing is held, and the piece goes on after it
+  -- where a line ends, the piece goes on after it
+  goes-on : (n at : ℕ) {others : List ℕ} → after lineEnd rest ≡ some others → nextOf so-far from rest ≡ next.Line n at → drop at piece ≡ others
+  unfolding rest
+  goes-on n at {others} h e =
+      let f = sym (told-line h) ∙ e in
+      let place : at ≡ from + length (before lineEnd rest) + 1 = cc in
+      let found = after-some lineEnd rest (λ q. omega (arith, before-short lineEnd rest h)) in
+      let others-there : others ≡ drop (length (before lineEnd rest) + 1) rest = cc in
+      let there : at ≡ from + (length (before lineEnd rest) + 1) = omega (arith, place) in
+      ap (λ (k : ℕ). drop k piece) there ∙ sym (drop-drop (length (before lineEnd rest) + 1) from piece) ∙ sym others-there
+
+  -- then nothing is held
   pub held-ended : (n at : ℕ) → nextOf (take held line) from (drop from piece) ≡ next.Line n at
       → heldAfter [] (drop at piece) ≡ heldAfter (take held line) (drop from piece)
   unfolding so-far rest
@@ -46,15 +58,24 @@ module _ (line piece : List ℕ) (held from : ℕ) (few : held ≤ 201) where
     where
       go : (o : Option (List ℕ)) → after lineEnd rest ≡ o → heldAfter [] (drop at piece) ≡ heldAfter so-far rest
       go none h = let f = sym (told-open h) ∙ e in let z : _≡_ {A = ℕ} 0 1 = cc in absurd (omega arith)
+      go (some others) h = ap (heldAfter []) (goes-on n at h e) ∙ sym (next-ended rest so-far short h .1)
+
+  -- and the line is the first of those that end in the rest
+  pub first-ended : (n at : ℕ) {now : List ℕ} → nextOf (take held line) from (drop from piece) ≡ next.Line n at
+      → now ≡ atFront (kept (take held line ++ before lineEnd (drop from piece))) line
+      → endedLines (take held line) (drop from piece) ≡ take n now ∷ endedLines [] (drop at piece)
+  unfolding so-far rest now-kept
+  first-ended n at {now} e l = go (after lineEnd rest) refl
+    where
+      go : (o : Option (List ℕ)) → after lineEnd rest ≡ o → endedLines so-far rest ≡ take n now ∷ endedLines [] (drop at piece)
+      go none h = let f = sym (told-open h) ∙ e in let z : _≡_ {A = ℕ} 0 1 = cc in absurd (omega arith)
       go (some others) h =
           let f = sym (told-line h) ∙ e in
-          let place : at ≡ from + length (before lineEnd rest) + 1 = cc in
-          let found = after-some lineEnd rest (λ q. omega (arith, before-short lineEnd rest h)) in
-          let others-there : others ≡ drop (length (before lineEnd rest) + 1) rest = cc in
-          let there : at ≡ from + (length (before lineEnd rest) + 1) = omega (arith, place) in
-          let goes-on : drop at piece ≡ others =
-          ap (λ (k : ℕ). drop k piece) there ∙ sym (drop-drop (length (before lineEnd rest) + 1) from piece) ∙ sym others-there in
-          ap (heldAfter []) goes-on ∙ sym (next-ended rest so-far short h .1)
+          let size : n ≡ length now-kept = cc in
+          let whole : take n now ≡ now-kept = ap (take n) l ∙ take-at _ _ _ (sym size) in
+          next-ended rest so-far short h .0
+          ∙ ap (λ (k : List ℕ). k ∷ endedLines [] others) (sym whole)
+          ∙ ap (λ (r : List ℕ). take n now ∷ endedLines [] r) (sym (goes-on n at h e))
 
   -- where none ends, what is kept of the line is held
   pub held-open : (n : ℕ) → nextOf (take held line) from (drop from piece) ≡ next.Open n
@@ -64,4 +85,12 @@ module _ (line piece : List ℕ) (held from : ℕ) (few : held ≤ 201) where
     where
       go : (o : Option (List ℕ)) → after lineEnd rest ≡ o → (n ≡ length now-kept) × (now-kept ≡ heldAfter so-far rest)
       go none h = let f = sym (told-open h) ∙ e in (cc, sym (next-open rest so-far short h .1))
+      go (some others) h = let f = sym (told-line h) ∙ e in let z : _≡_ {A = ℕ} 0 1 = cc in absurd (omega arith)
+
+  pub none-ended : (n : ℕ) → nextOf (take held line) from (drop from piece) ≡ next.Open n → endedLines (take held line) (drop from piece) ≡ []
+  unfolding so-far rest
+  none-ended n e = go (after lineEnd rest) refl
+    where
+      go : (o : Option (List ℕ)) → after lineEnd rest ≡ o → endedLines so-far rest ≡ []
+      go none h = next-open rest so-far short h .0
       go (some others) h = let f = sym (told-line h) ∙ e in let z : _≡_ {A = ℕ} 0 1 = cc in absurd (omega arith)

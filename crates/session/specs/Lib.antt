@@ -1,2 +1,5 @@
 pub mod Printed
+pub mod Tally
+pub mod TallyLaws
 pub mod Output
+pub mod Totals

@@ -1,55 +1,70 @@
--- What the program prints for an input, and that it is the same however the input is cut into pieces.
-use mathlib.Core.Path.{_≡_, refl, ap, sym, _∙_}
-use mathlib.Core.Bool.{Bool, true}
-use mathlib.Core.List.{List, [], _∷_, _++_, map, append-assoc}
-use Prim.Native.Nat.{ℕ, _≤_}
-use lib.ListN.{take}
-use Rattle.basics.specs.Search.{joined}
-use Rattle.lines.specs.Parsing.{parsedLine}
+-- What the program prints for an input.
+use mathlib.Core.Path.{_≡_}
+use mathlib.Core.Bool.{Bool, true, false, not}
+use mathlib.Core.List.{List, [], _∷_, _++_, map}
+use mathlib.Core.Option.{Option, some, none}
+use Prim.Native.Nat.{ℕ, _+_, _≤_}
+use lib.ListN.{length, getD, take, drop}
+use Rattle.basics.specs.Search.{joined, those, numbersBelow}
+use Rattle.candidate.specs.Candidates.{isSome}
 use Rattle.lines.specs.Input.{linesOf}
-use Rattle.lines.specs.Taking.{endedLines, heldAfter, lastLine, linesTaken}
-use Rattle.lines.specs.LinesOfPieces.{requests-of-pieces}
-use Rattle.session.specs.Printed.{reply, printed}
+use Rattle.lines.specs.Taking.{endedLines, heldAfter, lastLine}
+use Rattle.lines.specs.Writing.{refusedLine, closingLines}
+use Rattle.session.specs.declared.Tally.{Tally}
+use Rattle.session.specs.Printed.{printed}
+use Rattle.session.specs.Tally.{lineCounts, linesTally, linesText, shownMachines, closingText, Fits}
 
--- for each line of the input what is printed for it
+-- a line is answered, or refused; a bad line is refused
+abbrev pub isAnswered : List ℕ → List ℕ → Bool
+isAnswered card line = isSome (lineCounts card line)
+
+abbrev pub answeredAmong : List ℕ → List (List ℕ) → List (List ℕ)
+answeredAmong card lines = those (isAnswered card) lines
+
+abbrev pub refusedAmong : List ℕ → List (List ℕ) → List (List ℕ)
+refusedAmong card lines = those (λ l. not (isAnswered card l)) lines
+
+-- the count of a machine in the answer to a line
+abbrev pub countIn : ℕ → Option (List ℕ) → ℕ
+countIn machine none = 0
+countIn machine (some counts) = getD counts machine 0
+
+-- the sum of a machine's counts in the answers to lines
+unfoldable pub totalOf : List ℕ → ℕ → List (List ℕ) → ℕ
+totalOf card machine [] = 0
+totalOf card machine (l ∷ ls) = countIn machine (lineCounts card l) + totalOf card machine ls
+
+-- the totals in card order: of each machine the sum of its counts in the answered lines
+unfoldable pub totals : List ℕ → List (List ℕ) → List ℕ
+totals card lines = map (λ machine. totalOf card machine (answeredAmong card lines)) (numbersBelow (shownMachines card))
+
+-- the two lines after the last one
+unfoldable pub closing : List ℕ → List (List ℕ) → List ℕ
+closing card lines = closingLines (length (answeredAmong card lines)) (length (refusedAmong card lines)) (totals card lines)
+
+-- the first line past the thousandth is refused by 22, whatever its form, and ends the input
+abbrev pub pastLine : List (List ℕ) → List ℕ
+pastLine [] = []
+pastLine (l ∷ ls) = refusedLine 22
+
+-- for each of the first thousand lines what is printed for it; the refusal of a line past them; the two closing lines
+unfoldable pub lessonOutput : List ℕ → List (List ℕ) → List ℕ
+lessonOutput card lines = joined (printed card) (take 1000 lines) ++ pastLine (drop 1000 lines) ++ closing card (take 1000 lines)
+
 abbrev pub output : List ℕ → List ℕ → List ℕ
-output card input = joined (printed card) (linesOf input)
+output card input = lessonOutput card (linesOf input)
 
--- what the line's buffer holds after a piece: as many bytes as are told are what is held of the line that goes on
-pub record Holds (held piece line : List ℕ) (n : ℕ) (written : Bool) : Type 0 where
+-- what a piece of the input leaves: the tally after the lines that end in it, and in the line's buffer, where the input goes on,
+-- what is held of the line that goes on
+pub record Answers (card held piece : List ℕ) (tally : Tally) (line : List ℕ) (n : ℕ) (after : Tally) (written : Bool) : Type 0 where
   pub few : n ≤ 201
-  pub bytes : written ≡ true → take n line ≡ heldAfter held piece
+  pub fits : Fits after
+  pub lines-counted : written ≡ true → after ≡ linesTally card tally (endedLines held piece)
+  pub bytes : written ≡ true → after .past ≡ false → take n line ≡ heldAfter held piece
 
 -- what is printed for pieces in turn: for each line that ends in a piece, from what is held of it; after the last piece for the
--- line that is held, if there is one
-unfoldable pub printedPieces : List ℕ → List ℕ → List (List ℕ) → List ℕ
-printedPieces card held [] = joined (printed card) (lastLine held)
-printedPieces card held (piece ∷ pieces) = joined (printed card) (endedLines held piece) ++ printedPieces card (heldAfter held piece) pieces
-
--- it is what is printed for the lines that are taken
-module _ {A B : Type 0} (f : A → List B) where
-  joined-append : (xs ys : List A) → joined f (xs ++ ys) ≡ joined f xs ++ joined f ys
-  unfolding joined
-  joined-append [] ys = refl
-  joined-append (x ∷ xs) ys = ap (λ (l : List B). f x ++ l) (joined-append xs ys) ∙ sym (append-assoc (f x) (joined f xs) (joined f ys))
-
-printed-taken : (card held : List ℕ) (pieces : List (List ℕ)) → printedPieces card held pieces ≡ joined (printed card) (linesTaken held pieces)
-unfolding printedPieces linesTaken
-printed-taken card held [] = refl
-printed-taken card held (piece ∷ pieces) =
-    ap (λ (l : List ℕ). joined (printed card) (endedLines held piece) ++ l) (printed-taken card (heldAfter held piece) pieces)
-    ∙ sym (joined-append (printed card) (endedLines held piece) (linesTaken (heldAfter held piece) pieces))
-
--- what is printed for lines is the reply to each request
-printed-requests : (card : List ℕ) (ls : List (List ℕ)) → joined (printed card) ls ≡ joined (reply card) (map parsedLine ls)
-unfolding joined
-printed-requests card [] = refl
-printed-requests card (l ∷ ls) = ap (λ (r : List ℕ). printed card l ++ r) (printed-requests card ls)
-
--- the theorem: however an input is cut into pieces, what is printed for them in turn is the output for the input
-pub output-of-pieces : (card : List ℕ) (pieces : List (List ℕ)) → printedPieces card [] pieces ≡ output card (joined (λ p. p) pieces)
-output-of-pieces card pieces =
-    printed-taken card [] pieces
-    ∙ printed-requests card (linesTaken [] pieces)
-    ∙ ap (joined (reply card)) (requests-of-pieces pieces)
-    ∙ sym (printed-requests card (linesOf (joined (λ p. p) pieces)))
+-- line that is held, if there is one, and then the closing lines
+unfoldable pub printedPieces : List ℕ → Tally → List ℕ → List (List ℕ) → List ℕ
+printedPieces card t held [] = linesText card t (lastLine held) ++ closingText card (linesTally card t (lastLine held))
+printedPieces card t held (piece ∷ pieces) =
+    linesText card t (endedLines held piece) ++ printedPieces card (linesTally card t (endedLines held piece)) (heldAfter held piece) pieces

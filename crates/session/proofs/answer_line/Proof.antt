@@ -1,11 +1,11 @@
-use lib.ListN.{replicate}
-use Rattle.lines.specs.Parsing.{parsedLine}
-use Rattle.session.proofs.Replies.{prints, bad-reply, good-reply}
 use mathlib.Core.Path.{sym, _∙_}
 use Prim.Native.Nat.{_≤_}
 use native.Mathlib.Omega.{arith}
+use lib.ListN.{replicate}
 use lib.Seq.{length-take-le}
+use Rattle.lines.specs.Parsing.{parsedLine}
 use Rattle.lines.proofs.Bounds.{parsed-bounds}
+use Rattle.session.proofs.Replies.{prints, bad-reply, good-reply, bad-counts, good-counts}
 use borrow.Author.Needs.{needs}
 use Rattle.session.proofs.answer_line.Statement.{statement}
 use Rattle.session.proofs.answer_line.Tie as tie
@@ -22,11 +22,9 @@ word-bound c =
 returns : tie.Need-returns
 returns c =
     let k = c .before .before .write-bad-line in
-    prints
-    (bad-reply (c .before .before .before .before .before .before .before .before .before .before .before .before .before .before .args .card .now) (parsedLine (c .before .before .before .before .before .before .before .before .before .before .before .before .before .before .args .line .now)) (sym (c .before .before .before .before .before .before .before .before .parse .ensures .0) ∙ c .before .before .before .before .enum-told .given .1))
-    (k .ensures .0)
-    (k .ensures .1)
-    (omega (arith, k .kept .0))
+    let s = c .before .before .before .before .before .before .before .before .before .before .before .before .before .before .args in
+    let e = sym (c .before .before .before .before .before .before .before .before .parse .ensures .0) ∙ c .before .before .before .before .enum-told .given .1 in
+    (prints (bad-reply (s .card .now) (parsedLine (s .line .now)) e) (k .ensures .0) (k .ensures .1) (omega (arith, k .kept .0)), bad-counts (s .card .now) (parsedLine (s .line .now)) e)
 
 array-share-prefix-ranking : tie.Need-array-share-prefix-ranking
 array-share-prefix-ranking c = omega (arith, ranking-bound (c .before), c .before .before .before .before .before .parse .kept .1 .0)
@@ -44,8 +42,15 @@ returns-2 : tie.Need-returns-2
 returns-2 c =
     let k = c .before .before .write-best .ensures in
     let p = c .before .before .before .before .before .before .before .before .before .before .before .parse .ensures in
-    let e = good-reply (c .before .before .before .before .before .before .before .before .before .before .before .before .before .before .before .before .before .args .card .now) (parsedLine (c .before .before .before .before .before .before .before .before .before .before .before .before .before .before .before .before .before .args .line .now)) (replicate 9 0) (replicate 100 0) (sym (p .0) ∙ c .before .before .before .before .before .before .before .parsed .given .1) (p .1 .0) (p .1 .1) in
-    prints e (k .size) (k .bytes) (omega (arith, c .before .before .write-best .kept .1 .1 .1 .0))
+    let s = c .before .before .before .before .before .before .before .before .before .before .before .before .before .before .before .before .before .args in
+    let e = sym (p .0) ∙ c .before .before .before .before .before .before .before .parsed .given .1 in (
+      prints
+          (good-reply (s .card .now) (parsedLine (s .line .now)) (replicate 9 0) (replicate 100 0) e (p .1 .0) (p .1 .1))
+          (k .0 .size)
+          (k .0 .bytes)
+          (omega (arith, c .before .before .write-best .kept .1 .1 .1 .0)),
+      k .1 ∙ good-counts (s .card .now) (parsedLine (s .line .now)) (replicate 9 0) (replicate 100 0) e (p .1 .0) (p .1 .1),
+    )
 
 pub answer-line-spec : {M : Type 1} → statement M
 answer-line-spec =

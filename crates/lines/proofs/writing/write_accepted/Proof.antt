@@ -13,8 +13,8 @@ use Rattle.lines.proofs.writing.write_accepted.Tie as tie
 fits : (c : tie.After-slice-known) → length (acceptedLine (c .before .before .before .args .counts .now) (c .before .before .before .args .bytes .now)) ≤ length (c .before .before .before .args .out .now)
 fits c =
     le-trans
-    (accepted-fits _ _ (λ i. c .before .before .shared-slice-known .given i .fits) (λ i. c .before .shared-slice-known2 .given i .fits) (c .before .before .before .pre .0))
-    (c .before .before .before .pre .1)
+    (accepted-fits _ _ (c .before .before .before .pre .1) (λ i. c .before .shared-slice-known2 .given i .fits) (c .before .before .before .pre .0))
+    (c .before .before .before .pre .2)
 
 write-counts-requires : tie.Need-write-counts-requires
 write-counts-requires c κs = omega (arith, accepted-length (c .before .before .before .before .args .counts .now) (c .before .before .before .before .args .bytes .now), fits (c .before))

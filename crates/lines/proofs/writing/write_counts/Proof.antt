@@ -8,9 +8,6 @@ use Rattle.lines.proofs.writing.write_counts.Tie as tie
 returns : tie.Need-returns
 returns c = rw (counts-none _ (c .if1 .taken)) (written-nil _ _)
 
-cast-write-number : tie.Need-cast-write-number
-cast-write-number c = omega (arith, c .shared-slice-known2 .given 0)
-
 write-number-requires : tie.Need-write-number-requires
 write-number-requires c κs = omega (arith, counts-first-length (c .before .before .before .before .before .args .counts .now) (c .before .before .if1 .left))
 
@@ -27,7 +24,6 @@ write-counts-spec =
     (tie.spec
     returns
     (λ c. search needs)
-    cast-write-number
     write-number-requires
     (λ c. search needs)
     (λ c. search needs)

@@ -1,0 +1,112 @@
+-- Laws of the tally: a lesson that is full and one that is not, and what comes after the first line past the thousandth.
+use mathlib.Core.Path.{_≡_, refl, ap, sym, _∙_}
+use mathlib.Core.Bool.{Bool, true, false}
+use mathlib.Core.List.{List, [], _∷_, _++_}
+use mathlib.Core.Option.{Option, some, none}
+use Prim.Native.Nat.{ℕ, zero, suc, _+_, _<_, _≤_}
+use native.Mathlib.Omega.{arith}
+use native.Mathlib.Nat.{add-zero}
+use lib.ListN.{length, getD}
+use borrow.Author.Tests.{le-leb, lt-leb}
+use Rattle.basics.proofs.Bools.{clash}
+use Rattle.session.specs.declared.Tally.{Tally}
+use Rattle.session.specs.Printed.{printed}
+use Rattle.session.specs.Tally.{lineCounts, added, counted, isFull, passed, pastText, lineTally, lineText, linesTally, linesText, Fits}
+
+-- numbers added place by place
+pub added-length : (ts cs : List ℕ) → length (added ts cs) ≡ length ts
+unfolding added
+added-length [] cs = refl
+added-length (t ∷ ts) [] = refl
+added-length (t ∷ ts) (c ∷ cs) = ap suc (added-length ts cs)
+
+pub added-at : (ts cs : List ℕ) (i : ℕ) → i < length ts → getD (added ts cs) i 0 ≡ getD ts i 0 + getD cs i 0
+unfolding added
+added-at [] cs i h = absurd (omega arith)
+added-at (t ∷ ts) [] i h = sym (add-zero (getD (t ∷ ts) i 0))
+added-at (t ∷ ts) (c ∷ cs) zero h = refl
+added-at (t ∷ ts) (c ∷ cs) (suc i) h = added-at ts cs i (omega arith)
+
+-- one line more
+pub counted-past : (t : Tally) (o : Option (List ℕ)) → counted t o .past ≡ t .past
+counted-past t none = refl
+counted-past t (some counts) = refl
+
+pub counted-lines : (t : Tally) (o : Option (List ℕ)) → counted t o .answered + counted t o .refused ≡ t .answered + t .refused + 1
+counted-lines t none = omega arith
+counted-lines t (some counts) = omega arith
+
+-- no sum wraps: 32 bits hold each total of a lesson
+pub no-sum-wraps : (t : Tally) → Fits t → (i : ℕ) → getD (t .totals) i 0 ≤ 65535000
+no-sum-wraps t f i = omega (arith, f .few, f .small i)
+
+-- a thousand lines, and fewer
+pub full-at : (t : Tally) → 1000 ≤ t .answered + t .refused → isFull t ≡ true
+unfolding isFull
+full-at t h = le-leb 1000 (t .answered + t .refused) h
+
+pub open-at : (t : Tally) → t .answered + t .refused < 1000 → isFull t ≡ false
+unfolding isFull
+open-at t h = lt-leb 1000 (t .answered + t .refused) h
+
+full-passed : (t : Tally) → isFull t ≡ true → isFull (passed t) ≡ true
+unfolding isFull
+full-passed t f = f
+
+module _ (card : List ℕ) where
+  module _ (t : Tally) (l : List ℕ) where
+    pub tally-full : isFull t ≡ true → lineTally card t l ≡ passed t
+    unfolding lineTally
+    tally-full e = rw (lineTally, e)
+
+    pub tally-open : isFull t ≡ false → lineTally card t l ≡ counted t (lineCounts card l)
+    unfolding lineTally
+    tally-open e = rw (lineTally, e)
+
+    pub text-full : isFull t ≡ true → lineText card t l ≡ pastText (t .past)
+    unfolding lineText
+    text-full e = rw (lineText, e)
+
+    pub text-open : isFull t ≡ false → lineText card t l ≡ printed card l
+    unfolding lineText
+    text-open e = rw (lineText, e)
+
+  -- after the first line past the thousandth nothing is counted and nothing printed
+  pub passed-tally : (t : Tally) → isFull t ≡ true → (ls : List (List ℕ)) → linesTally card (passed t) ls ≡ passed t
+  unfolding linesTally
+  passed-tally t f [] = refl
+  passed-tally t f (l ∷ ls) = ap (λ (u : Tally). linesTally card u ls) (tally-full (passed t) l (full-passed t f)) ∙ passed-tally t f ls
+
+  pub passed-text : (t : Tally) → isFull t ≡ true → (ls : List (List ℕ)) → linesText card (passed t) ls ≡ []
+  unfolding linesText
+  passed-text t f [] = refl
+  passed-text t f (l ∷ ls) =
+      ap (λ (x : List ℕ). x ++ linesText card (lineTally card (passed t) l) ls) (text-full (passed t) l (full-passed t f))
+      ∙ ap (λ (u : Tally). linesText card u ls) (tally-full (passed t) l (full-passed t f))
+      ∙ passed-text t f ls
+
+  -- the line that is past the thousandth is known by the tally
+  pub past-means : (t : Tally) (l : List ℕ) → t .past ≡ false → lineTally card t l .past ≡ true → isFull t ≡ true
+  past-means t l p h = go (isFull t) refl
+    where
+      go : (b : Bool) → isFull t ≡ b → isFull t ≡ true
+      go true e = e
+      go false e =
+          let q : lineTally card t l .past ≡ t .past = ap (λ (u : Tally). u .past) (tally-open t l e) ∙ counted-past t (lineCounts card l) in
+          absurd (clash h (q ∙ p))
+
+  pub nothing-after : (t : Tally) (l : List ℕ) (ls : List (List ℕ)) → t .past ≡ false → lineTally card t l .past ≡ true
+      → linesTally card (lineTally card t l) ls ≡ lineTally card t l
+  nothing-after t l ls p h =
+      let f = past-means t l p h in
+      let e = tally-full t l f in
+      ap (λ (u : Tally). linesTally card u ls) e ∙ passed-tally t f ls ∙ sym e
+
+  -- lines one after another
+  pub tally-cons : (t : Tally) (l : List ℕ) (ls : List (List ℕ)) → linesTally card t (l ∷ ls) ≡ linesTally card (lineTally card t l) ls
+  unfolding linesTally
+  tally-cons t l ls = refl
+
+  pub tally-none : (t : Tally) → linesTally card t [] ≡ t
+  unfolding linesTally
+  tally-none t = refl
