@@ -106,10 +106,7 @@ fn try_outputs(
         );
         if let Kept::To(to) = kept {
             return Tried::Least(Step {
-                pair: Pair {
-                    input,
-                    output: output as u8,
-                },
+                pair: Pair::new(input, output as u8),
                 code: to,
             });
         }

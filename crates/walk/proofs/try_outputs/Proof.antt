@@ -45,15 +45,16 @@ mul-keeps-by-2 c = let t = c .before .before .before .before .before .before .be
 keeps-by-requires : tie.Need-keeps-by-requires Inv-loop μ-loop
 keeps-by-requires c κs = let t = c .before .before .before .before .before .before .before .before .before in step-pre-at (t .pre .0) (c .before .loop .output) (few c) (t .args .next) (t .pre .1)
 
-cast-t23 : tie.Need-cast-t23 Inv-loop μ-loop
-cast-t23 c = omega (arith, few (c .before .before .before .before), c .before .before .before .before .before .before .before .before .before .before .before .before .before .pre .0 .tables .machines .symbols)
+cast-new : tie.Need-cast-new Inv-loop μ-loop
+cast-new c = omega (arith, few (c .before .before .before .before), c .before .before .before .before .before .before .before .before .before .before .before .before .before .pre .0 .tables .machines .symbols)
 
 returns : tie.Need-returns Inv-loop μ-loop
 returns c =
-    let t = c .before .before .before .before .before .before .before .before .before .before .before .before .before in
-    let k = c .before .before .before .before in
-    passed-least (t .pre .0) (c .before .before .before .before .before .loop .inv .0) _
-    (kept-tight (t .pre .0) (c .before .before .before .before .before .loop .output) (few k) (t .args .next) (t .pre .1) (a-pair k) (c .before .before .before .keeps-by .ensures) _ (c .before .kept .given .1))
+    let t = c .before .before .before .before .before .before .before .before .before .before .before .before .before .before in
+    let k = c .before .before .before .before .before in
+    rw (c .new .ensures)
+    (passed-least (t .pre .0) (c .before .before .before .before .before .before .loop .inv .0) _
+    (kept-tight (t .pre .0) (c .before .before .before .before .before .before .loop .output) (few k) (t .args .next) (t .pre .1) (a-pair k) (c .before .before .before .before .keeps-by .ensures) _ (c .before .before .kept .given .1)))
 
 add-output : tie.Need-add-output Inv-loop μ-loop
 add-output c = omega (arith, few (c .before .before .before), c .before .before .before .before .before .before .before .before .before .before .before .before .pre .0 .tables .machines .symbols)
@@ -84,7 +85,8 @@ try-outputs-spec =
     mul-keeps-by-2
     keeps-by-requires
     (λ c. search needs)
-    cast-t23
+    cast-new
+    (λ c κs. search needs)
     returns
     (λ c. search needs)
     add-output
