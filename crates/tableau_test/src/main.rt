@@ -1,10 +1,12 @@
 // Tries the call that judges a tableau: the tableaux of document 002 for /tag/, the refusals 19, 20 and 21 with their neighbours that pass, the
-// order of the checks over several rows, ties, and 32 rows. A line for each case: what it is, the number, the verdict, the row; where the number is
+// order of the checks over several rows, ties, 32 rows, and ending marks. A line for each case: what it is, the number, the verdict, the row; where the number is
 // 1 to 9, how many numbers of the work slice still hold 7.
 mod samples; // samples.rt: the card and the tableaux
 
 use samples::CARD;
+use samples::CARD_B;
 use samples::MISSING;
+use samples::ONE;
 use samples::TAG;
 use samples::TIES;
 use tableau::Judged;
@@ -217,6 +219,34 @@ fn rankings() {
     judge(b"\x02\x01\x00", b"\x01\x02\x03", 160, &tableau);
 }
 
+// Card B with that state byte for state 1 of its first machine: the two rows, the first with that many marks of the machine.
+fn on_b(ending: u8, marks: u8, claimed: u8) {
+    let mut card = CARD_B;
+    let mut tableau = ONE;
+    let mut work = [7u16; 160];
+    card[17] = ending;
+    tableau[1] = claimed;
+    tableau[10] = marks;
+    write_judged(tableau::judge(&card, b"\x00\x01\x02", b"\x01", &mut work, &tableau));
+    write(b"\n");
+}
+
+// A mark at the end makes a row lose that wins without it; it belongs to the row's counts.
+fn endings() {
+    write(b"no mark at the end, 1:1 claimed");
+    on_b(1, 0, 0);
+    write(b"a mark at the end, 1:0 claimed");
+    on_b(2, 1, 1);
+    write(b"a mark at the end, 1:1 claimed");
+    on_b(2, 1, 0);
+    write(b"the mark at the end not counted");
+    on_b(2, 0, 0);
+    write(b"15 marks at the end, 1:1 claimed");
+    on_b(16, 15, 0);
+    write(b"state byte 17");
+    on_b(17, 16, 0);
+}
+
 fn row_counts() {
     write(b"32 rows, the last claimed");
     many(32, 31);
@@ -319,6 +349,7 @@ fn main() {
     verdicts();
     ties();
     rankings();
+    endings();
     row_counts();
     layouts();
     candidates();
