@@ -1,4 +1,4 @@
-// Prints how many bytes of stack a call of the verified engine uses, the most over all rows: the call runs on a painted
+// Prints how many bytes of stack a call of each verified engine uses, the most over all rows: the call runs on a painted
 // stack, and the deepest byte that it changed is looked for. `stack all` prints it for every exported call.
 
 #define _GNU_SOURCE
@@ -38,6 +38,12 @@ static void call_optimize(void) {
   number = pastaspur_optimize(asked.card.start, asked.card.length, asked.ranking.start, asked.ranking.length,
                               asked.word.start, asked.word.length, work, PASTASPUR_WORK_NUMBERS, answer,
                               PASTASPUR_ANSWER_BYTES, result);
+}
+
+static void call_cull(void) {
+  number = pastaspur_cull(asked.card.start, asked.card.length, asked.ranking.start, asked.ranking.length,
+                          asked.word.start, asked.word.length, work, PASTASPUR_WORK_NUMBERS, answer,
+                          PASTASPUR_ANSWER_BYTES, result);
 }
 
 static void call_evaluate(void) {
@@ -80,10 +86,10 @@ static void call_find_ranking(void) {
 static const struct {
   const char *name;
   void (*call)(void);
-} calls[] = {{"optimize", call_optimize},   {"evaluate", call_evaluate},   {"judge", call_judge},   {"read_part", call_read_part},
-             {"pack", call_pack},           {"compare", call_compare},     {"condition", call_condition},
-             {"find_ranking", call_find_ranking}};
-enum { CALLS = sizeof calls / sizeof *calls };
+} calls[] = {{"optimize", call_optimize},   {"cull", call_cull},           {"evaluate", call_evaluate},
+             {"judge", call_judge},         {"read_part", call_read_part}, {"pack", call_pack},
+             {"compare", call_compare},     {"condition", call_condition}, {"find_ranking", call_find_ranking}};
+enum { CALLS = sizeof calls / sizeof *calls, ENGINES = 2 };
 
 // The bytes of a painted stack from its top down to the deepest one that is changed.
 static size_t depth_by(void (*call)(void), uint8_t paint) {
@@ -119,7 +125,7 @@ int main(int count, char **words) {
   for (size_t row = 0; row < row_count(); row++) {
     for (size_t i = 0; i < row_cases(row); i++) {
       asked = row_case(row, i);
-      for (int c = 0; c < (all ? CALLS : 1); c++) {
+      for (int c = 0; c < (all ? CALLS : ENGINES); c++) {
         size_t used = depth(calls[c].call);
         if (number != 0 || used <= nothing || used == STACK_BYTES) {
           fprintf(stderr, "%s, %s: number %u, %zu bytes\n", row_name(row), calls[c].name, number, used);
@@ -129,6 +135,6 @@ int main(int count, char **words) {
       }
     }
   }
-  if (!all) printf("%zu\n", most[0]);
+  if (!all) printf("%zu %zu\n", most[0], most[1]);
   for (int c = 0; all && c < CALLS; c++) printf("%s %zu\n", calls[c].name, most[c]);
 }

@@ -12,8 +12,9 @@
  * either. What a call may write (work, answer, target, result) overlaps nothing else that the call is lent.
  *
  * Stack: no call recurses, and none takes memory but its stack and what it is lent. The bytes of stack that a call takes, the
- * most over the rows of the benchmark, measured on x86-64 (bench/stack.c): pastaspur_optimize 156,376, pastaspur_judge 107,272,
- * pastaspur_evaluate 744, pastaspur_pack 728, pastaspur_read_part 712, each of the others under 64. No proof speaks of the stack.
+ * most over the rows of the benchmark, measured on x86-64 (bench/stack.c): pastaspur_cull 140,440, pastaspur_judge 107,272,
+ * pastaspur_optimize 107,208, pastaspur_evaluate 744, pastaspur_pack 728, pastaspur_read_part 712, each of the others under
+ * 64. No proof speaks of the stack.
  *
  * Refusals
  *    1  card under 2 bytes; machine count K not 1 to 6, symbol count S not 1 to 63
@@ -60,6 +61,11 @@ extern "C" {
 uint32_t pastaspur_optimize(const uint8_t *card, size_t card_len, const uint8_t *ranking, size_t ranking_len,
                             const uint8_t *word, size_t word_len, uint16_t *work, size_t work_len,
                             uint8_t *answer, size_t answer_len, uint16_t result[8]);
+
+/* The same by another method, Ellison's cull: for every input the same number, result and answer. What is left in work may differ. */
+uint32_t pastaspur_cull(const uint8_t *card, size_t card_len, const uint8_t *ranking, size_t ranking_len,
+                        const uint8_t *word, size_t word_len, uint16_t *work, size_t work_len,
+                        uint8_t *answer, size_t answer_len, uint16_t result[8]);
 
 /* What pastaspur_judge says of a tableau; 0 on a refusal. */
 #define PASTASPUR_RIGHT 1

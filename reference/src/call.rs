@@ -2,7 +2,7 @@
 
 use crate::candidate::{evaluate, Evaluation};
 use crate::card::{pack, read_part};
-use crate::optimizer::optimize;
+use crate::optimizer::{optimize_by, Method};
 use crate::ranking::{compare, condition, find_ranking};
 use crate::tableau::{judge, Verdict};
 use crate::{Profile, Refusal};
@@ -11,7 +11,7 @@ use std::cmp::Ordering;
 /// One of the public calls with all that it is lent, as include/pastaspur.h has them.
 #[derive(Clone, Debug, PartialEq, Eq, Hash)]
 pub enum Call {
-    Optimize { card: Vec<u8>, ranking: Vec<u8>, word: Vec<u8>, work: Vec<u16>, answer: Vec<u8> },
+    Optimize { method: Method, card: Vec<u8>, ranking: Vec<u8>, word: Vec<u8>, work: Vec<u16>, answer: Vec<u8> },
     Evaluate { card: Vec<u8>, candidate: Vec<u8> },
     ReadPart { card: Vec<u8>, machine: u8 },
     Pack { symbols: u8, lengths: Vec<u16>, parts: Vec<u8>, target: Vec<u8> },
@@ -23,7 +23,7 @@ pub enum Call {
 
 /// A call's kind, its name, and the refusals that it can answer. Of 11 no example is known: 3,199 pairs of at most 15
 /// marks make 47,985.
-pub const KINDS: [(&str, &[u32]); 8] = [
+pub const KINDS: [(&str, &[u32]); 9] = [
     ("optimize", &[1, 2, 3, 4, 5, 6, 7, 8, 9, 10, 12]),
     ("evaluate", &[1, 2, 3, 4, 5, 6, 13, 14]),
     ("read part", &[1, 2, 3, 4, 5, 6, 17]),
@@ -32,13 +32,14 @@ pub const KINDS: [(&str, &[u32]); 8] = [
     ("condition", &[1]),
     ("find ranking", &[1, 15, 16]),
     ("judge", &[1, 2, 3, 4, 5, 6, 7, 8, 9, 19, 20, 21]),
+    ("cull", &[1, 2, 3, 4, 5, 6, 7, 8, 9, 10, 12]),
 ];
 
 impl Call {
     /// The place of its kind in `KINDS`.
     pub fn kind(&self) -> usize {
         match self {
-            Call::Optimize { .. } => 0,
+            Call::Optimize { method: Method::Ranked, .. } => 0,
             Call::Evaluate { .. } => 1,
             Call::ReadPart { .. } => 2,
             Call::Pack { .. } => 3,
@@ -46,7 +47,19 @@ impl Call {
             Call::Condition { .. } => 5,
             Call::FindRanking { .. } => 6,
             Call::Judge { .. } => 7,
+            Call::Optimize { method: Method::Cull, .. } => 8,
         }
+    }
+
+    /// The same call of the other engine, if there is one.
+    pub fn twin(&self) -> Option<Call> {
+        let mut twin = self.clone();
+        let Call::Optimize { method, .. } = &mut twin else { return None };
+        *method = match method {
+            Method::Ranked => Method::Cull,
+            Method::Cull => Method::Ranked,
+        };
+        Some(twin)
     }
 
     /// The card that it is lent, if any.
@@ -112,9 +125,9 @@ fn numbers(bytes: impl IntoIterator<Item = u8>) -> Vec<usize> {
 /// The answer of this implementation.
 pub fn reference(call: &Call) -> Outcome {
     match call {
-        Call::Optimize { card, ranking, word, work, answer } => {
+        Call::Optimize { method, card, ranking, word, work, answer } => {
             let mut slice = answer.clone();
-            let found = optimize(card, ranking, word, work.len(), &mut slice);
+            let found = optimize_by(*method, card, ranking, word, work.len(), &mut slice);
             outcome(found.map(evaluation), 8, slice)
         }
         Call::Evaluate { card, candidate } => outcome(evaluate(card, candidate).map(evaluation), 8, vec![]),

@@ -41,7 +41,7 @@ pub struct Failure {
     pub call: Call,
 }
 
-/// Compares on so many calls by chance, up to the first one that is answered in another way.
+/// Compares on so many calls by chance, a search by both engines, up to the first one that is answered in another way.
 pub fn compare(engine: &dyn Engine, seed: u64, count: usize) -> Result<Coverage, Box<Failure>> {
     let generator = Generator::default();
     let mut seeds = Random::new(seed);
@@ -49,11 +49,18 @@ pub fn compare(engine: &dyn Engine, seed: u64, count: usize) -> Result<Coverage,
     for case in 1..=count {
         // a case depends on the seed and its number alone
         let call = generator.call(&mut Random::new(seeds.number()));
-        let expected = reference(&call);
-        if !differences(&expected, &engine.answer(&call)).is_empty() {
-            return Err(Box::new(Failure { case, call }));
+        let twin = call.twin();
+        let mut outcome = None;
+        for call in [call].into_iter().chain(twin) {
+            // both engines, and both methods of this implementation
+            let expected = reference(&call);
+            let agrees = *outcome.get_or_insert_with(|| expected.clone()) == expected;
+            assert!(agrees, "this implementation disagrees with itself on {}", describe(&call));
+            if !differences(&expected, &engine.answer(&call)).is_empty() {
+                return Err(Box::new(Failure { case, call }));
+            }
+            coverage.take(&call, &expected);
         }
-        coverage.take(&call, &expected);
     }
     Ok(coverage)
 }
@@ -121,7 +128,7 @@ pub fn describe(call: &Call) -> String {
     let mut text = format!("{}\n", call.name());
     let mut field = |name: &str, value: String| writeln!(text, "  {name:<10} {value}").unwrap();
     match call {
-        Call::Optimize { card, ranking, word, work, answer } => {
+        Call::Optimize { card, ranking, word, work, answer, .. } => {
             field("card", hexadecimal(card));
             field("ranking", hexadecimal(ranking));
             field("word", hexadecimal(word));

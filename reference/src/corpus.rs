@@ -6,6 +6,7 @@
 
 use crate::call::{reference, Call, Outcome, KINDS};
 use crate::generators::Generator;
+use crate::optimizer::Method;
 use crate::random::Random;
 use crate::samples::{self, arc, machine, set};
 use std::collections::BTreeMap;
@@ -32,6 +33,8 @@ fn wanted(kind: usize, number: u32) -> usize {
         ("judge", 0) => 40,
         ("judge", 19..=21) => 12,
         ("judge", _) => 3,
+        ("cull", 0) => 40,
+        ("cull", _) => 4,
         ("optimize", 12) => 20,
         (_, 0 | 13..=16) => 14,
         ("optimize", _) => 8,
@@ -42,7 +45,7 @@ fn wanted(kind: usize, number: u32) -> usize {
 /// Whether the test program's memory holds the call.
 fn fits(call: &Call) -> bool {
     match call {
-        Call::Optimize { card, ranking, word, work, answer } => {
+        Call::Optimize { card, ranking, word, work, answer, .. } => {
             card.len() <= 32_000
                 && ranking.len() <= 255
                 && word.len() <= 255
@@ -112,7 +115,7 @@ fn fields(call: &Call) -> Vec<u8> {
     let mut fields = Fields::default();
     fields.byte(call.kind() as u8 + 1);
     match call {
-        Call::Optimize { card, ranking, word, work, answer } => {
+        Call::Optimize { card, ranking, word, work, answer, .. } => {
             fields.bytes(card);
             fields.bytes(ranking);
             fields.bytes(word);
@@ -174,7 +177,8 @@ fn line(call: &Call, outcome: &Outcome) -> String {
     let Outcome { number, result, slice, .. } = outcome;
     match call {
         Call::Optimize { .. } => {
-            format!("optimize {number} {} {} {}", joined(&result[..6], ","), joined(&result[6..], " "), sum(slice))
+            let name = call.name();
+            format!("{name} {number} {} {} {}", joined(&result[..6], ","), joined(&result[6..], " "), sum(slice))
         }
         Call::Evaluate { .. } => {
             format!("evaluate {number} {} {}", joined(&result[..6], ","), joined(&result[6..], " "))
@@ -193,12 +197,14 @@ fn longest() -> Vec<Call> {
     let card = samples::chain();
     let call = |answer: usize| {
         let (card, work) = (card.clone(), vec![0; 25_600]);
-        Call::Optimize { card, ranking: vec![1, 0], word: vec![3; 24], work, answer: vec![170; answer] }
+        let (method, ranking, word) = (Method::Ranked, vec![1, 0], vec![3; 24]);
+        Call::Optimize { method, card, ranking, word, work, answer: vec![170; answer] }
     };
     let candidate = reference(&call(6_398)).slice;
     let with_another = [&candidate[..], &[0, 1]].concat();
     let evaluate = |candidate| Call::Evaluate { card: card.clone(), candidate };
-    vec![call(6_398), call(6_397), evaluate(candidate), evaluate(with_another)]
+    let culled = call(6_398).twin().expect("a search");
+    vec![call(6_398), call(6_397), culled, evaluate(candidate), evaluate(with_another)]
 }
 
 /// The empty word: on a card whose best for it has insertions alone, on one that has no candidate, and on card B, where it
@@ -207,6 +213,7 @@ fn empty_words() -> Vec<Call> {
     let inserting = samples::card(2, &[machine(&[false, true], vec![arc(0, 1, 3, set([0]), set([1, 2]))])]);
     let none = samples::card(2, &[machine(&[false], vec![arc(0, 0, 0, set([0, 1]), set([1, 2]))])]);
     let call = |card: &[u8], machines: u8, work: usize, answer: usize| Call::Optimize {
+        method: Method::Ranked,
         card: card.to_vec(),
         ranking: (0..machines).collect(),
         word: vec![],
@@ -245,7 +252,10 @@ pub fn corpus() -> Corpus {
         .collect();
     let mut large = 0;
     while missing.values().any(|&count| count > 0) {
-        let call = filled(generator.call(&mut random));
+        let mut call = filled(generator.call(&mut random));
+        if random.percent(40) {
+            call = call.twin().unwrap_or(call);
+        }
         if !fits(&call) {
             continue;
         }

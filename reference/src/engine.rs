@@ -2,23 +2,34 @@
 
 use crate::call::{Call, Engine, Outcome};
 use crate::lent::Lent;
+use crate::optimizer::Method;
 use crate::random::Random;
 use std::hash::{DefaultHasher, Hash, Hasher};
 
+/// The searches, which are lent and answer the same.
+macro_rules! searches {
+    ($($name:ident),*) => {
+        extern "C" {
+            $(fn $name(
+                card: *const u8,
+                card_len: usize,
+                ranking: *const u8,
+                ranking_len: usize,
+                word: *const u8,
+                word_len: usize,
+                work: *mut u16,
+                work_len: usize,
+                answer: *mut u8,
+                answer_len: usize,
+                result: *mut u16,
+            ) -> u32;)*
+        }
+    };
+}
+
+searches!(pastaspur_optimize, pastaspur_cull);
+
 extern "C" {
-    fn pastaspur_optimize(
-        card: *const u8,
-        card_len: usize,
-        ranking: *const u8,
-        ranking_len: usize,
-        word: *const u8,
-        word_len: usize,
-        work: *mut u16,
-        work_len: usize,
-        answer: *mut u8,
-        answer_len: usize,
-        result: *mut u16,
-    ) -> u32;
     fn pastaspur_evaluate(
         card: *const u8,
         card_len: usize,
@@ -129,13 +140,17 @@ impl Engine for Library {
         call.hash(&mut hasher);
         let mut lender = Lender { random: Random::new(hasher.finish()), trespasses: vec![] };
         match call {
-            Call::Optimize { card, ranking, word, work, answer } => {
+            Call::Optimize { method, card, ranking, word, work, answer } => {
+                let search = match method {
+                    Method::Ranked => pastaspur_optimize,
+                    Method::Cull => pastaspur_cull,
+                };
                 let (mut card, mut ranking) = (lender.bytes(card), lender.bytes(ranking));
                 let (mut word, mut work, mut answer) = (lender.bytes(word), lender.shorts(work), lender.bytes(answer));
                 let mut result = lender.result(8, |number| number as u16);
                 // SAFETY: each pointer leads to as many elements as are said; none overlaps another
                 let number = unsafe {
-                    pastaspur_optimize(
+                    search(
                         card.pointer(),
                         card.length(),
                         ranking.pointer(),

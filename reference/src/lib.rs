@@ -8,6 +8,7 @@ pub mod cases;
 pub mod comparison;
 pub mod corpus;
 pub mod coverage;
+pub mod cull;
 #[cfg(feature = "engine")]
 pub mod engine;
 pub mod generators;

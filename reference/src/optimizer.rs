@@ -3,6 +3,7 @@
 
 use crate::candidate::{profile, Evaluation, Pair};
 use crate::card::{read_card, Card};
+use crate::cull::best_by_culling;
 use crate::ranking::{harmony, is_ranking};
 use crate::{Profile, Refusal};
 
@@ -190,7 +191,16 @@ pub fn checked(card: &[u8], ranking: &[u8], word: &[u8], work: usize) -> Result<
     Ok(card)
 }
 
-/// The whole call: refusals 1 to 12, the result, the pairs in the front of the answer slice.
+/// How the best is found.
+#[derive(Clone, Copy, Debug, PartialEq, Eq, Hash)]
+pub enum Method {
+    /// By labels that are compared down the ranking: here, by rounds.
+    Ranked,
+    /// By Ellison's cull.
+    Cull,
+}
+
+/// The call by rounds.
 pub fn optimize(
     card: &[u8],
     ranking: &[u8],
@@ -198,8 +208,24 @@ pub fn optimize(
     work: usize,
     answer: &mut [u8],
 ) -> Result<Evaluation, Refusal> {
+    optimize_by(Method::Ranked, card, ranking, word, work, answer)
+}
+
+/// The whole call: refusals 1 to 12, the result, the pairs in the front of the answer slice.
+pub fn optimize_by(
+    method: Method,
+    card: &[u8],
+    ranking: &[u8],
+    word: &[u8],
+    work: usize,
+    answer: &mut [u8],
+) -> Result<Evaluation, Refusal> {
     let card = checked(card, ranking, word, work)?;
-    let candidate = best(&card, ranking, word).ok_or(10)?;
+    let found = match method {
+        Method::Ranked => best(&card, ranking, word),
+        Method::Cull => best_by_culling(&card, ranking, word),
+    };
+    let candidate = found.ok_or(10)?;
     let profile = profile(&card.machines, &candidate).expect("the best is complete");
     if profile.iter().any(|&count| count > 60_000) {
         return Err(11);

@@ -27,7 +27,7 @@ fn read_call(rest: &mut &[u8]) -> usize {
     let kind = take(rest, 1)[0];
     let mut list = |most: usize| assert!(bytes(rest).len() <= most);
     match kind {
-        1 => {
+        1 | 9 => {
             list(32_000);
             list(255);
             list(255);
@@ -81,7 +81,7 @@ fn every_call_and_every_refusal() {
     let corpus = corpus();
     assert!((300..=800).contains(&corpus.count));
     assert!(corpus.cases.len() <= 400_000);
-    let names = ["optimize", "evaluate", "part", "pack", "compare", "condition", "ranking", "judge"];
+    let names = ["optimize", "evaluate", "part", "pack", "compare", "condition", "ranking", "judge", "cull"];
     let mut rest = &corpus.cases[..];
     let lines: Vec<&str> = corpus.lines.lines().collect();
     assert_eq!(lines.len(), corpus.count);

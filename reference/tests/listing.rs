@@ -1,6 +1,7 @@
 //! The optimizer by rounds against the list of all candidates, on small cards made by chance.
 
 use reference::card::{lay_out, read_card, read_machine, Card, Machine};
+use reference::cull::best_by_culling;
 use reference::optimizer::{best, best_by_listing, optimize};
 use reference::random::Random;
 use reference::samples::arc;
@@ -46,6 +47,7 @@ fn rounds_and_listing_agree() {
         let found = best(&card, &ranking, &word);
         assert_eq!(found, best_by_listing(&card, &ranking, &word, most), "{card:?} {ranking:?} {word:?}");
         assert_eq!(found, best_by_listing(&card, &ranking, &word, most + 1));
+        assert_eq!(found, best_by_culling(&card, &ranking, &word));
         if let Some(candidate) = found {
             answered += 1;
             inserted_last += candidate.last().is_some_and(|pair| pair.0 == 0) as usize;

@@ -4,7 +4,8 @@ use reference::call::{reference, Call, Outcome};
 use reference::candidate::Pair;
 use reference::card::{read_card, Card};
 use reference::comparison::{compare, describe};
-use reference::optimizer::best;
+use reference::cull::Graph;
+use reference::optimizer::{best, Method};
 use reference::samples::{self, arc, machine, set};
 use reference::tableau::{read_tableau, verdict, Tableau, Verdict};
 
@@ -215,7 +216,8 @@ fn results_on_refusals() {
         })
     };
     let none = || vec![];
-    let nothing = Call::Optimize { card: none(), ranking: none(), word: none(), work: vec![], answer: none() };
+    let method = Method::Ranked;
+    let nothing = Call::Optimize { method, card: none(), ranking: none(), word: none(), work: vec![], answer: none() };
     assert_eq!(on("optimize", 1), nothing);
     assert_eq!(on("compare", 7), Call::Compare { machines: 1, ranking: vec![], first: [0; 6], second: [0; 6] });
     let not_final = vec![1, 1, 6, 0, 3, 0, 1, 0, 0];
@@ -365,6 +367,38 @@ fn comparing_and_finding() {
         _ => reference(call),
     });
     assert_eq!(call, Call::FindRanking { machines: 1, conditions: vec![0; 128] });
+}
+
+/// A cull by the constraints in card order, and one that keeps an ending that costs more.
+#[test]
+fn culling() {
+    let culling = |change: fn(&mut Graph, &[u8])| {
+        choosing(move |card, ranking, word| {
+            let mut graph = Graph::new(card, word);
+            change(&mut graph, ranking);
+            graph.shortest()
+        })
+    };
+    let only_the_cull = |engine: Box<dyn Fn(&Call) -> Outcome>| {
+        move |call: &Call| match call {
+            Call::Optimize { method: Method::Cull, .. } => engine(call),
+            _ => reference(call),
+        }
+    };
+    let call = found_out(only_the_cull(Box::new(culling(|graph, ranking| {
+        (0..ranking.len()).for_each(|machine| graph.cull(machine));
+    }))));
+    assert_eq!((call.name(), sizes(&call).machines), ("cull", 2));
+    let call = found_out(only_the_cull(Box::new(culling(|graph, ranking| {
+        for &machine in ranking {
+            let endings = graph.endings.clone();
+            graph.cull(machine as usize);
+            graph.endings = endings;
+        }
+    }))));
+    let Sizes { machines, states, arcs, .. } = sizes(&call);
+    assert_eq!(call.name(), "cull");
+    assert!(machines <= 2 && states <= 3 && arcs <= 4, "{machines} machines, {states} states, {arcs} arcs");
 }
 
 /// Tableaux judged in another way than they should.

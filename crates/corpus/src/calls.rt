@@ -25,8 +25,17 @@ fn optimize(card: &[u8], ranking: &[u8], word: &[u8], work: &mut [u16], answer: 
     write_slice(answer);
 }
 
-// With so many numbers of work, and an answer of so many bytes, each `fill`. Answers whether there is as much to lend.
-pub fn lend_and_optimize(
+fn cull(card: &[u8], ranking: &[u8], word: &[u8], work: &mut [u16], answer: &mut [u8]) {
+    let evaluation = cull::cull(card, ranking, word, work, answer);
+    write(b"cull");
+    write_evaluation(evaluation);
+    write_slice(answer);
+}
+
+// By the engine that culls, or by the first one, with so many numbers of work, and an answer of so many bytes, each `fill`. Answers whether there is as
+// much to lend.
+pub fn lend_and_search(
+    culls: bool,
     card: &[u8],
     ranking: &[u8],
     word: &[u8],
@@ -42,13 +51,23 @@ pub fn lend_and_optimize(
     }
     let mut work = [0u16; WORK_NUMBERS];
     let mut answer = [fill; ANSWER_BYTES];
-    optimize(
-        card,
-        ranking,
-        word,
-        &mut work[0..room],
-        &mut answer[0..bytes],
-    );
+    if culls {
+        cull(
+            card,
+            ranking,
+            word,
+            &mut work[0..room],
+            &mut answer[0..bytes],
+        );
+    } else {
+        optimize(
+            card,
+            ranking,
+            word,
+            &mut work[0..room],
+            &mut answer[0..bytes],
+        );
+    }
     true
 }
 

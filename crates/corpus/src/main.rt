@@ -11,6 +11,7 @@
 //     6 derive      machines: a byte; two profiles
 //     7 find        machines: a byte; conditions: bytes
 //     8 judge       card, ranking, word: bytes; numbers of work: a number; tableau: bytes
+//     9 cull        as optimize
 //
 // A case of another kind, one that the file ends in and one that asks to be lent more than there is are faulty. Each of the functions for a kind goes
 // from the place of the first field to the place after the last, which is nowhere for a faulty case.
@@ -23,8 +24,8 @@ use calls::derive;
 use calls::evaluate;
 use calls::find;
 use calls::lend_and_judge;
-use calls::lend_and_optimize;
 use calls::lend_and_pack;
+use calls::lend_and_search;
 use calls::read_part;
 use fields::NOWHERE;
 use fields::after;
@@ -42,7 +43,7 @@ ghost use Rattle.io.specs.Counts.{Counts};
 // One byte more than the file may have.
 const FILE_BYTES: usize = 409601;
 
-fn optimize_case(file: &[u8], card: usize) -> usize {
+fn search_case(file: &[u8], culls: bool, card: usize) -> usize {
     let ranking = after_bytes(file, card);
     let word = after_bytes(file, ranking);
     let room = after_bytes(file, word);
@@ -52,7 +53,8 @@ fn optimize_case(file: &[u8], card: usize) -> usize {
     if end == NOWHERE {
         return NOWHERE;
     }
-    let lent = lend_and_optimize(
+    let lent = lend_and_search(
+        culls,
         bytes_at(file, card),
         bytes_at(file, ranking),
         bytes_at(file, word),
@@ -163,7 +165,7 @@ fn judge_case(file: &[u8], card: usize) -> usize {
 fn case(file: &[u8], at: usize) -> usize {
     let start = after(file, at, 1);
     match byte_at(file, at) {
-        1 => optimize_case(file, start),
+        1 => search_case(file, false, start),
         2 => evaluate_case(file, start),
         3 => read_part_case(file, start),
         4 => pack_case(file, start),
@@ -171,6 +173,7 @@ fn case(file: &[u8], at: usize) -> usize {
         6 => derive_case(file, start),
         7 => find_case(file, start),
         8 => judge_case(file, start),
+        9 => search_case(file, true, start),
         _ => NOWHERE,
     }
 }

@@ -58,6 +58,23 @@ pub extern "C" fn pastaspur_optimize(
     )
 }
 
+// The same by Ellison's cull.
+#[no_mangle]
+pub extern "C" fn pastaspur_cull(
+    card: &[u8],
+    ranking: &[u8],
+    word: &[u8],
+    work: &mut [u16],
+    answer: &mut [u8],
+    result: &mut [u16; 8],
+) -> u32
+    ensures { λ r. ⌜ r ≡ optimized (now (card .entry)) (now (ranking .entry)) (now (word .entry)) (length (now (work .entry))) (length (now (answer .entry))) .number ⌝ }
+    ensures { λ _. ⌜ now (result .exit) ≡ evaluationNumbers (optimized (now (card .entry)) (now (ranking .entry)) (now (word .entry)) (length (now (work .entry))) (length (now (answer .entry)))) ⌝ }
+    ensures { λ _. ⌜ Optimizes (now (card .entry)) (now (ranking .entry)) (now (word .entry)) (now (work .entry)) (now (work .exit)) (now (answer .entry)) (now (answer .exit)) (optimized (now (card .entry)) (now (ranking .entry)) (now (word .entry)) (length (now (work .entry))) (length (now (answer .entry)))) ⌝ }
+{
+    give_evaluation(cull::cull(card, ranking, word, work, answer), result)
+}
+
 // Judges a tableau for a card, a ranking and a word: 1 to 9, 19 to 21, 11.
 #[no_mangle]
 pub extern "C" fn pastaspur_judge(

@@ -44,6 +44,10 @@ use Rattle.optimizer.proofs.Answers.{cost-fits}
 use Rattle.optimizer.proofs.Labels.{starts-at}
 
 module _ {card ranking sets work : List ℕ} {size : ℕ} (pre : SetsPre card ranking sets work size) where
+  -- what reading the answer off needs
+  pub read-out-pre : {after : List ℕ} → PositionsDone card ranking sets work after 0 → SetsPre card ranking sets after size × PositionsDone card ranking sets after after 0
+  read-out-pre D = (record { setting = pre .setting; ranks = pre .ranks; bits = pre .bits; room = D .size ∙ pre .room }, record { size = refl; done = D .done })
+
   pub some-ranking : RankingOfSome ranking
   some-ranking =
       let p = ranking-facts (machineCount card) ranking (pre .ranks) .places in
@@ -168,3 +172,6 @@ module _ {card ranking sets work : List ℕ} {size : ℕ} (pre : SetsPre card ra
 
         written : answerAfter ≡ filled (bestOfSets card ranking sets) answer
         written = w .written ∙ ap (λ (d : List Pair). bytesOf d ++ drop (2 * length d) answer) (walked-best (length answer) passes w) ∙ ap (λ o. filled o answer) (sym (b .is))
+
+pub searched-by : {b : Option Contender} {card ranking sets word work after answer answerAfter : List ℕ} {r : Evaluation} → PositionsDone card ranking sets work after 0 → Searched b word after after answer answerAfter r → Searched b word work after answer answerAfter r
+searched-by D S = record { result = S .result; answer-slice = S .answer-slice; work-length = D .size }

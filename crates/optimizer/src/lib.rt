@@ -13,6 +13,7 @@ ghost use Rattle.candidate.specs.Candidates.{isSome};
 ghost use Rattle.product.specs.Best.{best};
 ghost use Rattle.product.specs.Optimizing.{inputRefusal};
 ghost use Rattle.labels.specs.LabelCost.{costOf};
+ghost use Rattle.positions.specs.Labelling.{PositionsDone};
 ghost use Rattle.optimizer.specs.Refusals.{numberOf, stageNumber};
 ghost use Rattle.optimizer.specs.Optimizes.{Optimizes};
 ghost use Rattle.optimizer.specs.Searching.{SetsPre, SearchPre, Searched, RankingOfSome, CardOrder};
@@ -99,19 +100,18 @@ fn start_node(card: &[u8]) -> usize
     tables::start_node(&counts[..machines])
 }
 
-// The search for accepted sets: labels the nodes, and writes the best candidate if there is one and it has room.
-fn search_sets(
+// Reads the answer off the labels of all nodes, and writes the best candidate if there is one and it has room: 10 to 12.
+pub fn read_out(
     card: &[u8],
     ranking: &[u8],
     sets: &[u64],
     size: usize,
-    work: &mut [u16],
+    work: &[u16],
     answer: &mut [u8],
 ) -> Evaluation
-    requires { ⌜ SetsPre (now card) (now ranking) (now sets) (now work) size ⌝ }
-    ensures { λ r. ⌜ Searched (bestOfSets (now (card .entry)) (now (ranking .entry)) (now (sets .entry))) (now (sets .entry)) (now (work .entry)) (now (work .exit)) (now (answer .entry)) (now (answer .exit)) r ⌝ }
+    requires { ⌜ SetsPre (now card) (now ranking) (now sets) (now work) size × PositionsDone (now card) (now ranking) (now sets) (now work) (now work) 0 ⌝ }
+    ensures { λ r. ⌜ Searched (bestOfSets (now (card .entry)) (now (ranking .entry)) (now (sets .entry))) (now (sets .entry)) (now (work .entry)) (now (work .entry)) (now (answer .entry)) (now (answer .exit)) r ⌝ }
 {
-    positions::label(work, card, ranking, sets, size);
     let start = start_node(card);
     let found = checks::check_best(work, start, answer.len());
     let Stage::Passed = found else {
@@ -129,8 +129,24 @@ fn search_sets(
     }
 }
 
+// The search for accepted sets: labels the nodes, and reads the answer off.
+fn search_sets(
+    card: &[u8],
+    ranking: &[u8],
+    sets: &[u64],
+    size: usize,
+    work: &mut [u16],
+    answer: &mut [u8],
+) -> Evaluation
+    requires { ⌜ SetsPre (now card) (now ranking) (now sets) (now work) size ⌝ }
+    ensures { λ r. ⌜ Searched (bestOfSets (now (card .entry)) (now (ranking .entry)) (now (sets .entry))) (now (sets .entry)) (now (work .entry)) (now (work .exit)) (now (answer .entry)) (now (answer .exit)) r ⌝ }
+{
+    positions::label(work, card, ranking, sets, size);
+    read_out(card, ranking, sets, size, work, answer)
+}
+
 // The sets of one symbol each of a word.
-fn fill_sets(word: &[u8], sets: &mut [u64])
+pub fn fill_sets(word: &[u8], sets: &mut [u64])
     requires { ⌜ (length (now word) ≤ length (now sets)) × (allOf (λ x. ltb x 64) (now word) ≡ true) ⌝ }
     ensures { λ _. ⌜ take (length (now (word .entry))) (now (sets .exit)) ≡ singletons (now (word .entry)) ⌝ }
 {

@@ -6,7 +6,7 @@ use super::damage::{add_states, damage_a_part, damage_a_ranking, damage_a_word, 
 use super::tableaux::any_tableau;
 use crate::call::Call;
 use crate::card::{read_card, Card, Machine};
-use crate::optimizer::best;
+use crate::optimizer::{best, Method};
 use crate::random::Random;
 use crate::samples::{self, CARD_A};
 use crate::Profile;
@@ -96,7 +96,7 @@ impl Generator {
         let work = work_length(random, 8 * (word.len() + 1) * read.states());
         let answer = answer_length(random, found.map_or(word.len(), |candidate| candidate.len()));
         let work = (0..work).map(|_| random.number() as u16).collect();
-        Call::Optimize { card, ranking, word, work, answer: random.bytes(answer) }
+        Call::Optimize { method: Method::Ranked, card, ranking, word, work, answer: random.bytes(answer) }
     }
 
     fn judge(&self, random: &mut Random) -> Call {

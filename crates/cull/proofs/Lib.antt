@@ -1,0 +1,10 @@
+pub mod Marks
+pub mod Totals
+pub mod StageWork
+pub mod Relaxing
+pub mod Runs
+pub mod Linking
+pub mod Positions
+pub mod NextStage
+pub mod Ending
+pub mod Culling

@@ -1,0 +1,93 @@
+-- `relax_node` meets its contract. The loop's invariant: the outputs so far were tried.
+use mathlib.Core.Path.{sym, subst}
+use Prim.Native.Nat.{ℕ, _+_, _-_, _≤_}
+use native.Mathlib.Omega.{arith}
+use Rattle.cull.specs.Relaxing.{RunEnd, Relaxed}
+use Rattle.cull.proofs.Relaxing.{entry-there, entry-few, entry-ready, relaxed-entry, relax-next, outputs-start, outputs-next, outputs-end}
+use Rattle.cull.proofs.Runs.{outputs-covered}
+use Rattle.cull.proofs.relax_node.Statement.{statement}
+use Rattle.cull.proofs.relax_node.Tie as tie
+
+abbrev Inv-loop : tie.InvT-loop
+Inv-loop work₀ table ends base targets size code first last stage changed₀ output₀ work changed output = (first ≤ output) × (output ≤ last + 1) × Relaxed work₀ work table stage base targets size first last (base + code) (base + code + 1) first output changed
+
+abbrev μ-loop : tie.MeasureT-loop
+μ-loop work₀ table ends base targets size code first last stage changed₀ output₀ work changed output = last + 1 - output
+
+loop-holds : tie.Need-loop-holds Inv-loop μ-loop
+loop-holds c = (omega arith, omega (arith, c .before .before .before .pre .0 .order), outputs-start)
+
+mul-entry : tie.Need-mul-entry Inv-loop μ-loop
+mul-entry c = omega (arith, entry-few (c .before .before .before .before .before .pre .0) (c .before .before .before .before .before .args .code) (c .before .loop .output) (c .before .before .before .before .before .pre .2) (c .before .loop .inv .0) (c .loop-test .taken))
+
+add-entry : tie.Need-add-entry Inv-loop μ-loop
+add-entry c = omega (arith, entry-few (c .before .before .before .before .before .pre .0) (c .before .before .before .before .before .args .code) (c .before .loop .output) (c .before .before .before .before .before .pre .2) (c .before .loop .inv .0) (c .loop-test .taken))
+
+mul-entry-2 : tie.Need-mul-entry-2 Inv-loop μ-loop
+mul-entry-2 c = omega (arith, entry-few (c .before .before .before .before .before .pre .0) (c .before .before .before .before .before .args .code) (c .before .loop .output) (c .before .before .before .before .before .pre .2) (c .before .loop .inv .0) (c .loop-test .taken))
+
+shared-slice-read-entry : tie.Need-shared-slice-read-entry Inv-loop μ-loop
+shared-slice-read-entry c = entry-there (c .before .before .before .before .before .before .pre .0) (c .before .before .before .before .before .before .args .code) (c .before .before .loop .output) (c .before .before .before .before .before .before .pre .2) (c .before .before .loop .inv .0) (c .before .loop-test .taken)
+
+add-try-entry : tie.Need-add-try-entry Inv-loop μ-loop
+add-try-entry c = omega (arith, c .before .before .before .before .before .before .before .pre .0 .few-nodes, c .before .before .before .before .before .before .before .pre .2)
+
+try-entry-requires : tie.Need-try-entry-requires Inv-loop μ-loop
+try-entry-requires c κs = entry-ready (relax-next (c .before .before .before .before .before .before .before .pre .0) (c .before .before .before .loop .inv .2)) (c .before .before .before .before .before .before .before .args .code) (c .before .before .before .loop .output) (c .before .before .before .before .before .before .before .pre .2) (c .before .before .before .loop .inv .0) (c .before .before .loop-test .taken)
+
+mul-index : tie.Need-mul-index Inv-loop μ-loop
+mul-index c = omega (arith, entry-few (c .before .before .before .before .before .before .before .before .before .before .pre .0) (c .before .before .before .before .before .before .before .before .before .before .args .code) (c .before .before .before .before .before .before .loop .output) (c .before .before .before .before .before .before .before .before .before .before .pre .2) (c .before .before .before .before .before .before .loop .inv .0) (c .before .before .before .before .before .loop-test .taken))
+
+add-index : tie.Need-add-index Inv-loop μ-loop
+add-index c = omega (arith, entry-few (c .before .before .before .before .before .before .before .before .before .before .pre .0) (c .before .before .before .before .before .before .before .before .before .before .args .code) (c .before .before .before .before .before .before .loop .output) (c .before .before .before .before .before .before .before .before .before .before .pre .2) (c .before .before .before .before .before .before .loop .inv .0) (c .before .before .before .before .before .loop-test .taken))
+
+shared-slice-read-index : tie.Need-shared-slice-read-index Inv-loop μ-loop
+shared-slice-read-index c = omega (arith, c .before .before .before .before .before .before .before .before .before .before .before .pre .1 .room, c .before .before .before .before .before .before .before .before .before .before .before .pre .2, c .before .before .before .before .before .before .before .before .before .before .before .pre .0 .outputs, c .before .before .before .before .before .before .loop-test .taken)
+
+index-requires : tie.Need-index-requires Inv-loop μ-loop
+index-requires c κs = tt
+
+-- the run of the entry that was tried
+run : (c : tie.After-index Inv-loop μ-loop) → RunEnd (c .before .before .before .before .before .before .before .before .before .before .before .before .args .table .now) (c .before .before .before .before .before .before .before .before .before .before .before .before .args .code) (c .before .before .before .before .before .before .before .before .loop .output) (c .before .before .before .before .before .before .before .before .before .before .before .before .args .last) (c .index .result)
+run c = subst (λ (z : ℕ). RunEnd (c .before .before .before .before .before .before .before .before .before .before .before .before .args .table .now) (c .before .before .before .before .before .before .before .before .before .before .before .before .args .code) (c .before .before .before .before .before .before .before .before .loop .output) (c .before .before .before .before .before .before .before .before .before .before .before .before .args .last) z) (sym (c .index .ensures .0)) (c .before .before .before .before .before .before .before .before .before .before .before .before .pre .1 .row (c .before .before .before .before .before .before .before .before .before .before .before .before .args .code) (c .before .before .before .before .before .before .before .before .before .before .before .before .pre .2) .end (c .before .before .before .before .before .before .before .before .loop .output) (omega arith) (c .before .before .before .before .before .before .before .loop-test .taken))
+
+loop-less : tie.Need-loop-less Inv-loop μ-loop
+loop-less c = omega (arith, run c .beyond, c .before .before .before .before .before .before .before .loop-test .taken)
+
+loop-again : tie.Need-loop-again Inv-loop μ-loop
+loop-again c =
+    let l = c .before .before .before .before .before .before .before .before .loop in
+    let t = c .before .before .before .before .before .before .before .before .before .before .before .before in
+    let n = c .before .before .before .before .before .before .before .loop-test .taken in (
+      omega (arith, run c .beyond, l .inv .0),
+      run c .within,
+      outputs-covered (t .args .code) (l .output) (c .index .result) (t .pre .2) (l .inv .0) (run c) (outputs-next (l .inv .2) (relaxed-entry (relax-next (t .pre .0) (l .inv .2)) (t .args .code) (l .output) (t .pre .2) (l .inv .0) n (c .before .before .before .before .try-entry .ensures))),
+    )
+
+same-length : tie.Need-same-length Inv-loop μ-loop
+same-length c = c .before .loop .inv .2 .size
+
+returns : tie.Need-returns Inv-loop μ-loop
+returns c = outputs-end (c .before .loop .inv .2) (omega (arith, c .before .loop .inv .1, c .loop-test .left))
+
+pub relax-node-spec : {M : Type 1} → statement M
+relax-node-spec =
+    tie.close
+    (tie.spec
+    Inv-loop
+    μ-loop
+    loop-holds
+    mul-entry
+    add-entry
+    mul-entry-2
+    shared-slice-read-entry
+    add-try-entry
+    try-entry-requires
+    mul-index
+    add-index
+    shared-slice-read-index
+    index-requires
+    loop-less
+    loop-again
+    same-length
+    returns)

@@ -1,0 +1,14 @@
+-- `search_sets` meets its contract.
+use borrow.Author.Needs.{needs}
+use Rattle.optimizer.proofs.Stages.{read-out-pre, searched-by}
+use Rattle.cull.proofs.search_sets.Statement.{statement}
+use Rattle.cull.proofs.search_sets.Tie as tie
+
+read-out-requires : tie.Need-read-out-requires
+read-out-requires c κs = let k = c .before .before .before .before in read-out-pre (k .before .before .before .before .before .before .before .pre) (k .label .ensures)
+
+returns : tie.Need-returns
+returns c = searched-by (c .before .before .before .before .before .before .before .label .ensures) (c .before .before .read-out .ensures)
+
+pub search-sets-spec : {M : Type 1} → statement M
+search-sets-spec = tie.close (tie.spec (λ c κs. search needs) read-out-requires (λ c. search needs) (λ c. search needs) returns)

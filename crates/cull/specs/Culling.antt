@@ -1,0 +1,105 @@
+-- The stages of the cull on a card: what holds in one, position by position, and between them.
+use mathlib.Core.Path.{_≡_}
+use mathlib.Core.Option.{Option, some}
+use mathlib.Core.List.{List}
+use Prim.Native.Nat.{ℕ, suc, _+_, _*_, _≤_, _<_}
+use lib.ListN.{length}
+use Rattle.card.specs.Layout.{symbolCount}
+use Rattle.card.specs.Card.{machinesOf}
+use Rattle.paths.specs.Bounds.{Sized}
+use Rattle.paths.specs.Graph.{Graph}
+use Rattle.paths.specs.Costs.{Labels}
+use Rattle.paths.specs.Positions.{Done, Entering, Entered}
+use Rattle.paths.specs.Ranked.{letterCount, countAt, rankedCosts}
+use Rattle.labels.specs.Work.{stateOf}
+use Rattle.product.specs.ProductGraph.{pairs}
+use Rattle.product.specs.Laws.Edges.{product-sized}
+use Rattle.tables.specs.JointTable.{HoldsJoint}
+use Rattle.tables.specs.Places.{sixPlaces}
+use Rattle.product.specs.Setting.{placeOf, Setting}
+use Rattle.tables.specs.Engine.{engineGraph}
+use Rattle.positions.specs.Engine.{Looked, Lent}
+use Rattle.cull.specs.Cull.{FewestBelow}
+use Rattle.cull.specs.Stages.{stage}
+use Rattle.cull.specs.StageLabels.{countOf, stageLabel}
+use Rattle.cull.specs.Relaxing.{Runs}
+
+abbrev pub pairsCounted : (card ranking sets : List ℕ) → Sized (engineGraph (machinesOf card) ranking sets) (letterCount 6)
+pairsCounted card ranking sets = product-sized (sixPlaces ranking) sets (machinesOf card)
+
+-- what the stage k works on, with the fewest marks that the stages before found
+abbrev pub stageGraph : (card ranking sets : List ℕ) (fewest : ℕ → ℕ → Option ℕ) (k : ℕ) → Graph (rankedCosts 1) pairs
+stageGraph card ranking sets fewest k = stage 6 (engineGraph (machinesOf card) ranking sets) (pairsCounted card ranking sets) fewest k
+
+-- the counts below k in the slice are the fewest marks that the stages below k found
+pub record Culled (card ranking sets : List ℕ) (fewest : ℕ → ℕ → Option ℕ) (xs : List ℕ) (k : ℕ) : Type 0 where
+  pub below : FewestBelow (engineGraph (machinesOf card) ranking sets) (countAt 6) fewest k
+  pub told : (i u m : ℕ) → i < k → fewest i u ≡ some m → countOf xs i u ≡ m
+
+-- between the stages
+pub record StagesDone (card ranking sets xs : List ℕ) (k : ℕ) : Type 0 where
+  pub fewest : ℕ → ℕ → Option ℕ
+  pub culled : Culled card ranking sets fewest xs k
+
+-- in the stage k: the positions from i on are done
+pub record StageAt (card ranking sets xs : List ℕ) (k i : ℕ) : Type 0 where
+  pub fewest : ℕ → ℕ → Option ℕ
+  pub culled : Culled card ranking sets fewest xs k
+  pub done : Done (stageGraph card ranking sets fewest k) (placeOf card) (stageLabel xs k) i
+
+-- what a stage is given: an accepted card, a ranking and sets, tables to look up, and the joint steps of the insertions with their runs
+pub record CullPre (card ranking sets rs cs ps ins es xs : List ℕ) (P k : ℕ) : Type 0 where
+  pub setting : Setting card sets P
+  pub looked : Looked card ranking rs cs ps
+  pub insertions : HoldsJoint (symbolCount card) (machinesOf card) 0 (sixPlaces ranking) ins
+  pub runs : Runs ins es P (symbolCount card)
+  pub room : length xs ≡ (length sets + 1) * P * 8
+  pub stage : k < 6
+
+-- the position i, past which the positions are done
+pub record PositionPre (card ranking sets rs cs ps ins es xs : List ℕ) (P i k : ℕ) : Type 0 where
+  pub given : CullPre card ranking sets rs cs ps ins es xs P k
+  pub within : i ≤ length sets
+  pub later : StageAt card ranking sets xs k (suc i)
+
+pub record PositionDone (card ranking sets xs ys : List ℕ) (i k : ℕ) : Type 0 where
+  pub size : length ys ≡ length xs
+  pub done : StageAt card ranking sets ys k i
+
+-- the position i was entered
+pub record PositionEntered (card ranking sets xs ys : List ℕ) (i k : ℕ) : Type 0 where
+  pub size : length ys ≡ length xs
+  pub fewest : ℕ → ℕ → Option ℕ
+  pub culled : Culled card ranking sets fewest ys k
+  pub entered : Entered (stageGraph card ranking sets fewest k) (placeOf card) (stageLabel ys k) i
+
+-- what a position is lent: room for the joint steps of a symbol, and for their runs
+pub record LentTables (stretch joint es : List ℕ) (P : ℕ) : Type 0 where
+  pub steps : Lent stretch joint P
+  pub runs : P * 64 ≤ length es
+
+-- what trying the endings of the last position needs
+pub record EndPre (card ranking sets rs cs ps xs : List ℕ) (P k : ℕ) : Type 0 where
+  pub setting : Setting card sets P
+  pub looked : Looked card ranking rs cs ps
+  pub room : length xs ≡ (length sets + 1) * P * 8
+  pub stage : k < 6
+
+-- before the stage k
+pub record StagePre (card ranking sets rs cs ps ins es xs : List ℕ) (P k : ℕ) : Type 0 where
+  pub given : CullPre card ranking sets rs cs ps ins es xs P k
+  pub before : StagesDone card ranking sets xs k
+
+-- ys is xs with no label at the first n nodes, whose counts stay
+pub record Blanked (xs ys : List ℕ) (n : ℕ) : Type 0 where
+  pub size : length ys ≡ length xs
+  pub states : (u : ℕ) → u < n → stateOf ys u ≡ 0
+  pub counts : (i w : ℕ) → i < 6 → countOf ys i w ≡ countOf xs i w
+
+-- the endings of the nodes from u on, up to the node u′, were tried
+pub record EndsTried (card ranking sets xs ys : List ℕ) (k u u′ : ℕ) : Type 0 where
+  pub size : length ys ≡ length xs
+  pub counts : (i w : ℕ) → i < k → countOf ys i w ≡ countOf xs i w
+  pub enters : (fewest : ℕ → ℕ → Option ℕ) → Culled card ranking sets fewest xs k → (K : Labels (rankedCosts 1))
+      → Entering (stageGraph card ranking sets fewest k) (placeOf card) K (stageLabel xs k) (length sets) (λ w. w < u) (λ _ _. ⊥)
+      → Entering (stageGraph card ranking sets fewest k) (placeOf card) K (stageLabel ys k) (length sets) (λ w. w < u′) (λ _ _. ⊥)

@@ -1,0 +1,20 @@
+-- Ellison's cull, labelled towards the end, in the order in which to read it. The theorems:
+-- 1. Cull, `survivors`: after k stages the ways left from a node are exactly those that no way from there beats on the first k constraints.
+-- 2. Stages, `cull-next`: closed and attained labels of a stage, by the marks of its constraint alone and the letters, carry the cull on.
+-- 3. CullLabels, `cull-closed` and `cull-attained`: the labels of the stages put together are labels for the whole cost.
+pub mod Below
+pub mod Subgraph
+pub mod LeastLabels
+pub mod Harmony
+pub mod Cull
+pub mod Left
+pub mod OneConstraint
+pub mod Stages
+pub mod CullLabels
+pub mod StageLabels
+pub mod Relaxation
+pub mod Relaxing
+pub mod Culling
+pub mod Survivors
+pub mod TwoEngines
+mod Example

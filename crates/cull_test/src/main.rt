@@ -1,0 +1,408 @@
+// Tries the cull's call, and the first engine beside it on the same input. A line for each case: the cull's number, profile, pair count and word length,
+// its first pairs, and whether the first engine gives the same result and the same answer slice. Then words by the dozen, a dot for each on which they agree,
+// and the worst accepted cards, from the files.
+ghost use Rattle.io.specs.Counts.{Counts};
+use candidate::Evaluation;
+use ranking::Profile;
+
+// Card A: one final state, one arc, in {1}, out {1,2}.
+const CARD_A: [u8; 29] = *b"\x01\x02\
+    \x06\x00\x17\x00\
+    \x01\x01\x01\
+    \x00\x00\x00\x00\x02\x00\x00\x00\x00\x00\x00\x00\x06\x00\x00\x00\x00\x00\x00\x00";
+
+// Card A with another arc, in {0}, out {1,2}: a loop of free insertions, and no marks throughout.
+const CARD_A_INSERTS: [u8; 49] = *b"\x01\x02\
+    \x06\x00\x2b\x00\
+    \x01\x02\x01\
+    \x00\x00\x00\x00\x02\x00\x00\x00\x00\x00\x00\x00\x06\x00\x00\x00\x00\x00\x00\x00\
+    \x00\x00\x00\x00\x01\x00\x00\x00\x00\x00\x00\x00\x06\x00\x00\x00\x00\x00\x00\x00";
+
+// Card B: onset, insertion, deletion.
+const CARD_B: [u8; 264] = *b"\x03\x02\
+    \x0e\x00\x7c\x00\x8a\x00\x2b\x00\xb5\x00\x53\x00\
+    \x02\x06\x01\x01\
+    \x00\x00\x00\x00\x07\x00\x00\x00\x00\x00\x00\x00\x01\x00\x00\x00\x00\x00\x00\x00\
+    \x00\x01\x00\x00\x07\x00\x00\x00\x00\x00\x00\x00\x02\x00\x00\x00\x00\x00\x00\x00\
+    \x00\x00\x01\x00\x07\x00\x00\x00\x00\x00\x00\x00\x04\x00\x00\x00\x00\x00\x00\x00\
+    \x01\x01\x00\x00\x07\x00\x00\x00\x00\x00\x00\x00\x01\x00\x00\x00\x00\x00\x00\x00\
+    \x01\x01\x00\x00\x07\x00\x00\x00\x00\x00\x00\x00\x02\x00\x00\x00\x00\x00\x00\x00\
+    \x01\x00\x00\x00\x07\x00\x00\x00\x00\x00\x00\x00\x04\x00\x00\x00\x00\x00\x00\x00\
+    \x01\x02\x01\
+    \x00\x00\x00\x00\x06\x00\x00\x00\x00\x00\x00\x00\x07\x00\x00\x00\x00\x00\x00\x00\
+    \x00\x00\x01\x00\x01\x00\x00\x00\x00\x00\x00\x00\x06\x00\x00\x00\x00\x00\x00\x00\
+    \x01\x04\x01\
+    \x00\x00\x00\x00\x02\x00\x00\x00\x00\x00\x00\x00\x02\x00\x00\x00\x00\x00\x00\x00\
+    \x00\x00\x00\x00\x04\x00\x00\x00\x00\x00\x00\x00\x04\x00\x00\x00\x00\x00\x00\x00\
+    \x00\x00\x00\x00\x01\x00\x00\x00\x00\x00\x00\x00\x06\x00\x00\x00\x00\x00\x00\x00\
+    \x00\x00\x01\x00\x06\x00\x00\x00\x00\x00\x00\x00\x01\x00\x00\x00\x00\x00\x00\x00";
+
+// Card A twice, and a machine with a mark for 1:1 and none for 1:2.
+const CARD_LAST: [u8; 103] = *b"\x03\x02\
+    \x0e\x00\x17\x00\x25\x00\x17\x00\x3c\x00\x2b\x00\
+    \x01\x01\x01\
+    \x00\x00\x00\x00\x02\x00\x00\x00\x00\x00\x00\x00\x06\x00\x00\x00\x00\x00\x00\x00\
+    \x01\x01\x01\
+    \x00\x00\x00\x00\x02\x00\x00\x00\x00\x00\x00\x00\x06\x00\x00\x00\x00\x00\x00\x00\
+    \x01\x02\x01\
+    \x00\x00\x01\x00\x02\x00\x00\x00\x00\x00\x00\x00\x02\x00\x00\x00\x00\x00\x00\x00\
+    \x00\x00\x00\x00\x02\x00\x00\x00\x00\x00\x00\x00\x04\x00\x00\x00\x00\x00\x00\x00";
+
+fn write(text: &[u8]) {
+    io::write_all(1, text);
+}
+
+fn write_number(number: u64) {
+    io::print_decimal(1, number);
+}
+
+fn write_count(count: u16) {
+    write(b" ");
+    write_number(count as u64);
+}
+
+fn write_pair(input: u8, output: u8) {
+    write(b" ");
+    write_number(input as u64);
+    write(b":");
+    write_number(output as u64);
+}
+
+fn byte_at(bytes: &[u8], at: usize) -> u8 {
+    if at < bytes.len() {
+        return bytes[at];
+    }
+    0
+}
+
+fn write_pair_at(answer: &[u8], pairs: u16, at: u8) {
+    if (at as u16) < pairs {
+        let place = at as usize * 2;
+        write_pair(byte_at(answer, place), byte_at(answer, place + 1));
+    }
+}
+
+// At most four pairs.
+fn write_pairs(answer: &[u8], pairs: u16) {
+    write_pair_at(answer, pairs, 0);
+    write_pair_at(answer, pairs, 1);
+    write_pair_at(answer, pairs, 2);
+    write_pair_at(answer, pairs, 3);
+}
+
+fn write_evaluation(evaluation: Evaluation) {
+    let profile = evaluation.profile;
+    write_number(evaluation.number as u64);
+    write(b":");
+    write_count(profile.counts[0]);
+    write_count(profile.counts[1]);
+    write_count(profile.counts[2]);
+    write_count(profile.counts[3]);
+    write_count(profile.counts[4]);
+    write_count(profile.counts[5]);
+    write(b";");
+    write_count(evaluation.pairs);
+    write_count(evaluation.word_length);
+}
+
+fn write_same(same: bool) {
+    if same {
+        write(b"; the same\n");
+    } else {
+        write(b"; NOT the same\n");
+    }
+}
+
+fn same_counts(a: Profile, b: Profile) -> bool {
+    (a.counts[0] == b.counts[0])
+        & (a.counts[1] == b.counts[1])
+        & (a.counts[2] == b.counts[2])
+        & (a.counts[3] == b.counts[3])
+        & (a.counts[4] == b.counts[4])
+        & (a.counts[5] == b.counts[5])
+}
+
+fn same_results(a: Evaluation, b: Evaluation) -> bool {
+    (a.number == b.number)
+        & (a.pairs == b.pairs)
+        & (a.word_length == b.word_length)
+        & same_counts(a.profile, b.profile)
+}
+
+fn same_bytes(a: &[u8], b: &[u8]) -> bool {
+    let mut same = a.len() == b.len();
+    for at in 0..a.len() {
+        if at < b.len() {
+            same = same & (a[at] == b[at]);
+        }
+    }
+    same
+}
+
+// Both engines, with the same work slice.
+fn on_both(
+    card: &[u8],
+    ranking: &[u8],
+    word: &[u8],
+    work: &mut [u16],
+    first: &mut [u8],
+    second: &mut [u8],
+) {
+    let theirs = optimizer::optimize(card, ranking, word, work, first);
+    let ours = cull::cull(card, ranking, word, work, second);
+    write_evaluation(ours);
+    write(b";");
+    write_pairs(second, ours.pairs);
+    write_same(same_results(theirs, ours) & same_bytes(first, second));
+}
+
+// With the first `room` numbers of a work slice and the first `bytes` bytes of answer slices.
+fn lend(card: &[u8], ranking: &[u8], word: &[u8], room: usize, bytes: usize) {
+    let mut work = [7u16; 400];
+    let mut first = [9u8; 60];
+    let mut second = [9u8; 60];
+    if room > 400 {
+        return;
+    }
+    if bytes > 60 {
+        return;
+    }
+    on_both(
+        card,
+        ranking,
+        word,
+        &mut work[0..room],
+        &mut first[0..bytes],
+        &mut second[0..bytes],
+    );
+}
+
+fn on_a(ranking: &[u8], word: &[u8], room: usize, bytes: usize) {
+    let card = CARD_A;
+    write(b"A ");
+    lend(&card, ranking, word, room, bytes);
+}
+
+fn on_a_inserts(word: &[u8]) {
+    let card = CARD_A_INSERTS;
+    write(b"A with insertions ");
+    lend(&card, b"\x00", word, 400, 60);
+}
+
+fn on_b(ranking: &[u8], word: &[u8], room: usize, bytes: usize) {
+    let card = CARD_B;
+    write(b"B ");
+    lend(&card, ranking, word, room, bytes);
+}
+
+// Card B with a mark for ending in state 1 of the first machine.
+fn on_b_ending(ranking: &[u8], word: &[u8]) {
+    let mut card = CARD_B;
+    card[17] = 2;
+    write(b"B, ending ");
+    lend(&card, ranking, word, 400, 60);
+}
+
+fn on_last(ranking: &[u8]) {
+    let card = CARD_LAST;
+    write(b"last ");
+    lend(&card, ranking, b"\x01\x01", 400, 60);
+}
+
+// One case for each number from 1 to 12 but 3 to 6 and 11.
+fn refusals() {
+    let card = CARD_A;
+    write(b"none ");
+    lend(&card[0..0], b"", b"", 0, 0);
+    write(b"short ");
+    lend(&card[0..28], b"", b"", 0, 0);
+    on_b(b"\x00\x01\x01", b"\x02", 400, 60);
+    on_a(b"\x00", b"\x03", 400, 60);
+    on_b(b"\x00\x02\x01", b"\x02", 31, 60);
+    on_a(b"\x00", b"\x02", 16, 0);
+    on_b(b"\x00\x02\x01", b"\x02", 32, 3);
+}
+
+fn examples() {
+    on_a(b"\x00", b"\x01", 400, 60);
+    on_a(b"\x00", b"\x02", 400, 60);
+    on_b(b"\x00\x01\x02", b"\x02", 400, 60);
+    on_b(b"\x00\x02\x01", b"\x02", 400, 60);
+    on_b(b"\x01\x02\x00", b"\x02", 400, 60);
+    on_a_inserts(b"\x01");
+    on_a_inserts(b"");
+}
+
+// An ending's marks drop it, or do not.
+fn endings() {
+    on_b_ending(b"\x00\x01\x02", b"\x01");
+    on_b_ending(b"\x02\x00\x01", b"\x01");
+    on_b_ending(b"\x02\x01\x00", b"\x01");
+}
+
+// The third constraint decides, wherever it is ranked.
+fn last_decides() {
+    on_last(b"\x00\x01\x02");
+    on_last(b"\x00\x02\x01");
+    on_last(b"\x02\x00\x01");
+}
+
+// A dot where the engines agree on a word.
+fn on_word(card: &[u8], ranking: &[u8], word: &[u8]) {
+    let mut work = [7u16; 400];
+    let mut first = [9u8; 60];
+    let mut second = [9u8; 60];
+    let theirs = optimizer::optimize(card, ranking, word, &mut work, &mut first);
+    let ours = cull::cull(card, ranking, word, &mut work, &mut second);
+    if same_results(theirs, ours) & same_bytes(&first, &second) {
+        write(b".");
+    } else {
+        write(b"x");
+    }
+}
+
+// The words of three symbols, each 1 or 2, from those two on, and their beginnings.
+fn words_from(card: &[u8], ranking: &[u8], first: u8, second: u8) {
+    let word = [first, second, 1];
+    on_word(card, ranking, &word);
+    let word = [first, second, 2];
+    on_word(card, ranking, &word);
+    on_word(card, ranking, &word[0..2]);
+}
+
+// Every word of at most three symbols.
+fn short_words(card: &[u8], ranking: &[u8]) {
+    on_word(card, ranking, b"");
+    on_word(card, ranking, b"\x01");
+    on_word(card, ranking, b"\x02");
+    words_from(card, ranking, 1, 1);
+    words_from(card, ranking, 1, 2);
+    words_from(card, ranking, 2, 1);
+    words_from(card, ranking, 2, 2);
+    write(b"\n");
+}
+
+fn words_on_b(ranking: &[u8]) {
+    let card = CARD_B;
+    write(b"B ");
+    short_words(&card, ranking);
+}
+
+fn six_rankings() {
+    words_on_b(b"\x00\x01\x02");
+    words_on_b(b"\x00\x02\x01");
+    words_on_b(b"\x01\x00\x02");
+    words_on_b(b"\x01\x02\x00");
+    words_on_b(b"\x02\x00\x01");
+    words_on_b(b"\x02\x01\x00");
+}
+
+fn free_loops() {
+    let card = CARD_A_INSERTS;
+    write(b"A with insertions ");
+    short_words(&card, b"\x00");
+}
+
+// With slices that are enough for every card and word.
+fn lend_all(card: &[u8], ranking: &[u8], word: &[u8]) {
+    let mut work = [0u16; 25600];
+    let mut first = [0u8; 6398];
+    let mut second = [0u8; 6398];
+    on_both(card, ranking, word, &mut work, &mut first, &mut second);
+}
+
+// Reads a file, and answers its length: 0 where there is none, or it cannot be read.
+fn read_file(name: &[u8], bytes: &mut [u8]) -> usize
+    ensures { λ r. ⌜ Counts r (now (bytes .exit)) ⌝ }
+{
+    let file = os::open_read(name);
+    if file < 0 {
+        return 0;
+    }
+    let n = io::read_full(file, bytes);
+    libc::close(file);
+    n
+}
+
+// The card of a file, on words of symbols that it has: all the same one, and 24 of them from the first on.
+fn on_file(name: &[u8], ranking: &[u8], symbol: u8, words: &[u8; 24]) {
+    let mut bytes = [0u8; 32768];
+    let n = read_file(name, &mut bytes);
+    write(name);
+    write(b" ");
+    let word = [symbol; 24];
+    lend_all(&bytes[..n], ranking, &word);
+    write(name);
+    write(b" ");
+    lend_all(&bytes[..n], ranking, words);
+}
+
+fn worst() {
+    let few = [
+        1,
+        2,
+        3,
+        1,
+        2,
+        3,
+        1,
+        2,
+        3,
+        1,
+        2,
+        3,
+        1,
+        2,
+        3,
+        1,
+        2,
+        3,
+        1,
+        2,
+        3,
+        1,
+        2,
+        3,
+    ];
+    let many = [
+        63,
+        58,
+        53,
+        48,
+        43,
+        38,
+        33,
+        28,
+        23,
+        18,
+        13,
+        8,
+        3,
+        61,
+        56,
+        51,
+        46,
+        41,
+        36,
+        31,
+        26,
+        21,
+        16,
+        11,
+    ];
+    on_file(b"chain", b"\x00\x01", 3, &few);
+    on_file(b"chain_full", b"\x00\x01\x02\x03\x04\x05", 63, &many);
+    on_file(b"full", b"\x02\x00\x04\x01\x05\x03", 63, &many);
+    on_file(b"shortcuts", b"\x00\x01\x02", 63, &many);
+    on_file(b"shortcuts", b"\x02\x01\x00", 63, &many);
+}
+
+fn main() {
+    refusals();
+    examples();
+    endings();
+    last_decides();
+    six_rankings();
+    free_loops();
+    worst();
+}

@@ -1,0 +1,144 @@
+//! The best by Ellison's cull, labelled towards the end: the graph of all candidates for a word; down the ranking, for each
+//! constraint the fewest marks from every node to an end, and whatever costs more dropped. Profiles are nowhere compared.
+
+use crate::candidate::Pair;
+use crate::card::Card;
+use crate::Profile;
+
+/// A pair that all machines take at a node.
+#[derive(Clone, Debug, PartialEq, Eq)]
+pub struct Edge {
+    pub pair: Pair,
+    /// The node that it leads to.
+    pub to: usize,
+    pub marks: Profile,
+}
+
+/// Every way to a complete candidate for a word. A node is an input position with one state for each machine.
+#[derive(Clone, Debug)]
+pub struct Graph {
+    /// For each node its pairs, those with the smaller bytes first.
+    pub edges: Vec<Vec<Edge>>,
+    /// For each node the ending marks, if a candidate may end there.
+    pub endings: Vec<Option<Profile>>,
+}
+
+impl Graph {
+    /// The graph of a word on an accepted card. The start is node 0.
+    pub fn new(card: &Card, word: &[u8]) -> Graph {
+        let joined = card.states();
+        let nodes = (word.len() + 1) * joined;
+        let mut graph = Graph { edges: Vec::new(), endings: vec![None; nodes] };
+        for node in 0..nodes {
+            let (position, states) = (node / joined, states(card, node % joined));
+            let mut edges = Vec::new();
+            for input in [0].iter().chain(word.get(position)) {
+                for output in (*input == 0) as u8..=card.symbols {
+                    if let Some((next, marks)) = step(card, &states, (*input, output)) {
+                        let to = (position + (*input != 0) as usize) * joined + next;
+                        edges.push(Edge { pair: (*input, output), to, marks });
+                    }
+                }
+            }
+            graph.edges.push(edges);
+            if position == word.len() {
+                graph.endings[node] = ending(card, &states);
+            }
+        }
+        graph
+    }
+
+    /// From every node the least cost of a way to an end, again and again over all nodes until nothing changes.
+    fn least(&self, edge_cost: impl Fn(&Edge) -> u32, ending_cost: impl Fn(&Profile) -> u32) -> Vec<Option<u32>> {
+        let mut labels: Vec<Option<u32>> =
+            self.endings.iter().map(|ending| ending.as_ref().map(&ending_cost)).collect();
+        let mut changed = true;
+        while changed {
+            changed = false;
+            for node in (0..labels.len()).rev() {
+                let onward = self.edges[node].iter().filter_map(|edge| Some(edge_cost(edge) + labels[edge.to]?)).min();
+                if onward.is_some_and(|cost| labels[node].is_none_or(|old| cost < old)) {
+                    labels[node] = onward;
+                    changed = true;
+                }
+            }
+        }
+        labels
+    }
+
+    /// Drops the edges and endings that cost more than the least, and those that lead to no end.
+    fn drop_dearer(
+        &mut self,
+        labels: &[Option<u32>],
+        edge_cost: impl Fn(&Edge) -> u32,
+        ending_cost: impl Fn(&Profile) -> u32,
+    ) {
+        for (node, edges) in self.edges.iter_mut().enumerate() {
+            edges.retain(|edge| labels[edge.to].is_some_and(|rest| labels[node] == Some(edge_cost(edge) + rest)));
+            self.endings[node] = self.endings[node].filter(|ending| labels[node] == Some(ending_cost(ending)));
+        }
+    }
+
+    /// Leaves the ways with the fewest marks of one constraint.
+    pub fn cull(&mut self, machine: usize) {
+        let (edge_cost, ending_cost) =
+            (|edge: &Edge| edge.marks[machine] as u32, |ending: &Profile| ending[machine] as u32);
+        let labels = self.least(edge_cost, ending_cost);
+        self.drop_dearer(&labels, edge_cost, ending_cost);
+    }
+
+    /// Of the ways that are left from the start those with the fewest pairs, and of them the one with the smallest bytes.
+    pub fn shortest(mut self) -> Option<Vec<Pair>> {
+        let labels = self.least(|_| 1, |_| 0);
+        self.drop_dearer(&labels, |_| 1, |_| 0);
+        labels[0]?;
+        let (mut node, mut candidate) = (0, Vec::new());
+        while self.endings[node].is_none() {
+            let edge = self.edges[node].first().expect("a way to an end");
+            candidate.push(edge.pair);
+            node = edge.to;
+        }
+        Some(candidate)
+    }
+}
+
+/// One state for each machine, by their number.
+fn states(card: &Card, number: usize) -> Vec<usize> {
+    let counts = card.machines.iter().map(|machine| machine.endings.len());
+    let apart = counts.scan(number, |rest, count| {
+        let state = *rest % count;
+        *rest /= count;
+        Some(state)
+    });
+    apart.collect()
+}
+
+/// The number of the states that a pair leads to, and its marks, if every machine takes it.
+fn step(card: &Card, states: &[usize], pair: Pair) -> Option<(usize, Profile)> {
+    let (mut number, mut scale, mut marks) = (0, 1, [0; 6]);
+    for (place, (machine, &state)) in card.machines.iter().zip(states).enumerate() {
+        let (next, cost) = machine.step(state, pair.0, pair.1)?;
+        number += scale * next;
+        scale *= machine.endings.len();
+        marks[place] = cost;
+    }
+    Some((number, marks))
+}
+
+/// The ending marks, if every machine may end.
+fn ending(card: &Card, states: &[usize]) -> Option<Profile> {
+    let mut marks = [0; 6];
+    for (place, (machine, &state)) in card.machines.iter().zip(states).enumerate() {
+        marks[place] = machine.endings[state]?;
+    }
+    Some(marks)
+}
+
+/// The best candidate for a word on an accepted card.
+pub fn best_by_culling(card: &Card, ranking: &[u8], word: &[u8]) -> Option<Vec<Pair>> {
+    let mut graph = Graph::new(card, word);
+    for &machine in ranking {
+        graph.cull(machine as usize);
+    }
+    graph.shortest()
+}
