@@ -16,7 +16,7 @@
  * pastaspur_optimize 107,208, pastaspur_evaluate 744, pastaspur_pack 728, pastaspur_read_part 712, each of the others under
  * 64. No proof speaks of the stack.
  *
- * Refusals
+ * Refusals (11 is not used)
  *    1  card under 2 bytes; machine count K not 1 to 6, symbol count S not 1 to 63
  *    2  card under 2 + 4K bytes; offsets or end not as laid down
  *    3  a machine's part under 2 bytes; its state count not 1 to 32, or its length not what its counts say
@@ -27,7 +27,6 @@
  *    8  word length n over 24, a symbol 0 or over S
  *    9  work slice under 8 * (n + 1) * P numbers
  *   10  no complete candidate
- *   11  the best profile has a count over 60,000
  *   12  answer slice under 2 bytes for each pair of the best candidate
  *   13  candidate odd in length, over 3,199 pairs, a symbol over S, or the pair 0:0
  *   14  candidate not complete
@@ -54,8 +53,9 @@ extern "C" {
 #define PASTASPUR_WORK_NUMBERS 25600
 #define PASTASPUR_ANSWER_BYTES 6398
 
-/* Answers the best candidate for a word under a ranking: refusals 1 to 12.
- * result: the candidate's six counts in card order (unused places 0), its pair count, the word's length.
+/* Answers the best candidate for a word under a ranking: refusals 1 to 10, 12.
+ * result: the candidate's six counts in card order (unused places 0), none above 48,000; its pair count, at most 3,199; the
+ * word's length.
  * answer: its pairs, in before out, fill the front; the other bytes, and on a refusal all of them, keep their values.
  * work: kept on refusals 1 to 9; otherwise its contents are left open. */
 uint32_t pastaspur_optimize(const uint8_t *card, size_t card_len, const uint8_t *ranking, size_t ranking_len,

@@ -21,8 +21,7 @@ pub enum Call {
     Judge { card: Vec<u8>, ranking: Vec<u8>, word: Vec<u8>, work: Vec<u16>, tableau: Vec<u8> },
 }
 
-/// A call's kind, its name, and the refusals that it can answer. Of 11 no example is known: 3,199 pairs of at most 15
-/// marks make 47,985.
+/// A call's kind, its name, and the refusals that it can answer. The number 11 is not used.
 pub const KINDS: [(&str, &[u32]); 9] = [
     ("optimize", &[1, 2, 3, 4, 5, 6, 7, 8, 9, 10, 12]),
     ("evaluate", &[1, 2, 3, 4, 5, 6, 13, 14]),

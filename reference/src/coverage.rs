@@ -225,7 +225,7 @@ fn each(counts: &Counts, sign: bool) -> String {
 
 impl fmt::Display for Coverage {
     fn fmt(&self, text: &mut fmt::Formatter) -> fmt::Result {
-        writeln!(text, "how often each call answered each number (0 accepted, 11 is never met: no example is known)")?;
+        writeln!(text, "how often each call answered each number (0 accepted)")?;
         for ((name, _), counts) in KINDS.iter().zip(&self.numbers) {
             writeln!(text, "  {name:<13}{:>7}  {}", counts.values().sum::<u64>(), each(counts, false))?;
         }

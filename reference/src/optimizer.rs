@@ -211,7 +211,7 @@ pub fn optimize(
     optimize_by(Method::Ranked, card, ranking, word, work, answer)
 }
 
-/// The whole call: refusals 1 to 12, the result, the pairs in the front of the answer slice.
+/// The whole call: refusals 1 to 10 and 12, the result, the pairs in the front of the answer slice.
 pub fn optimize_by(
     method: Method,
     card: &[u8],
@@ -227,9 +227,7 @@ pub fn optimize_by(
     };
     let candidate = found.ok_or(10)?;
     let profile = profile(&card.machines, &candidate).expect("the best is complete");
-    if profile.iter().any(|&count| count > 60_000) {
-        return Err(11);
-    }
+    assert!(candidate.len() <= 3_199 && profile.iter().all(|&count| count <= 48_000), "no node is passed twice");
     let bytes: Vec<u8> = candidate.iter().flat_map(|&(input, output)| [input, output]).collect();
     let front = answer.get_mut(..bytes.len()).ok_or(12u8)?;
     front.copy_from_slice(&bytes);

@@ -126,7 +126,7 @@ pub fn say(card: &[u8], line: &str, tableau: &[u8]) -> String {
     }
 }
 
-/// The whole call: refusals 1 to 9, then 19, 20, 21, each for all rows before the next, then 11.
+/// The whole call: refusals 1 to 9, then 19, 20, 21, each for all rows before the next.
 pub fn judge(card: &[u8], ranking: &[u8], word: &[u8], work: usize, tableau: &[u8]) -> Result<Verdict, Refusal> {
     let card = checked(card, ranking, word, work)?;
     let tableau = read_tableau(tableau, card.machines.len())?;
@@ -137,9 +137,6 @@ pub fn judge(card: &[u8], ranking: &[u8], word: &[u8], work: usize, tableau: &[u
     }
     let best = best(&card, ranking, word).expect("the rows are candidates");
     let best = profile(&card.machines, &best).expect("the best is complete");
-    if best.iter().any(|&count| count > 60_000) {
-        return Err(11);
-    }
     let wins: Vec<bool> = profiles.iter().map(|profile| harmony(ranking, &best, profile) != Ordering::Less).collect();
     Ok(verdict(tableau.claimed, &wins))
 }

@@ -10,7 +10,6 @@ fn what_is_missing() {
     // every number of every call, and sizes
     assert!(nothing.len() > KINDS.iter().map(|(_, refusals)| 1 + refusals.len()).sum::<usize>() + 6 + 63 + 25 + 32);
     assert!(nothing.iter().any(|line| line == "optimize answers 12: 0 times, 100 are asked"));
-    assert!(!nothing.iter().any(|line| line.contains("answers 11")));
     assert!(nothing.iter().any(|line| line == "128 joined states: 0 times, 1 are asked"));
 
     let few = compare(&reference, 5, 4_000).expect("this implementation agrees with itself").missing();

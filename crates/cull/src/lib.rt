@@ -673,7 +673,7 @@ fn search(
     search_sets(card, ranking, &sets[..word.len()], size, work, answer)
 }
 
-// Answers the best candidate for a word under a ranking, by Ellison's method: 1 to 12.
+// Answers the best candidate for a word under a ranking, by Ellison's method: 1 to 10, 12.
 pub fn cull(
     card: &[u8],
     ranking: &[u8],

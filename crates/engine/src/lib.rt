@@ -38,7 +38,7 @@ fn give_evaluation(evaluation: Evaluation, result: &mut [u16; 8]) -> u32
     evaluation.number as u32
 }
 
-// The best candidate for a word under a ranking: 1 to 12.
+// The best candidate for a word under a ranking: 1 to 10, 12.
 #[no_mangle]
 pub extern "C" fn pastaspur_optimize(
     card: &[u8],
@@ -75,7 +75,7 @@ pub extern "C" fn pastaspur_cull(
     give_evaluation(cull::cull(card, ranking, word, work, answer), result)
 }
 
-// Judges a tableau for a card, a ranking and a word: 1 to 9, 19 to 21, 11.
+// Judges a tableau for a card, a ranking and a word: 1 to 9, 19, 20, 21.
 #[no_mangle]
 pub extern "C" fn pastaspur_judge(
     card: &[u8],

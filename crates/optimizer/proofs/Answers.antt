@@ -1,25 +1,14 @@
 -- What the call answers, by the checks that the input passes and by the best candidate. Assumes nothing.
-use mathlib.Core.Path.{_≡_, refl, _∙_, ap}
-use mathlib.Core.Bool.{true}
+use mathlib.Core.Path.{_≡_, refl, _∙_}
 use mathlib.Core.List.{List, [], _∷_, _++_}
-use mathlib.Core.Option.{some}
 use Prim.Native.Nat.{ℕ, zero, suc, _<_, _≤_}
-use native.Mathlib.Decide.{decLt}
 use native.Mathlib.Omega.{arith}
-use lib.ListN.{length, getD, take, drop, length-append, length-drop, List·getD-eq-default}
-use lib.Dec.{leb}
-use borrow.Author.Tests.{le-leb}
-use Rattle.basics.specs.Search.{allOf}
+use lib.ListN.{length, take, drop, length-append, length-drop}
 use Rattle.basics.specs.Refusals.{unlessRefused}
-use Rattle.basics.proofs.Bools.{both}
-use Rattle.basics.proofs.Search.{all-at}
 use Rattle.candidate.specs.Evaluating.{refused}
-use Rattle.product.specs.Best.{Contender, best}
-use Rattle.product.specs.Optimizing.{inputRefusal, countsFit, optimizerRefusal, evaluationOf, filled, optimized, optimizedAnswer}
-use Rattle.paths.specs.Ranked.{Ranked, countAt}
-use Rattle.paths.specs.ByRanking.{ranked}
-use Rattle.tables.specs.Places.{sixPlaces}
-use Rattle.optimizer.specs.Searching.{searchRefusal, costFits}
+use Rattle.product.specs.Best.{best}
+use Rattle.product.specs.Optimizing.{inputRefusal, optimizerRefusal, evaluationOf, filled, optimized, optimizedAnswer}
+use Rattle.optimizer.specs.Searching.{searchRefusal}
 
 -- ---- the checks 1 to 9
 
@@ -45,26 +34,6 @@ module _ (card ranking word : List ℕ) (room : ℕ) where
       → optimizedAnswer card ranking word room answer ≡ unlessRefused (searchRefusal (best card ranking word) (length answer)) (filled (best card ranking word) answer) (λ n. answer)
   unfolding optimizedAnswer optimizerRefusal
   searched-answer answer e = rw e
-
--- ---- counts that fit
-
-each-fits : (X : List ℕ) → allOf (λ n. leb n 60000) X ≡ true → (i : ℕ) → leb (getD X i 0) 60000 ≡ true
-each-fits X t i = go (decLt i (length X))
-  where
-    go : Dec (i < length X) → leb (getD X i 0) 60000 ≡ true
-    go (yes h) = all-at (λ n. leb n 60000) X 0 t i h
-    go (no h) = let z = List·getD-eq-default X 0 {n = i} (omega arith) in le-leb (getD X i 0) 60000 (omega arith)
-
-pub cost-fits : (cost : Ranked 6) (ranking : List ℕ) (b : Contender) (n : ℕ) → countsFit (some b) ≡ true → cost ≡ ranked (sixPlaces ranking) (b .profile) n → costFits cost ≡ true
-cost-fits cost ranking b n t e =
-    let X = b .profile in
-    let z : (j : ℕ) → leb (getD X (getD ranking j 6) 0) 60000 ≡ true = λ j. each-fits X t (getD ranking j 6) in
-    both (ap (λ (c : Ranked 6). leb (countAt 6 0 c) 60000) e ∙ z 0)
-    (both (ap (λ (c : Ranked 6). leb (countAt 6 1 c) 60000) e ∙ z 1)
-    (both (ap (λ (c : Ranked 6). leb (countAt 6 2 c) 60000) e ∙ z 2)
-    (both (ap (λ (c : Ranked 6). leb (countAt 6 3 c) 60000) e ∙ z 3)
-    (both (ap (λ (c : Ranked 6). leb (countAt 6 4 c) 60000) e ∙ z 4)
-    (ap (λ (c : Ranked 6). leb (countAt 6 5 c) 60000) e ∙ z 5)))))
 
 -- ---- the work slice
 

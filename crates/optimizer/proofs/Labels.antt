@@ -1,20 +1,20 @@
--- The checks 10 to 12 by the label of the start. Assumes nothing.
+-- The checks 10 and 12 by the label of the start. Assumes nothing.
 use mathlib.Core.Path.{_≡_, refl, sym, _∙_, ap}
-use mathlib.Core.List.{List, [], _∷_}
+use mathlib.Core.List.{List}
 use mathlib.Core.Option.{Option, some, none}
 use Prim.Native.Nat.{ℕ, _*_, _<_}
 use native.Mathlib.Omega.{arith}
 use lib.Dec.{leb, lit<}
 use borrow.Author.Tests.{leb-true}
 use Rattle.basics.specs.Refusals.{refuse}
-use Rattle.basics.proofs.Refusals.{passed, none-first}
+use Rattle.basics.proofs.Refusals.{passed}
 use Rattle.candidate.specs.Candidates.{isSome}
 use Rattle.paths.specs.Ranked.{Ranked, letterCount}
 use Rattle.product.specs.ProductGraph.{cardStart}
 use Rattle.labels.specs.Work.{labelOf, costAt}
 use Rattle.labels.proofs.Work.{holds}
 use Rattle.walk.specs.Walked.{StartsAt}
-use Rattle.optimizer.specs.Searching.{costFits, labelRefusal}
+use Rattle.optimizer.specs.Searching.{labelRefusal}
 
 -- a stage that answered a refusal has a number
 pub above-zero : {S : Type 0} (number : S → ℕ) {s t : S} → s ≡ t → 0 < number t → 0 < number s
@@ -40,7 +40,4 @@ starts-at card xs room z = go (labelOf xs (cardStart card)) refl z
     go : (o : Option (Ranked 6)) → labelOf xs (cardStart card) ≡ o → labelRefusal o room ≡ 0 → StartsAt card xs room
     go none l z = absurd (omega arith)
     go (some c) l z =
-        let t = leb (2 * letterCount 6 c) room in
-        let a = none-first (refuse 11 (costFits c)) (refuse 12 t ∷ []) z in
-        let b = none-first (refuse 12 t) [] (a .1) in
-        record { cost = c; label-is = l; fits = leb-true (2 * letterCount 6 c) room (passed 12 t (lit< tt) (b .0)) }
+        record { cost = c; label-is = l; fits = leb-true (2 * letterCount 6 c) room (passed 12 (leb (2 * letterCount 6 c) room) (lit< tt) z) }

@@ -2,10 +2,9 @@
 use Prim.Native.Nat.{_<_}
 use lib.Dec.{lit<}
 use Rattle.optimizer.specs.declared.Refusal.{Refusal}
-use Rattle.optimizer.specs.declared.Refusal.the-variants.{NoCandidate, Counts, Answer}
+use Rattle.optimizer.specs.declared.Refusal.the-variants.{NoCandidate, Answer}
 use Rattle.optimizer.specs.Refusals.{numberOf}
 
 pub number-positive : (r : Refusal) → 0 < numberOf r
 number-positive NoCandidate = lit< tt
-number-positive Counts = lit< tt
 number-positive Answer = lit< tt

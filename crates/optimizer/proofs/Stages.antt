@@ -1,14 +1,13 @@
 -- The search: what the labels say, and what is answered. Assumes nothing.
 use mathlib.Core.Path.{_≡_, refl, sym, _∙_, ap}
-use mathlib.Core.Bool.{Bool, true}
-use mathlib.Core.List.{List, [], _∷_, _++_}
+use mathlib.Core.List.{List, _++_}
 use mathlib.Core.Option.{Option, some, none}
 use Prim.Native.Nat.{ℕ, _+_, _*_, _<_, _≤_}
 use native.Mathlib.Omega.{arith}
 use lib.Dec.{leb}
 use lib.ListN.{length, drop}
-use Rattle.basics.specs.Refusals.{refuse, firstOf, unlessRefused}
-use Rattle.basics.proofs.Refusals.{accepted as taken, not-accepted}
+use Rattle.basics.specs.Refusals.{refuse, unlessRefused}
+use Rattle.basics.proofs.Refusals.{accepted as taken, not-accepted, last-one}
 use Rattle.machine.specs.declared.Pair.{Pair}
 use Rattle.ranking.specs.declared.Profile.{Profile}
 use Rattle.ranking.specs.Lemmas.Rankings.{ranking-facts}
@@ -20,7 +19,7 @@ use Rattle.candidate.specs.Candidates.{bytesOf}
 use Rattle.candidate.specs.Evaluating.{refused}
 use Rattle.product.specs.Best.{Contender}
 use Rattle.product.specs.Sets.{bestOfSets}
-use Rattle.product.specs.Optimizing.{countsFit, evaluationOf, filled}
+use Rattle.product.specs.Optimizing.{evaluationOf, filled}
 use Rattle.paths.specs.Ranked.{Ranked, letterCount}
 use Rattle.paths.specs.ByRanking.{ranked, ranked-letters}
 use Rattle.paths.specs.Labels.{Closed, Attained}
@@ -30,7 +29,7 @@ use Rattle.labels.specs.Work.{HasNode, labelOf, costAt}
 use Rattle.labels.proofs.Work.{holds}
 use Rattle.product.specs.ProductGraph.{cardStart}
 use Rattle.product.specs.Prices.{ranking-agrees}
-use Rattle.product.specs.SetsTheorem.{best-of-sets-is-small, counts-of-sets-fit}
+use Rattle.product.specs.SetsTheorem.{best-of-sets-is-small}
 use Rattle.product.specs.Laws.Accepted.{accepted-machines}
 use Rattle.product.specs.Laws.BestCandidate.{profile-length}
 use Rattle.product.specs.Laws.CardGraph.{start-within}
@@ -40,7 +39,6 @@ use Rattle.positions.specs.Labelling.{PositionsDone}
 use Rattle.walk.specs.Walked.{StartsAt, WalkPre, Walked}
 use Rattle.optimizer.specs.Searching.{searchRefusal, labelRefusal, SetsPre, Searched, RankingOfSome, CardOrder}
 use Rattle.optimizer.proofs.Found.{FoundAt, not-found, found, path-found}
-use Rattle.optimizer.proofs.Answers.{cost-fits}
 use Rattle.optimizer.proofs.Labels.{starts-at}
 
 module _ {card ranking sets work : List ℕ} {size : ℕ} (pre : SetsPre card ranking sets work size) where
@@ -52,9 +50,6 @@ module _ {card ranking sets work : List ℕ} {size : ℕ} (pre : SetsPre card ra
   some-ranking =
       let p = ranking-facts (machineCount card) ranking (pre .ranks) .places in
       record { few = omega (arith, p, accepted card (pre .setting .accepted) .head); ranks = rw p (pre .ranks) }
-
-  fitting : countsFit (bestOfSets card ranking sets) ≡ true
-  fitting = counts-of-sets-fit card ranking sets (pre .setting .accepted) (pre .setting .few)
 
   module _ {after : List ℕ} (done : PositionsDone card ranking sets work after 0) where
     closed : Closed (engineGraph (machinesOf card) ranking sets) (labelOf after)
@@ -73,16 +68,12 @@ module _ {card ranking sets work : List ℕ} {size : ℕ} (pre : SetsPre card ra
         go : (o : Option (Ranked 6)) → labelOf after (cardStart card) ≡ o → labelRefusal o room ≡ searchRefusal (bestOfSets card ranking sets) room
         go none l = sym (ap (λ (b : Option Contender). searchRefusal b room) (not-found card ranking sets (pre .setting .accepted) (pre .ranks) (pre .bits) (labelOf after) closed l))
         go (some x) l =
-            ap (λ (t : Bool). firstOf (refuse 11 t ∷ refuse 12 (leb (2 * letterCount 6 x) room) ∷ [])) (cost-fits x ranking (f .form) (length (f .form .candidate)) fits-itself (f .cost))
-            ∙ ap (λ (n : ℕ). firstOf (refuse 12 (leb (2 * n) room) ∷ [])) its-pairs
-            ∙ sym (ap (λ (t : Bool). firstOf (refuse 11 t ∷ refuse 12 (leb (2 * length (f .form .candidate)) room) ∷ [])) fits-itself)
+            ap (λ (n : ℕ). refuse 12 (leb (2 * n) room)) its-pairs
+            ∙ sym (last-one (refuse 12 (leb (2 * length (f .form .candidate)) room)))
             ∙ sym (ap (λ (b : Option Contender). searchRefusal b room) (f .is))
           where
             f : FoundAt card ranking sets x
             f = found card ranking sets (pre .setting .accepted) (pre .ranks) (pre .bits) (labelOf after) closed attained x l
-
-            fits-itself : countsFit (some (f .form)) ≡ true
-            fits-itself = rw (f .is) at fitting
 
             its-pairs : letterCount 6 x ≡ length (f .form .candidate)
             its-pairs = ap (letterCount 6) (f .cost) ∙ ranked-letters (sixPlaces ranking) (f .form .profile) (length (f .form .candidate))

@@ -1,27 +1,33 @@
 -- Demand 3, of what the optimizer's call answers: for every card, ranking, word and work slice that the checks 1 to 9 accept, and every answer slice.
 use mathlib.Core.Path.{_≡_, refl, sym, _∙_, ap, subst₂}
 use mathlib.Core.Logic.{_⊎_, inl, inr, _↔_, _≢_}
-use mathlib.Core.Bool.{true, false}
-use mathlib.Core.List.{List, _++_}
+use mathlib.Core.Bool.{true}
+use mathlib.Core.List.{List, [], _∷_, _++_}
 use mathlib.Core.Option.{Option, some, none}
-use Prim.Native.Nat.{ℕ, _*_, _<_, _≤_}
+use Prim.Native.Nat.{ℕ, zero, suc, _*_, _-_, _<_, _≤_}
 use native.Mathlib.Decide.{decLt}
 use native.Mathlib.Omega.{arith}
 use lib.Dec.{leb}
-use lib.ListN.{length, drop}
+use lib.ListN.{length, drop, replicate}
 use borrow.Author.Tests.{le-leb, lt-leb}
 use Rattle.basics.specs.Search.{allOf}
-use Rattle.basics.proofs.Bools.{clash}
+use Rattle.basics.proofs.Bools.{both, left, right}
 use Rattle.machine.specs.declared.Pair.{Pair}
 use Rattle.card.specs.Layout.{symbolCount}
 use Rattle.card.specs.Card.{machinesOf}
 use Rattle.candidate.specs.declared.Evaluation.{Evaluation}
 use Rattle.candidate.specs.Candidates.{bytesOf, profileOf, IsCandidate}
 use Rattle.candidate.specs.Evaluating.{profileWith}
-use Rattle.product.specs.Best.{Contender, best}
-use Rattle.product.specs.Optimizing.{inputRefusal, countsFit, optimizerRefusal, evaluationOf, filled, optimized, optimizedAnswer}
+use Rattle.paths.specs.Pigeonhole.{Distinct}
+use Rattle.paths.specs.Graph.{nodes}
+use Rattle.product.specs.Best.{Contender, contenderOf, best}
+use Rattle.product.specs.ProductGraph.{cardGraph, cardStart}
+use Rattle.product.specs.Optimizing.{inputRefusal, optimizerRefusal, evaluationOf, filled, optimized, optimizedAnswer}
 use Rattle.product.specs.BestCandidate.{IsBestCandidate}
-use Rattle.product.specs.BestTheorem.{BestOfAll, best-is-best-of-all, counts-always-fit}
+use Rattle.product.specs.BestTheorem.{BestOfAll, best-is-best-of-all, best-is-short, SmallBest, best-is-small}
+use Rattle.product.specs.Laws.JointStep.{AllSound}
+use Rattle.product.specs.Laws.Accepted.{accepted-machines}
+use Rattle.product.specs.Laws.Counts.{profile-bound}
 use Rattle.input.specs.AcceptedInput.{AcceptedInput, accepted-input, short-word}
 use Rattle.optimizer.specs.Optimizes.{Optimizes}
 
@@ -35,20 +41,23 @@ pub record AnswersBest (card ranking word answer after : List ℕ) (r : Evaluati
   pub word-length : r .«word_length» ≡ length word
 
 pub record Demand3 (card ranking word answer after : List ℕ) (r : Evaluation) : Type 0 where
-  -- the number is 0, 10, 11 or 12
-  pub numbers : (r .number ≡ 0) ⊎ ((r .number ≡ 10) ⊎ ((r .number ≡ 11) ⊎ (r .number ≡ 12)))
+  -- the number is 0, 10 or 12
+  pub numbers : (r .number ≡ 0) ⊎ ((r .number ≡ 10) ⊎ (r .number ≡ 12))
   -- none exactly when no list of pairs, however long, is a candidate for the word
   pub none-exactly : (r .number ≡ 10) ↔ ((c : List Pair) → ¬ (IsCandidate (machinesOf card) word c))
   -- otherwise there is a best one
   pub otherwise-best : (c : List Pair) → IsCandidate (machinesOf card) word c → (b : List Pair) × IsBestCandidate ranking (machinesOf card) word b
-  -- 11 exactly when the best candidate has a count over 60,000, which none has
-  pub counts-exactly : (r .number ≡ 11) ↔ ((c : List Pair) × IsBestCandidate ranking (machinesOf card) word c × (allOf (λ n. leb n 60000) (profileOf (machinesOf card) c) ≡ false))
-  pub never-counts : r .number ≢ 11
+  -- the best one passes no node twice, so it has at most 3,199 pairs and no count above 48,000
+  pub no-node-twice : (c : List Pair) → IsBestCandidate ranking (machinesOf card) word c → Distinct (nodes (cardGraph card ranking word) (cardStart card) c)
+  pub few-pairs : (c : List Pair) → IsBestCandidate ranking (machinesOf card) word c → length c ≤ 3199
+  pub small-counts : (c : List Pair) → IsBestCandidate ranking (machinesOf card) word c → allOf (λ n. leb n 48000) (profileOf (machinesOf card) c) ≡ true
   -- 12 exactly when there is a best candidate and its bytes are more than the answer slice has
   pub room-exactly : (r .number ≡ 12) ↔ ((c : List Pair) × IsBestCandidate ranking (machinesOf card) word c × (length answer < 2 * length c))
   -- 0 exactly when there is a best candidate whose bytes the answer slice has room for
   pub best-exactly : (r .number ≡ 0) ↔ ((c : List Pair) × IsBestCandidate ranking (machinesOf card) word c × (2 * length c ≤ length answer))
-  -- and then it is answered
+  -- and then it is answered, its pairs and counts as few
+  pub few-answered : r .number ≡ 0 → r .pairs ≤ 3199
+  pub small-answered : r .number ≡ 0 → allOf (λ n. leb n 48000) (r .profile .counts) ≡ true
   pub answered : r .number ≡ 0 → (c : List Pair) × AnswersBest card ranking word answer after r c
   -- otherwise the answer slice keeps its bytes
   pub untouched : r .number ≢ 0 → after ≡ answer
@@ -59,24 +68,28 @@ data Outcome (card ranking word answer : List ℕ) (room : ℕ) : Type 0 where
   no-room : (b : Contender) → best card ranking word ≡ some b → length answer < 2 * length (b .candidate) → optimized card ranking word room (length answer) .number ≡ 12 → optimizedAnswer card ranking word room answer ≡ answer → Outcome card ranking word answer room
   found : (b : Contender) → best card ranking word ≡ some b → 2 * length (b .candidate) ≤ length answer → optimized card ranking word room (length answer) ≡ evaluationOf (some b) word → optimizedAnswer card ranking word room answer ≡ filled (some b) answer → Outcome card ranking word answer room
 
+-- unused counts are 0
+with-zeros : (xs : List ℕ) (b n : ℕ) → allOf (λ k. leb k b) xs ≡ true → allOf (λ k. leb k b) (xs ++ replicate n 0) ≡ true
+unfolding allOf
+with-zeros [] b zero t = refl
+with-zeros [] b (suc n) t = both (le-leb 0 b (omega arith)) (with-zeros [] b n t)
+with-zeros (x ∷ xs) b n t = both (left (leb x b) (allOf (λ k. leb k b) xs) t) (with-zeros xs b n (right (leb x b) (allOf (λ k. leb k b) xs) t))
+
 module _ (card ranking word answer : List ℕ) (room : ℕ) (ok : inputRefusal card ranking word room ≡ 0) where
   accepts : AcceptedInput card ranking word room
   accepts = accepted-input card ranking word room ok
 
   outcome : Outcome card ranking word answer room
   unfolding optimized optimizedAnswer optimizerRefusal
-  outcome = go (best card ranking word) refl (rw (counts-always-fit card ranking word (accepts .accepted) (short-word (symbolCount card) word (accepts .sound))))
+  outcome = go (best card ranking word) refl
     where
-      go : (o : Option Contender) → best card ranking word ≡ o → countsFit (best card ranking word) ≡ true → Outcome card ranking word answer room
-      go none e f = nothing e (rw (ok, e)) (rw (ok, e))
-      go (some b) e f = fits (decLt (length answer) (2 * length (b .candidate)))
+      go : (o : Option Contender) → best card ranking word ≡ o → Outcome card ranking word answer room
+      go none e = nothing e (rw (ok, e)) (rw (ok, e))
+      go (some b) e = fits (decLt (length answer) (2 * length (b .candidate)))
         where
-          few : countsFit (some b) ≡ true
-          few = rw e at f
-
           fits : Dec (length answer < 2 * length (b .candidate)) → Outcome card ranking word answer room
-          fits (yes h) = let k = lt-leb (2 * length (b .candidate)) (length answer) h in no-room b e h (rw (ok, e, few, k)) (rw (ok, e, few, k))
-          fits (no h) = let k = le-leb (2 * length (b .candidate)) (length answer) (omega arith) in found b e (omega arith) (rw (ok, e, few, k)) (rw (ok, e, few, k))
+          fits (yes h) = let k = lt-leb (2 * length (b .candidate)) (length answer) h in no-room b e h (rw (ok, e, k)) (rw (ok, e, k))
+          fits (no h) = let k = le-leb (2 * length (b .candidate)) (length answer) (omega arith) in found b e (omega arith) (rw (ok, e, k)) (rw (ok, e, k))
 
   all : BestOfAll card ranking word
   all = best-is-best-of-all card ranking word (accepts .accepted) (accepts .ranks)
@@ -91,12 +104,18 @@ module _ (card ranking word answer : List ℕ) (room : ℕ) (ok : inputRefusal c
   some-candidate : (b : Contender) → best card ranking word ≡ some b → ((c : List Pair) → ¬ (IsCandidate (machinesOf card) word c)) → ⊥
   some-candidate b e f = f (b .candidate) (all .is-best b e .candidate)
 
-  fitting : countsFit (best card ranking word) ≡ true
-  fitting = counts-always-fit card ranking word (accepts .accepted) (short-word (symbolCount card) word (accepts .sound))
+  best-small : (b : Contender) → best card ranking word ≡ some b → SmallBest b
+  best-small = best-is-small card ranking word (accepts .accepted) (short-word (symbolCount card) word (accepts .sound))
 
-  -- no best candidate has a count over 60,000
-  best-fits : (c : List Pair) → IsBestCandidate ranking (machinesOf card) word c → allOf (λ n. leb n 60000) (profileOf (machinesOf card) c) ≡ true
-  best-fits c k = rw (all .only-it c k) at fitting
+  sound : AllSound (symbolCount card) (machinesOf card)
+  sound = accepted-machines card (accepts .accepted) .sound
+
+  -- a best candidate is the definition's
+  small : (c : List Pair) → IsBestCandidate ranking (machinesOf card) word c → SmallBest (contenderOf (machinesOf card) c)
+  small c k = best-small (contenderOf (machinesOf card) c) (all .only-it c k)
+
+  distinct : (c : List Pair) → IsBestCandidate ranking (machinesOf card) word c → Distinct (nodes (cardGraph card ranking word) (cardStart card) c)
+  distinct c k = best-is-short card ranking word (accepts .accepted) (contenderOf (machinesOf card) c) (all .only-it c k) .no-node-twice
 
   -- of what the definitions give
   demanded : Demand3 card ranking word answer (optimizedAnswer card ranking word room answer) (optimized card ranking word room (length answer))
@@ -107,21 +126,27 @@ module _ (card ranking word answer : List ℕ) (room : ℕ) (ok : inputRefusal c
         numbers = inr (inl n);
         none-exactly = (λ _. all .none-exactly .0 e, λ _. n);
         otherwise-best = λ c h. absurd (all .none-exactly .0 e c h);
-        counts-exactly = (λ h. absurd (omega arith), λ t. absurd (clash (best-fits (t .0) (t .1)) (t .2)));
-        never-counts = λ h. (omega arith);
+        no-node-twice = distinct;
+        few-pairs = λ c k. omega (arith, small c k .pairs);
+        small-counts = λ c k. profile-bound sound c _ (omega (arith, small c k .pairs));
         room-exactly = (λ h. absurd (omega arith), λ t. absurd (no-best e (t .0) (t .1)));
         best-exactly = (λ h. absurd (omega arith), λ t. absurd (no-best e (t .0) (t .1)));
+        few-answered = λ h. absurd (omega arith);
+        small-answered = λ h. absurd (omega arith);
         answered = λ h. absurd (omega arith);
         untouched = λ _. u;
       }
       go (no-room b e l n u) = record {
-        numbers = inr (inr (inr n));
+        numbers = inr (inr n);
         none-exactly = (λ h. absurd (omega arith), λ f. absurd (some-candidate b e f));
         otherwise-best = λ _ _. (b .candidate, all .is-best b e);
-        counts-exactly = (λ h. absurd (omega arith), λ t. absurd (clash (best-fits (t .0) (t .1)) (t .2)));
-        never-counts = λ h. (omega arith);
+        no-node-twice = distinct;
+        few-pairs = λ c k. omega (arith, small c k .pairs);
+        small-counts = λ c k. profile-bound sound c _ (omega (arith, small c k .pairs));
         room-exactly = (λ _. (b .candidate, all .is-best b e, l), λ _. n);
         best-exactly = (λ h. absurd (omega arith), λ t. absurd (omega (arith, same-pairs b e (t .0) (t .1), t .2)));
+        few-answered = λ h. absurd (omega arith);
+        small-answered = λ h. absurd (omega arith);
         answered = λ h. absurd (omega arith);
         untouched = λ _. u;
       }
@@ -131,10 +156,13 @@ module _ (card ranking word answer : List ℕ) (room : ℕ) (ok : inputRefusal c
             numbers = inl n;
             none-exactly = (λ h. absurd (omega arith), λ f. absurd (some-candidate b e f));
             otherwise-best = λ _ _. (b .candidate, all .is-best b e);
-            counts-exactly = (λ h. absurd (omega arith), λ t. absurd (clash (best-fits (t .0) (t .1)) (t .2)));
-            never-counts = λ h. (omega arith);
+            no-node-twice = distinct;
+            few-pairs = λ c k. omega (arith, small c k .pairs);
+            small-counts = λ c k. profile-bound sound c _ (omega (arith, small c k .pairs));
             room-exactly = (λ h. absurd (omega arith), λ t. absurd (omega (arith, same-pairs b e (t .0) (t .1), t .2)));
             best-exactly = (λ _. (b .candidate, all .is-best b e, l), λ _. n);
+            few-answered = λ _. omega (arith, ap (λ (v : Evaluation). v .pairs) q, best-small b e .pairs);
+            small-answered = λ _. ap (λ (v : Evaluation). allOf (λ n. leb n 48000) (v .profile .counts)) q ∙ with-zeros (b .profile) 48000 (6 - length (b .profile)) (best-small b e .counts);
             answered = λ _. (
               b .candidate,
               record {

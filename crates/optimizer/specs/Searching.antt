@@ -1,6 +1,6 @@
 -- The search, for input that passed the checks 1 to 9.
 use mathlib.Core.Path.{_≡_}
-use mathlib.Core.Bool.{Bool, true, _&&_}
+use mathlib.Core.Bool.{true}
 use mathlib.Core.List.{List, [], _∷_}
 use mathlib.Core.Option.{Option, some, none}
 use Prim.Native.Nat.{ℕ, _+_, _*_, _≤_}
@@ -15,7 +15,7 @@ use Rattle.candidate.specs.declared.Evaluation.{Evaluation}
 use Rattle.candidate.specs.Candidates.{isSome}
 use Rattle.candidate.specs.Evaluating.{profileWith, refused}
 use Rattle.product.specs.Best.{Contender}
-use Rattle.product.specs.Optimizing.{soundWord, countsFit, answerFits, evaluationOf, filled}
+use Rattle.product.specs.Optimizing.{soundWord, answerFits, evaluationOf, filled}
 use Rattle.paths.specs.Ranked.{Ranked, letterCount}
 use Rattle.paths.specs.ByRanking.{ranked}
 use Rattle.product.specs.Nodes.{product, stateCounts}
@@ -23,9 +23,9 @@ use Rattle.product.specs.Setting.{Setting}
 use Rattle.product.specs.Laws.BestOfSets.{are64Bits}
 use Rattle.tables.specs.Places.{sixPlaces}
 
--- the checks 10 to 12
+-- the checks 10 and 12
 abbrev pub searchRefusal : Option Contender → ℕ → ℕ
-searchRefusal b room = firstOf (refuse 10 (isSome b) ∷ refuse 11 (countsFit b) ∷ refuse 12 (answerFits b room) ∷ [])
+searchRefusal b room = firstOf (refuse 10 (isSome b) ∷ refuse 12 (answerFits b room) ∷ [])
 
 -- accepted sets, all of them 64-bit numbers, with just the room for the nodes in the work slice
 pub record SetsPre (card ranking sets work : List ℕ) (size : ℕ) : Type 0 where
@@ -48,14 +48,10 @@ pub record Searched (b : Option Contender) (word work workAfter answer answerAft
   pub answer-slice : answerAfter ≡ unlessRefused (searchRefusal b (length answer)) (filled b answer) (λ n. answer)
   pub work-length : length workAfter ≡ length work
 
--- no count of a cost is over 60,000
-abbrev pub costFits : Ranked 6 → Bool
-costFits c = leb (c .0) 60000 && (leb (c .1 .0) 60000 && (leb (c .1 .1 .0) 60000 && (leb (c .1 .1 .1 .0) 60000 && (leb (c .1 .1 .1 .1 .0) 60000 && leb (c .1 .1 .1 .1 .1 .0) 60000))))
-
--- the checks 10 to 12 by the label of the start, which is what the best candidate costs
+-- the checks 10 and 12 by the label of the start, which is what the best candidate costs
 abbrev pub labelRefusal : Option (Ranked 6) → ℕ → ℕ
 labelRefusal none room = 10
-labelRefusal (some c) room = firstOf (refuse 11 (costFits c) ∷ refuse 12 (leb (2 * letterCount 6 c) room) ∷ [])
+labelRefusal (some c) room = refuse 12 (leb (2 * letterCount 6 c) room)
 
 -- a ranking of at most six machines
 pub record RankingOfSome (ranking : List ℕ) : Type 0 where

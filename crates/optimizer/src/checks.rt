@@ -1,13 +1,12 @@
-// The checks of the best candidate after the search, 10 to 12.
+// The checks of the best candidate after the search, 10 and 12.
 ghost use mathlib.Core.Path.{_≡_};
 ghost use Prim.Native.Nat.{_*_};
 ghost use lib.Dec.{leb};
 ghost use Rattle.basics.specs.Refusals.{refuse};
 ghost use Rattle.candidate.specs.Candidates.{isSome};
-ghost use Rattle.labels.specs.LabelCost.{costOf};
 ghost use Rattle.labels.specs.Work.{HasNode, labelOf};
 ghost use Rattle.optimizer.specs.Refusals.{stageNumber};
-ghost use Rattle.optimizer.specs.Searching.{costFits, labelRefusal};
+ghost use Rattle.optimizer.specs.Searching.{labelRefusal};
 use crate::Refusal;
 use crate::Stage;
 use labels::Label;
@@ -23,26 +22,6 @@ fn check_found(work: &[u16], start: usize) -> Stage
     Stage::Passed
 }
 
-// Whether no count is over 60,000.
-fn counts_fit(label: Label) -> bool
-    ensures { λ r. ⌜ r ≡ costFits (costOf label) ⌝ }
-{
-    (label.first <= 60000)
-        & ((label.second <= 60000)
-            & ((label.third <= 60000)
-                & ((label.fourth <= 60000) & ((label.fifth <= 60000) & (label.sixth <= 60000)))))
-}
-
-// Refusal 11, by the label of the start node.
-fn check_counts(label: Label) -> Stage
-    ensures { λ r. ⌜ stageNumber r ≡ refuse 11 (costFits (costOf label)) ⌝ }
-{
-    if !counts_fit(label) {
-        return Stage::Refused(Refusal::Counts);
-    }
-    Stage::Passed
-}
-
 // Refusal 12, by the label of the start node: whether an answer slice of `room` bytes has two for each pair.
 fn check_answer(label: Label, room: usize) -> Stage
     ensures { λ r. ⌜ stageNumber r ≡ refuse 12 (leb (2 * label .pairs) room) ⌝ }
@@ -53,7 +32,7 @@ fn check_answer(label: Label, room: usize) -> Stage
     Stage::Passed
 }
 
-// The first of refusals 10 to 12 that the search meets, by the label of the start node, for an answer slice of `room` bytes.
+// The first of refusals 10 and 12 that the search meets, by the label of the start node, for an answer slice of `room` bytes.
 pub fn check_best(work: &[u16], start: usize, room: usize) -> Stage
     requires { ⌜ HasNode (now work) start ⌝ }
     ensures { λ r. ⌜ stageNumber r ≡ labelRefusal (labelOf (now (work .entry)) start) room ⌝ }
@@ -63,9 +42,5 @@ pub fn check_best(work: &[u16], start: usize, room: usize) -> Stage
         return answer;
     };
     let label = labels::load(work, start);
-    let answer = check_counts(label);
-    let Stage::Passed = answer else {
-        return answer;
-    };
     check_answer(label, room)
 }

@@ -30,8 +30,6 @@ mod checks; // checks.rt: the checks of the best candidate
 pub enum Refusal {
     // No candidate is complete.
     NoCandidate,
-    // The best profile has a count over 60,000.
-    Counts,
     // The answer slice is too short.
     Answer,
 }
@@ -43,7 +41,6 @@ impl Refusal {
     {
         match self {
             Refusal::NoCandidate => 10,
-            Refusal::Counts => 11,
             Refusal::Answer => 12,
         }
     }
@@ -100,7 +97,7 @@ fn start_node(card: &[u8]) -> usize
     tables::start_node(&counts[..machines])
 }
 
-// Reads the answer off the labels of all nodes, and writes the best candidate if there is one and it has room: 10 to 12.
+// Reads the answer off the labels of all nodes, and writes the best candidate if there is one and it has room: 10, 12.
 pub fn read_out(
     card: &[u8],
     ranking: &[u8],
@@ -205,7 +202,7 @@ pub fn best_profile(card: &[u8], ranking: &[u8], word: &[u8], work: &mut [u16]) 
     label_best(card, ranking, word, size, &mut work[..nodes * 8])
 }
 
-// Answers the best candidate for a word under a ranking: 1 to 12.
+// Answers the best candidate for a word under a ranking: 1 to 10, 12.
 pub fn optimize(
     card: &[u8],
     ranking: &[u8],

@@ -19,7 +19,6 @@ use Rattle.candidate.specs.Candidates.{profileOf, IsCandidate}
 use Rattle.product.specs.Sets.{singletons}
 use Rattle.product.specs.Best.{Contender, contenderOf, ProfileOrder, bestIn, best}
 use Rattle.product.specs.Nodes.{nodeCount}
-use Rattle.product.specs.Optimizing.{countsFit}
 use Rattle.paths.specs.Total.{lex-total, same?, asym}
 use Rattle.paths.specs.Costs.{Costs}
 use Rattle.paths.specs.Pigeonhole.{Distinct}
@@ -34,7 +33,7 @@ use Rattle.product.specs.Laws.CardGraph.{start-within, word-within}
 use Rattle.product.specs.Laws.Preference.{keyOf, beats-earlier}
 use Rattle.product.specs.Laws.Best.{candidateOf, best-answers, best-contender, is-the-best, there-is-none}
 use Rattle.product.specs.Laws.BestCandidate.{best-harmonic, harmonic-best, path-best-in, best-in-path}
-use Rattle.product.specs.Laws.Counts.{profile-bound, all-below}
+use Rattle.product.specs.Laws.Counts.{profile-bound}
 
 -- ---- in an order on profiles, with a price that agrees with it
 
@@ -165,11 +164,3 @@ best-is-short card r word ok b e = best-in-is-short (ranking-agrees r) card word
 pub best-is-small : (card ranking word : List ℕ) → cardRefusal card ≡ 0 → length word ≤ 24 → (b : Contender) → best card ranking word ≡ some b → SmallBest b
 unfolding best
 best-is-small card r word ok h b e = best-in-is-small (ranking-agrees r) card word ok h b e
-
--- so no count of it is over 60,000
-pub counts-always-fit : (card ranking word : List ℕ) → cardRefusal card ≡ 0 → length word ≤ 24 → countsFit (best card ranking word) ≡ true
-counts-always-fit card r word ok h = go (best card r word) refl
-  where
-    go : (o : Option Contender) → best card r word ≡ o → countsFit o ≡ true
-    go none e = refl
-    go (some b) e = all-below (b .profile) 48000 60000 (omega arith) (best-is-small card r word ok h b e .counts)

@@ -30,23 +30,17 @@ inputRefusal card ranking word room =
     ∷ refuse 9 (leb (8 * nodeCount (machinesOf card) (length word)) room)
     ∷ [])
 
--- no count over 60,000
-abbrev pub countsFit : Option Contender → Bool
-countsFit none = true
-countsFit (some b) = allOf (λ n. leb n 60000) (b .profile)
-
 -- the best does not outgrow an answer slice of so many bytes
 abbrev pub answerFits : Option Contender → ℕ → Bool
 answerFits none room = true
 answerFits (some b) room = leb (2 * length (b .candidate)) room
 
--- 1 to 12 in their order
+-- 1 to 10 and 12 in their order
 unfoldable pub optimizerRefusal : List ℕ → List ℕ → List ℕ → ℕ → ℕ → ℕ
 optimizerRefusal card ranking word workRoom answerRoom =
     firstOf
     (inputRefusal card ranking word workRoom
     ∷ refuse 10 (isSome (best card ranking word))
-    ∷ refuse 11 (countsFit (best card ranking word))
     ∷ refuse 12 (answerFits (best card ranking word) answerRoom)
     ∷ [])
 

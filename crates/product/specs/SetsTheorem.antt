@@ -7,7 +7,6 @@ use mathlib.Core.Bool.{true}
 use mathlib.Core.List.{List}
 use mathlib.Core.Option.{Option, some, none, Option·none-ne-some}
 use Prim.Native.Nat.{ℕ, _≤_}
-use native.Mathlib.Omega.{arith}
 use lib.ListN.{length}
 use lib.Dec.{ltb}
 use Rattle.basics.specs.Search.{allOf}
@@ -19,7 +18,6 @@ use Rattle.card.specs.Card.{machinesOf, cardRefusal}
 use Rattle.candidate.specs.Candidates.{profileOf, IsCandidate}
 use Rattle.product.specs.Best.{Contender, contenderOf, ProfileOrder, bestIn, best}
 use Rattle.product.specs.Sets.{singletons, IsCandidateOf, bestOfSetsIn, bestOfSets}
-use Rattle.product.specs.Optimizing.{countsFit}
 use Rattle.paths.specs.Total.{Upto}
 use Rattle.paths.specs.Costs.{Costs}
 use Rattle.paths.specs.Graph.{pathCost}
@@ -34,7 +32,6 @@ use Rattle.product.specs.Laws.Accepted.{accepted-machines}
 use Rattle.product.specs.Laws.Best.{best-contender}
 use Rattle.product.specs.Laws.BestCandidate.{sets-harmonic, harmonic-sets, path-best-of-sets, best-of-sets-path}
 use Rattle.product.specs.Laws.BestOfSets.{are64Bits, singletons-64, fits-length, BestForOne, best-for-one, BestUpto, best-upto}
-use Rattle.product.specs.Laws.Counts.{all-below}
 
 -- ---- in an order on profiles, with a price that agrees with it
 
@@ -42,7 +39,7 @@ module _ {costs : Costs} {price : Price costs} {better : ProfileOrder} (agrees :
   pub best-of-sets-contender : (b : Contender) → bestOfSetsIn better card sets ≡ some b → b ≡ contenderOf (machinesOf card) (b .candidate)
   best-of-sets-contender b e = let o = best-for-one better card sets b e in best-contender agrees card (o .word) ok b (o .is-best)
 
-  -- of at most 24 sets it has at most 3,199 pairs and no count above 47,985
+  -- of at most 24 sets it has at most 3,199 pairs and no count above 48,000
   pub best-of-sets-is-small : length sets ≤ 24 → (b : Contender) → bestOfSetsIn better card sets ≡ some b → SmallBest b
   best-of-sets-is-small h b e =
       let o = best-for-one better card sets b e in
@@ -156,15 +153,6 @@ best-is-best-of-all-words card r sets ok is bits =
       its-profile = all .its-profile;
       only-it = λ c a. all .only-it c (sets-harmonic r (machinesOf card) sets c a);
     }
-
--- so no count of it is over 60,000
-pub counts-of-sets-fit : (card ranking sets : List ℕ) → cardRefusal card ≡ 0 → length sets ≤ 24 → countsFit (bestOfSets card ranking sets) ≡ true
-unfolding bestOfSets
-counts-of-sets-fit card r sets ok h = go (bestOfSets card r sets) refl
-  where
-    go : (o : Option Contender) → bestOfSets card r sets ≡ o → countsFit o ≡ true
-    go none e = refl
-    go (some b) e = all-below (b .profile) 48000 60000 (omega arith) (best-of-sets-is-small (ranking-agrees r) card sets ok h b e .counts)
 
 pub best-of-one-word : (card ranking word : List ℕ) → cardRefusal card ≡ 0 → allOf (λ x. ltb x 64) word ≡ true → bestOfSets card ranking (singletons word) ≡ best card ranking word
 unfolding bestOfSets best

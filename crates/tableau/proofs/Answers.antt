@@ -1,6 +1,6 @@
 -- What the call answers, by the checks that input and tableau pass and by the best candidate. Assumes nothing.
-use mathlib.Core.Path.{_≡_, refl, sym, ap, _∙_}
-use mathlib.Core.Bool.{Bool, true, false}
+use mathlib.Core.Path.{_≡_, sym, ap, _∙_}
+use mathlib.Core.Bool.{true}
 use mathlib.Core.List.{List, [], _∷_}
 use mathlib.Core.Option.{Option, some, none, Option·none-ne-some}
 use Prim.Native.Nat.{ℕ, zero, suc, _<_}
@@ -9,13 +9,11 @@ use lib.Dec.{lit<}
 use Rattle.basics.specs.Refusals.{refuse, firstOf}
 use Rattle.basics.proofs.Refusals.{passed, none-first, accepted}
 use Rattle.ranking.specs.declared.Profile.{Profile}
-use Rattle.card.specs.Layout.{machineCount, symbolCount}
+use Rattle.card.specs.Layout.{machineCount}
 use Rattle.candidate.specs.Candidates.{isSome}
 use Rattle.candidate.specs.Evaluating.{profileWith}
 use Rattle.product.specs.Best.{Contender, best}
-use Rattle.product.specs.Optimizing.{inputRefusal, countsFit}
-use Rattle.product.specs.BestTheorem.{counts-always-fit}
-use Rattle.input.specs.AcceptedInput.{accepted-input, short-word}
+use Rattle.product.specs.Optimizing.{inputRefusal}
 use Rattle.optimizer.specs.Telling.{profileTold}
 use Rattle.tableau.specs.declared.Refusal.{Refusal}
 use Rattle.tableau.specs.declared.Refusal.the-variants as refusals
@@ -62,19 +60,9 @@ module _ (card ranking word : List ℕ) (room : ℕ) (tableau : List ℕ) where
   input-refused (suc n) e h = rw (← e)
 
   module _ (ok : inputRefusal card ranking word room ≡ 0) where
-    fits : countsFit (best card ranking word) ≡ true
-    fits = let a = accepted-input card ranking word room ok in counts-always-fit card ranking word (a .accepted) (short-word (symbolCount card) word (a .sound))
-
-    -- 11 is never met
     its-refusal : judgingRefusal card ranking word room tableau ≡ tableauRefusal card word tableau
     unfolding judgingRefusal
-    its-refusal = rw (ok, fits) (go (soundTableau (machineCount card) tableau) (everyRow (isForWord card word) tableau) (everyRow (countsAreProfile card) tableau))
-      where
-        go : (a b c : Bool) → firstOf (refuse 19 a ∷ refuse 20 b ∷ refuse 21 c ∷ 0 ∷ []) ≡ firstOf (refuse 19 a ∷ refuse 20 b ∷ refuse 21 c ∷ [])
-        go false b c = refl
-        go true false c = refl
-        go true true false = refl
-        go true true true = refl
+    its-refusal = rw ok
 
     pub tableau-refused : (n : ℕ) → n ≡ tableauRefusal card word tableau → 0 < n → refusedJudging n ≡ judging card ranking word room tableau
     unfolding judging

@@ -12,7 +12,7 @@ use Rattle.card.specs.Card.{machinesOf}
 use Rattle.candidate.specs.Candidates.{pairsOf, spelled, isComplete, profileOf}
 use Rattle.candidate.specs.Evaluating.{soundCandidate, profileWith}
 use Rattle.product.specs.Best.{Contender, sameWord, best}
-use Rattle.product.specs.Optimizing.{inputRefusal, countsFit}
+use Rattle.product.specs.Optimizing.{inputRefusal}
 use Rattle.tableau.specs.declared.Judged.{Judged}
 use Rattle.tableau.specs.declared.Verdict.{Verdict}
 use Rattle.tableau.specs.declared.Verdict.the-variants.{Right, AnotherRow, NotInTable}
@@ -55,14 +55,14 @@ rightOr false v = v
 unfoldable pub verdictOf : (List ℕ → Bool) → List ℕ → Verdict
 verdictOf wins tableau = rightOr (wins (rowOf tableau (claimedRow tableau))) (otherwise (firstRow wins tableau))
 
--- 1 to 9 as the optimizer's; then 19, 20, 21, each for all rows before the next; then 11
+-- 1 to 9 as the optimizer's; then 19, 20, 21, each for all rows before the next
 unfoldable pub judgingRefusal : List ℕ → List ℕ → List ℕ → ℕ → List ℕ → ℕ
 judgingRefusal card ranking word room tableau =
     firstOf
     (inputRefusal card ranking word room
     ∷ refuse 19 (soundTableau (machineCount card) tableau)
-    ∷ refuse 20 (everyRow (isForWord card word) tableau) ∷ refuse 21 (everyRow (countsAreProfile card) tableau)
-    ∷ refuse 11 (countsFit (best card ranking word))
+    ∷ refuse 20 (everyRow (isForWord card word) tableau)
+    ∷ refuse 21 (everyRow (countsAreProfile card) tableau)
     ∷ [])
 
 -- the answer in numbers: 1 right, 2 another row, with the row that wins, 3 not in the table

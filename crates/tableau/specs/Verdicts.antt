@@ -11,13 +11,13 @@ use Rattle.basics.specs.Refusals.{refuse, firstOf, unlessRefused}
 use Rattle.basics.proofs.Bools.{clash}
 use Rattle.basics.proofs.Refusals.{accepted}
 use Rattle.basics.proofs.Below.{every-at}
-use Rattle.card.specs.Layout.{machineCount, symbolCount}
+use Rattle.card.specs.Layout.{machineCount}
 use Rattle.card.specs.Card.{machinesOf}
 use Rattle.candidate.specs.Candidates.{pairsOf, IsCandidate}
 use Rattle.product.specs.Best.{Contender, best}
-use Rattle.product.specs.Optimizing.{inputRefusal, countsFit}
-use Rattle.product.specs.BestTheorem.{best-is-best-of-all, counts-always-fit}
-use Rattle.input.specs.AcceptedInput.{AcceptedInput, accepted-input, short-word}
+use Rattle.product.specs.Optimizing.{inputRefusal}
+use Rattle.product.specs.BestTheorem.{best-is-best-of-all}
+use Rattle.input.specs.AcceptedInput.{AcceptedInput, accepted-input}
 use Rattle.tableau.specs.declared.Judged.{Judged}
 use Rattle.tableau.specs.declared.Verdict.{Verdict}
 use Rattle.tableau.specs.declared.Verdict.the-variants.{Right, AnotherRow, NotInTable}
@@ -159,15 +159,12 @@ module _ {card ranking word work workAfter tableau : List ℕ} {r : Judged} (cal
   unfolding judgingRefusal
   refused-by ok = subst (λ (j : Judged). (j .number ≡ 0) ⊎ ((j .number ≡ 19) ⊎ ((j .number ≡ 20) ⊎ (j .number ≡ 21)))) (sym (call .result)) (rw number-is (go (soundTableau (machineCount card) tableau) (everyRow (isForWord card word) tableau) (everyRow (countsAreProfile card) tableau)))
     where
-      fits : countsFit (best card ranking word) ≡ true
-      fits = let a = accepted-input card ranking word (length work) ok in counts-always-fit card ranking word (a .accepted) (short-word (symbolCount card) word (a .sound))
-
-      go : (a b c : Bool) → let n = firstOf (inputRefusal card ranking word (length work) ∷ refuse 19 a ∷ refuse 20 b ∷ refuse 21 c ∷ refuse 11 (countsFit (best card ranking word)) ∷ []) in
+      go : (a b c : Bool) → let n = firstOf (inputRefusal card ranking word (length work) ∷ refuse 19 a ∷ refuse 20 b ∷ refuse 21 c ∷ []) in
           (n ≡ 0) ⊎ ((n ≡ 19) ⊎ ((n ≡ 20) ⊎ (n ≡ 21)))
       go false b c = inr (inl (rw ok))
       go true false c = inr (inr (inl (rw ok)))
       go true true false = inr (inr (inr (rw ok)))
-      go true true true = inl (rw (ok, fits))
+      go true true true = inl (rw ok)
 
 -- a row that passes 20 leaves no case for 10: its candidate is a complete one for the word
 pub no-case-for-10 : (card ranking word : List ℕ) (room : ℕ) (tableau : List ℕ) → inputRefusal card ranking word room ≡ 0 → soundTableau (machineCount card) tableau ≡ true → everyRow (isForWord card word) tableau ≡ true

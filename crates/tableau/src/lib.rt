@@ -328,8 +328,8 @@ fn check_tableau(card: &[u8], word: &[u8], tableau: &[u8]) -> Stage
     check_profiles(card, tableau)
 }
 
-// Judges a tableau for a card, a ranking and a word: 1 to 9, 19, 20, 21. No best profile has a count over 60,000, so 11 is never met;
-// each row's candidate is one for the word, so there is a best.
+// Judges a tableau for a card, a ranking and a word: 1 to 9, 19, 20, 21. Each row's candidate is one for the word, so
+// there is a best.
 pub fn judge(card: &[u8], ranking: &[u8], word: &[u8], work: &mut [u16], tableau: &[u8]) -> Judged
     ensures { λ r. ⌜ Judges (now (card .entry)) (now (ranking .entry)) (now (word .entry)) (now (work .entry)) (now (work .exit)) (now (tableau .entry)) r ⌝ }
 {

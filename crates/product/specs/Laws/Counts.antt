@@ -7,9 +7,9 @@ use Prim.Native.Nat.{ℕ, suc, _+_, _*_, _≤_}
 use native.Mathlib.Omega.{arith}
 use lib.ListN.{length}
 use lib.Dec.{leb}
-use borrow.Author.Tests.{le-leb, leb-true}
+use borrow.Author.Tests.{le-leb}
 use Rattle.basics.specs.Search.{allOf}
-use Rattle.basics.proofs.Bools.{both, left, right}
+use Rattle.basics.proofs.Bools.{both}
 use Rattle.machine.specs.declared.Pair.{Pair}
 use Rattle.machine.specs.Machine.{Machine, startState, stepOf, endingOf}
 use Rattle.candidate.specs.Candidates.{addMarks, marksFrom, marksOf, countOf, profileOf}
@@ -39,11 +39,3 @@ profile-bound (all-next {m} {ms} a k) c b h = both (le-leb (countOf (marksOf c m
     go : (o : Option ℕ) → marksOf c m ≡ o → countOf o ≤ b
     go none e = omega arith
     go (some n) e = omega (arith, marks-bound a startState c n e)
-
--- a looser bound
-pub all-below : (xs : List ℕ) (a b : ℕ) → a ≤ b → allOf (λ n. leb n a) xs ≡ true → allOf (λ n. leb n b) xs ≡ true
-unfolding allOf
-all-below [] a b h t = refl
-all-below (x ∷ xs) a b h t =
-    let k = leb-true x a (left (leb x a) (allOf (λ n. leb n a) xs) t) in
-    both (le-leb x b (omega arith)) (all-below xs a b h (right (leb x a) (allOf (λ n. leb n a) xs) t))

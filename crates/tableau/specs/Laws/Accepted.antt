@@ -25,7 +25,7 @@ use Rattle.card.specs.Accepted.{accepted}
 use Rattle.candidate.specs.Candidates.{pairsOf, spelled, isComplete, profileOf, IsCandidate}
 use Rattle.candidate.specs.Evaluating.{soundPair, soundCandidate}
 use Rattle.product.specs.Best.{Contender, sameWord, best}
-use Rattle.product.specs.Optimizing.{inputRefusal, countsFit}
+use Rattle.product.specs.Optimizing.{inputRefusal}
 use Rattle.product.specs.BestTheorem.{BestOfAll, best-is-best-of-all}
 use Rattle.product.specs.Laws.Accepted.{accepted-machines}
 use Rattle.product.specs.Laws.BestCandidate.{profile-length}
@@ -121,11 +121,10 @@ accepted-tableau card ranking word room tableau z =
     let a = soundTableau (machineCount card) tableau in
     let b = everyRow (isForWord card word) tableau in
     let c = everyRow (countsAreProfile card) tableau in
-    let d = countsFit (best card ranking word) in
-    let i = none-first (inputRefusal card ranking word room) (refuse 19 a ∷ refuse 20 b ∷ refuse 21 c ∷ refuse 11 d ∷ []) z in
-    let j = none-first (refuse 19 a) (refuse 20 b ∷ refuse 21 c ∷ refuse 11 d ∷ []) (i .1) in
-    let k = none-first (refuse 20 b) (refuse 21 c ∷ refuse 11 d ∷ []) (j .1) in
-    let l = none-first (refuse 21 c) (refuse 11 d ∷ []) (k .1) in
+    let i = none-first (inputRefusal card ranking word room) (refuse 19 a ∷ refuse 20 b ∷ refuse 21 c ∷ []) z in
+    let j = none-first (refuse 19 a) (refuse 20 b ∷ refuse 21 c ∷ []) (i .1) in
+    let k = none-first (refuse 20 b) (refuse 21 c ∷ []) (j .1) in
+    let l = none-first (refuse 21 c) [] (k .1) in
     record {
       input = accepted-input card ranking word room (i .0);
       sound = tableau-told (machineCount card) tableau (passed 19 a (lit< tt) (j .0));

@@ -1,15 +1,10 @@
-use mathlib.Core.Path.{_≡_, refl, sym, ap, _∙_}
-use mathlib.Core.List.{[], _∷_}
+use mathlib.Core.Path.{_≡_, sym, ap, _∙_}
 use mathlib.Core.Option.{Option, some}
-use Prim.Native.Nat.{_*_}
-use lib.Dec.{leb}
-use Rattle.basics.specs.Refusals.{refuse}
-use Rattle.basics.proofs.Refusals.{goes-up, goes-on, last-one}
 use Rattle.paths.specs.Ranked.{Ranked}
 use Rattle.labels.specs.LabelCost.{costOf}
 use Rattle.labels.specs.Work.{labelOf}
 use Rattle.optimizer.specs.Refusals.{stageNumber}
-use Rattle.optimizer.specs.Searching.{costFits, labelRefusal}
+use Rattle.optimizer.specs.Searching.{labelRefusal}
 use Rattle.optimizer.proofs.Refusals.{number-positive}
 use Rattle.optimizer.proofs.Labels.{not-there, is-there, above-zero}
 use borrow.Author.Needs.{needs}
@@ -30,21 +25,9 @@ loaded c =
 
 returns-2 : tie.Need-returns-2
 returns-2 c =
-    let k = c .before .before in
-    let l = k .before in
+    let l = c .before in
     let s = l .before .before .before .before .before in
-    goes-up stageNumber (c .enum-told4 .given .1) (refuse 11 (costFits (costOf (l .load .result)))) (refuse 12 (leb (2 * l .load .result .pairs) (s .args .room)) ∷ []) (k .check-counts .ensures) (number-positive (c .enum-told4 .given .0 .0))
-    ∙ sym (ap (λ (o : Option (Ranked 6)). labelRefusal o (s .args .room)) (loaded l))
-
-returns-3 : tie.Need-returns-3
-returns-3 c =
-    let k = c .before .before .before in
-    let l = k .before in
-    let s = l .before .before .before .before .before in
-    let n = refuse 12 (leb (2 * l .load .result .pairs) (s .args .room)) in
-    c .check-answer .ensures ∙ sym (last-one n)
-    ∙ sym (goes-on stageNumber (c .before .enum-told3 .given .1) (refuse 11 (costFits (costOf (l .load .result)))) (n ∷ []) (k .check-counts .ensures) refl)
-    ∙ sym (ap (λ (o : Option (Ranked 6)). labelRefusal o (s .args .room)) (loaded l))
+    c .check-answer .ensures ∙ sym (ap (λ (o : Option (Ranked 6)). labelRefusal o (s .args .room)) (loaded l))
 
 pub check-best-spec : {M : Type 1} → statement M
 check-best-spec =
@@ -56,8 +39,4 @@ check-best-spec =
     returns
     (λ c κs. search needs)
     (λ c κs. search needs)
-    (λ c. search needs)
-    (λ c. search needs)
-    returns-2
-    (λ c κs. search needs)
-    returns-3)
+    returns-2)
