@@ -31,6 +31,8 @@ static const uint16_t counts[2][6] = {{1, 2, 3, 4, 5, 6}, {6, 5, 4, 3, 2, 1}};
 static uint8_t conditions[128];
 static uint8_t bytes[6];
 static uint8_t tableau[18 + PASTASPUR_ANSWER_BYTES];
+static pastaspur_row live[32];
+static const uint16_t added[7] = {65535, 1, 2, 3, 4, 5, 6};
 
 static void call_nothing(void) { number = 0; }
 
@@ -83,12 +85,33 @@ static void call_find_ranking(void) {
   number = pastaspur_find_ranking(asked.card.start[0], conditions, sizeof conditions, bytes);
 }
 
+// A live tableau of 31 rows: one more is added, the first taken out, the leader asked for.
+static void fill_rows(void) {
+  for (uint16_t i = 0; i < 32; i++) live[i] = (pastaspur_row){i, {i, i, i, i, i, i}};
+}
+
+static void call_add_row(void) {
+  fill_rows();
+  number = pastaspur_add_row(asked.card.start[0], asked.ranking.start, asked.ranking.length, 31, live, 32, added, places);
+}
+
+static void call_remove_row(void) {
+  fill_rows();
+  number = pastaspur_remove_row(asked.card.start[0], asked.ranking.start, asked.ranking.length, 31, live, 32, 0, places);
+}
+
+static void call_leader(void) {
+  fill_rows();
+  number = pastaspur_leader(asked.card.start[0], asked.ranking.start, asked.ranking.length, 31, live, 32, result);
+}
+
 static const struct {
   const char *name;
   void (*call)(void);
 } calls[] = {{"optimize", call_optimize},   {"cull", call_cull},           {"evaluate", call_evaluate},
              {"judge", call_judge},         {"read_part", call_read_part}, {"pack", call_pack},
-             {"compare", call_compare},     {"condition", call_condition}, {"find_ranking", call_find_ranking}};
+             {"compare", call_compare},     {"condition", call_condition}, {"find_ranking", call_find_ranking},
+             {"add_row", call_add_row},     {"remove_row", call_remove_row}, {"leader", call_leader}};
 enum { CALLS = sizeof calls / sizeof *calls, ENGINES = 2 };
 
 // The bytes of a painted stack from its top down to the deepest one that is changed.

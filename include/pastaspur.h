@@ -9,12 +9,12 @@
  *
  * A slice is a pointer and a length in elements (not in bytes), and may be empty. The caller owes what a reference of Rattle owes:
  * a pointer is not null, is aligned for its elements and leads to as many as the length says; it is not null for an empty slice
- * either. What a call may write (work, answer, target, result) overlaps nothing else that the call is lent.
+ * either. What a call may write (work, answer, target, rows, result) overlaps nothing else that the call is lent.
  *
  * Stack: no call recurses, and none takes memory but its stack and what it is lent. The bytes of stack that a call takes, the
  * most over the rows of the benchmark, measured on x86-64 (bench/stack.c): pastaspur_cull 140,440, pastaspur_judge 107,272,
- * pastaspur_optimize 107,208, pastaspur_evaluate 744, pastaspur_pack 728, pastaspur_read_part 712, each of the others under
- * 64. No proof speaks of the stack.
+ * pastaspur_optimize 107,208, pastaspur_evaluate 744, pastaspur_pack 728, pastaspur_read_part 712, pastaspur_leader 120,
+ * pastaspur_add_row 64, each of the others under 64. No proof speaks of the stack.
  *
  * Refusals (11 is not used)
  *    1  card under 2 bytes; machine count K not 1 to 6, symbol count S not 1 to 63
@@ -38,6 +38,8 @@
  *       not 0; claimed row not below R
  *   20  a row's candidate meets 13 or 14, or spells another word
  *   21  a row's counts are not its profile
+ *   23  a live tableau's row count above 32 or above the list's length; on an add, one that equals either
+ *   24  an added id that is present, or a removed one that is not
  */
 #ifndef PASTASPUR_H
 #define PASTASPUR_H
@@ -102,6 +104,33 @@ uint32_t pastaspur_pack(uint8_t symbols, const uint16_t *lengths, size_t lengths
 #define PASTASPUR_BETTER 1
 #define PASTASPUR_EQUAL 2
 #define PASTASPUR_WORSE 3
+
+/* A row of a live tableau: its id, and its six counts in card order. */
+typedef struct {
+    uint16_t id;
+    uint16_t counts[6];
+} pastaspur_row;
+
+/* The rows of a live tableau are the first `count` records of a list, in order of arrival; a table starts with count 0. Each call
+ * takes the machine count, the ranking, the row count that the last accepted add or removal answered, and the list. Counts of a
+ * profile from K on are kept and answered, and not looked at in comparing; records from `count` on are not looked at. */
+
+/* Adds a row, an id and six counts, behind the others: refusals 1, 7, 23, 24.
+ * result: the new row count.
+ * rows: record `count` is the row; the others, and on a refusal all of them, keep their values. */
+uint32_t pastaspur_add_row(uint8_t machines, const uint8_t *ranking, size_t ranking_len, size_t count, pastaspur_row *rows,
+                           size_t rows_len, const uint16_t row[7], size_t result[1]);
+
+/* Takes out the first row that has the id: refusals 1, 7, 23, 24.
+ * result: the new row count.
+ * rows: the later rows have moved up, and the freed last record is zeros; the others, and on a refusal all, keep their values. */
+uint32_t pastaspur_remove_row(uint8_t machines, const uint8_t *ranking, size_t ranking_len, size_t count, pastaspur_row *rows,
+                              size_t rows_len, uint16_t id, size_t result[1]);
+
+/* Answers the row with the best profile under the ranking, the earliest arrival among equals: refusals 1, 7, 23.
+ * result: 1 if there is a leader, its id, its six counts; zeros in an empty table. */
+uint32_t pastaspur_leader(uint8_t machines, const uint8_t *ranking, size_t ranking_len, size_t count, const pastaspur_row *rows,
+                          size_t rows_len, uint16_t result[8]);
 
 /* Compares two profiles of that many machines under a ranking: refusals 1, 7. Counts from K on are not looked at.
  * result: how the first stands to the second; the machine that decided, by its number in the card: the highest ranked one where

@@ -2,13 +2,15 @@
 
 use crate::candidate::{evaluate, Evaluation};
 use crate::card::{pack, read_part};
+use crate::live::{self, Row, Step, Table};
 use crate::optimizer::{optimize_by, Method};
 use crate::ranking::{compare, condition, find_ranking};
 use crate::tableau::{judge, Verdict};
 use crate::{Profile, Refusal};
 use std::cmp::Ordering;
 
-/// One of the public calls with all that it is lent, as include/pastaspur.h has them.
+/// One of the public calls with all that it is lent, as include/pastaspur.h has them; `Live` is a list of calls from an empty
+/// table, each given the row count that the last accepted one answered.
 #[derive(Clone, Debug, PartialEq, Eq, Hash)]
 pub enum Call {
     Optimize { method: Method, card: Vec<u8>, ranking: Vec<u8>, word: Vec<u8>, work: Vec<u16>, answer: Vec<u8> },
@@ -19,10 +21,12 @@ pub enum Call {
     Condition { machines: u8, first: Profile, second: Profile },
     FindRanking { machines: u8, conditions: Vec<u8> },
     Judge { card: Vec<u8>, ranking: Vec<u8>, word: Vec<u8>, work: Vec<u16>, tableau: Vec<u8> },
+    Rows { machines: u8, ranking: Vec<u8>, used: usize, rows: Vec<Row>, step: Step },
+    Live { machines: u8, ranking: Vec<u8>, rows: Vec<Row>, steps: Vec<Step> },
 }
 
 /// A call's kind, its name, and the refusals that it can answer. The number 11 is not used.
-pub const KINDS: [(&str, &[u32]); 9] = [
+pub const KINDS: [(&str, &[u32]); 13] = [
     ("optimize", &[1, 2, 3, 4, 5, 6, 7, 8, 9, 10, 12]),
     ("evaluate", &[1, 2, 3, 4, 5, 6, 13, 14]),
     ("read part", &[1, 2, 3, 4, 5, 6, 17]),
@@ -32,6 +36,10 @@ pub const KINDS: [(&str, &[u32]); 9] = [
     ("find ranking", &[1, 15, 16]),
     ("judge", &[1, 2, 3, 4, 5, 6, 7, 8, 9, 19, 20, 21]),
     ("cull", &[1, 2, 3, 4, 5, 6, 7, 8, 9, 10, 12]),
+    ("add row", &[1, 7, 23, 24]),
+    ("remove row", &[1, 7, 23, 24]),
+    ("leader", &[1, 7, 23]),
+    ("live tableau", &[]),
 ];
 
 impl Call {
@@ -47,6 +55,10 @@ impl Call {
             Call::FindRanking { .. } => 6,
             Call::Judge { .. } => 7,
             Call::Optimize { method: Method::Cull, .. } => 8,
+            Call::Rows { step: Step::Add(_), .. } => 9,
+            Call::Rows { step: Step::Remove(_), .. } => 10,
+            Call::Rows { step: Step::Leader, .. } => 11,
+            Call::Live { .. } => 12,
         }
     }
 
@@ -84,7 +96,7 @@ pub struct Outcome {
     pub number: u32,
     /// The numbers of the result in the order of include/pastaspur.h.
     pub result: Vec<usize>,
-    /// The answer or target slice at exit, whole; empty for the other calls.
+    /// The answer or target slice at exit, or the bytes of the list of rows, whole; empty for the other calls.
     pub slice: Vec<u8>,
     /// Whether the work slice holds what it held before.
     pub work_kept: bool,
@@ -119,6 +131,38 @@ fn evaluation(found: Evaluation) -> Vec<usize> {
 
 fn numbers(bytes: impl IntoIterator<Item = u8>) -> Vec<usize> {
     bytes.into_iter().map(usize::from).collect()
+}
+
+/// A list's records in bytes, as they lie in memory that has the lower byte first.
+pub fn row_bytes(rows: &[Row]) -> Vec<u8> {
+    rows.iter().flat_map(|row| [row.id].into_iter().chain(row.counts)).flat_map(u16::to_le_bytes).collect()
+}
+
+/// Whether there is a leader, its id and its counts.
+fn leader(found: Option<Row>) -> Vec<usize> {
+    let Some(row) = found else { return vec![0; 8] };
+    [1, row.id as usize].into_iter().chain(row.counts.map(usize::from)).collect()
+}
+
+/// A list of calls from an empty table, each worked out afresh from those before it: every number and result, and at the end
+/// the rows that are there, zeros in the records that were freed, and what was in the others.
+fn afresh(ranking: &[u8], list: &[Row], steps: &[Step]) -> Outcome {
+    let mut table = Table { ranking, room: list.len(), history: vec![] };
+    let (mut result, mut most) = (vec![], 0);
+    for &step in steps {
+        let number = table.take(step);
+        let count = table.rows().len();
+        most = most.max(count);
+        result.push(number as usize);
+        match step {
+            Step::Leader => result.extend(leader(table.leader())),
+            _ => result.push(if number == 0 { count } else { 0 }),
+        }
+    }
+    let mut at_exit = table.rows();
+    at_exit.resize(most, Row::default());
+    at_exit.extend(&list[most..]);
+    outcome(Ok(result), 0, row_bytes(&at_exit))
 }
 
 /// The answer of this implementation.
@@ -163,5 +207,23 @@ pub fn reference(call: &Call) -> Outcome {
             };
             outcome(judge(card, ranking, word, work.len(), tableau).map(said), 2, vec![])
         }
+        Call::Rows { machines, ranking, used, rows, step } => {
+            let mut list = rows.clone();
+            let count = |count: usize| vec![count];
+            let found = match *step {
+                Step::Add(row) => live::add(*machines, ranking, *used, &mut list, row).map(count),
+                Step::Remove(id) => live::remove(*machines, ranking, *used, &mut list, id).map(count),
+                Step::Leader => live::leader(*machines, ranking, *used, &list).map(leader),
+            };
+            outcome(found, step.numbers(), row_bytes(&list))
+        }
+        Call::Live { machines, ranking, rows, steps } => match live::leader(*machines, ranking, 0, &[]) {
+            Ok(_) => afresh(ranking, rows, steps),
+            Err(number) => {
+                let refused = |step: &Step| [vec![number as usize], vec![0; step.numbers()]].concat();
+                let result = steps.iter().flat_map(refused).collect();
+                outcome(Ok(result), 0, row_bytes(rows))
+            }
+        },
     }
 }

@@ -4,6 +4,7 @@ use crate::call::{reference, Call, Engine, Outcome};
 use crate::card::read_card;
 use crate::coverage::Coverage;
 use crate::generators::Generator;
+use crate::live::{Row, Step};
 use crate::random::Random;
 use crate::shrinking::smallest;
 use crate::tableau::read_tableau;
@@ -112,6 +113,20 @@ fn describe_card(card: &[u8]) -> String {
     text
 }
 
+/// Ids with their counts.
+fn describe_rows(rows: &[Row]) -> String {
+    let row = |row: &Row| format!("{} ({})", row.id, numbers(&row.counts));
+    rows.iter().map(row).collect::<Vec<_>>().join(", ")
+}
+
+fn describe_step(step: &Step) -> String {
+    match step {
+        Step::Add(row) => format!("add {}", describe_rows(&[*row])),
+        Step::Remove(id) => format!("remove {id}"),
+        Step::Leader => "leader".to_string(),
+    }
+}
+
 /// The rows of a tableau that is laid out as it should.
 fn describe_tableau(tableau: &[u8]) -> String {
     let Ok(tableau) = read_tableau(tableau, 6) else { return String::new() };
@@ -170,6 +185,21 @@ pub fn describe(call: &Call) -> String {
             field("word", hexadecimal(word));
             field("work", numbers(work));
             field("tableau", hexadecimal(tableau));
+        }
+        Call::Rows { machines, ranking, used, rows, step } => {
+            field("machines", machines.to_string());
+            field("ranking", hexadecimal(ranking));
+            field("row count", used.to_string());
+            field("rows", describe_rows(rows));
+            field("step", describe_step(step));
+        }
+        Call::Live { machines, ranking, rows, steps } => {
+            field("machines", machines.to_string());
+            field("ranking", hexadecimal(ranking));
+            field("rows", describe_rows(rows));
+            for step in steps {
+                field("step", describe_step(step));
+            }
         }
     }
     if let Some(card) = call.card() {

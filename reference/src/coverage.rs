@@ -2,6 +2,7 @@
 
 use crate::call::{reference, Call, Outcome, KINDS};
 use crate::card::{read_card, Card, Machine};
+use crate::live::Step;
 use std::collections::BTreeMap;
 use std::fmt;
 
@@ -74,6 +75,9 @@ pub struct Coverage {
     /// Of the tableaux that are judged: verdicts, and row counts.
     verdicts: Counts,
     rows: Counts,
+    /// Row counts less the most that there is room for, of adding; steps of live tableaux, by the numbers that they answered.
+    used: Counts,
+    steps: Counts,
 }
 
 fn count(counts: &mut Counts, value: usize) {
@@ -149,6 +153,16 @@ impl Coverage {
                 count(&mut self.verdicts, outcome.result[0]);
                 count(&mut self.rows, tableau[0] as usize);
             }
+            Call::Rows { used, rows, step: Step::Add(_), .. } if !matches!(outcome.number, 1 | 7) => {
+                count_around(&mut self.used, *used, rows.len().min(32));
+            }
+            Call::Live { steps, .. } => {
+                let mut rest = &outcome.result[..];
+                for step in steps {
+                    count(&mut self.steps, rest[0]);
+                    rest = &rest[1 + step.numbers()..];
+                }
+            }
             _ => (),
         }
     }
@@ -191,6 +205,9 @@ impl Coverage {
         for value in 1..=32 {
             ask(format!("{value} rows"), &self.rows, value, 1);
         }
+        for number in [0, 23, 24] {
+            ask(format!("a step of a live tableau that answers {number}"), &self.steps, number, OFTEN);
+        }
         ask("3199 pairs answered".to_string(), &self.pairs, 3_199, 1);
         for (name, counts, values) in [
             ("work slice", &self.work, -1..=1),
@@ -198,6 +215,7 @@ impl Coverage {
             ("target slice", &self.target, -2..=1),
             ("candidate", &self.candidates, -1..=1),
             ("list of conditions", &self.conditions, -1..=1),
+            ("row count", &self.used, -1..=1),
         ] {
             for value in values {
                 ask(format!("{name} at its limit {value:+}"), counts, value, OFTEN);
@@ -249,6 +267,8 @@ impl fmt::Display for Coverage {
         writeln!(text, "  answer slice         {}", each(&self.answer, true))?;
         writeln!(text, "  target slice         {}", each(&self.target, true))?;
         writeln!(text, "  pairs of a candidate {}", each(&self.candidates, true))?;
-        write!(text, "  pairs of conditions  {}", each(&self.conditions, true))
+        writeln!(text, "  pairs of conditions  {}", each(&self.conditions, true))?;
+        writeln!(text, "  rows before adding   {}", each(&self.used, true))?;
+        write!(text, "steps of live tableaux {}", each(&self.steps, false))
     }
 }

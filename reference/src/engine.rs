@@ -1,10 +1,22 @@
 //! The proved engine, through the static library's interface for C (include/pastaspur.h).
 
-use crate::call::{Call, Engine, Outcome};
+use crate::call::{row_bytes, Call, Engine, Outcome};
 use crate::lent::Lent;
+use crate::live::{Row, Step};
 use crate::optimizer::Method;
 use crate::random::Random;
 use std::hash::{DefaultHasher, Hash, Hasher};
+
+/// A row as C has it: the id, then six counts.
+type RowNumbers = [u16; 7];
+
+fn row_numbers(row: &Row) -> RowNumbers {
+    std::array::from_fn(|place| if place == 0 { row.id } else { row.counts[place - 1] })
+}
+
+fn row_of(numbers: &RowNumbers) -> Row {
+    Row { id: numbers[0], counts: std::array::from_fn(|place| numbers[place + 1]) }
+}
 
 /// The searches, which are lent and answer the same.
 macro_rules! searches {
@@ -71,6 +83,35 @@ extern "C" {
         tableau_len: usize,
         result: *mut u8,
     ) -> u32;
+    fn pastaspur_add_row(
+        machines: u8,
+        ranking: *const u8,
+        ranking_len: usize,
+        count: usize,
+        rows: *mut RowNumbers,
+        rows_len: usize,
+        row: *const u16,
+        result: *mut usize,
+    ) -> u32;
+    fn pastaspur_remove_row(
+        machines: u8,
+        ranking: *const u8,
+        ranking_len: usize,
+        count: usize,
+        rows: *mut RowNumbers,
+        rows_len: usize,
+        id: u16,
+        result: *mut usize,
+    ) -> u32;
+    fn pastaspur_leader(
+        machines: u8,
+        ranking: *const u8,
+        ranking_len: usize,
+        count: usize,
+        rows: *const RowNumbers,
+        rows_len: usize,
+        result: *mut u16,
+    ) -> u32;
 }
 
 /// The memory of one call, lent between guards, and what was written that may not be.
@@ -93,6 +134,58 @@ impl Lender {
 
     fn shorts(&mut self, contents: &[u16]) -> Lent<u16> {
         self.lend(contents, |number| number as u16)
+    }
+
+    fn rows(&mut self, contents: &[Row]) -> Lent<RowNumbers> {
+        let contents: Vec<RowNumbers> = contents.iter().map(row_numbers).collect();
+        self.lend(&contents, |number| std::array::from_fn(|place| (number >> (8 * place)) as u16))
+    }
+
+    /// One step on a list of rows, which stays lent: the number and the result.
+    fn step(
+        &mut self,
+        machines: u8,
+        ranking: &mut Lent<u8>,
+        used: usize,
+        rows: &mut Lent<RowNumbers>,
+        step: Step,
+    ) -> (u32, Vec<usize>) {
+        let (order, order_len) = (ranking.pointer(), ranking.length());
+        let (list, list_len) = (rows.pointer(), rows.length());
+        if step == Step::Leader {
+            let mut lead = self.result(8, |number| number as u16);
+            // SAFETY: each pointer leads to as many elements as are said; none overlaps another
+            let number = unsafe { pastaspur_leader(machines, order, order_len, used, list, list_len, lead.pointer()) };
+            self.around("result", &lead);
+            return (number, lead.contents().iter().map(|&number| number as usize).collect());
+        }
+        let mut count = self.result(1, |number| number as usize);
+        let number = match step {
+            Step::Add(row) => {
+                let mut row = self.shorts(&row_numbers(&row));
+                let (pointer, result) = (row.pointer(), count.pointer());
+                // SAFETY: as above, and a row has seven numbers
+                let number =
+                    unsafe { pastaspur_add_row(machines, order, order_len, used, list, list_len, pointer, result) };
+                self.read_only("row", &row);
+                number
+            }
+            // SAFETY: as above
+            Step::Remove(id) => unsafe {
+                pastaspur_remove_row(machines, order, order_len, used, list, list_len, id, count.pointer())
+            },
+            Step::Leader => unreachable!("asked above"),
+        };
+        self.around("result", &count);
+        (number, count.contents().to_vec())
+    }
+
+    /// What steps on a list of rows leave.
+    fn rows_outcome(mut self, number: u32, result: Vec<usize>, ranking: &Lent<u8>, rows: &Lent<RowNumbers>) -> Outcome {
+        self.read_only("ranking", ranking);
+        self.around("rows", rows);
+        let left: Vec<Row> = rows.contents().iter().map(row_of).collect();
+        Outcome { number, result, slice: row_bytes(&left), work_kept: true, trespasses: self.trespasses }
     }
 
     /// A result's memory, which holds anything but zeros before the call.
@@ -285,6 +378,24 @@ impl Engine for Library {
                 lender.around("work", &work);
                 lender.read_only("tableau", &tableau);
                 lender.outcome(number, result, usize::from, &[], work.contents_kept())
+            }
+            Call::Rows { machines, ranking, used, rows, step } => {
+                let (mut ranking, mut rows) = (lender.bytes(ranking), lender.rows(rows));
+                let (number, result) = lender.step(*machines, &mut ranking, *used, &mut rows, *step);
+                lender.rows_outcome(number, result, &ranking, &rows)
+            }
+            Call::Live { machines, ranking, rows, steps } => {
+                let (mut ranking, mut rows) = (lender.bytes(ranking), lender.rows(rows));
+                let (mut used, mut results) = (0, vec![]);
+                for &step in steps {
+                    let (number, result) = lender.step(*machines, &mut ranking, used, &mut rows, step);
+                    if number == 0 && step != Step::Leader {
+                        used = result[0];
+                    }
+                    results.push(number as usize);
+                    results.extend(result);
+                }
+                lender.rows_outcome(0, results, &ranking, &rows)
             }
         }
     }

@@ -4,6 +4,7 @@ mod calls;
 mod candidates;
 mod cards;
 mod damage;
+mod live;
 mod tableaux;
 
 pub use calls::Generator;

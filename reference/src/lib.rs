@@ -14,6 +14,7 @@ pub mod engine;
 pub mod generators;
 pub mod lent;
 pub mod lines;
+pub mod live;
 pub mod optimizer;
 pub mod random;
 pub mod ranking;

@@ -2,6 +2,7 @@
 
 use crate::call::Call;
 use crate::card::{lay_out, read_card};
+use crate::live::{Row, Step};
 use crate::optimizer::best;
 use crate::ranking::is_ranking;
 use crate::tableau::{read_tableau, Tableau};
@@ -21,6 +22,7 @@ pub fn smallest(call: &Call, fails: &dyn Fn(&Call) -> bool) -> Call {
         search.shorten_parts();
         search.drop_symbols();
         search.shorten_tableaux();
+        search.shorten_row_lists();
         search.clear_lists();
         search.shorten_lists();
         search.lower_bytes();
@@ -53,21 +55,39 @@ fn size(call: &mut Call) -> [u64; 5] {
     if let Call::ReadPart { machine, .. } = call {
         add(*machine as u16);
     }
+    if let Call::Rows { used, .. } = call {
+        add((*used).min(u16::MAX as usize) as u16);
+    }
+    ids(call).into_iter().for_each(|id| add(*id));
+    let (rows, steps) = rows_and_steps(call);
+    length += (rows.len() + steps.len()) as u64;
     let order = ranking(call).map_or(0, |list| list.iter().take(8).fold(0, |sum, &byte| sum << 8 | byte as u64));
     [length, machines as u64 + symbols as u64, bits, sum, order]
 }
 
 /// K and S as the call has them, 0 where it has none.
-fn counts(call: &Call) -> (u8, u8) {
+fn counts(call: &mut Call) -> (u8, u8) {
+    if let Some(machines) = machine_count(call) {
+        return (*machines, 0);
+    }
     match call {
         Call::Pack { symbols, .. } => (0, *symbols),
-        Call::Compare { machines, .. } | Call::Condition { machines, .. } | Call::FindRanking { machines, .. } => {
-            (*machines, 0)
-        }
         _ => {
             let byte = |place: usize| call.card().and_then(|card| card.get(place)).copied().unwrap_or(0);
             (byte(0), byte(1))
         }
+    }
+}
+
+/// K, where the call is lent it by itself.
+fn machine_count(call: &mut Call) -> Option<&mut u8> {
+    match call {
+        Call::Compare { machines, .. }
+        | Call::Condition { machines, .. }
+        | Call::FindRanking { machines, .. }
+        | Call::Rows { machines, .. }
+        | Call::Live { machines, .. } => Some(machines),
+        _ => None,
     }
 }
 
@@ -92,6 +112,7 @@ fn byte_lists(call: &mut Call) -> Vec<&mut Vec<u8>> {
         Call::Condition { .. } => vec![],
         Call::FindRanking { conditions, .. } => vec![conditions],
         Call::Judge { card, ranking, word, tableau, .. } => vec![word, tableau, ranking, card],
+        Call::Rows { ranking, .. } | Call::Live { ranking, .. } => vec![ranking],
     }
 }
 
@@ -106,13 +127,55 @@ fn number_lists(call: &mut Call) -> Vec<&mut Vec<u16>> {
 fn profiles(call: &mut Call) -> Vec<&mut Profile> {
     match call {
         Call::Compare { first, second, .. } | Call::Condition { first, second, .. } => vec![first, second],
-        _ => vec![],
+        _ => rows(call).into_iter().map(|row| &mut row.counts).collect(),
     }
+}
+
+/// A list of rows that a call is lent.
+fn row_list(call: &mut Call) -> Option<&mut Vec<Row>> {
+    match call {
+        Call::Rows { rows, .. } | Call::Live { rows, .. } => Some(rows),
+        _ => None,
+    }
+}
+
+/// The list of rows that a call is lent, and what is asked of it.
+fn rows_and_steps(call: &mut Call) -> (&mut [Row], &mut [Step]) {
+    match call {
+        Call::Rows { rows, step, .. } => (rows, std::slice::from_mut(step)),
+        Call::Live { rows, steps, .. } => (rows, steps),
+        _ => (&mut [], &mut []),
+    }
+}
+
+/// All rows of a call: its list's and those that are added.
+fn rows(call: &mut Call) -> Vec<&mut Row> {
+    let (rows, steps) = rows_and_steps(call);
+    let added = steps.iter_mut().filter_map(|step| match step {
+        Step::Add(row) => Some(row),
+        _ => None,
+    });
+    rows.iter_mut().chain(added).collect()
+}
+
+/// The ids of rows, and those that are removed.
+fn ids(call: &mut Call) -> Vec<&mut u16> {
+    let (rows, steps) = rows_and_steps(call);
+    let asked = steps.iter_mut().filter_map(|step| match step {
+        Step::Add(row) => Some(&mut row.id),
+        Step::Remove(id) => Some(id),
+        Step::Leader => None,
+    });
+    rows.iter_mut().map(|row| &mut row.id).chain(asked).collect()
 }
 
 fn ranking(call: &mut Call) -> Option<&mut Vec<u8>> {
     match call {
-        Call::Optimize { ranking, .. } | Call::Compare { ranking, .. } | Call::Judge { ranking, .. } => Some(ranking),
+        Call::Optimize { ranking, .. }
+        | Call::Compare { ranking, .. }
+        | Call::Judge { ranking, .. }
+        | Call::Rows { ranking, .. }
+        | Call::Live { ranking, .. } => Some(ranking),
         _ => None,
     }
 }
@@ -320,11 +383,12 @@ fn without_machines(call: &Call, gone: &Range<usize>) -> Option<Call> {
     }) {
         call = changed;
     }
+    if let Some(machines) = machine_count(&mut call) {
+        *machines -= gone.len() as u8;
+    }
     match &mut call {
         Call::ReadPart { machine, .. } => *machine = renumbered(*machine, gone).unwrap_or(0),
-        Call::Compare { machines, .. } | Call::Condition { machines, .. } => *machines -= gone.len() as u8,
-        Call::FindRanking { machines, conditions } => {
-            *machines -= gone.len() as u8;
+        Call::FindRanking { conditions, .. } => {
             for set in conditions {
                 *set = without_bits(*set as u64, gone) as u8;
             }
@@ -480,11 +544,9 @@ impl Search<'_> {
     }
 
     fn drop_machines(&mut self) {
-        let length = |call: &mut Call| match call {
-            Call::Compare { machines, .. } | Call::Condition { machines, .. } | Call::FindRanking { machines, .. } => {
-                (*machines).min(6) as usize
-            }
-            _ => grammar(call).map_or(0, |grammar| grammar.parts.len()),
+        let length = |call: &mut Call| match machine_count(call) {
+            Some(machines) => (*machines).min(6) as usize,
+            None => grammar(call).map_or(0, |grammar| grammar.parts.len()),
         };
         self.shorten(&length, &|call, gone| without_machines(call, &gone));
     }
@@ -570,6 +632,46 @@ impl Search<'_> {
             _ => (),
         }
         self.attempt(Some(call));
+    }
+
+    /// Takes rows away from a list and steps from a live tableau, and lowers ids and row counts.
+    fn shorten_row_lists(&mut self) {
+        let length = |call: &mut Call| row_list(call).map_or(0, |rows| rows.len());
+        for with_count in [true, false] {
+            let without = |call: &Call, gone: Range<usize>| {
+                let mut call = call.clone();
+                row_list(&mut call)?.drain(gone.clone());
+                match &mut call {
+                    Call::Rows { used, .. } if with_count && gone.end <= *used => *used -= gone.len(),
+                    _ => (),
+                }
+                Some(call)
+            };
+            self.shorten(&length, &without);
+        }
+        let steps = |call: &mut Call| match call {
+            Call::Live { steps, .. } => steps.len(),
+            _ => 0,
+        };
+        self.shorten(&steps, &|call, gone| {
+            let mut call = call.clone();
+            if let Call::Live { steps, .. } = &mut call {
+                steps.drain(gone);
+            }
+            Some(call)
+        });
+        for place in 0..ids(&mut self.call).len() {
+            self.lower(&|call| ids(call).get(place).map(|id| **id), &|call, new| *ids(call)[place] = new);
+        }
+        let used = |call: &mut Call| match call {
+            Call::Rows { used, .. } => Some((*used).min(u16::MAX as usize) as u16),
+            _ => None,
+        };
+        self.lower(&used, &|call, new| {
+            if let Call::Rows { used, .. } = call {
+                *used = new as usize;
+            }
+        });
     }
 
     /// Takes rows away from a tableau, symbols from its word, pairs from its rows.
@@ -675,12 +777,8 @@ impl Search<'_> {
         }
         fn other(call: &mut Call) -> Option<&mut u8> {
             match call {
-                Call::ReadPart { machine: number, .. }
-                | Call::Pack { symbols: number, .. }
-                | Call::Compare { machines: number, .. }
-                | Call::Condition { machines: number, .. }
-                | Call::FindRanking { machines: number, .. } => Some(number),
-                _ => None,
+                Call::ReadPart { machine: number, .. } | Call::Pack { symbols: number, .. } => Some(number),
+                _ => machine_count(call),
             }
         }
         self.lower(&|call| other(call).map(|number| *number as u16), &|call, new| {

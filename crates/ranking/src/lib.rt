@@ -12,6 +12,7 @@ ghost use Rattle.ranking.specs.Refusals.{numberOf, stageNumber};
 ghost use Rattle.ranking.specs.Profiles.{zeroProfile};
 
 // How often a candidate breaks each constraint, in card order; unused places are 0.
+#[repr(C)]
 pub struct Profile {
     pub counts: [u16; 6],
 }

@@ -11,7 +11,7 @@ use std::time::Instant;
 
 /// How many calls a run compares, and the fewest of a run that has to meet every refusal and every size.
 const COUNT: usize = 200_000;
-const WHOLE_RUN: usize = 100_000;
+const WHOLE_RUN: usize = 200_000;
 
 fn main() -> ExitCode {
     let words: Vec<String> = std::env::args().skip(1).collect();

@@ -3,6 +3,7 @@
 use super::candidates::{bytes_of, damage_a_candidate, walk};
 use super::cards::{any_card, any_ranking, any_word, open_card};
 use super::damage::{add_states, damage_a_part, damage_a_ranking, damage_a_word, perhaps_damaged};
+use super::live::{live_table, row_call};
 use super::tableaux::any_tableau;
 use crate::call::Call;
 use crate::card::{read_card, Card, Machine};
@@ -38,14 +39,16 @@ impl Generator {
     /// A call of any kind.
     pub fn call(&self, random: &mut Random) -> Call {
         match random.below(100) {
-            0..=36 => self.optimize(random),
-            37..=52 => self.judge(random),
-            53..=67 => self.evaluate(random),
-            68..=74 => self.read_part(random),
-            75..=84 => self.pack(random),
-            85..=90 => compare(random),
-            91..=92 => condition(random),
-            _ => find_ranking(random),
+            0..=31 => self.optimize(random),
+            32..=45 => self.judge(random),
+            46..=59 => self.evaluate(random),
+            60..=66 => self.read_part(random),
+            67..=75 => self.pack(random),
+            76..=80 => compare(random),
+            81..=82 => condition(random),
+            83..=89 => find_ranking(random),
+            90..=97 => row_call(random),
+            _ => live_table(random),
         }
     }
 
@@ -272,7 +275,7 @@ fn damage_the_lengths(random: &mut Random, lengths: &mut Vec<u16>, parts: &mut V
 }
 
 /// A machine count, at times a wrong one.
-fn any_count(random: &mut Random) -> u8 {
+pub fn any_count(random: &mut Random) -> u8 {
     if random.percent(8) {
         random.one_of(&[0, 7, 8, 9, 128, 255])
     } else {

@@ -1,0 +1,7 @@
+pub mod RowKind
+pub mod Shared
+pub mod Tests
+pub mod Places
+pub mod Leading
+pub mod Checks
+pub mod Answers

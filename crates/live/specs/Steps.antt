@@ -1,0 +1,69 @@
+-- The steps by which the code finds, moves and compares rows, and the numbers of its refusals.
+use mathlib.Core.Bool.{Bool, true, false}
+use mathlib.Core.List.{List, [], _∷_}
+use Prim.Native.Nat.{ℕ, zero, suc, _+_, _-_}
+use lib.Dec.{eqb}
+use lib.ListN.{getD, set, take}
+use Rattle.ranking.specs.Harmony.{better}
+use Rattle.live.specs.declared.Row.{Row}
+use Rattle.live.specs.declared.Counted.{Counted}
+use Rattle.live.specs.declared.Lead.{Lead}
+use Rattle.live.specs.declared.Refusal.{Refusal}
+use Rattle.live.specs.declared.Refusal.the-variants.{RowCount, Presence}
+use Rattle.live.specs.Rows.{zeroRow, hasId, present, added, removed, counted, refusedCount, led, unled}
+
+abbrev pub numberOf : Refusal → ℕ
+numberOf RowCount = 23
+numberOf Presence = 24
+
+-- the row at a place
+abbrev pub rowAt : List Row → ℕ → Row
+rowAt l i = getD l i zeroRow
+
+-- the place of the first row with an id, or how many rows there are
+unfoldable pub place : ℕ → List Row → ℕ
+place id [] = 0
+place id (row ∷ rows) = elim (hasId id row) [ true ↦ 0 | false ↦ suc (place id rows) ]
+
+-- n records from a place are set to the one behind them, and the one after these to zeros
+unfoldable pub closingBy : ℕ → ℕ → List Row → List Row
+closingBy zero at l = set l at zeroRow
+closingBy (suc n) at l = closingBy n (at + 1) (set l at (rowAt l (at + 1)))
+
+abbrev pub closing : ℕ → ℕ → List Row → List Row
+closing at last l = closingBy (last - at) at l
+
+-- a row is put in unless its id is present: the list, and how many rows there are
+unfoldable pub puttingIn : ℕ → List Row → Row → List Row
+puttingIn count l row = elim (present (row .id) (take count l)) [ true ↦ l | false ↦ added count l row ]
+
+unfoldable pub countPut : ℕ → ℕ → List Row → ℕ
+countPut id count l = elim (present id (take count l)) [ true ↦ count | false ↦ count + 1 ]
+
+-- a row is taken out if its id is present: the list, and how many rows there are
+unfoldable pub takingOut : ℕ → ℕ → List Row → List Row
+takingOut id count l = elim (present id (take count l)) [ true ↦ removed id count l | false ↦ l ]
+
+unfoldable pub countTaken : ℕ → ℕ → List Row → ℕ
+countTaken id count l = elim (present id (take count l)) [ true ↦ count - 1 | false ↦ count ]
+
+-- as many rows as before are a refusal
+abbrev pub answeredWith : ℕ → ℕ → Counted
+answeredWith before after = elim (eqb after before) [ true ↦ refusedCount 24 | false ↦ counted after ]
+
+-- the better of two rows under a ranking, the second where neither is better
+abbrev pub firstIf : Bool → Row → Row → Row
+firstIf true row best = row
+firstIf false row best = best
+
+abbrev pub betterOf : List ℕ → Row → Row → Row
+betterOf ranking row best = firstIf (better ranking (row .profile .counts) (best .profile .counts)) row best
+
+-- the best of a row and those that arrived after it, row by row
+unfoldable pub bestFrom : List ℕ → Row → List Row → Row
+bestFrom ranking best [] = best
+bestFrom ranking best (row ∷ rows) = bestFrom ranking (betterOf ranking row best) rows
+
+unfoldable pub leaderDown : List ℕ → List Row → Lead
+leaderDown ranking [] = unled 0
+leaderDown ranking (row ∷ rows) = led (bestFrom ranking row rows)
