@@ -65,8 +65,8 @@ void CandidatesImpl::Read(const uint8_t *card, const uint8_t *ranking, const uin
     for (int a = 0; a < arcs; a++, arc += 20) {
       const Weight weight = Weight::Of(arc[2], place);
       const uint64_t low = weight.low | arc[1] * unit;
-      const uint64_t outputs = SetAt(arc + 12);
       for (uint64_t inputs = SetAt(arc + 4) & used; inputs != 0; inputs &= inputs - 1) {
+        const uint64_t outputs = OfKind(arc[3], inputs & -inputs, SetAt(arc + 12));
         Steps &row = steps_[place_of[__builtin_ctzll(inputs)] * states_ + before + arc[0]];
         row.taken |= outputs;
         for (uint64_t left = outputs; left != 0; left &= left - 1) {

@@ -11,6 +11,11 @@
 #include <utility>
 #include <vector>
 
+// Of an arc's outputs those that make a pair of the arc's kind with an input, given as the set of it.
+inline uint64_t OfKind(uint8_t kind, uint64_t input, uint64_t outputs) {
+  return kind == 0 ? outputs : kind == 1 ? outputs & input : outputs & ~input;
+}
+
 // A state is a node, input position * P + joint state. The arcs of a node are made when the library asks for them.
 class CandidatesImpl : public fst::internal::FstImpl<ranked::Arc> {
  public:

@@ -97,7 +97,7 @@ fst::VectorFst<Arc> MachineAcceptor(const uint8_t *part, int place, uint64_t use
     std::memcpy(sets, arc + 4, sizeof sets);
     const Weight marks = Weight::Of(arc[2], place);
     for (uint64_t inputs = sets[0] & used; inputs != 0; inputs &= inputs - 1) {
-      for (uint64_t outputs = sets[1]; outputs != 0; outputs &= outputs - 1) {
+      for (uint64_t outputs = OfKind(arc[3], inputs & -inputs, sets[1]); outputs != 0; outputs &= outputs - 1) {
         const int label = Label(__builtin_ctzll(inputs), __builtin_ctzll(outputs));
         if (label != 0) acceptor.AddArc(arc[0], Arc(label, label, marks, arc[1]));
       }

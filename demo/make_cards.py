@@ -12,7 +12,8 @@ What card.txt may say, one thing to a line (# starts a comment):
     machine NAME                       a constraint; then its lines:
       states NAME ..                   the first one is the start
       final NAME ..                    the states that a candidate may end in; NAME=MARKS for one with ending marks
-      arc FROM -> TO  IN : OUT  MARKS  IN and OUT are sets, names with commas; no MARKS are 0
+      arc FROM -> TO  IN : OUT  MARKS  IN and OUT are sets, names with commas; no MARKS are 0; after them 'same' for an arc
+                                       that takes only pairs with in equal to out, 'different' for one that takes the others
     line MACHINE .. / SYMBOL ..        a ranking and a word: a line of stdin
     tableau MACHINE .. / SYMBOL ..     a line of stdin, and candidates for it, the best one marked with >:
     > IN:OUT .. = COUNT ..  FORM       with its counts in card order, and its form as the paper has it
@@ -27,6 +28,8 @@ import sys
 
 HERE = pathlib.Path(__file__).parent
 
+KINDS = ["any", "same", "different"]
+
 
 def laid_out(head, parts):
     """Two bytes, a table with each part's offset and length, and the parts: a card, or a tableau."""
@@ -35,6 +38,11 @@ def laid_out(head, parts):
         table += offset.to_bytes(2, "little") + len(part).to_bytes(2, "little")
         offset += len(part)
     return head + table + b"".join(parts)
+
+
+def takes(arc, i, o):
+    """Whether an arc takes a pair: in and out are in its sets, and equal or unlike as its kind says."""
+    return i in arc[2] and o in arc[3] and KINDS[arc[5]] in ("any", "same" if i == o else "different")
 
 
 class Card:
@@ -60,9 +68,10 @@ class Card:
             names = [name.partition("=") for name in rest]
             self.machine[key] = {name: int(marks or 0) for name, _, marks in names}
         elif key == "arc":
-            start, _, end, inputs, _, outputs = rest[:6]
-            marks = int(rest[6]) if len(rest) > 6 else 0
-            self.machine["arcs"].append((start, end, self.set_of(inputs), self.set_of(outputs), marks))
+            start, _, end, inputs, _, outputs, *more = rest
+            kind = KINDS.index(more.pop()) if more[-1:] and more[-1] in KINDS else 0
+            marks = int(more[0]) if more else 0
+            self.machine["arcs"].append((start, end, self.set_of(inputs), self.set_of(outputs), marks, kind))
         elif key in ("line", "tableau", "claim"):
             at = rest.index("/")
             line, self.rows = (rest[:at], rest[at + 1:]), []
@@ -97,8 +106,8 @@ class Card:
         states = machine["states"]
         endings = [machine["final"].get(state, -1) + 1 for state in states]
         part = bytes([len(states), len(machine["arcs"]), *endings])
-        for start, end, inputs, outputs, marks in machine["arcs"]:
-            part += bytes([states.index(start), states.index(end), marks, 0]) + self.bits(inputs) + self.bits(outputs)
+        for start, end, inputs, outputs, marks, kind in machine["arcs"]:
+            part += bytes([states.index(start), states.index(end), marks, kind]) + self.bits(inputs) + self.bits(outputs)
         return part
 
     def card_bin(self):
@@ -140,7 +149,7 @@ class Card:
             state, count = machine["states"][0], 0
             for pair in pairs:
                 i, o = pair.split(":")
-                taken = [arc for arc in machine["arcs"] if arc[0] == state and i in arc[2] and o in arc[3]]
+                taken = [arc for arc in machine["arcs"] if arc[0] == state and takes(arc, i, o)]
                 if len(taken) != 1:
                     return None
                 state, count = taken[0][1], count + taken[0][4]

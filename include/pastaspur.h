@@ -20,7 +20,7 @@
  *    1  card under 2 bytes; machine count K not 1 to 6, symbol count S not 1 to 63
  *    2  card under 2 + 4K bytes; offsets or end not as laid down
  *    3  a machine's part under 2 bytes; its state count not 1 to 32, or its length not what its counts say
- *    4  a state byte over 16; an arc's state too high; marks over 15; zero byte not 0; an empty set; a bit over S
+ *    4  a state byte over 16; an arc's state too high; marks over 15; kind over 2; an empty set; a bit over S
  *    5  two arcs of a state take one pair
  *    6  product of the state counts, P, over 128
  *    7  not a ranking: each of 0 to K - 1 once, the highest first

@@ -2,7 +2,7 @@
 
 use reference::card::{Arc, Machine};
 use reference::random::Random;
-use reference::samples::{self, arc, card, machine, set};
+use reference::samples::{self, arc, card, machine, same, set, unlike};
 
 /// One call: a card, a ranking, a word.
 pub struct Case {
@@ -122,6 +122,18 @@ fn large() -> Vec<Case> {
     cases
 }
 
+/// K = 3, S = 63, n = 24, P = 16: two constraints on shapes, and one against changed, new and lost sounds that is one arc of
+/// kind 1 and one of kind 2 on the same sets.
+fn kinds() -> Vec<Case> {
+    let mut random = Random::new(10);
+    let [first, second] =
+        [(); 2].map(|_| random_machine(&mut random, 63, Constraint::Shapes, &[by(10, 6, 6); 4]));
+    let any = set(0..=63);
+    let faithful = machine(&[true], vec![same(arc(0, 0, 0, any, any)), unlike(arc(0, 0, 1, any, any))]);
+    let card = card(63, &[first, second, faithful]);
+    (0..4).map(|_| random_case(&mut random, &card, 24)).collect()
+}
+
 /// The cases that lines of the board's program ask for, but for the empty word, which would be measured with long ones.
 fn from_lines(card: &[u8], lines: &str) -> Vec<Case> {
     let case = |line: &str| {
@@ -148,5 +160,6 @@ pub fn rows() -> Vec<Row> {
         row("worst chain", from_lines(&samples::chain(), chain)),
         row("worst chain, full machines", from_lines(&samples::chain_full(), chain_full)),
         row("worst card, all pairs taken", from_lines(&samples::full(), full)),
+        row("faithfulness by kinds", kinds()),
     ]
 }

@@ -7,13 +7,32 @@ pub struct Arc {
     pub from: usize,
     pub to: usize,
     pub marks: u16,
+    /// 0 takes any pair of its sets, 1 those with in equal to out, 2 those with in unlike out.
+    pub kind: u8,
     pub inputs: u64,
     pub outputs: u64,
 }
 
 impl Arc {
     pub fn takes(&self, input: u8, output: u8) -> bool {
-        self.inputs >> input & 1 == 1 && self.outputs >> output & 1 == 1
+        let of_its_kind = match self.kind {
+            0 => true,
+            1 => input == output,
+            _ => input != output,
+        };
+        of_its_kind && self.inputs >> input & 1 == 1 && self.outputs >> output & 1 == 1
+    }
+
+    /// An arc's 20 bytes, with whatever its fields hold.
+    pub fn read(bytes: &[u8]) -> Arc {
+        Arc {
+            from: bytes[0] as usize,
+            to: bytes[1] as usize,
+            marks: bytes[2] as u16,
+            kind: bytes[3],
+            inputs: set(bytes, 4),
+            outputs: set(bytes, 12),
+        }
     }
 }
 
@@ -25,10 +44,25 @@ pub struct Machine {
 }
 
 impl Machine {
+    /// The arc that takes a pair.
+    pub fn arc(&self, state: usize, input: u8, output: u8) -> Option<&Arc> {
+        self.arcs.iter().find(|arc| arc.from == state && arc.takes(input, output))
+    }
+
     /// Taking a pair: the state moved on to, and the marks.
     pub fn step(&self, state: usize, input: u8, output: u8) -> Option<(usize, u16)> {
-        let arc = self.arcs.iter().find(|a| a.from == state && a.takes(input, output))?;
-        Some((arc.to, arc.marks))
+        self.arc(state, input, output).map(|arc| (arc.to, arc.marks))
+    }
+
+    /// The arcs that a complete candidate, as bytes, travels in turn.
+    pub fn travelled(&self, pairs: &[u8]) -> Vec<&Arc> {
+        let mut state = 0;
+        let step = |pair: &[u8]| {
+            let arc = self.arc(state, pair[0], pair[1]).expect("a complete candidate");
+            state = arc.to;
+            arc
+        };
+        pairs.chunks(2).map(step).collect()
     }
 
     /// The machine's part of a card.
@@ -36,7 +70,7 @@ impl Machine {
         let mut part = vec![self.endings.len() as u8, self.arcs.len() as u8];
         part.extend(self.endings.iter().map(|ending| ending.map_or(0, |marks| marks as u8 + 1)));
         for arc in &self.arcs {
-            part.extend([arc.from as u8, arc.to as u8, arc.marks as u8, 0]);
+            part.extend([arc.from as u8, arc.to as u8, arc.marks as u8, arc.kind]);
             part.extend(arc.inputs.to_le_bytes());
             part.extend(arc.outputs.to_le_bytes());
         }
@@ -86,15 +120,9 @@ pub fn read_machine(part: &[u8], symbols: u8) -> Result<Machine, Refusal> {
     }
     let mut list = Vec::new();
     for bytes in part[2 + states..].chunks(20) {
-        let arc = Arc {
-            from: bytes[0] as usize,
-            to: bytes[1] as usize,
-            marks: bytes[2] as u16,
-            inputs: set(bytes, 4),
-            outputs: set(bytes, 12),
-        };
+        let arc = Arc::read(bytes);
         let bad_set = |set: u64| set == 0 || (symbols as u32 + 1..64).any(|bit| set >> bit & 1 == 1);
-        if arc.from >= states || arc.to >= states || arc.marks > 15 || bytes[3] != 0 {
+        if arc.from >= states || arc.to >= states || arc.marks > 15 || arc.kind > 2 {
             return Err(4);
         }
         if bad_set(arc.inputs) || bad_set(arc.outputs) {
@@ -114,10 +142,12 @@ pub fn read_machine(part: &[u8], symbols: u8) -> Result<Machine, Refusal> {
 }
 
 /// Whether both arcs take some pair, symbol after symbol; 0:0 is no pair.
-fn share_a_pair(first: &Arc, second: &Arc) -> bool {
+pub fn share_a_pair(first: &Arc, second: &Arc) -> bool {
     let both = |a: u64, b: u64| (0..64u8).filter(move |&symbol| a >> symbol & b >> symbol & 1 == 1);
-    both(first.inputs, second.inputs)
-        .any(|input| both(first.outputs, second.outputs).any(|output| (input, output) != (0, 0)))
+    let taken = |input, output| first.takes(input, output) && second.takes(input, output);
+    both(first.inputs, second.inputs).any(|input| {
+        both(first.outputs, second.outputs).any(|output| (input, output) != (0, 0) && taken(input, output))
+    })
 }
 
 /// The parts of a card in order, each for 3, 4, 5, then 6.

@@ -48,6 +48,7 @@ pub fn cases() -> Vec<Case> {
     vec![
         case("card_b", samples::card_b(), short_words()),
         case("card_b_ending", samples::card_b_ending(), short_words()),
+        case("card_b_kinds", samples::card_b_kinds(), short_words()),
         case("lesson", samples::card_b(), lesson()),
         case("chain", samples::chain(), [long_words(&["01", "10"], 3), vec![line("01", [])]].concat()),
         case("chain_ending", samples::chain_ending(), long_words(&["01", "10"], 3)),

@@ -106,8 +106,13 @@ fn describe_card(card: &[u8]) -> String {
         writeln!(text, "    machine {place}: {states} states, final {{{}}}", endings.join(", ")).unwrap();
         for arc in &machine.arcs {
             let (inputs, outputs) = (symbols(arc.inputs), symbols(arc.outputs));
-            writeln!(text, "      {} to {}, {} marks, in {inputs}, out {outputs}", arc.from, arc.to, arc.marks)
-                .unwrap();
+            let kind = match arc.kind {
+                0 => "",
+                1 => ", in equal to out",
+                _ => ", in unlike out",
+            };
+            let (from, to, marks) = (arc.from, arc.to, arc.marks);
+            writeln!(text, "      {from} to {to}, {marks} marks, in {inputs}, out {outputs}{kind}").unwrap();
         }
     }
     text

@@ -16,7 +16,7 @@ const OFTEN: u64 = 100;
 const VERDICTS: [(i64, &str); 3] = [(1, "right"), (2, "another row"), (3, "not in the table")];
 
 /// What an answer of the optimizer can have.
-const TRAITS: [&str; 8] = [
+const TRAITS: [&str; 10] = [
     "no pair",
     "an insertion",
     "an insertion at its end",
@@ -25,20 +25,23 @@ const TRAITS: [&str; 8] = [
     "marks",
     "ending marks",
     "insertions without marks",
+    "an arc of kind 1",
+    "an arc of kind 2",
 ];
 
 /// The marks of a machine at the end of a complete candidate.
 fn ending_marks(machine: &Machine, pairs: &[u8]) -> u16 {
-    let step = |state, pair: &[u8]| Some(machine.step(state, pair[0], pair[1])?.0);
-    let last = pairs.chunks(2).try_fold(0, step).expect("a complete candidate");
+    let last = machine.travelled(pairs).last().map_or(0, |arc| arc.to);
     machine.endings[last].expect("a final state")
 }
 
 /// Which of `TRAITS` these pairs and counts have.
-fn traits(card: &Card, pairs: &[u8], counts: &[usize]) -> [bool; 8] {
+fn traits(card: &Card, pairs: &[u8], counts: &[usize]) -> [bool; 10] {
     let any = |test: fn(u8, u8) -> bool| pairs.chunks(2).any(|pair| test(pair[0], pair[1]));
     let inserts = any(|input, _| input == 0);
     let marks = counts.iter().any(|&count| count > 0);
+    let of_kind =
+        |kind| card.machines.iter().any(|machine| machine.travelled(pairs).iter().any(|arc| arc.kind == kind));
     [
         pairs.is_empty(),
         inserts,
@@ -48,6 +51,8 @@ fn traits(card: &Card, pairs: &[u8], counts: &[usize]) -> [bool; 8] {
         marks,
         card.machines.iter().any(|machine| ending_marks(machine, pairs) > 0),
         inserts && !marks,
+        of_kind(1),
+        of_kind(2),
     ]
 }
 
@@ -62,7 +67,7 @@ pub struct Coverage {
     words: Counts,
     pairs: Counts,
     /// How often an answer has each of `TRAITS`.
-    traits: [u64; 8],
+    traits: [u64; 10],
     /// What is answered for the empty word.
     empty_words: Counts,
     /// Lengths of slices, less what is needed.

@@ -1,6 +1,6 @@
 //! Cards for tests: A and B of the requirements, random ones, and the heaviest that are accepted.
 
-use crate::card::{lay_out, Arc, Machine};
+use crate::card::{lay_out, read_card, Arc, Machine};
 use crate::random::Random;
 
 /// The set of some symbols.
@@ -9,7 +9,17 @@ pub fn set(symbols: impl IntoIterator<Item = u8>) -> u64 {
 }
 
 pub fn arc(from: usize, to: usize, marks: u16, inputs: u64, outputs: u64) -> Arc {
-    Arc { from, to, marks, inputs, outputs }
+    Arc { from, to, marks, kind: 0, inputs, outputs }
+}
+
+/// The same arc for the pairs with in equal to out alone.
+pub fn same(arc: Arc) -> Arc {
+    Arc { kind: 1, ..arc }
+}
+
+/// The same arc for the pairs with in unlike out alone.
+pub fn unlike(arc: Arc) -> Arc {
+    Arc { kind: 2, ..arc }
 }
 
 /// A machine whose endings have no marks.
@@ -53,6 +63,18 @@ pub fn card_b_ending() -> Vec<u8> {
     let mut card = card_b();
     card[17] = 2;
     card
+}
+
+/// Card B with the deletion machine by kinds: one arc for what stays as it is, one for insertions.
+pub fn card_b_kinds() -> Vec<u8> {
+    let mut machines = read_card(&card_b()).expect("card B").machines;
+    let (empty, segment) = (set([0]), set([1, 2]));
+    machines[2].arcs = vec![
+        same(arc(0, 0, 0, segment, segment)),
+        unlike(arc(0, 0, 0, empty, segment)),
+        unlike(arc(0, 0, 1, segment, empty)),
+    ];
+    card(2, &machines)
 }
 
 /// `count` sets that share out the symbols, none of them empty, by chance.

@@ -1,7 +1,7 @@
 //! The smallest call: from a call that fails, step by step to smaller ones that still fail, until no step does.
 
 use crate::call::Call;
-use crate::card::{lay_out, read_card};
+use crate::card::{lay_out, read_card, share_a_pair, Arc};
 use crate::live::{Row, Step};
 use crate::optimizer::best;
 use crate::ranking::is_ranking;
@@ -412,11 +412,9 @@ fn without_states(call: &Call, machine: usize, gone: &Range<usize>) -> Option<Ca
     })
 }
 
-/// Whether two arcs of a state take one pair; 0:0 is none.
+/// Whether two arcs of a state take one pair.
 fn clash(first: &[u8; 20], second: &[u8; 20]) -> bool {
-    let set = |arc: &[u8; 20], place: usize| u64::from_le_bytes(arc[place..place + 8].try_into().expect("8 bytes"));
-    let [inputs, outputs] = [4, 12].map(|place| set(first, place) & set(second, place));
-    first[0] == second[0] && inputs != 0 && outputs != 0 && (inputs, outputs) != (1, 1)
+    first[0] == second[0] && share_a_pair(&Arc::read(first), &Arc::read(second))
 }
 
 /// The call with two states of a machine made one, the lower, without arcs that clash then.

@@ -33,7 +33,7 @@ fn the_demo() {
             cards += 1;
         }
     }
-    assert_eq!(cards, 8);
+    assert_eq!(cards, 9);
 }
 
 /// The demo's tableaux are judged as they are said to be.
@@ -50,7 +50,7 @@ fn the_tableaux() {
             *met.entry(verdict.to_string()).or_insert(0) += 1;
         }
     }
-    assert_eq!(met.into_values().collect::<Vec<_>>(), [1, 1, 1, 17]); // another row, not in the table, refused, right
+    assert_eq!(met.into_values().collect::<Vec<_>>(), [1, 1, 1, 1, 19]); // another row, 1 and 2, not in the table, refused, right
 }
 
 /// Ellison's set has 64 syllabifications of alqalamu.

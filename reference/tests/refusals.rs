@@ -4,7 +4,7 @@ use reference::candidate::evaluate;
 use reference::card::{lay_out, pack, read_card, read_part, Arc};
 use reference::optimizer::optimize;
 use reference::ranking::{compare, condition, find_ranking};
-use reference::samples::{arc, card, card_b, chain, machine, set, CARD_A};
+use reference::samples::{arc, card, card_b, chain, machine, same, set, unlike, CARD_A};
 
 /// The refusal of a card, or 0.
 fn number(card: &[u8]) -> u8 {
@@ -100,8 +100,9 @@ fn refusal_4() {
         (9, 0, 1),    // from
         (10, 0, 1),   // to
         (11, 15, 16), // marks
-        (12, 0, 1),   // zero byte
-        (13, 2, 0),   // in set
+        (12, 1, 3),   // kind
+        (12, 2, 255),
+        (13, 2, 0), // in set
         (13, 7, 8),
         (21, 6, 0), // out set
         (21, 7, 8),
@@ -137,6 +138,21 @@ fn refusal_5() {
     assert_eq!(two(arc(0, 0, 0, set([0]), set([0, 1])), arc(0, 0, 0, set([0]), set([0, 2]))), 0);
     assert_eq!(two(arc(0, 0, 0, set([0]), set([0, 1])), arc(0, 0, 0, set([0]), set([0, 1]))), 5);
     assert_eq!(two(arc(0, 0, 0, set([0]), set([0])), arc(0, 0, 0, set([0]), set([0]))), 0);
+    // by the pairs taken: kinds 1 and 2 with the same sets do not clash
+    assert_eq!(two(same(a.clone()), unlike(a.clone())), 0);
+    assert_eq!(two(same(a.clone()), same(a.clone())), 5);
+    assert_eq!(two(unlike(a.clone()), unlike(a.clone())), 5);
+    assert_eq!(two(a.clone(), same(a.clone())), 5);
+    assert_eq!(two(a.clone(), unlike(a.clone())), 5);
+    // sets without a pair of that kind
+    let unequal = same(arc(0, 0, 0, set([1]), set([2])));
+    assert_eq!(two(unequal.clone(), unequal.clone()), 0);
+    assert_eq!(two(a.clone(), unequal), 0);
+    let equal = unlike(arc(0, 0, 0, set([1]), set([1])));
+    assert_eq!(two(a.clone(), equal), 0);
+    // kinds 0 and 1 that share only 0:0
+    assert_eq!(two(arc(0, 0, 0, set([0, 1]), set([0])), same(arc(0, 0, 0, set([0, 1]), set([0, 1])))), 0);
+    assert_eq!(two(arc(0, 0, 0, set([0, 1]), set([0, 1])), same(arc(0, 0, 0, set([0, 1]), set([0, 1])))), 5);
     // the last two of three arcs
     let b = arc(0, 0, 0, set([2]), set([2]));
     assert_eq!(number(&card(2, &[machine(&[true], vec![a, b.clone(), b])])), 5);

@@ -4,3 +4,4 @@ pub mod ProfileMerge
 pub mod Evaluating
 pub mod Scoring
 pub mod OldCards
+pub mod OldArcs

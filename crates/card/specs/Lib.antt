@@ -6,3 +6,4 @@ pub mod Refusals
 pub mod Laws
 pub mod Accepted
 pub mod RoundTrip
+pub mod OldArcs

@@ -130,10 +130,10 @@ const WRAPPED: [u8; 10] = *b"\x02\x02\
     \x0a\x00\xfa\xff\x04\x00\x06\x00";
 
 // Card A with another byte at a place: the place and the byte. A line for each row of the table from 1 to 4.
-const EDITS: [u8; 62] = *b"\x00\x00\x00\x02\x00\x07\x01\x00\x01\x01\x01\x3f\x01\x40\
+const EDITS: [u8; 66] = *b"\x00\x00\x00\x02\x00\x07\x01\x00\x01\x01\x01\x3f\x01\x40\
     \x02\x05\x02\x07\x04\x16\x04\x18\
     \x06\x00\x06\x02\x07\x00\x07\x02\
-    \x08\x00\x08\x10\x08\x11\x09\x01\x0a\x01\x0b\x0f\x0b\x10\x0c\x01\x0d\x07\x0d\x00\x0d\x0a\x14\x80\x15\x01\x15\x00\x15\x0e\x1c\x80";
+    \x08\x00\x08\x10\x08\x11\x09\x01\x0a\x01\x0b\x0f\x0b\x10\x0c\x01\x0c\x02\x0c\x03\x0d\x07\x0d\x00\x0d\x0a\x14\x80\x15\x01\x15\x00\x15\x0e\x1c\x80";
 
 fn write(text: &[u8]) {
     io::write_all(1, text);
@@ -182,7 +182,7 @@ fn edited(at: u8, byte: u8) {
 }
 
 fn edits() {
-    for i in 0..31 {
+    for i in 0..33 {
         edited(EDITS[2 * i], EDITS[2 * i + 1]);
     }
 }
@@ -395,6 +395,69 @@ fn no_pair_twice() {
     both_ways(b"arcs that take no pair", &NO_PAIR_TWICE, &[43], 6);
 }
 
+// A line with the refusal of a card with two arcs of a state: for each its kind, its in set and its out set.
+fn two_arcs(kind: u8, inputs: u8, outputs: u8, other: u8, other_inputs: u8, other_outputs: u8) {
+    let mut card = NO_PAIR_TWICE;
+    card[12] = kind;
+    card[13] = inputs;
+    card[21] = outputs;
+    card[32] = other;
+    card[33] = other_inputs;
+    card[41] = other_outputs;
+    write(b"kinds");
+    write_byte(kind);
+    write_byte(inputs);
+    write_byte(outputs);
+    write_byte(other);
+    write_byte(other_inputs);
+    write_byte(other_outputs);
+    tried(b"", &card);
+}
+
+// Row 5 by the pairs taken: 1 and 2 with the same sets; 0 and 1 that share 1:1, in either order, that share only 0:0, only sets; 1 and 1
+// that share 0:0, 2:2; 0 and 2 that share 0:1, 1:0, only sets; 2 and 2 that share 1:2, only sets; 3, before the clash.
+fn kinds() {
+    two_arcs(1, 7, 7, 2, 7, 7);
+    two_arcs(0, 2, 6, 1, 7, 7);
+    two_arcs(1, 7, 7, 0, 2, 6);
+    two_arcs(0, 3, 1, 1, 3, 3);
+    two_arcs(0, 2, 4, 1, 2, 4);
+    two_arcs(1, 3, 3, 1, 5, 5);
+    two_arcs(1, 6, 6, 1, 5, 5);
+    two_arcs(0, 1, 2, 2, 7, 7);
+    two_arcs(0, 2, 1, 2, 7, 7);
+    two_arcs(0, 2, 2, 2, 7, 7);
+    two_arcs(2, 2, 7, 2, 6, 4);
+    two_arcs(2, 6, 4, 2, 4, 6);
+    two_arcs(3, 2, 2, 0, 2, 2);
+}
+
+// An arc of each kind that takes no pair.
+fn kind_of_no_pair(kind: u8, inputs: u8, outputs: u8) {
+    let mut card = CARD_A;
+    card[12] = kind;
+    card[13] = inputs;
+    card[21] = outputs;
+    write(b"no pair of kind");
+    write_byte(kind);
+    tried(b"", &card);
+}
+
+fn kinds_of_no_pair() {
+    kind_of_no_pair(0, 1, 1);
+    kind_of_no_pair(1, 2, 4);
+    kind_of_no_pair(2, 2, 2);
+}
+
+// Packing and reading keep the kinds.
+fn packed_kinds() {
+    let mut card = NO_PAIR_TWICE;
+    card[12] = 1;
+    card[32] = 2;
+    pack(b"kinds 1 and 2", 2, &[43], &card[6..], 50);
+    part(b"kinds 1 and 2", &card, 0);
+}
+
 fn clash_then_no_state() {
     both_ways(
         b"a clash, then no state",
@@ -454,6 +517,9 @@ fn main() {
     two_states();
     only_0_0();
     no_pair_twice();
+    kinds();
+    kinds_of_no_pair();
+    packed_kinds();
     clash_then_no_state();
     no_state_then_clash();
 }

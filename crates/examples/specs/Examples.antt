@@ -5,7 +5,7 @@ use Prim.Native.Nat.{ℕ}
 use Rattle.basics.specs.Search.{allOf, pairwise, those, firstThat, joined, everyBelow, someBelow, numbersBelow, occurrences}
 use Rattle.basics.specs.Sets.{setOf}
 use Rattle.basics.specs.Products.{product}
-use Rattle.machine.specs.Machine.{takes, stepAmong, endingOf, takeOnePair, clash}
+use Rattle.machine.specs.Machine.{ofKind, takes, stepAmong, endingOf, takeOnePair, clash}
 use Rattle.machine.specs.Part.{arcAt, arcsAt, machineOf, soundArc, shaped, partRefusal}
 use Rattle.layout.specs.Layout.{dueOffset, laidOut, partsIn}
 use Rattle.card.specs.Layout.{counted, partsOf}
@@ -54,7 +54,7 @@ pub record TenExamples : Type 0 where
   pub ten : finding 3 (4 ∷ 1 ∷ []) ≡ record { number = 0; ranking = 1 ∷ 2 ∷ 0 ∷ 0 ∷ 0 ∷ 0 ∷ [] }
 
 pub the-ten-examples : TenExamples
-unfolding allOf pairwise those firstThat joined everyBelow someBelow numbersBelow occurrences setOf takes stepAmong endingOf takeOnePair clash arcAt arcsAt machineOf soundArc shaped partRefusal dueOffset laidOut partsIn counted partsOf cardRefusal partsRefusal product machinesOf isRanking arrangements harmony highest fits conditionsOf disjoint soundCondition soundList smallest finding pairsOf bytesOf spelled marksFrom isComplete profileOf soundCandidate evaluating smaller winsTie preferred sameWord pairsOver listsBelow contendersAmong leastOf bestBelow bestOf bestIn best soundWord inputRefusal optimizerRefusal optimized optimizedAnswer
+unfolding allOf pairwise those firstThat joined everyBelow someBelow numbersBelow occurrences setOf ofKind takes stepAmong endingOf takeOnePair clash arcAt arcsAt machineOf soundArc shaped partRefusal dueOffset laidOut partsIn counted partsOf cardRefusal partsRefusal product machinesOf isRanking arrangements harmony highest fits conditionsOf disjoint soundCondition soundList smallest finding pairsOf bytesOf spelled marksFrom isComplete profileOf soundCandidate evaluating smaller winsTie preferred sameWord pairsOver listsBelow contendersAmong leastOf bestBelow bestOf bestIn best soundWord inputRefusal optimizerRefusal optimized optimizedAnswer
 the-ten-examples = record {
   one = (refl, refl);
   two = (refl, refl);
@@ -75,5 +75,5 @@ pub record RequestExamples : Type 0 where
   pub its-profile : evaluating cardBWithEnding (1 ∷ 1 ∷ []) ≡ accepted (1 ∷ 0 ∷ 0 ∷ 0 ∷ 0 ∷ 0 ∷ []) 1 1
 
 pub the-request-examples : RequestExamples
-unfolding allOf pairwise those firstThat joined everyBelow someBelow numbersBelow occurrences setOf takes stepAmong endingOf takeOnePair clash arcAt arcsAt machineOf soundArc shaped partRefusal dueOffset laidOut partsIn counted partsOf cardRefusal partsRefusal product machinesOf isRanking arrangements harmony highest fits conditionsOf disjoint soundCondition soundList smallest finding pairsOf bytesOf spelled marksFrom isComplete profileOf soundCandidate evaluating smaller winsTie preferred sameWord pairsOver listsBelow contendersAmong leastOf bestBelow bestOf bestIn best soundWord inputRefusal optimizerRefusal optimized optimizedAnswer
+unfolding allOf pairwise those firstThat joined everyBelow someBelow numbersBelow occurrences setOf ofKind takes stepAmong endingOf takeOnePair clash arcAt arcsAt machineOf soundArc shaped partRefusal dueOffset laidOut partsIn counted partsOf cardRefusal partsRefusal product machinesOf isRanking arrangements harmony highest fits conditionsOf disjoint soundCondition soundList smallest finding pairsOf bytesOf spelled marksFrom isComplete profileOf soundCandidate evaluating smaller winsTie preferred sameWord pairsOver listsBelow contendersAmong leastOf bestBelow bestOf bestIn best soundWord inputRefusal optimizerRefusal optimized optimizedAnswer
 the-request-examples = record { ending-marks = (refl, refl); its-profile = refl }

@@ -3,7 +3,7 @@ use mathlib.Core.Path.{_≡_, refl}
 use mathlib.Core.List.{List, [], _∷_, _++_}
 use Prim.Native.Nat.{ℕ}
 use Rattle.basics.specs.Search.{allOf, pairwise, those, firstThat, joined, everyBelow, someBelow, numbersBelow, occurrences}
-use Rattle.machine.specs.Machine.{takes, stepAmong, endingOf, takeOnePair, clash}
+use Rattle.machine.specs.Machine.{ofKind, takes, stepAmong, endingOf, takeOnePair, clash}
 use Rattle.machine.specs.Part.{arcAt, arcsAt, machineOf, soundArc, shaped, partRefusal}
 use Rattle.basics.specs.Products.{product}
 use Rattle.layout.specs.Layout.{dueOffset, laidOut, partsIn}
@@ -48,5 +48,5 @@ pub record ThreeVerdicts : Type 0 where
   pub no-row : judge (two 2) ≡ refusedJudging 19
 
 pub the-three-verdicts : ThreeVerdicts
-unfolding allOf pairwise those firstThat joined everyBelow someBelow numbersBelow occurrences takes stepAmong endingOf takeOnePair clash arcAt arcsAt machineOf soundArc shaped partRefusal dueOffset laidOut partsIn counted partsOf cardRefusal partsRefusal product machinesOf isRanking harmony pairsOf bytesOf spelled marksFrom isComplete profileOf soundCandidate smaller winsTie preferred sameWord pairsOver listsBelow contendersAmong leastOf bestBelow bestOf bestIn best soundWord inputRefusal soundRow soundTableau isForWord sameCounts firstRow verdictOf judgingRefusal judging
+unfolding allOf pairwise those firstThat joined everyBelow someBelow numbersBelow occurrences ofKind takes stepAmong endingOf takeOnePair clash arcAt arcsAt machineOf soundArc shaped partRefusal dueOffset laidOut partsIn counted partsOf cardRefusal partsRefusal product machinesOf isRanking harmony pairsOf bytesOf spelled marksFrom isComplete profileOf soundCandidate smaller winsTie preferred sameWord pairsOver listsBelow contendersAmong leastOf bestBelow bestOf bestIn best soundWord inputRefusal soundRow soundTableau isForWord sameCounts firstRow verdictOf judgingRefusal judging
 the-three-verdicts = record { right = refl; another = refl; missing = refl; no-row = refl }

@@ -1,9 +1,8 @@
 -- Refusal 5, a state at a time: the pairs noted, and what the checks of all states say of all arcs. Assumes nothing.
 use mathlib.Core.Path.{_≡_, refl, sym, ap, _∙_, subst}
-use mathlib.Core.Bool.{Bool, true, false, not, _&&_, _||_, cond, and-false, or-false}
+use mathlib.Core.Bool.{Bool, true, false, not, _&&_, _||_, cond, and-true, and-false, and-assoc, or-false}
 use mathlib.Core.List.{List, [], _∷_}
 use Prim.Native.Nat.{ℕ, zero, suc, _+_, _*_, _/_, _%_, _^_, _<_, _≤_}
-use native.Mathlib.Nat.{div-one}
 use native.Mathlib.Decide.{ℕ-discrete}
 use native.Mathlib.Omega.{arith}
 use lib.Bits.{bitAnd, bitOr}
@@ -20,110 +19,114 @@ use Rattle.basics.proofs.Sets.{no-member, its-member, member-and, member-or}
 use Rattle.machine.specs.declared.Arc.{Arc}
 use Rattle.machine.specs.declared.Pair.{Pair}
 use Rattle.machine.specs.Symbols.{emptySymbol, isPair}
-use Rattle.machine.specs.Machine.{takes, takesFrom, bothTake, takeOnePair, clash}
+use Rattle.machine.specs.Machine.{ofKind, takes, takesFrom, bothTake, takeOnePair, clash}
 use Rattle.machine.specs.Part.{stateCount, arcCount, arcAt, arcsOf, soundArc, soundArcs, clashFree}
 use Rattle.machine.specs.Accepted.{sound-facts}
 use Rattle.machine.specs.Steps.{clash-at}
 use Rattle.machine.specs.Clashes.{LeavesStates, clashFreeFrom, pairsWith, noted, takenFrom, Taken, PairsNoted}
-use Rattle.machine.proofs.SymbolSets.{member-half}
+use Rattle.machine.proofs.Partners.{without-empty, in-partners}
 use Rattle.machine.proofs.SetLoops.{Passed, with-true, passed-none, still-old, passed-next, passed-all}
 use Rattle.machine.proofs.Arcs.{leaves, leaves-other, arc-at, arcs-count}
 
--- the inputs that make a pair with an output
-pub pairs-member : (w : ℕ) (p : Pair) → member (pairsWith w (p .output)) (p .input) ≡ (isPair p && member w (p .input))
-pairs-member w p = go (eqb (p .output) emptySymbol) refl (p .input)
+-- the inputs that make a pair of a kind with an output
+pub pairs-member : (kind w : ℕ) (p : Pair) → member (pairsWith kind w (p .output)) (p .input) ≡ (isPair p && (member w (p .input) && ofKind kind p))
+pairs-member kind w p =
+    in-partners kind (cond (eqb (p .output) emptySymbol) (w / 2 * 2) w) (p .output) (p .input)
+    ∙ ap (λ (b : Bool). b && ofKind kind p) (go (eqb (p .output) emptySymbol) refl)
+    ∙ and-assoc (isPair p) (member w (p .input)) (ofKind kind p)
   where
-    go : (b : Bool) → eqb (p .output) emptySymbol ≡ b → (x : ℕ)
-        → member (cond (eqb (p .output) emptySymbol) (w / 2 * 2) w) x ≡ (not (eqb x emptySymbol && eqb (p .output) emptySymbol) && member w x)
-    go true e zero = rw (e, div-one) (ne-eqb (w / 2 * 2 % 2) 1 (omega arith))
-    go true e (suc x) =
-        let half : w / 2 * 2 / 2 ≡ w / 2 = omega arith in
-        rw (e, ne-eqb (suc x) 0 (omega arith)) (member-half (w / 2 * 2) x ∙ ap (λ (n : ℕ). member n x) half ∙ sym (member-half w x))
-    go false e x = rw (e, and-false (eqb x emptySymbol))
+    go : (b : Bool) → eqb (p .output) emptySymbol ≡ b
+        → member (cond (eqb (p .output) emptySymbol) (w / 2 * 2) w) (p .input) ≡ (not (eqb (p .input) emptySymbol && eqb (p .output) emptySymbol) && member w (p .input))
+    go true e = rw (e, and-true (eqb (p .input) emptySymbol)) (without-empty w (p .input))
+    go false e = rw (e, and-false (eqb (p .input) emptySymbol))
 
--- in and out are in the sets
-abbrev pub inSets : ℕ → ℕ → Pair → Bool
-inSets inputs outputs p = member inputs (p .input) && member outputs (p .output)
+-- in and out are in the sets, and the pair is of the kind
+abbrev pub inSets : ℕ → ℕ → ℕ → Pair → Bool
+inSets kind inputs outputs p = member inputs (p .input) && member outputs (p .output) && ofKind kind p
 
 -- the pairs of an arc: the outputs gone through are noted, and were not
-pub record PairsPassed (before now : List ℕ) (inputs outputs left : ℕ) : Type 0 where
-  pub passed : Passed (λ k. getD before k 0) (λ k. bitOr (getD before k 0) (pairsWith inputs k)) (λ k. getD now k 0) outputs left
-  pub clean : (k : ℕ) → member outputs k ≡ true → member left k ≡ false → bitAnd (getD before k 0) (pairsWith inputs k) ≡ 0
+pub record PairsPassed (before now : List ℕ) (kind inputs outputs left : ℕ) : Type 0 where
+  pub passed : Passed (λ k. getD before k 0) (λ k. bitOr (getD before k 0) (pairsWith kind inputs k)) (λ k. getD now k 0) outputs left
+  pub clean : (k : ℕ) → member outputs k ≡ true → member left k ≡ false → bitAnd (getD before k 0) (pairsWith kind inputs k) ≡ 0
 
-module _ (before : List ℕ) (inputs outputs : ℕ) where
-  pub pairs-none : PairsPassed before before inputs outputs outputs
+module _ (before : List ℕ) (kind inputs outputs : ℕ) where
+  pub pairs-none : PairsPassed before before kind inputs outputs outputs
   pairs-none = record {
-    passed = passed-none (λ k. getD before k 0) (λ k. bitOr (getD before k 0) (pairsWith inputs k)) outputs;
+    passed = passed-none (λ k. getD before k 0) (λ k. bitOr (getD before k 0) (pairsWith kind inputs k)) outputs;
     clean = λ k t f. absurd (never t f);
   }
 
   -- a pair with the output y was noted
-  pub pair-found : (after : List ℕ) (y : ℕ) → y < 64 → member outputs y ≡ true → bitAnd (getD before y 0) (pairsWith inputs y) < 2 ^ 64
-      → (bitAnd (getD before y 0) (pairsWith inputs y) ≡ 0 → ⊥) → PairsNoted (inSets inputs outputs) before after true
+  pub pair-found : (after : List ℕ) (y : ℕ) → y < 64 → member outputs y ≡ true → bitAnd (getD before y 0) (pairsWith kind inputs y) < 2 ^ 64
+      → (bitAnd (getD before y 0) (pairsWith kind inputs y) ≡ 0 → ⊥) → PairsNoted (inSets kind inputs outputs) before after true
   pair-found after y h t b n =
-      let w = bitAnd (getD before y 0) (pairsWith inputs y) in
+      let w = bitAnd (getD before y 0) (pairsWith kind inputs y) in
       let q = its-member 64 w b (omega arith) in
       let p : Pair = record { input = q .0; output = y } in
-      let m : (noted before p && member (pairsWith inputs y) (q .0)) ≡ true = sym (member-and (getD before y 0) (pairsWith inputs y) (q .0)) ∙ q .2 in
-      let i : (isPair p && member inputs (q .0)) ≡ true = sym (pairs-member inputs p) ∙ right (noted before p) (member (pairsWith inputs y) (q .0)) m in
+      let m : (noted before p && member (pairsWith kind inputs y) (q .0)) ≡ true = sym (member-and (getD before y 0) (pairsWith kind inputs y) (q .0)) ∙ q .2 in
+      let k = ofKind kind p in
+      let i : (isPair p && (member inputs (q .0) && k)) ≡ true = sym (pairs-member kind inputs p) ∙ right (noted before p) (member (pairsWith kind inputs y) (q .0)) m in
+      let t2 : (member inputs (q .0) && k) ≡ true = right (isPair p) (member inputs (q .0) && k) i in
       record {
         found = λ e. (
           p,
           q .1,
           h,
-          left (isPair p) (member inputs (q .0)) i,
-          both (right (isPair p) (member inputs (q .0)) i) t,
-          left (noted before p) (member (pairsWith inputs y) (q .0)) m,
+          left (isPair p) (member inputs (q .0) && k) i,
+          both (both (left (member inputs (q .0)) k t2) t) (right (member inputs (q .0)) k t2),
+          left (noted before p) (member (pairsWith kind inputs y) (q .0)) m,
         );
         clean = λ e. absurd (never refl e);
         after-is = λ e. absurd (never refl e);
       }
 
-  module _ (now : List ℕ) (rest : ℕ) (P : PairsPassed before now inputs outputs rest) where
+  module _ (now : List ℕ) (rest : ℕ) (P : PairsPassed before now kind inputs outputs rest) where
     -- what is noted at an output that is left
     pub not-yet : (y : ℕ) → member rest y ≡ true → getD now y 0 ≡ getD before y 0
-    not-yet = still-old (λ k. getD before k 0) (λ k. bitOr (getD before k 0) (pairsWith inputs k)) outputs (λ k. getD now k 0) rest (P .passed)
+    not-yet = still-old (λ k. getD before k 0) (λ k. bitOr (getD before k 0) (pairsWith kind inputs k)) outputs (λ k. getD now k 0) rest (P .passed)
 
     -- the pairs with the output y are noted
     pub pairs-next : (y after v : ℕ) → y < length now → member rest y ≡ true → ((k : ℕ) → member after k ≡ (member rest k && not (eqb k y)))
-        → bitAnd (getD before y 0) (pairsWith inputs y) ≡ 0 → v ≡ bitOr (getD before y 0) (pairsWith inputs y) → PairsPassed before (set now y v) inputs outputs after
+        → bitAnd (getD before y 0) (pairsWith kind inputs y) ≡ 0 → v ≡ bitOr (getD before y 0) (pairsWith kind inputs y) → PairsPassed before (set now y v) kind inputs outputs after
     pairs-next y after v h t f z e = record {
       passed =
-          passed-next (λ k. getD before k 0) (λ k. bitOr (getD before k 0) (pairsWith inputs k)) outputs (λ k. getD now k 0) rest (P .passed) (λ k. getD (set now y v) k 0) after y t f
+          passed-next (λ k. getD before k 0) (λ k. bitOr (getD before k 0) (pairsWith kind inputs k)) outputs (λ k. getD now k 0) rest (P .passed) (λ k. getD (set now y v) k 0) after y t f
           (getD-set-same now y v 0 h ∙ e) (λ k n. getD-set-other now y k v 0 n);
       clean = λ k o l. at k o l (ℕ-discrete k y);
     }
       where
-        at : (k : ℕ) → member outputs k ≡ true → member after k ≡ false → Dec (k ≡ y) → bitAnd (getD before k 0) (pairsWith inputs k) ≡ 0
+        at : (k : ℕ) → member outputs k ≡ true → member after k ≡ false → Dec (k ≡ y) → bitAnd (getD before k 0) (pairsWith kind inputs k) ≡ 0
         at k o l (yes q) = rw q z
         at k o l (no q) = P .clean k o (sym (f k ∙ ap (λ (b : Bool). member rest k && not b) (ne-eqb k y q) ∙ with-true (member rest k)) ∙ l)
 
     -- all of them are noted
-    pub pairs-end : rest ≤ 0 → PairsNoted (inSets inputs outputs) before now false
+    pub pairs-end : rest ≤ 0 → PairsNoted (inSets kind inputs outputs) before now false
     pairs-end h = record { found = λ e. absurd (never e refl); clean = λ e p b i t. unmet p i t; after-is = λ e p b. at p (member outputs (p .output)) refl }
       where
         none : rest ≡ 0
         none = omega arith
 
-        unmet : (p : Pair) → isPair p ≡ true → inSets inputs outputs p ≡ true → noted before p ≡ false
+        unmet : (p : Pair) → isPair p ≡ true → inSets kind inputs outputs p ≡ true → noted before p ≡ false
         unmet p i t =
             let x = member inputs (p .input) in
             let y = member outputs (p .output) in
-            let z = P .clean (p .output) (right x y t) (rw none (no-member (p .output))) in
-            let m : member (pairsWith inputs (p .output)) (p .input) ≡ true = pairs-member inputs p ∙ both i (left x y t) in
-            let e : (noted before p && member (pairsWith inputs (p .output)) (p .input)) ≡ false =
-            sym (member-and (getD before (p .output) 0) (pairsWith inputs (p .output)) (p .input)) ∙ (rw z (no-member (p .input))) in
+            let k = ofKind kind p in
+            let xy : (x && y) ≡ true = left (x && y) k t in
+            let z = P .clean (p .output) (right x y xy) (rw none (no-member (p .output))) in
+            let m : member (pairsWith kind inputs (p .output)) (p .input) ≡ true = pairs-member kind inputs p ∙ both i (both (left x y xy) (right (x && y) k t)) in
+            let e : (noted before p && member (pairsWith kind inputs (p .output)) (p .input)) ≡ false =
+            sym (member-and (getD before (p .output) 0) (pairsWith kind inputs (p .output)) (p .input)) ∙ (rw z (no-member (p .input))) in
             fails (noted before p) (λ q. never (both q m) e)
 
-        at : (p : Pair) (b : Bool) → member outputs (p .output) ≡ b → noted now p ≡ (noted before p || (isPair p && inSets inputs outputs p))
-        at p b o = ap (λ (n : ℕ). member n (p .input)) (passed-all (λ k. getD before k 0) (λ k. bitOr (getD before k 0) (pairsWith inputs k)) outputs (λ k. getD now k 0) rest (P .passed) h (p .output)) ∙ go b o
+        at : (p : Pair) (b : Bool) → member outputs (p .output) ≡ b → noted now p ≡ (noted before p || (isPair p && inSets kind inputs outputs p))
+        at p b o = ap (λ (n : ℕ). member n (p .input)) (passed-all (λ k. getD before k 0) (λ k. bitOr (getD before k 0) (pairsWith kind inputs k)) outputs (λ k. getD now k 0) rest (P .passed) h (p .output)) ∙ go b o
           where
             go : (b : Bool) → member outputs (p .output) ≡ b
-                → member (cond (member outputs (p .output)) (bitOr (getD before (p .output) 0) (pairsWith inputs (p .output))) (getD before (p .output) 0)) (p .input)
-                ≡ (noted before p || (isPair p && inSets inputs outputs p))
+                → member (cond (member outputs (p .output)) (bitOr (getD before (p .output) 0) (pairsWith kind inputs (p .output))) (getD before (p .output) 0)) (p .input)
+                ≡ (noted before p || (isPair p && inSets kind inputs outputs p))
             go true o =
-                rw (o, with-true (member inputs (p .input)))
-                (member-or (getD before (p .output) 0) (pairsWith inputs (p .output)) (p .input) ∙ ap (λ (c : Bool). noted before p || c) (pairs-member inputs p))
+                rw (o, and-true (member inputs (p .input)))
+                (member-or (getD before (p .output) 0) (pairsWith kind inputs (p .output)) (p .input) ∙ ap (λ (c : Bool). noted before p || c) (pairs-member kind inputs p))
             go false o = rw (o, and-false (member inputs (p .input)), and-false (isPair p)) (sym (or-false (noted before p)))
 
 -- the arc of one state

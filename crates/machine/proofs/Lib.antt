@@ -1,4 +1,5 @@
 pub mod SymbolSets
+pub mod Partners
 pub mod SetLoops
 pub mod Stages
 pub mod Arcs

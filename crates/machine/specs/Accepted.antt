@@ -14,7 +14,7 @@ use Rattle.basics.proofs.Bools.{clash as never, left, right}
 use Rattle.basics.proofs.Sets.{member-beyond}
 use Rattle.machine.specs.declared.Arc.{Arc}
 use Rattle.machine.specs.declared.Pair.{Pair}
-use Rattle.machine.specs.Machine.{stateCountOf, takes}
+use Rattle.machine.specs.Machine.{stateCountOf, ofKind, takes}
 use Rattle.machine.specs.Part.{stateCount, arcCount, stateBytes, endingByte, machineOf, shaped, soundSet, soundArc, soundStates, soundArcs, noClash, partRefusal}
 
 -- a part that passes refusal 3
@@ -73,6 +73,7 @@ pub record SoundArc (S Q : ℕ) (a : Arc) : Type 0 where
   pub from : a .from < Q
   pub to : a .to < Q
   pub marks : a .marks ≤ 15
+  pub kind : a .kind ≤ 2
   pub inputs : a .inputs < 2 ^ (S + 1)
   pub outputs : a .outputs < 2 ^ (S + 1)
 
@@ -82,21 +83,22 @@ sound-facts S Q a t =
     let p = ltb (a .from) Q in
     let q = ltb (a .to) Q in
     let m = leb (a .marks) 15 in
-    let z = eqb (a .reserved) 0 in
+    let k = leb (a .kind) 2 in
     let i = soundSet S (a .inputs) in
     let o = soundSet S (a .outputs) in
     let i? = not (eqb (a .inputs) 0) in
     let o? = not (eqb (a .outputs) 0) in
-    let pqmzi : (p && q && m && z && i) ≡ true = left (p && q && m && z && i) o t in
-    let pqmz : (p && q && m && z) ≡ true = left (p && q && m && z) i pqmzi in
-    let pqm : (p && q && m) ≡ true = left (p && q && m) z pqmz in
+    let pqmki : (p && q && m && k && i) ≡ true = left (p && q && m && k && i) o t in
+    let pqmk : (p && q && m && k) ≡ true = left (p && q && m && k) i pqmki in
+    let pqm : (p && q && m) ≡ true = left (p && q && m) k pqmk in
     let pq : (p && q) ≡ true = left (p && q) m pqm in
     record {
       from = ltb-true (a .from) Q (left p q pq);
       to = ltb-true (a .to) Q (right p q pq);
       marks = leb-true (a .marks) 15 (right (p && q) m pqm);
-      inputs = ltb-true (a .inputs) (2 ^ (S + 1)) (right i? (ltb (a .inputs) (2 ^ (S + 1))) (right (p && q && m && z) i pqmzi));
-      outputs = ltb-true (a .outputs) (2 ^ (S + 1)) (right o? (ltb (a .outputs) (2 ^ (S + 1))) (right (p && q && m && z && i) o t));
+      kind = leb-true (a .kind) 2 (right (p && q && m) k pqmk);
+      inputs = ltb-true (a .inputs) (2 ^ (S + 1)) (right i? (ltb (a .inputs) (2 ^ (S + 1))) (right (p && q && m && k) i pqmki));
+      outputs = ltb-true (a .outputs) (2 ^ (S + 1)) (right o? (ltb (a .outputs) (2 ^ (S + 1))) (right (p && q && m && k && i) o t));
     }
 
 -- a member of a set with no bit over S is at most S
@@ -114,4 +116,5 @@ taken-within S Q a p h t =
     let f = sound-facts S Q a h in
     let i = member (a .inputs) (p .input) in
     let o = member (a .outputs) (p .output) in
-    (member-within S (a .inputs) (p .input) (f .inputs) (left i o t), member-within S (a .outputs) (p .output) (f .outputs) (right i o t))
+    let io = left (i && o) (ofKind (a .kind) p) t in
+    (member-within S (a .inputs) (p .input) (f .inputs) (left i o io), member-within S (a .outputs) (p .output) (f .outputs) (right i o io))

@@ -10,6 +10,7 @@ use Rattle.basics.specs.Sets.{member}
 use Rattle.machine.specs.declared.Arc.{Arc}
 use Rattle.machine.specs.declared.Pair.{Pair}
 use Rattle.machine.specs.Symbols.{emptySymbol, isPair}
+use Rattle.machine.specs.SymbolSets.{partners}
 use Rattle.machine.specs.Machine.{takesFrom, clash}
 use Rattle.machine.specs.Part.{stateCount, arcsOf}
 
@@ -21,9 +22,9 @@ LeavesStates part = allOf (λ a. ltb (a .from) (stateCount part)) (arcsOf part) 
 abbrev pub clashFreeFrom : ℕ → Arc → Arc → Bool
 clashFreeFrom s a b = not (eqb (a .from) s && clash a b)
 
--- the inputs of a set that make a pair with an output: all, but for 0 with 0
-abbrev pub pairsWith : ℕ → ℕ → ℕ
-pairsWith inputs y = cond (eqb y emptySymbol) (inputs / 2 * 2) inputs
+-- the inputs of a set that make a pair of a kind with an output: 0 with 0 is none
+abbrev pub pairsWith : ℕ → ℕ → ℕ → ℕ
+pairsWith kind inputs y = partners kind (cond (eqb y emptySymbol) (inputs / 2 * 2) inputs) y
 
 -- a pair is one of those noted: for each output, the set of their inputs
 abbrev pub noted : List ℕ → Pair → Bool

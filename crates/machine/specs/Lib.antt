@@ -6,3 +6,5 @@ pub mod SymbolSets
 pub mod Clashes
 pub mod Accepted
 pub mod Steps
+pub mod OldArcs
+pub mod SameAndDifferent

@@ -1,8 +1,8 @@
 -- Constraint machines: arcs, the pairs that they take, steps, endings.
-use mathlib.Core.Bool.{Bool, true, false, _&&_}
+use mathlib.Core.Bool.{Bool, true, false, not, _&&_}
 use mathlib.Core.List.{List, [], _∷_}
 use mathlib.Core.Option.{Option, some, none}
-use Prim.Native.Nat.{ℕ}
+use Prim.Native.Nat.{ℕ, zero, suc}
 use lib.ListN.{length, getD}
 use lib.Dec.{eqb}
 use Rattle.basics.specs.Sets.{member}
@@ -32,9 +32,15 @@ noMachine = record { endings = []; arcs = [] }
 abbrev pub startState : ℕ
 startState = 0
 
--- an arc takes a pair if in and out are in its sets
+-- a pair is of an arc's kind: 0 has any pair, 1 only those with in equal to out, 2 only those with in unlike out
+unfoldable pub ofKind : ℕ → Pair → Bool
+ofKind zero p = true
+ofKind (suc zero) p = isPair p && eqb (p .input) (p .output)
+ofKind (suc (suc k)) p = not (eqb (p .input) (p .output))
+
+-- an arc takes a pair if in and out are in its sets and the pair is of its kind
 unfoldable pub takes : Arc → Pair → Bool
-takes a p = member (a .inputs) (p .input) && member (a .outputs) (p .output)
+takes a p = member (a .inputs) (p .input) && member (a .outputs) (p .output) && ofKind (a .kind) p
 
 -- an arc takes a pair from a state if it leaves that state and takes the pair
 abbrev pub takesFrom : Arc → ℕ → Pair → Bool

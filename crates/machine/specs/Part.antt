@@ -28,7 +28,7 @@ eightBytesAt l at = fourBytesAt l at + 2 ^ 32 * fourBytesAt l (at + 4)
 -- the arc whose 20 bytes start at a place
 unfoldable pub arcAt : List ℕ → ℕ → Arc
 arcAt l at =
-    record { from = getD l at 0; to = getD l (at + 1) 0; marks = getD l (at + 2) 0; reserved = getD l (at + 3) 0; inputs = eightBytesAt l (at + 4); outputs = eightBytesAt l (at + 12) }
+    record { from = getD l at 0; to = getD l (at + 1) 0; marks = getD l (at + 2) 0; kind = getD l (at + 3) 0; inputs = eightBytesAt l (at + 4); outputs = eightBytesAt l (at + 12) }
 
 -- n arcs from a place
 unfoldable pub arcsAt : List ℕ → ℕ → ℕ → List Arc
@@ -60,10 +60,10 @@ shaped part =
 abbrev pub soundSet : ℕ → ℕ → Bool
 soundSet S set = not (eqb set 0) && ltb set (2 ^ (S + 1))
 
--- arc states below Q, marks at most 15, the zero byte 0, sound sets
+-- arc states below Q, marks at most 15, the kind at most 2, sound sets
 unfoldable pub soundArc : ℕ → ℕ → Arc → Bool
 soundArc S Q a =
-    ltb (a .from) Q && ltb (a .to) Q && leb (a .marks) 15 && eqb (a .reserved) 0 && soundSet S (a .inputs) && soundSet S (a .outputs)
+    ltb (a .from) Q && ltb (a .to) Q && leb (a .marks) 15 && leb (a .kind) 2 && soundSet S (a .inputs) && soundSet S (a .outputs)
 
 -- not refusal 4: no state byte over 16, and every arc sound
 abbrev pub soundStates : List ℕ → Bool

@@ -95,7 +95,7 @@ module _ (S : ℕ) (part : List ℕ) (ok : partRefusal S part ≡ 0) where
   pub step-bounds : (s : ℕ) (p : Pair) (r : ℕ × ℕ) → stepOf (machineOf part) s p ≡ some r → StepBounds S part p r
   unfolding machineOf
   step-bounds s p r e =
-      let d : Arc = record { from = 0; to = 0; marks = 0; reserved = 0; inputs = 0; outputs = 0 } in
+      let d : Arc = record { from = 0; to = 0; marks = 0; kind = 0; inputs = 0; outputs = 0 } in
       let w = step-by d s p (arcsOf part) r e in
       let a = getD (arcsOf part) (w .0) d in
       let f = sound-facts S (stateCount part) a (arc-sound d (w .0) (w .1)) in

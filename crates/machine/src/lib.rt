@@ -54,12 +54,12 @@ impl Pair {
     }
 }
 
-// An arc of a machine: the states that it joins, its marks, the zero byte, its sets of symbols.
+// An arc of a machine: the states that it joins, its marks, its kind, its sets of symbols.
 pub struct Arc {
     pub from: u8,
     pub to: u8,
     pub marks: u8,
-    pub reserved: u8,
+    pub kind: u8,
     pub inputs: u64,
     pub outputs: u64,
 }
@@ -69,7 +69,7 @@ impl Arc {
     pub fn takes(self, input: u64, output: u64) -> bool
         ensures { λ r. ⌜ ((pair : Pair) → input ≡ 2 ^ pair .input → output ≡ 2 ^ pair .output → r ≡ takes self pair) ⌝ }
     {
-        sets::holds(self.inputs, input) & sets::holds(self.outputs, output)
+        sets::holds(self.outputs_for(input), output)
     }
 
     // The outputs with which the arc takes an input, as a set, by the set of the input.
@@ -77,7 +77,7 @@ impl Arc {
         ensures { λ r. ⌜ ((x y : ℕ) → input ≡ 2 ^ x → member r y ≡ takes self (record { input = x; output = y })) ⌝ }
     {
         if sets::holds(self.inputs, input) {
-            self.outputs
+            sets::of_kind(self.outputs, self.kind, input)
         } else {
             0
         }
@@ -90,7 +90,7 @@ impl Arc {
         (self.from < states)
             & (self.to < states)
             & (self.marks <= 15)
-            & (self.reserved == 0)
+            & (self.kind <= 2)
             & sets::is_sound(self.inputs, last)
             & sets::is_sound(self.outputs, last)
     }

@@ -48,7 +48,7 @@ pub fn read_arc(part: &[u8], at: usize) -> Arc
         from: part[at],
         to: part[at + 1],
         marks: part[at + 2],
-        reserved: part[at + 3],
+        kind: part[at + 3],
         inputs: eight_bytes(part, at + 4),
         outputs: eight_bytes(part, at + 12),
     }
@@ -125,14 +125,16 @@ pub fn check_arcs(part: &[u8], symbols: u8) -> Stage
     Stage::Passed
 }
 
-// The inputs of a set that make a pair with an output: all of them, but for 0 with 0.
-fn pairs_with(inputs: u64, output: usize) -> u64
-    ensures { λ r. ⌜ r ≡ pairsWith inputs output ⌝ }
+// The inputs of a set that make a pair of a kind with an output: 0 with 0 is none.
+fn pairs_with(inputs: u64, kind: u8, output: usize) -> u64
+    requires { ⌜ output < 64 ⌝ }
+    ensures { λ r. ⌜ r ≡ pairsWith kind inputs output ⌝ }
 {
+    let one = sets::set_of(output as u8);
     if output == index(Pair::EMPTY) {
-        return inputs / 2 * 2;
+        return sets::of_kind(inputs / 2 * 2, kind, one);
     }
-    inputs
+    sets::of_kind(inputs, kind, one)
 }
 
 // Refusal 5, the pairs of one arc: whether one of them is taken. If not, they are noted as taken: `taken` has, for each output, the
@@ -142,10 +144,11 @@ fn note_pairs(taken: &mut [u64], arc: Arc) -> bool
     ensures { λ r. ⌜ PairsNoted (takes arc) (now (taken .entry)) (now (taken .exit)) r ⌝ }
 {
     let inputs = arc.inputs;
+    let kind = arc.kind;
     let mut left = arc.outputs;
     while left > 0 {
         let y = sets::least(left);
-        let pairs = pairs_with(inputs, y);
+        let pairs = pairs_with(inputs, kind, y);
         let before = taken[y];
         if before & pairs != 0 {
             return true;

@@ -4,7 +4,7 @@ ghost use mathlib.Core.Bool.{true, not, _&&_};
 ghost use Prim.Native.Nat.{ℕ, _<_, _^_};
 ghost use lib.Dec.{eqb};
 ghost use Rattle.basics.specs.Sets.{member};
-ghost use Rattle.machine.specs.SymbolSets.{leastSymbol};
+ghost use Rattle.machine.specs.SymbolSets.{leastSymbol, partners};
 ghost use Rattle.machine.specs.Part.{soundSet};
 
 // The set of one symbol.
@@ -43,4 +43,17 @@ pub fn without_least(set: u64) -> u64
     ensures { λ r. ⌜ (r < set) × ((n : ℕ) → member r n ≡ (member set n && not (eqb n (leastSymbol set)))) ⌝ }
 {
     set & (set - 1)
+}
+
+// The symbols of a set that make a pair of an arc's kind with one symbol, whichever of the two is in; `one` is the set of that symbol.
+pub fn of_kind(set: u64, kind: u8, one: u64) -> u64
+    ensures { λ r. ⌜ ((x : ℕ) → one ≡ 2 ^ x → r ≡ partners kind set x) ⌝ }
+{
+    if kind == 0 {
+        return set;
+    }
+    if kind == 1 {
+        return set & (one / 2 * 2);
+    }
+    set & (set ^ one)
 }

@@ -1,6 +1,6 @@
 //! Cards by chance that are accepted: every machine count, every P to 128, every S to 63, arcs that do not clash.
 
-use crate::card::{Arc, Card, Machine};
+use crate::card::{share_a_pair, Arc, Card, Machine};
 use crate::random::Random;
 use crate::samples::{arc, machine, set, shared_out};
 
@@ -17,6 +17,8 @@ struct Style {
     /// How many of a hundred final states have ending marks, and the most that they have.
     ending: usize,
     most_ending_marks: usize,
+    /// How many of a hundred blocks of pairs are split by kind.
+    kinds: usize,
 }
 
 #[derive(Clone, Copy)]
@@ -45,6 +47,7 @@ impl Style {
             finals: random.one_of(&[Finals::All, Finals::All, Finals::Some, Finals::Last]),
             ending,
             most_ending_marks,
+            kinds: random.one_of(&[0, 0, 30, 100]),
         }
     }
 
@@ -80,10 +83,9 @@ impl Style {
     }
 }
 
-/// Whether two arcs of a state take one pair; 0:0 is none.
+/// Whether two arcs of a state take one pair.
 fn clash(first: &Arc, second: &Arc) -> bool {
-    let (inputs, outputs) = (first.inputs & second.inputs, first.outputs & second.outputs);
-    first.from == second.from && inputs != 0 && outputs != 0 && (inputs, outputs) != (1, 1)
+    first.from == second.from && share_a_pair(first, second)
 }
 
 /// At most so many blocks of pairs, inputs times outputs, no pair in two of them.
@@ -127,9 +129,15 @@ fn blocks(random: &mut Random, symbols: u8, most: usize) -> Vec<(u64, u64)> {
 fn shared_machine(random: &mut Random, symbols: u8, states: usize, style: &Style) -> Machine {
     let mut arcs = Vec::new();
     for from in 0..states {
-        for (inputs, outputs) in blocks(random, symbols, 255 / states) {
-            if random.percent(style.density) {
-                arcs.push(arc(from, style.target(random, from, states), style.marks(random), inputs, outputs));
+        // a block that is split by kind needs room for two arcs
+        let most = 255 / states / if style.kinds > 0 { 2 } else { 1 };
+        for (inputs, outputs) in blocks(random, symbols, most) {
+            let kinds: &[u8] = if random.percent(style.kinds) { &[1, 2] } else { &[0] };
+            for &kind in kinds {
+                if random.percent(style.density) {
+                    let (to, marks) = (style.target(random, from, states), style.marks(random));
+                    arcs.push(Arc { kind, ..arc(from, to, marks, inputs, outputs) });
+                }
             }
         }
     }
@@ -155,7 +163,8 @@ fn loose_machine(random: &mut Random, symbols: u8, states: usize, style: &Style)
     for _ in 0..random.between(1, 12 * states) {
         let from = random.below(states);
         let (inputs, outputs) = (any_set(random, symbols), any_set(random, symbols));
-        let next = arc(from, style.target(random, from, states), style.marks(random), inputs, outputs);
+        let (to, marks) = (style.target(random, from, states), style.marks(random));
+        let next = Arc { kind: random.one_of(&[0, 0, 1, 2]), ..arc(from, to, marks, inputs, outputs) };
         if arcs.len() < 255 && !arcs.iter().any(|old| clash(old, &next)) {
             arcs.push(next);
         }
@@ -180,9 +189,18 @@ fn faithful_machine(random: &mut Random, symbols: u8, states: usize, style: &Sty
     let [unlike, inserted, deleted] = [(); 3].map(|_| style.marks(random));
     let mut arcs = Vec::new();
     for from in 0..states {
-        let mut add = |marks, inputs, outputs| {
-            arcs.push(arc(from, style.target(random, from, states), marks, inputs, outputs));
+        let by_kinds = random.percent(style.kinds);
+        let mut add_kind = |kind, marks, inputs, outputs| {
+            arcs.push(Arc { kind, ..arc(from, style.target(random, from, states), marks, inputs, outputs) });
         };
+        if by_kinds {
+            add_kind(1, 0, segments, segments);
+            add_kind(2, unlike, segments, segments);
+            add_kind(2, inserted, empty, segments);
+            add_kind(2, deleted, segments, empty);
+            continue;
+        }
+        let mut add = |marks, inputs, outputs| add_kind(0, marks, inputs, outputs);
         add(inserted, empty, segments);
         add(deleted, segments, empty);
         // as many symbols as there is room for are told apart

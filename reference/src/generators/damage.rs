@@ -8,7 +8,7 @@ use crate::samples;
 const FROM: usize = 0;
 const TO: usize = 1;
 const MARKS: usize = 2;
-const ZERO: usize = 3;
+const KIND: usize = 3;
 const INPUTS: usize = 4;
 const OUTPUTS: usize = 12;
 
@@ -75,7 +75,7 @@ fn damage_a_field(random: &mut Random, symbols: u8, part: &mut [u8]) {
         1 => arc[FROM] = random.one_of(&[states, states.wrapping_add(1), 255]),
         2 => arc[TO] = random.one_of(&[states, states.wrapping_add(1), 255]),
         3 => arc[MARKS] = random.one_of(&[16, 17, 128, 255]),
-        4 => arc[ZERO] = random.one_of(&[1, 128, 255]),
+        4 => arc[KIND] = random.one_of(&[3, 3, 4, 128, 255]),
         5 => arc[INPUTS..OUTPUTS].fill(0),
         6 => arc[OUTPUTS..].fill(0),
         _ => {
@@ -93,6 +93,10 @@ fn add_a_clash(random: &mut Random, symbols: u8, part: &mut Vec<u8>) {
         return;
     }
     let Some(place) = any_arc(random, part) else { return };
+    if random.percent(15) {
+        // an arc that takes more than its kind let it
+        part[place + KIND] = 0;
+    }
     let mut arc = part[place..place + 20].to_vec();
     let bits = |set: &[u8]| (0..64).filter(|bit| set[bit / 8] >> (bit % 8) & 1 == 1).collect::<Vec<usize>>();
     if random.percent(70) {

@@ -4,10 +4,10 @@ use Rattle.card_test.proofs.edits.Statement.{statement}
 use Rattle.card_test.proofs.edits.Tie as tie
 
 abbrev Inv-loop : tie.InvT-loop
-Inv-loop i₀ i = i ≤ 31
+Inv-loop i₀ i = i ≤ 33
 
 abbrev μ-loop : tie.MeasureT-loop
-μ-loop i₀ i = 31 - i
+μ-loop i₀ i = 33 - i
 
 pub edits-spec : {M : Type 1} → statement M
 edits-spec =

@@ -13,16 +13,16 @@ use Rattle.machine.proofs.part.note_pairs.Statement.{statement}
 use Rattle.machine.proofs.part.note_pairs.Tie as tie
 
 abbrev Inv-loop : tie.InvT-loop
-Inv-loop taken₀ inputs left₀ taken left = (length taken ≡ 64) × PairsPassed taken₀ taken inputs left₀ left
+Inv-loop taken₀ inputs kind left₀ taken left = (length taken ≡ 64) × PairsPassed taken₀ taken kind inputs left₀ left
 
 abbrev μ-loop : tie.MeasureT-loop
-μ-loop taken₀ inputs left₀ taken left = left
+μ-loop taken₀ inputs kind left₀ taken left = left
 
 loop-holds : tie.Need-loop-holds Inv-loop μ-loop
-loop-holds c = let a = c .before .args in (c .before .pre, pairs-none (a .taken .now) (a .arc .inputs) (a .arc .outputs))
+loop-holds c = let a = c .before .args in (c .before .pre, pairs-none (a .taken .now) (a .arc .kind) (a .arc .inputs) (a .arc .outputs))
 
 pairs-with-requires : tie.Need-pairs-with-requires Inv-loop μ-loop
-pairs-with-requires c κs = tt
+pairs-with-requires c κs = omega (arith, c .least .ensures .1)
 
 mul-before : tie.Need-mul-before Inv-loop μ-loop
 mul-before c = omega (arith, c .before .least .ensures .1)
@@ -39,7 +39,7 @@ as-before c =
     let l = c .before .least in
     let k = c .before .before .before .loop in
     let a = c .before .before .before .before .before .args in
-    not-yet (a .taken .now) (a .arc .inputs) (a .arc .outputs) (k .taken) (k .left) (k .inv .1) (l .result) (l .ensures .2)
+    not-yet (a .taken .now) (a .arc .kind) (a .arc .inputs) (a .arc .outputs) (k .taken) (k .left) (k .inv .1) (l .result) (l .ensures .2)
 
 returns : tie.Need-returns Inv-loop μ-loop
 unfolding takes
@@ -49,7 +49,7 @@ returns c =
     let a = c .before .before .before .before .before .before .before .args in
     let w = c .before .before .pairs-with in
     let e = ap₂ bitAnd (as-before (c .before .before)) (w .ensures) in
-    pair-found (a .taken .now) (a .arc .inputs) (a .arc .outputs) (k .taken) (l .result) (l .ensures .1) (k .inv .1 .passed .some-left (l .result) (l .ensures .2))
+    pair-found (a .taken .now) (a .arc .kind) (a .arc .inputs) (a .arc .outputs) (k .taken) (l .result) (l .ensures .1) (k .inv .1 .passed .some-left (l .result) (l .ensures .2))
     (omega (arith, and-le-r (getD (k .taken) (l .result) 0) (w .result), e))
     (λ z. c .if1 .taken (e ∙ z))
 
@@ -69,7 +69,7 @@ loop-again c =
     let a = c .before .before .before .before .before .before .before .before .args in
     let w = c .before .before .before .pairs-with in (
       simp length-set (k .inv .0),
-      pairs-next (a .taken .now) (a .arc .inputs) (a .arc .outputs) (k .taken) (k .left) (k .inv .1) (l .result) (c .without-least .result) _ (omega (arith, l .ensures .1, k .inv .0)) (l .ensures .2)
+      pairs-next (a .taken .now) (a .arc .kind) (a .arc .inputs) (a .arc .outputs) (k .taken) (k .left) (k .inv .1) (l .result) (c .without-least .result) _ (omega (arith, l .ensures .1, k .inv .0)) (l .ensures .2)
           (λ n. c .without-least .ensures .1 n ∙ ap (λ (m : ℕ). member (k .left) n && not (eqb n m)) (sym (l .ensures .0)))
           (sym (ap₂ bitAnd (as-before (c .before .before .before)) (w .ensures)) ∙ c .before .if1 .left)
           (ap₂ bitOr (as-before (c .before .before .before)) (w .ensures)),
@@ -83,7 +83,7 @@ unfolding takes
 returns-2 c =
     let k = c .before .loop in
     let a = c .before .before .before .args in
-    pairs-end (a .taken .now) (a .arc .inputs) (a .arc .outputs) (k .taken) (k .left) (k .inv .1) (c .loop-test .left)
+    pairs-end (a .taken .now) (a .arc .kind) (a .arc .inputs) (a .arc .outputs) (k .taken) (k .left) (k .inv .1) (c .loop-test .left)
 
 pub note-pairs-spec : {M : Type 1} → statement M
 note-pairs-spec =

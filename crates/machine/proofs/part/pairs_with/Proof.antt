@@ -1,15 +1,37 @@
 use borrow.Author.Needs.{needs}
+use mathlib.Core.Path.{sym, ap, _∙_}
+use mathlib.Core.Bool.{Bool, cond}
 use native.Mathlib.Omega.{arith}
+use Prim.Native.Nat.{_/_, _*_}
 use borrow.Author.Tests.{eq-eqb, ne-eqb}
 use Rattle.machine.specs.Symbols.{emptySymbol}
+use Rattle.machine.specs.SymbolSets.{partners}
 use Rattle.machine.proofs.part.pairs_with.Statement.{statement}
 use Rattle.machine.proofs.part.pairs_with.Tie as tie
 
 returns : tie.Need-returns
-returns c = rw (eq-eqb (c .before .before .args .output) emptySymbol (omega (arith, c .before .index .ensures)))
+returns c =
+    let k = c .before .before .before in
+    let a = k .before .args in
+    let e = eq-eqb (a .output) emptySymbol (omega (arith, c .before .if1 .taken, c .before .before .index .ensures)) in
+    c .of-kind .ensures (a .output) (k .set-of .ensures) ∙ ap (λ (b : Bool). partners (a .kind) (cond b (a .inputs / 2 * 2) (a .inputs)) (a .output)) (sym e)
 
 returns-2 : tie.Need-returns-2
-returns-2 c = rw (ne-eqb (c .before .before .args .output) emptySymbol (λ e. c .if1 .left (omega (arith, c .before .index .ensures))))
+returns-2 c =
+    let k = c .before .before .before in
+    let a = k .before .args in
+    let e = ne-eqb (a .output) emptySymbol (λ q. c .before .if1 .left (omega (arith, c .before .before .index .ensures))) in
+    c .of-kind2 .ensures (a .output) (k .set-of .ensures) ∙ ap (λ (b : Bool). partners (a .kind) (cond b (a .inputs / 2 * 2) (a .inputs)) (a .output)) (sym e)
 
 pub pairs-with-spec : {M : Type 1} → statement M
-pairs-with-spec = tie.close (tie.spec (λ c κs. search needs) (λ c. search needs) returns returns-2)
+pairs-with-spec =
+    tie.close
+    (tie.spec
+    (λ c. search needs)
+    (λ c κs. search needs)
+    (λ c κs. search needs)
+    (λ c. search needs)
+    (λ c κs. search needs)
+    returns
+    (λ c κs. search needs)
+    returns-2)

@@ -1,0 +1,51 @@
+-- What an arc's kind says of the pairs that it takes; arcs of kinds 1 and 2 never clash. Assumes nothing.
+use mathlib.Core.Path.{_≡_, _∙_}
+use mathlib.Core.Bool.{Bool, true, false, not, _&&_}
+use Prim.Native.Nat.{ℕ, zero, suc}
+use native.Mathlib.Omega.{arith}
+use lib.Dec.{eqb}
+use borrow.Author.Tests.{eqb-true, eqb-false, not-true}
+use Rattle.basics.specs.Search.{someBelow}
+use Rattle.basics.specs.Sets.{member}
+use Rattle.basics.proofs.Bools.{fails, left, right}
+use Rattle.basics.proofs.Below.{finds-below}
+use Rattle.machine.specs.declared.Arc.{Arc}
+use Rattle.machine.specs.declared.Pair.{Pair}
+use Rattle.machine.specs.Symbols.{isPair, pairOf}
+use Rattle.machine.specs.Machine.{ofKind, takes, bothTake, takeOnePair, clash}
+
+kind-same : (k : ℕ) (p : Pair) → k ≡ 1 → ofKind k p ≡ true → (isPair p ≡ true) × (p .input ≡ p .output)
+unfolding ofKind
+kind-same zero p e t = absurd (omega arith)
+kind-same (suc zero) p e t =
+    (left (isPair p) (eqb (p .input) (p .output)) t, eqb-true (p .input) (p .output) (right (isPair p) (eqb (p .input) (p .output)) t))
+kind-same (suc (suc k)) p e t = absurd (omega arith)
+
+kind-different : (k : ℕ) (p : Pair) → k ≡ 2 → ofKind k p ≡ true → p .input ≡ p .output → ⊥
+unfolding ofKind
+kind-different zero p e t = absurd (omega arith)
+kind-different (suc zero) p e t = absurd (omega arith)
+kind-different (suc (suc k)) p e t = eqb-false (p .input) (p .output) (not-true (eqb (p .input) (p .output)) t)
+
+module _ (a : Arc) (p : Pair) (t : takes a p ≡ true) where
+  is-of-kind : ofKind (a .kind) p ≡ true
+  unfolding takes
+  is-of-kind = right (member (a .inputs) (p .input) && member (a .outputs) (p .output)) (ofKind (a .kind) p) t
+
+  -- an arc of kind 1 takes only pairs with in equal to out, and never 0:0
+  pub takes-same : a .kind ≡ 1 → (isPair p ≡ true) × (p .input ≡ p .output)
+  takes-same e = kind-same (a .kind) p e is-of-kind
+
+  -- an arc of kind 2 takes only pairs with in unlike out
+  pub takes-different : a .kind ≡ 2 → p .input ≡ p .output → ⊥
+  takes-different e = kind-different (a .kind) p e is-of-kind
+
+-- whatever their sets are
+pub same-and-different : (a b : Arc) → a .kind ≡ 1 → b .kind ≡ 2 → clash a b ≡ false
+unfolding clash takeOnePair
+same-and-different a b e f = fails (clash a b) (λ t.
+    let x = finds-below (λ x. someBelow (λ y. bothTake a b (pairOf x y)) 64) 64 (right (eqb (a .from) (b .from)) (takeOnePair a b) t) in
+    let y = finds-below (λ y. bothTake a b (pairOf (x .0) y)) 64 (x .2) in
+    let p = pairOf (x .0) (y .0) in
+    let ia : (isPair p && takes a p) ≡ true = left (isPair p && takes a p) (takes b p) (y .2) in
+    takes-different b p (right (isPair p && takes a p) (takes b p) (y .2)) f (takes-same a p (right (isPair p) (takes a p) ia) e .1))
