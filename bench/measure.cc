@@ -1,5 +1,5 @@
-// Measures the engines in turn on every row and prints one table: medians in microseconds a call. All have to agree.
-// With the word `all` also OpenFst's slowest construction.
+// Measures the engines in turn on every row and prints one table: medians in microseconds a call. All have to agree. Then
+// the verified engines on one row's cards with sets in the words' places. With the word `all` also OpenFst's slowest construction.
 
 #include "openfst.h"
 #include "pastaspur.h"
@@ -22,16 +22,23 @@ constexpr double kLeastRound = 2000;  // microseconds
 struct Engine {
   const char *name;
   decltype(&pastaspur_optimize) optimize;
+  decltype(&pastaspur_optimize_sets) optimize_sets;
 };
 
-// The verified engine comes first: the others are compared with it. The last one is measured with the word `all` only.
+// The verified engine comes first: the others are compared with it. The first two have calls with sets, the last one is
+// measured with the word `all` only.
 const Engine kEngines[] = {
-    {"verified", pastaspur_optimize},
-    {"verified, cull", pastaspur_cull},
-    {"OpenFst, built whole", openfst_whole},
-    {"OpenFst, delayed", openfst_optimize},
-    {"reference", reference_optimize},
-    {"OpenFst, composed", openfst_composed},
+    {"verified", pastaspur_optimize, pastaspur_optimize_sets},
+    {"verified, cull", pastaspur_cull, pastaspur_cull_sets},
+    {"OpenFst, built whole", openfst_whole, nullptr},
+    {"OpenFst, delayed", openfst_optimize, nullptr},
+    {"reference", reference_optimize, nullptr},
+    {"OpenFst, composed", openfst_composed, nullptr},
+};
+
+// A case with a set for each symbol of its word.
+struct HeardCase : Case {
+  std::vector<uint64_t> sets;
 };
 
 uint16_t work[PASTASPUR_WORK_NUMBERS];
@@ -50,12 +57,28 @@ void Ask(const Engine &engine, const Case &c, Answer *answer) {
                                    answer->result);
 }
 
+void Ask(const Engine &engine, const HeardCase &c, Answer *answer) {
+  answer->number = engine.optimize_sets(c.card.start, c.card.length, c.ranking.start, c.ranking.length, c.sets.data(),
+                                        c.sets.size(), work, PASTASPUR_WORK_NUMBERS, answer->pairs, sizeof answer->pairs,
+                                        answer->result);
+}
+
 bool SameResult(const Answer &a, const Answer &b) {
   return a.number == b.number && std::equal(a.result, a.result + 8, b.result);
 }
 
-// Whether the pairs are a candidate for the word with the answer's profile and pair count.
-bool IsCandidate(const Answer &answer, const Case &c) {
+bool IsSpelled(const std::vector<uint8_t> &spelled, const Case &c) {
+  return std::equal(spelled.begin(), spelled.end(), c.word.start, c.word.start + c.word.length);
+}
+
+bool IsSpelled(const std::vector<uint8_t> &spelled, const HeardCase &c) {
+  return std::equal(spelled.begin(), spelled.end(), c.sets.begin(), c.sets.end(),
+                    [](uint8_t symbol, uint64_t set) { return set >> symbol & 1; });
+}
+
+// Whether the pairs are a candidate for the word, or for one of the words, with the answer's profile and pair count.
+template <class AnyCase>
+bool IsCandidate(const Answer &answer, const AnyCase &c) {
   Answer evaluated;
   evaluated.number =
       pastaspur_evaluate(c.card.start, c.card.length, answer.pairs, answer.length(), evaluated.result);
@@ -63,13 +86,13 @@ bool IsCandidate(const Answer &answer, const Case &c) {
   for (size_t i = 0; i < answer.length(); i += 2) {
     if (answer.pairs[i] != 0) spelled.push_back(answer.pairs[i]);
   }
-  const uint8_t *word = c.word.start;
-  return SameResult(evaluated, answer) && std::equal(spelled.begin(), spelled.end(), word, word + c.word.length);
+  return SameResult(evaluated, answer) && IsSpelled(spelled, c);
 }
 
 // Whether all engines accept the case with one profile and pair count, each with a candidate that has them; the cull and
 // the second implementation with the verified engine's own.
-bool Agree(const std::vector<Engine> &engines, const Case &c) {
+template <class AnyCase>
+bool Agree(const std::vector<Engine> &engines, const AnyCase &c) {
   Answer verified, other;
   for (const Engine &engine : engines) {
     Answer &answer = &engine == &engines[0] ? verified : other;
@@ -96,23 +119,26 @@ double Now() {
 }
 
 // The time of so many calls on each case.
-double Time(const Engine &engine, const std::vector<Case> &cases, int calls) {
+template <class AnyCase>
+double Time(const Engine &engine, const std::vector<AnyCase> &cases, int calls) {
   Answer answer;
   const double start = Now();
   for (int i = 0; i < calls; i++) {
-    for (const Case &c : cases) Ask(engine, c, &answer);
+    for (const AnyCase &c : cases) Ask(engine, c, &answer);
   }
   return Now() - start;
 }
 
 // So many calls on each case that a round takes long enough to be measured.
-int CallsARound(const Engine &engine, const std::vector<Case> &cases) {
+template <class AnyCase>
+int CallsARound(const Engine &engine, const std::vector<AnyCase> &cases) {
   int calls = 1;
   while (Time(engine, cases, calls) < kLeastRound) calls *= 2;
   return calls;
 }
 
-std::vector<double> Medians(const std::vector<Engine> &engines, const std::vector<Case> &cases) {
+template <class AnyCase>
+std::vector<double> Medians(const std::vector<Engine> &engines, const std::vector<AnyCase> &cases) {
   std::vector<int> calls;
   for (const Engine &engine : engines) calls.push_back(CallsARound(engine, cases));
   std::vector<std::vector<double>> times(engines.size());
@@ -167,6 +193,38 @@ std::string Sizes(const std::vector<Case> &cases) {
   return cells;
 }
 
+// The row's cases with sets of that many symbols: the word's, and those that follow it, the first after the last.
+std::vector<HeardCase> Heard(size_t row, int count) {
+  std::vector<HeardCase> cases;
+  for (size_t i = 0; i < row_cases(row); i++) {
+    HeardCase c = {row_case(row, i), {}};
+    const int symbols = c.card.start[1];
+    for (size_t at = 0; at < c.word.length; at++) {
+      uint64_t set = 0;
+      for (int k = 0; k < count && k < symbols; k++) set |= uint64_t{1} << (1 + (c.word.start[at] - 1 + k) % symbols);
+      c.sets.push_back(set);
+    }
+    cases.push_back(c);
+  }
+  return cases;
+}
+
+// The verified engines on a row's cards with sets of one symbol, of eight, and of all.
+bool MeasureHeard(size_t row) {
+  const std::vector<Engine> engines(kEngines, kEngines + 2);
+  std::printf("\n| row | symbols a set | verified | cull | cull / verified |\n|---|---|---|---|---|\n");
+  for (const int count : {1, 8, 63}) {
+    const std::vector<HeardCase> cases = Heard(row, count);
+    for (const HeardCase &c : cases) {
+      if (!Agree(engines, c)) return false;
+    }
+    const std::vector<double> medians = Medians(engines, cases);
+    std::printf("| %s, heard in part | %d | %.1f | %.1f | %.2f |\n", row_name(row), count, medians[0], medians[1], medians[1] / medians[0]);
+    std::fflush(stdout);
+  }
+  return true;
+}
+
 }  // namespace
 
 int main(int argc, char **argv) {
@@ -197,4 +255,6 @@ int main(int argc, char **argv) {
     std::printf("\n");
     std::fflush(stdout);
   }
+  const size_t large = 2;
+  return MeasureHeard(large) ? 0 : 1;
 }

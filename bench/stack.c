@@ -23,7 +23,8 @@ static uint8_t answer[PASTASPUR_ANSWER_BYTES];
 static uint16_t result[8];
 static uint32_t number;
 
-// What the other calls are lent: the answer as a candidate and as a tableau, the card's parts, a target, sixty-four conditions.
+// What the other calls are lent: the word's symbols as sets, the answer as a candidate and as a tableau, the card's parts, a target, sixty-four conditions.
+static uint64_t sets[24];
 static uint16_t lengths[6];
 static uint8_t target[65536];
 static size_t places[2];
@@ -47,6 +48,17 @@ static void call_cull(void) {
                           asked.word.start, asked.word.length, work, PASTASPUR_WORK_NUMBERS, answer,
                           PASTASPUR_ANSWER_BYTES, result);
 }
+
+static void call_sets(uint32_t (*engine)(const uint8_t *, size_t, const uint8_t *, size_t, const uint64_t *, size_t, uint16_t *,
+                                         size_t, uint8_t *, size_t, uint16_t *)) {
+  for (size_t i = 0; i < asked.word.length; i++) sets[i] = (uint64_t)1 << asked.word.start[i];
+  number = engine(asked.card.start, asked.card.length, asked.ranking.start, asked.ranking.length, sets, asked.word.length, work,
+                  PASTASPUR_WORK_NUMBERS, answer, PASTASPUR_ANSWER_BYTES, result);
+}
+
+static void call_optimize_sets(void) { call_sets(pastaspur_optimize_sets); }
+
+static void call_cull_sets(void) { call_sets(pastaspur_cull_sets); }
 
 static void call_evaluate(void) {
   number = pastaspur_evaluate(asked.card.start, asked.card.length, answer, 2 * (size_t)result[6], result);
@@ -108,11 +120,12 @@ static void call_leader(void) {
 static const struct {
   const char *name;
   void (*call)(void);
-} calls[] = {{"optimize", call_optimize},   {"cull", call_cull},           {"evaluate", call_evaluate},
-             {"judge", call_judge},         {"read_part", call_read_part}, {"pack", call_pack},
-             {"compare", call_compare},     {"condition", call_condition}, {"find_ranking", call_find_ranking},
-             {"add_row", call_add_row},     {"remove_row", call_remove_row}, {"leader", call_leader}};
-enum { CALLS = sizeof calls / sizeof *calls, ENGINES = 2 };
+} calls[] = {{"optimize", call_optimize},           {"cull", call_cull},             {"optimize_sets", call_optimize_sets},
+             {"cull_sets", call_cull_sets},         {"evaluate", call_evaluate},     {"judge", call_judge},
+             {"read_part", call_read_part},         {"pack", call_pack},             {"compare", call_compare},
+             {"condition", call_condition},         {"find_ranking", call_find_ranking}, {"add_row", call_add_row},
+             {"remove_row", call_remove_row},       {"leader", call_leader}};
+enum { ENGINES = 2, CALLS = sizeof calls / sizeof *calls };
 
 // The bytes of a painted stack from its top down to the deepest one that is changed.
 static size_t depth_by(void (*call)(void), uint8_t paint) {

@@ -24,7 +24,7 @@
  *    5  two arcs of a state take one pair
  *    6  product of the state counts, P, over 128
  *    7  not a ranking: each of 0 to K - 1 once, the highest first
- *    8  word length n over 24, a symbol 0 or over S
+ *    8  word length n over 24 (n sets, for a call with sets), a symbol 0 or over S
  *    9  work slice under 8 * (n + 1) * P numbers
  *   10  no complete candidate
  *   12  answer slice under 2 bytes for each pair of the best candidate
@@ -40,6 +40,7 @@
  *   21  a row's counts are not its profile
  *   23  a live tableau's row count above 32 or above the list's length; on an add, one that equals either
  *   24  an added id that is present, or a removed one that is not
+ *   25  a set is empty, holds the empty symbol (bit 0), or has a bit over S
  */
 #ifndef PASTASPUR_H
 #define PASTASPUR_H
@@ -68,6 +69,20 @@ uint32_t pastaspur_optimize(const uint8_t *card, size_t card_len, const uint8_t 
 uint32_t pastaspur_cull(const uint8_t *card, size_t card_len, const uint8_t *ranking, size_t ranking_len,
                         const uint8_t *word, size_t word_len, uint16_t *work, size_t work_len,
                         uint8_t *answer, size_t answer_len, uint16_t result[8]);
+
+/* Answers the best candidate over all words with one symbol from each set, for words heard only in part: refusals 1 to 8, 25, 9, 10,
+ * 12. Of 8 there is the length limit; 25 stands in the place of its symbol test. Bit n of a set is symbol n. Sets of one symbol each
+ * give what pastaspur_optimize gives for the word.
+ * result, answer: as pastaspur_optimize's; the word's length is the number of sets.
+ * work: kept on refusals 1 to 9 and 25; otherwise its contents are left open. */
+uint32_t pastaspur_optimize_sets(const uint8_t *card, size_t card_len, const uint8_t *ranking, size_t ranking_len,
+                                 const uint64_t *sets, size_t sets_len, uint16_t *work, size_t work_len,
+                                 uint8_t *answer, size_t answer_len, uint16_t result[8]);
+
+/* The same by Ellison's cull: for every input the same number, result and answer. */
+uint32_t pastaspur_cull_sets(const uint8_t *card, size_t card_len, const uint8_t *ranking, size_t ranking_len,
+                             const uint64_t *sets, size_t sets_len, uint16_t *work, size_t work_len,
+                             uint8_t *answer, size_t answer_len, uint16_t result[8]);
 
 /* What pastaspur_judge says of a tableau; 0 on a refusal. */
 #define PASTASPUR_RIGHT 1

@@ -5,6 +5,7 @@ use crate::card::{pack, read_part};
 use crate::live::{self, Row, Step, Table};
 use crate::optimizer::{optimize_by, Method};
 use crate::ranking::{compare, condition, find_ranking};
+use crate::sets::optimize_sets;
 use crate::tableau::{judge, Verdict};
 use crate::{Profile, Refusal};
 use std::cmp::Ordering;
@@ -22,11 +23,12 @@ pub enum Call {
     FindRanking { machines: u8, conditions: Vec<u8> },
     Judge { card: Vec<u8>, ranking: Vec<u8>, word: Vec<u8>, work: Vec<u16>, tableau: Vec<u8> },
     Rows { machines: u8, ranking: Vec<u8>, used: usize, rows: Vec<Row>, step: Step },
+    OptimizeSets { method: Method, card: Vec<u8>, ranking: Vec<u8>, sets: Vec<u64>, work: Vec<u16>, answer: Vec<u8> },
     Live { machines: u8, ranking: Vec<u8>, rows: Vec<Row>, steps: Vec<Step> },
 }
 
 /// A call's kind, its name, and the refusals that it can answer. The number 11 is not used.
-pub const KINDS: [(&str, &[u32]); 13] = [
+pub const KINDS: [(&str, &[u32]); 15] = [
     ("optimize", &[1, 2, 3, 4, 5, 6, 7, 8, 9, 10, 12]),
     ("evaluate", &[1, 2, 3, 4, 5, 6, 13, 14]),
     ("read part", &[1, 2, 3, 4, 5, 6, 17]),
@@ -39,6 +41,8 @@ pub const KINDS: [(&str, &[u32]); 13] = [
     ("add row", &[1, 7, 23, 24]),
     ("remove row", &[1, 7, 23, 24]),
     ("leader", &[1, 7, 23]),
+    ("optimize sets", &[1, 2, 3, 4, 5, 6, 7, 8, 9, 10, 12, 25]),
+    ("cull sets", &[1, 2, 3, 4, 5, 6, 7, 8, 9, 10, 12, 25]),
     ("live tableau", &[]),
 ];
 
@@ -58,14 +62,16 @@ impl Call {
             Call::Rows { step: Step::Add(_), .. } => 9,
             Call::Rows { step: Step::Remove(_), .. } => 10,
             Call::Rows { step: Step::Leader, .. } => 11,
-            Call::Live { .. } => 12,
+            Call::OptimizeSets { method: Method::Ranked, .. } => 12,
+            Call::OptimizeSets { method: Method::Cull, .. } => 13,
+            Call::Live { .. } => 14,
         }
     }
 
     /// The same call of the other engine, if there is one.
     pub fn twin(&self) -> Option<Call> {
         let mut twin = self.clone();
-        let Call::Optimize { method, .. } = &mut twin else { return None };
+        let (Call::Optimize { method, .. } | Call::OptimizeSets { method, .. }) = &mut twin else { return None };
         *method = match method {
             Method::Ranked => Method::Cull,
             Method::Cull => Method::Ranked,
@@ -77,6 +83,7 @@ impl Call {
     pub fn card(&self) -> Option<&[u8]> {
         match self {
             Call::Optimize { card, .. }
+            | Call::OptimizeSets { card, .. }
             | Call::Evaluate { card, .. }
             | Call::ReadPart { card, .. }
             | Call::Judge { card, .. } => Some(card),
@@ -171,6 +178,11 @@ pub fn reference(call: &Call) -> Outcome {
         Call::Optimize { method, card, ranking, word, work, answer } => {
             let mut slice = answer.clone();
             let found = optimize_by(*method, card, ranking, word, work.len(), &mut slice);
+            outcome(found.map(evaluation), 8, slice)
+        }
+        Call::OptimizeSets { method, card, ranking, sets, work, answer } => {
+            let mut slice = answer.clone();
+            let found = optimize_sets(*method, card, ranking, sets, work.len(), &mut slice);
             outcome(found.map(evaluation), 8, slice)
         }
         Call::Evaluate { card, candidate } => outcome(evaluate(card, candidate).map(evaluation), 8, vec![]),

@@ -10,8 +10,8 @@ use crate::shrinking::smallest;
 use crate::tableau::read_tableau;
 use std::fmt::Write;
 
-/// What of an engine's outcome is not as it should be. The work slice is kept by refusals 1 to 9; afterwards its contents
-/// are left open.
+/// What of an engine's outcome is not as it should be. The work slice is kept by refusals 1 to 9 and 25; afterwards its
+/// contents are left open.
 pub fn differences(expected: &Outcome, found: &Outcome) -> Vec<String> {
     let mut list = Vec::new();
     if found.number != expected.number {
@@ -23,7 +23,7 @@ pub fn differences(expected: &Outcome, found: &Outcome) -> Vec<String> {
     if found.slice != expected.slice {
         list.push("lent slice at exit".to_string());
     }
-    if (1..=9).contains(&expected.number) && !found.work_kept {
+    if matches!(expected.number, 1..=9 | 25) && !found.work_kept {
         list.push("work slice not kept".to_string());
     }
     list.extend(found.trespasses.iter().map(|place| format!("written: {place}")));
@@ -152,6 +152,13 @@ pub fn describe(call: &Call) -> String {
             field("card", hexadecimal(card));
             field("ranking", hexadecimal(ranking));
             field("word", hexadecimal(word));
+            field("work", numbers(work));
+            field("answer", hexadecimal(answer));
+        }
+        Call::OptimizeSets { card, ranking, sets, work, answer, .. } => {
+            field("card", hexadecimal(card));
+            field("ranking", hexadecimal(ranking));
+            field("sets", sets.iter().map(|&set| symbols(set)).collect::<Vec<_>>().join(" "));
             field("work", numbers(work));
             field("answer", hexadecimal(answer));
         }

@@ -83,6 +83,9 @@ pub struct Coverage {
     /// Row counts less the most that there is room for, of adding; steps of live tableaux, by the numbers that they answered.
     used: Counts,
     steps: Counts,
+    /// Of the calls with sets past check 9: positions, and the symbols of the largest set.
+    positions: Counts,
+    set_sizes: Counts,
 }
 
 fn count(counts: &mut Counts, value: usize) {
@@ -145,6 +148,10 @@ impl Coverage {
                     count(&mut self.pairs, pairs);
                 }
             }
+            Call::OptimizeSets { sets, .. } if matches!(outcome.number, 0 | 10 | 12) => {
+                count(&mut self.positions, sets.len());
+                count(&mut self.set_sizes, sets.iter().map(|set| set.count_ones() as usize).max().unwrap_or(0));
+            }
             Call::Evaluate { candidate, .. } if !(1..=6).contains(&outcome.number) => {
                 count_around(&mut self.candidates, candidate.len() / 2, 3_199);
             }
@@ -190,6 +197,8 @@ impl Coverage {
             ("machines", &self.machines, 1..=6),
             ("symbols", &self.symbols, 1..=63),
             ("symbols of a word", &self.words, 0..=24),
+            ("positions with sets", &self.positions, 0..=24),
+            ("symbols in a set", &self.set_sizes, 1..=16),
         ] {
             for value in values {
                 ask(format!("{value} {name}"), counts, value, 1);
@@ -262,6 +271,8 @@ impl fmt::Display for Coverage {
         for (name, times) in TRAITS.iter().zip(&self.traits) {
             writeln!(text, "  answers with {name:<25} {times}")?;
         }
+        writeln!(text, "  positions with sets  {}", range(&self.positions))?;
+        writeln!(text, "  symbols in a set     {}", range(&self.set_sizes))?;
         writeln!(text, "of the tableaux that are judged")?;
         for (number, name) in VERDICTS {
             writeln!(text, "  {name:<20} {}", self.verdicts.get(&number).unwrap_or(&0))?;

@@ -26,13 +26,18 @@ pub struct Graph {
 impl Graph {
     /// The graph of a word on an accepted card. The start is node 0.
     pub fn new(card: &Card, word: &[u8]) -> Graph {
+        Graph::of_positions(card, &word.iter().map(|&symbol| vec![symbol]).collect::<Vec<_>>())
+    }
+
+    /// The graph of the words with one of the symbols of each position, which are in order.
+    pub fn of_positions(card: &Card, positions: &[Vec<u8>]) -> Graph {
         let joined = card.states();
-        let nodes = (word.len() + 1) * joined;
+        let nodes = (positions.len() + 1) * joined;
         let mut graph = Graph { edges: Vec::new(), endings: vec![None; nodes] };
         for node in 0..nodes {
             let (position, states) = (node / joined, states(card, node % joined));
             let mut edges = Vec::new();
-            for input in [0].iter().chain(word.get(position)) {
+            for input in [0].iter().chain(positions.get(position).into_iter().flatten()) {
                 for output in (*input == 0) as u8..=card.symbols {
                     if let Some((next, marks)) = step(card, &states, (*input, output)) {
                         let to = (position + (*input != 0) as usize) * joined + next;
@@ -41,7 +46,7 @@ impl Graph {
                 }
             }
             graph.edges.push(edges);
-            if position == word.len() {
+            if position == positions.len() {
                 graph.endings[node] = ending(card, &states);
             }
         }
@@ -136,7 +141,15 @@ fn ending(card: &Card, states: &[usize]) -> Option<Profile> {
 
 /// The best candidate for a word on an accepted card.
 pub fn best_by_culling(card: &Card, ranking: &[u8], word: &[u8]) -> Option<Vec<Pair>> {
-    let mut graph = Graph::new(card, word);
+    culled(Graph::new(card, word), ranking)
+}
+
+/// The best candidate over the words with one of the symbols of each position.
+pub fn best_of_positions_by_culling(card: &Card, ranking: &[u8], positions: &[Vec<u8>]) -> Option<Vec<Pair>> {
+    culled(Graph::of_positions(card, positions), ranking)
+}
+
+fn culled(mut graph: Graph, ranking: &[u8]) -> Option<Vec<Pair>> {
     for &machine in ranking {
         graph.cull(machine as usize);
     }

@@ -18,16 +18,16 @@ fn row_of(numbers: &RowNumbers) -> Row {
     Row { id: numbers[0], counts: std::array::from_fn(|place| numbers[place + 1]) }
 }
 
-/// The searches, which are lent and answer the same.
+/// Searches, which are lent and answer the same.
 macro_rules! searches {
-    ($($name:ident),*) => {
+    ($symbol:ty: $($name:ident),*) => {
         extern "C" {
             $(fn $name(
                 card: *const u8,
                 card_len: usize,
                 ranking: *const u8,
                 ranking_len: usize,
-                word: *const u8,
+                word: *const $symbol,
                 word_len: usize,
                 work: *mut u16,
                 work_len: usize,
@@ -39,7 +39,31 @@ macro_rules! searches {
     };
 }
 
-searches!(pastaspur_optimize, pastaspur_cull);
+searches!(u8: pastaspur_optimize, pastaspur_cull);
+searches!(u64: pastaspur_optimize_sets, pastaspur_cull_sets);
+
+/// A search, by what a position of the word is.
+type Search<Symbol> = unsafe extern "C" fn(
+    *const u8,
+    usize,
+    *const u8,
+    usize,
+    *const Symbol,
+    usize,
+    *mut u16,
+    usize,
+    *mut u8,
+    usize,
+    *mut u16,
+) -> u32;
+
+/// What a search is lent, but for the word.
+struct Lendings<'a> {
+    card: &'a [u8],
+    ranking: &'a [u8],
+    work: &'a [u16],
+    answer: &'a [u8],
+}
 
 extern "C" {
     fn pastaspur_evaluate(
@@ -209,6 +233,35 @@ impl Lender {
         self.around(name, lent);
     }
 
+    /// What a search leaves.
+    fn search<Symbol: Copy + Eq>(mut self, search: Search<Symbol>, lent: Lendings, mut word: Lent<Symbol>) -> Outcome {
+        let (mut card, mut ranking) = (self.bytes(lent.card), self.bytes(lent.ranking));
+        let (mut work, mut answer) = (self.shorts(lent.work), self.bytes(lent.answer));
+        let mut result = self.result(8, |number| number as u16);
+        // SAFETY: each pointer leads to as many elements as are said; none overlaps another
+        let number = unsafe {
+            search(
+                card.pointer(),
+                card.length(),
+                ranking.pointer(),
+                ranking.length(),
+                word.pointer(),
+                word.length(),
+                work.pointer(),
+                work.length(),
+                answer.pointer(),
+                answer.length(),
+                result.pointer(),
+            )
+        };
+        self.read_only("card", &card);
+        self.read_only("ranking", &ranking);
+        self.read_only("word", &word);
+        self.around("work", &work);
+        self.around("answer", &answer);
+        self.outcome(number, result, usize::from, answer.contents(), work.contents_kept())
+    }
+
     fn outcome<T: Copy + Eq>(
         mut self,
         number: u32,
@@ -238,31 +291,16 @@ impl Engine for Library {
                     Method::Ranked => pastaspur_optimize,
                     Method::Cull => pastaspur_cull,
                 };
-                let (mut card, mut ranking) = (lender.bytes(card), lender.bytes(ranking));
-                let (mut word, mut work, mut answer) = (lender.bytes(word), lender.shorts(work), lender.bytes(answer));
-                let mut result = lender.result(8, |number| number as u16);
-                // SAFETY: each pointer leads to as many elements as are said; none overlaps another
-                let number = unsafe {
-                    search(
-                        card.pointer(),
-                        card.length(),
-                        ranking.pointer(),
-                        ranking.length(),
-                        word.pointer(),
-                        word.length(),
-                        work.pointer(),
-                        work.length(),
-                        answer.pointer(),
-                        answer.length(),
-                        result.pointer(),
-                    )
+                let word = lender.bytes(word);
+                lender.search(search, Lendings { card, ranking, work, answer }, word)
+            }
+            Call::OptimizeSets { method, card, ranking, sets, work, answer } => {
+                let search = match method {
+                    Method::Ranked => pastaspur_optimize_sets,
+                    Method::Cull => pastaspur_cull_sets,
                 };
-                lender.read_only("card", &card);
-                lender.read_only("ranking", &ranking);
-                lender.read_only("word", &word);
-                lender.around("work", &work);
-                lender.around("answer", &answer);
-                lender.outcome(number, result, usize::from, answer.contents(), work.contents_kept())
+                let sets = lender.lend(sets, |number| number);
+                lender.search(search, Lendings { card, ranking, work, answer }, sets)
             }
             Call::Evaluate { card, candidate } => {
                 let (mut card, mut candidate) = (lender.bytes(card), lender.bytes(candidate));

@@ -19,6 +19,7 @@ pub mod optimizer;
 pub mod random;
 pub mod ranking;
 pub mod samples;
+pub mod sets;
 pub mod shrinking;
 pub mod tableau;
 

@@ -6,6 +6,7 @@ use crate::card::{read_card, Card};
 use crate::cull::best_by_culling;
 use crate::ranking::{harmony, is_ranking};
 use crate::{Profile, Refusal};
+use std::collections::{BTreeMap, BTreeSet};
 
 /// The counts from the highest ranked machine down, unused places 0, then the pair count: the smaller array is the better.
 type Cost = [u32; 7];
@@ -74,19 +75,28 @@ fn ending(card: &Card, ranking: &[u8], number: usize) -> Option<Cost> {
 
 /// The best candidate for a word on an accepted card.
 pub fn best(card: &Card, ranking: &[u8], word: &[u8]) -> Option<Vec<Pair>> {
+    best_of_positions(card, ranking, &word.iter().map(|&symbol| vec![symbol]).collect::<Vec<_>>())
+}
+
+/// The best candidate over the words with one of the symbols of each position, which are in order.
+pub fn best_of_positions(card: &Card, ranking: &[u8], positions: &[Vec<u8>]) -> Option<Vec<Pair>> {
     let insertions = steps(card, ranking, 0);
-    let readings: Vec<_> = word.iter().map(|&symbol| steps(card, ranking, symbol)).collect();
+    let symbols: BTreeSet<u8> = positions.iter().flatten().copied().collect();
+    let readings: BTreeMap<u8, _> = symbols.iter().map(|&symbol| (symbol, steps(card, ranking, symbol))).collect();
     let endings: Vec<Option<Cost>> = (0..card.states()).map(|number| ending(card, ranking, number)).collect();
 
     // labels[position][state]: the least cost from there to an end
-    let mut labels: Vec<Vec<Option<Cost>>> = vec![vec![]; word.len() + 1];
-    for position in (0..=word.len()).rev() {
-        let mut here = if position == word.len() {
+    let mut labels: Vec<Vec<Option<Cost>>> = vec![vec![]; positions.len() + 1];
+    for position in (0..=positions.len()).rev() {
+        let mut here = if position == positions.len() {
             endings.clone()
         } else {
             let next = &labels[position + 1];
-            let least = |list: &Vec<Step>| list.iter().filter_map(|(_, to, cost)| Some(sum(cost, &next[*to]?))).min();
-            readings[position].iter().map(least).collect()
+            let least = |state: usize| {
+                let read = positions[position].iter().flat_map(|symbol| &readings[symbol][state]);
+                read.filter_map(|(_, to, cost)| Some(sum(cost, &next[*to]?))).min()
+            };
+            (0..card.states()).map(least).collect()
         };
         let mut changed = true;
         while changed {
@@ -111,10 +121,11 @@ pub fn best(card: &Card, ranking: &[u8], word: &[u8]) -> Option<Vec<Pair>> {
     let mut candidate = Vec::new();
     while label[6] > 0 {
         let inserted = insertions[state].iter().map(|step| (0, position, step));
-        let read = word
+        let read = positions
             .get(position)
             .into_iter()
-            .flat_map(|&symbol| readings[position][state].iter().map(move |step| (symbol, position + 1, step)));
+            .flatten()
+            .flat_map(|&symbol| readings[&symbol][state].iter().map(move |step| (symbol, position + 1, step)));
         let keeps = |(input, next, (output, to, cost)): (u8, usize, &Step)| {
             let rest = labels[next][*to]?;
             (sum(cost, &rest) == label).then_some(((input, *output), next, *to, rest))
@@ -179,16 +190,43 @@ pub fn best_by_listing(card: &Card, ranking: &[u8], word: &[u8], most: usize) ->
 /// What every search is given: refusals 1 to 9. Of the work slice only the length is used.
 pub fn checked(card: &[u8], ranking: &[u8], word: &[u8], work: usize) -> Result<Card, Refusal> {
     let card = read_card(card)?;
-    if !is_ranking(card.machines.len(), ranking) {
-        return Err(7);
-    }
-    if word.len() > 24 || word.iter().any(|&symbol| symbol == 0 || symbol > card.symbols) {
-        return Err(8);
-    }
-    if work < 8 * (word.len() + 1) * card.states() {
-        return Err(9);
-    }
+    check_ranking(&card, ranking)?;
+    check_word(&card, word)?;
+    check_work(&card, word.len(), work)?;
     Ok(card)
+}
+
+pub fn check_ranking(card: &Card, ranking: &[u8]) -> Result<(), Refusal> {
+    if is_ranking(card.machines.len(), ranking) {
+        Ok(())
+    } else {
+        Err(7)
+    }
+}
+
+pub fn check_word(card: &Card, word: &[u8]) -> Result<(), Refusal> {
+    if word.len() <= 24 && word.iter().all(|&symbol| symbol != 0 && symbol <= card.symbols) {
+        Ok(())
+    } else {
+        Err(8)
+    }
+}
+
+/// The work slice for so many positions.
+pub fn check_work(card: &Card, positions: usize, work: usize) -> Result<(), Refusal> {
+    if work >= 8 * (positions + 1) * card.states() {
+        Ok(())
+    } else {
+        Err(9)
+    }
+}
+
+/// The pairs in the front of the answer slice: refusal 12.
+pub fn write_pairs(candidate: &[Pair], answer: &mut [u8]) -> Result<(), Refusal> {
+    let bytes: Vec<u8> = candidate.iter().flat_map(|&(input, output)| [input, output]).collect();
+    let front = answer.get_mut(..bytes.len()).ok_or(12u8)?;
+    front.copy_from_slice(&bytes);
+    Ok(())
 }
 
 /// How the best is found.
@@ -228,8 +266,6 @@ pub fn optimize_by(
     let candidate = found.ok_or(10)?;
     let profile = profile(&card.machines, &candidate).expect("the best is complete");
     assert!(candidate.len() <= 3_199 && profile.iter().all(|&count| count <= 48_000), "no node is passed twice");
-    let bytes: Vec<u8> = candidate.iter().flat_map(|&(input, output)| [input, output]).collect();
-    let front = answer.get_mut(..bytes.len()).ok_or(12u8)?;
-    front.copy_from_slice(&bytes);
+    write_pairs(&candidate, answer)?;
     Ok(Evaluation { profile, pairs: candidate.len(), word_length: word.len() })
 }

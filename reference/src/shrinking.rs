@@ -5,6 +5,7 @@ use crate::card::{lay_out, read_card, share_a_pair, Arc};
 use crate::live::{Row, Step};
 use crate::optimizer::best;
 use crate::ranking::is_ranking;
+use crate::sets::best_of_sets;
 use crate::tableau::{read_tableau, Tableau};
 use crate::Profile;
 use std::ops::Range;
@@ -23,6 +24,7 @@ pub fn smallest(call: &Call, fails: &dyn Fn(&Call) -> bool) -> Call {
         search.drop_symbols();
         search.shorten_tableaux();
         search.shorten_row_lists();
+        search.shorten_sets();
         search.clear_lists();
         search.shorten_lists();
         search.lower_bytes();
@@ -61,6 +63,13 @@ fn size(call: &mut Call) -> [u64; 5] {
     ids(call).into_iter().for_each(|id| add(*id));
     let (rows, steps) = rows_and_steps(call);
     length += (rows.len() + steps.len()) as u64;
+    if let Call::OptimizeSets { sets, .. } = call {
+        length += sets.len() as u64;
+        for &set in sets.iter() {
+            bits += set.count_ones() as u64;
+            sum += set.trailing_zeros() as u64;
+        }
+    }
     let order = ranking(call).map_or(0, |list| list.iter().take(8).fold(0, |sum, &byte| sum << 8 | byte as u64));
     [length, machines as u64 + symbols as u64, bits, sum, order]
 }
@@ -95,6 +104,7 @@ fn machine_count(call: &mut Call) -> Option<&mut u8> {
 fn card(call: &mut Call) -> Option<&mut Vec<u8>> {
     match call {
         Call::Optimize { card, .. }
+        | Call::OptimizeSets { card, .. }
         | Call::Evaluate { card, .. }
         | Call::ReadPart { card, .. }
         | Call::Judge { card, .. } => Some(card),
@@ -105,6 +115,7 @@ fn card(call: &mut Call) -> Option<&mut Vec<u8>> {
 fn byte_lists(call: &mut Call) -> Vec<&mut Vec<u8>> {
     match call {
         Call::Optimize { card, ranking, word, answer, .. } => vec![word, answer, ranking, card],
+        Call::OptimizeSets { card, ranking, answer, .. } => vec![answer, ranking, card],
         Call::Evaluate { card, candidate } => vec![candidate, card],
         Call::ReadPart { card, .. } => vec![card],
         Call::Pack { parts, target, .. } => vec![target, parts],
@@ -118,7 +129,7 @@ fn byte_lists(call: &mut Call) -> Vec<&mut Vec<u8>> {
 
 fn number_lists(call: &mut Call) -> Vec<&mut Vec<u16>> {
     match call {
-        Call::Optimize { work, .. } | Call::Judge { work, .. } => vec![work],
+        Call::Optimize { work, .. } | Call::OptimizeSets { work, .. } | Call::Judge { work, .. } => vec![work],
         Call::Pack { lengths, .. } => vec![lengths],
         _ => vec![],
     }
@@ -172,6 +183,7 @@ fn ids(call: &mut Call) -> Vec<&mut u16> {
 fn ranking(call: &mut Call) -> Option<&mut Vec<u8>> {
     match call {
         Call::Optimize { ranking, .. }
+        | Call::OptimizeSets { ranking, .. }
         | Call::Compare { ranking, .. }
         | Call::Judge { ranking, .. }
         | Call::Rows { ranking, .. }
@@ -316,6 +328,12 @@ fn with_part(call: &Call, machine: usize, change: impl Fn(&mut Part)) -> Option<
 /// What the call needs of the slices whose length can be too short: numbers of work, bytes of answer or target.
 fn needs(call: &Call) -> Option<(usize, usize)> {
     match call {
+        Call::OptimizeSets { card, ranking, sets, .. } => {
+            let card = read_card(card).ok()?;
+            let right = is_ranking(card.machines.len(), ranking) && sets.len() <= 24;
+            let pairs = if right { best_of_sets(&card, ranking, sets).map_or(0, |pairs| pairs.len()) } else { 0 };
+            Some((8 * (sets.len() + 1) * card.states(), 2 * pairs))
+        }
         Call::Judge { card, word, .. } => Some((8 * (word.len() + 1) * read_card(card).ok()?.states(), 0)),
         Call::Optimize { card, ranking, word, .. } => {
             let card = read_card(card).ok()?;
@@ -335,7 +353,7 @@ fn refitted(earlier: &Call, later: &Call) -> Option<Call> {
     let moved = |length: usize, before: usize, after: usize| (length + after).saturating_sub(before);
     let mut call = later.clone();
     match &mut call {
-        Call::Optimize { work, answer, .. } => {
+        Call::Optimize { work, answer, .. } | Call::OptimizeSets { work, answer, .. } => {
             work.resize(moved(work.len(), work_before, work_after), 0);
             answer.resize(moved(answer.len(), slice_before, slice_after), 0);
         }
@@ -462,6 +480,11 @@ fn without_symbols(call: &Call, gone: &Range<usize>) -> Option<Call> {
         &mut call
     {
         *list = without(list);
+    }
+    if let Call::OptimizeSets { sets, .. } = &mut call {
+        for set in sets {
+            *set = without_bits(*set, &symbols);
+        }
     }
     let other_rows = with_tableau(&call, |tableau| {
         for row in &mut tableau.rows {
@@ -621,7 +644,7 @@ impl Search<'_> {
     fn clear_slices(&mut self) {
         let mut call = self.call.clone();
         match &mut call {
-            Call::Optimize { work, answer, .. } => {
+            Call::Optimize { work, answer, .. } | Call::OptimizeSets { work, answer, .. } => {
                 work.fill(0);
                 answer.fill(0);
             }
@@ -630,6 +653,30 @@ impl Search<'_> {
             _ => (),
         }
         self.attempt(Some(call));
+    }
+
+    /// Takes positions away from a word of sets, and symbols from the sets.
+    fn shorten_sets(&mut self) {
+        let length = |call: &mut Call| match call {
+            Call::OptimizeSets { sets, .. } => sets.len(),
+            _ => 0,
+        };
+        self.shorten(&length, &|call, gone| {
+            let mut call = call.clone();
+            if let Call::OptimizeSets { sets, .. } = &mut call {
+                sets.drain(gone);
+            }
+            Some(call)
+        });
+        for place in 0..length(&mut self.call) {
+            for bit in 0..64 {
+                let mut call = self.call.clone();
+                if let Call::OptimizeSets { sets, .. } = &mut call {
+                    sets[place] &= !(1 << bit);
+                }
+                self.attempt(Some(call));
+            }
+        }
     }
 
     /// Takes rows away from a list and steps from a live tableau, and lowers ids and row counts.

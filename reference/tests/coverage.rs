@@ -8,7 +8,10 @@ use reference::coverage::Coverage;
 fn what_is_missing() {
     let nothing = Coverage::default().missing();
     // every number of every call, and sizes
-    assert!(nothing.len() > KINDS.iter().map(|(_, refusals)| 1 + refusals.len()).sum::<usize>() + 6 + 63 + 25 + 32 + 3);
+    assert!(
+        nothing.len()
+            > KINDS.iter().map(|(_, refusals)| 1 + refusals.len()).sum::<usize>() + 6 + 63 + 25 + 32 + 3 + 25 + 16
+    );
     assert!(nothing.iter().any(|line| line == "optimize answers 12: 0 times, 100 are asked"));
     assert!(nothing.iter().any(|line| line == "128 joined states: 0 times, 1 are asked"));
 

@@ -475,6 +475,28 @@ fn tableaux() {
     assert_eq!(rows(&call), 2);
 }
 
+/// Only the least symbol of each set tried.
+#[test]
+fn sets_of_symbols() {
+    let call = found_out(|call| {
+        let Call::OptimizeSets { sets, .. } = call else { return reference(call) };
+        let mut least = call.clone();
+        if let Call::OptimizeSets { sets, .. } = &mut least {
+            sets.iter_mut().for_each(|set| *set &= set.wrapping_neg());
+        }
+        let doubtful = sets.iter().any(|set| set & 1 == 1);
+        let right = reference(call);
+        if doubtful || matches!(right.number, 1..=9 | 25) {
+            return right;
+        }
+        reference(&least)
+    });
+    let Call::OptimizeSets { card, sets, .. } = &call else { panic!("a call with sets") };
+    let read = read_card(card).unwrap();
+    assert_eq!((read.machines.len(), read.states(), sets.len()), (1, 1, 1));
+    assert_eq!(sets[0].count_ones(), 2);
+}
+
 /// K, the row count and the records of a call on a list of rows.
 fn sizes_of_rows(call: &Call) -> (u8, usize, usize) {
     let Call::Rows { machines, used, rows, .. } = call else { panic!("a call on a list of rows") };

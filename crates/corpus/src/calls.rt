@@ -71,6 +71,62 @@ pub fn lend_and_search(
     true
 }
 
+fn optimize_sets(card: &[u8], ranking: &[u8], sets: &[u64], work: &mut [u16], answer: &mut [u8]) {
+    let evaluation = optimizer::optimize_sets(card, ranking, sets, work, answer);
+    write(b"optimize sets");
+    write_evaluation(evaluation);
+    write_slice(answer);
+}
+
+fn cull_sets(card: &[u8], ranking: &[u8], sets: &[u64], work: &mut [u16], answer: &mut [u8]) {
+    let evaluation = cull::cull_sets(card, ranking, sets, work, answer);
+    write(b"cull sets");
+    write_evaluation(evaluation);
+    write_slice(answer);
+}
+
+// As `lend_and_search`, with the first sets, as many as `positions`.
+pub fn lend_and_search_sets(
+    culls: bool,
+    card: &[u8],
+    ranking: &[u8],
+    sets: [u64; 32],
+    positions: usize,
+    room: usize,
+    bytes: usize,
+    fill: u8,
+) -> bool {
+    if positions > 32 {
+        return false;
+    }
+    if room > WORK_NUMBERS {
+        return false;
+    }
+    if bytes > ANSWER_BYTES {
+        return false;
+    }
+    let mut work = [0u16; WORK_NUMBERS];
+    let mut answer = [fill; ANSWER_BYTES];
+    if culls {
+        cull_sets(
+            card,
+            ranking,
+            &sets[0..positions],
+            &mut work[0..room],
+            &mut answer[0..bytes],
+        );
+    } else {
+        optimize_sets(
+            card,
+            ranking,
+            &sets[0..positions],
+            &mut work[0..room],
+            &mut answer[0..bytes],
+        );
+    }
+    true
+}
+
 fn judge(card: &[u8], ranking: &[u8], word: &[u8], work: &mut [u16], tableau: &[u8]) {
     let judged = tableau::judge(card, ranking, word, work, tableau);
     write(b"judge");

@@ -1,5 +1,5 @@
-// The fields of the file's cases. A number has 16 bits, the low byte first; bytes, and numbers, have a number before them that says how many they are; a
-// profile is six numbers. A field is known by its place. What the file is too short for is nowhere, and so is what comes after it.
+// The fields of the file's cases. A number has 16 bits, the low byte first, a set 64; bytes, numbers, and sets, have a number before them that says how many
+// they are; a profile is six numbers. A field is known by its place. What the file is too short for is nowhere, and so is what comes after it.
 use ranking::Profile;
 ghost use Prim.Native.Nat.{_<_};
 
@@ -49,6 +49,11 @@ pub fn after_numbers(file: &[u8], at: usize) -> usize {
     after(file, halfway, size_at(file, at))
 }
 
+// The place after the sets at a place.
+pub fn after_sets(file: &[u8], at: usize) -> usize {
+    after(file, after(file, at, 2), 8 * number_at(file, at) as usize)
+}
+
 // The bytes at a place, none where they are not whole.
 pub fn bytes_at(file: &[u8], at: usize) -> &[u8] {
     let start = after(file, at, 2);
@@ -73,6 +78,26 @@ pub fn numbers_at(file: &[u8], at: usize) -> [u16; 7] {
         number_at(file, after(file, at, 12)),
         number_at(file, after(file, at, 14)),
     ]
+}
+
+// The set at a place.
+fn set_at(file: &[u8], at: usize) -> u64 {
+    let low = number_at(file, at) as u64;
+    let next = number_at(file, after(file, at, 2)) as u64;
+    let third = number_at(file, after(file, at, 4)) as u64;
+    let high = number_at(file, after(file, at, 6)) as u64;
+    low | (next << 16) | (third << 32) | (high << 48)
+}
+
+// The first 32 of the sets at a place, and what stands in the file after them where they are fewer.
+pub fn sets_at(file: &[u8], at: usize) -> [u64; 32] {
+    let mut sets = [0u64; 32];
+    let mut place = after(file, at, 2);
+    for position in 0..32 {
+        sets[position] = set_at(file, place);
+        place = after(file, place, 8);
+    }
+    sets
 }
 
 // The six counts at a place.

@@ -12,9 +12,11 @@
 //     7 find        machines: a byte; conditions: bytes
 //     8 judge       card, ranking, word: bytes; numbers of work: a number; tableau: bytes
 //     9 cull        as optimize
+//    13 optimize sets, 14 cull sets    as optimize, but sets for the word
 //
-// A case of another kind, one that the file ends in and one that asks to be lent more than there is are faulty. Each of the functions for a kind goes
-// from the place of the first field to the place after the last, which is nowhere for a faulty case.
+// A case of another kind, one that the file ends in and one that asks to be lent more than there is are faulty. 10 to 12, the live tableau's calls, are not
+// in the file: `live_test` makes them. Each of the functions for a kind goes from the place of the first field to the place after the last, which is nowhere
+// for a faulty case.
 mod calls;
 mod fields;
 mod writing;
@@ -26,15 +28,18 @@ use calls::find;
 use calls::lend_and_judge;
 use calls::lend_and_pack;
 use calls::lend_and_search;
+use calls::lend_and_search_sets;
 use calls::read_part;
 use fields::NOWHERE;
 use fields::after;
 use fields::after_bytes;
 use fields::after_numbers;
+use fields::after_sets;
 use fields::byte_at;
 use fields::bytes_at;
 use fields::numbers_at;
 use fields::profile_at;
+use fields::sets_at;
 use fields::size_at;
 use writing::end_line;
 use writing::write_bad_case;
@@ -58,6 +63,29 @@ fn search_case(file: &[u8], culls: bool, card: usize) -> usize {
         bytes_at(file, card),
         bytes_at(file, ranking),
         bytes_at(file, word),
+        size_at(file, room),
+        size_at(file, bytes),
+        byte_at(file, fill),
+    );
+    if lent { end } else { NOWHERE }
+}
+
+fn search_sets_case(file: &[u8], culls: bool, card: usize) -> usize {
+    let ranking = after_bytes(file, card);
+    let sets = after_bytes(file, ranking);
+    let room = after_sets(file, sets);
+    let bytes = after(file, room, 2);
+    let fill = after(file, bytes, 2);
+    let end = after(file, fill, 1);
+    if end == NOWHERE {
+        return NOWHERE;
+    }
+    let lent = lend_and_search_sets(
+        culls,
+        bytes_at(file, card),
+        bytes_at(file, ranking),
+        sets_at(file, sets),
+        size_at(file, sets),
         size_at(file, room),
         size_at(file, bytes),
         byte_at(file, fill),
@@ -174,6 +202,8 @@ fn case(file: &[u8], at: usize) -> usize {
         7 => find_case(file, start),
         8 => judge_case(file, start),
         9 => search_case(file, true, start),
+        13 => search_sets_case(file, false, start),
+        14 => search_sets_case(file, true, start),
         _ => NOWHERE,
     }
 }

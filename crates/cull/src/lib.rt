@@ -9,6 +9,7 @@ ghost use Rattle.labels.specs.Work.{HasNode, HasNodes};
 ghost use Rattle.tables.specs.Places.{sixPlaces};
 ghost use Rattle.positions.specs.Labelling.{LabelPre, PositionsDone};
 ghost use Rattle.optimizer.specs.Optimizes.{Optimizes};
+ghost use Rattle.optimizer.specs.OptimizesSets.{OptimizesSets};
 ghost use Rattle.product.specs.Best.{best};
 ghost use Rattle.product.specs.Sets.{bestOfSets};
 ghost use Rattle.optimizer.specs.Searching.{SetsPre, SearchPre, Searched};
@@ -690,4 +691,23 @@ pub fn cull(
     let size = input::joint_states(card);
     let nodes = (word.len() + 1) * size;
     search(card, ranking, word, size, &mut work[..nodes * 8], answer)
+}
+
+// The same over all words with one symbol from each set: 1 to 8, 25, 9, 10, 12.
+pub fn cull_sets(
+    card: &[u8],
+    ranking: &[u8],
+    sets: &[u64],
+    work: &mut [u16],
+    answer: &mut [u8],
+) -> Evaluation
+    ensures { λ r. ⌜ OptimizesSets (now (card .entry)) (now (ranking .entry)) (now (sets .entry)) (now (work .entry)) (now (work .exit)) (now (answer .entry)) (now (answer .exit)) r ⌝ }
+{
+    let checked = input::check_sets_input(card, ranking, sets, work.len());
+    let input::Stage::Passed = checked else {
+        return refused(checked.number());
+    };
+    let size = input::joint_states(card);
+    let nodes = (sets.len() + 1) * size;
+    search_sets(card, ranking, sets, size, &mut work[..nodes * 8], answer)
 }

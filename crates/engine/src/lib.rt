@@ -9,7 +9,9 @@ ghost use Rattle.card.specs.Reading.{reading};
 ghost use Rattle.card.specs.Packing.{packing, packedTarget};
 ghost use Rattle.candidate.specs.Evaluating.{evaluating};
 ghost use Rattle.product.specs.Optimizing.{optimized};
+ghost use Rattle.product.specs.OptimizingSets.{optimizedSets};
 ghost use Rattle.optimizer.specs.Optimizes.{Optimizes};
+ghost use Rattle.optimizer.specs.OptimizesSets.{OptimizesSets};
 ghost use Rattle.tableau.specs.Judging.{judging};
 ghost use Rattle.tableau.specs.Judges.{Judges};
 ghost use Rattle.live.specs.Calls.{adding, addedList, removing, removedList, leading};
@@ -77,6 +79,43 @@ pub extern "C" fn pastaspur_cull(
     ensures { λ _. ⌜ Optimizes (now (card .entry)) (now (ranking .entry)) (now (word .entry)) (now (work .entry)) (now (work .exit)) (now (answer .entry)) (now (answer .exit)) (optimized (now (card .entry)) (now (ranking .entry)) (now (word .entry)) (length (now (work .entry))) (length (now (answer .entry)))) ⌝ }
 {
     give_evaluation(cull::cull(card, ranking, word, work, answer), result)
+}
+
+// The best candidate over all words with one symbol from each set: 1 to 8, 25, 9, 10, 12.
+#[no_mangle]
+pub extern "C" fn pastaspur_optimize_sets(
+    card: &[u8],
+    ranking: &[u8],
+    sets: &[u64],
+    work: &mut [u16],
+    answer: &mut [u8],
+    result: &mut [u16; 8],
+) -> u32
+    ensures { λ r. ⌜ r ≡ optimizedSets (now (card .entry)) (now (ranking .entry)) (now (sets .entry)) (length (now (work .entry))) (length (now (answer .entry))) .number ⌝ }
+    ensures { λ _. ⌜ now (result .exit) ≡ evaluationNumbers (optimizedSets (now (card .entry)) (now (ranking .entry)) (now (sets .entry)) (length (now (work .entry))) (length (now (answer .entry)))) ⌝ }
+    ensures { λ _. ⌜ OptimizesSets (now (card .entry)) (now (ranking .entry)) (now (sets .entry)) (now (work .entry)) (now (work .exit)) (now (answer .entry)) (now (answer .exit)) (optimizedSets (now (card .entry)) (now (ranking .entry)) (now (sets .entry)) (length (now (work .entry))) (length (now (answer .entry)))) ⌝ }
+{
+    give_evaluation(
+        optimizer::optimize_sets(card, ranking, sets, work, answer),
+        result,
+    )
+}
+
+// The same by Ellison's cull.
+#[no_mangle]
+pub extern "C" fn pastaspur_cull_sets(
+    card: &[u8],
+    ranking: &[u8],
+    sets: &[u64],
+    work: &mut [u16],
+    answer: &mut [u8],
+    result: &mut [u16; 8],
+) -> u32
+    ensures { λ r. ⌜ r ≡ optimizedSets (now (card .entry)) (now (ranking .entry)) (now (sets .entry)) (length (now (work .entry))) (length (now (answer .entry))) .number ⌝ }
+    ensures { λ _. ⌜ now (result .exit) ≡ evaluationNumbers (optimizedSets (now (card .entry)) (now (ranking .entry)) (now (sets .entry)) (length (now (work .entry))) (length (now (answer .entry)))) ⌝ }
+    ensures { λ _. ⌜ OptimizesSets (now (card .entry)) (now (ranking .entry)) (now (sets .entry)) (now (work .entry)) (now (work .exit)) (now (answer .entry)) (now (answer .exit)) (optimizedSets (now (card .entry)) (now (ranking .entry)) (now (sets .entry)) (length (now (work .entry))) (length (now (answer .entry)))) ⌝ }
+{
+    give_evaluation(cull::cull_sets(card, ranking, sets, work, answer), result)
 }
 
 // Judges a tableau for a card, a ranking and a word: 1 to 9, 19, 20, 21.

@@ -13,13 +13,21 @@ use Rattle.product.specs.Optimizing.{soundWord}
 use Rattle.product.specs.Laws.Accepted.{accepted-machines}
 use Rattle.input.specs.AcceptedInput.{short-word}
 
--- of a word of at most 24 symbols and at most 128 joint states
+-- of at most 24 symbols or sets and at most 128 joint states
 pub few-nodes : (n P : ℕ) → n ≤ 24 → P ≤ 128 → (n + 1) * P ≤ 3200
 few-nodes n P h k = let q : n + 1 ≤ 25 = omega arith in mul-le-mul q k
 
+module _ (card : List ℕ) (ok : cardRefusal card ≡ 0) (P : ℕ) (e : P ≡ product (stateCounts (machinesOf card))) where
+  pub room-for : (n : ℕ) → (n + 1) * P * 8 ≡ 8 * nodeCount (machinesOf card) n
+  room-for n = let q : (n + 1) * P ≡ nodeCount (machinesOf card) n = ap (λ (p : ℕ). (n + 1) * p) e in omega arith
+
+  pub few-for : (n : ℕ) → n ≤ 24 → (n + 1) * P ≤ 3200
+  few-for n h = few-nodes n P h (omega (arith, accepted-machines card ok .few-states))
+
+-- and so of an accepted word
 module _ (card word : List ℕ) (ok : cardRefusal card ≡ 0) (P : ℕ) (e : P ≡ product (stateCounts (machinesOf card))) where
   pub node-room : (length word + 1) * P * 8 ≡ 8 * nodeCount (machinesOf card) (length word)
-  node-room = let q : (length word + 1) * P ≡ nodeCount (machinesOf card) (length word) = ap (λ (p : ℕ). (length word + 1) * p) e in omega arith
+  node-room = room-for card ok P e (length word)
 
   pub nodes-few : soundWord (symbolCount card) word ≡ true → (length word + 1) * P ≤ 3200
-  nodes-few t = few-nodes (length word) P (short-word (symbolCount card) word t) (omega (arith, accepted-machines card ok .few-states))
+  nodes-few t = few-for card ok P e (length word) (short-word (symbolCount card) word t)

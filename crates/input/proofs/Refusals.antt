@@ -1,7 +1,5 @@
 -- No refusal has the number 0. Assumes nothing.
-use mathlib.Core.Path.{_≡_, refl}
 use Prim.Native.Nat.{_<_}
-use native.Mathlib.Omega.{arith}
 use lib.Dec.{lit<}
 use Rattle.ranking.specs.Lemmas.Refusals.{number-positive as ranking-positive}
 use Rattle.card.proofs.Stages.{number-pos as card-positive}
@@ -12,12 +10,12 @@ use Rattle.input.specs.declared.Refusal.{Refusal}
 use Rattle.input.specs.declared.Refusal.the-variants.{Card, Ranking, Word, Work}
 use Rattle.input.specs.Refusals.{numberOf}
 
--- a word has one refusal
-pub word-number : (r : WordRefusal) → wordNumber r ≡ 8
-word-number words.Word = refl
+word-positive : (r : WordRefusal) → 0 < wordNumber r
+word-positive words.Word = lit< tt
+word-positive words.Set = lit< tt
 
 pub number-positive : (r : Refusal) → 0 < numberOf r
 number-positive (Card r) = card-positive r
 number-positive (Ranking r) = ranking-positive r
-number-positive (Word r) = omega (arith, word-number r)
+number-positive (Word r) = word-positive r
 number-positive Work = lit< tt

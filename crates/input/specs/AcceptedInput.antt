@@ -1,4 +1,4 @@
--- What input promises that the checks 1 to 9 accept.
+-- What input promises that the checks 1 to 9 accept, with a word or with sets.
 use mathlib.Core.Path.{_≡_}
 use mathlib.Core.Bool.{true}
 use mathlib.Core.List.{List, [], _∷_}
@@ -13,7 +13,9 @@ use Rattle.card.specs.Layout.{machineCount, symbolCount}
 use Rattle.card.specs.Card.{cardRefusal, machinesOf}
 use Rattle.product.specs.Nodes.{nodeCount}
 use Rattle.product.specs.Optimizing.{soundWord, inputRefusal}
+use Rattle.product.specs.OptimizingSets.{setsRefusal, setsInputRefusal}
 use Rattle.product.specs.Laws.Words.{accepted-word}
+use Rattle.product.specs.Laws.SymbolSets.{AcceptedSets, accepted-sets}
 
 pub record AcceptedInput (card ranking word : List ℕ) (room : ℕ) : Type 0 where
   pub accepted : cardRefusal card ≡ 0
@@ -41,3 +43,28 @@ accepted-input card ranking word room e =
 -- a word has at most 24 symbols
 pub short-word : (S : ℕ) (word : List ℕ) → soundWord S word ≡ true → length word ≤ 24
 short-word S word t = accepted-word S word t .short
+
+-- ---- with sets in the word's place
+
+pub record AcceptedSetsInput (card ranking sets : List ℕ) (room : ℕ) : Type 0 where
+  pub accepted : cardRefusal card ≡ 0
+  pub ranks : isRanking (machineCount card) ranking ≡ true
+  pub sound : AcceptedSets (symbolCount card) sets
+  pub nodes-fit : 8 * nodeCount (machinesOf card) (length sets) ≤ room
+
+pub accepted-sets-input : (card ranking sets : List ℕ) (room : ℕ) → setsInputRefusal card ranking sets room ≡ 0 → AcceptedSetsInput card ranking sets room
+unfolding setsInputRefusal
+accepted-sets-input card ranking sets room e =
+    let r = isRanking (machineCount card) ranking in
+    let w = setsRefusal (symbolCount card) sets in
+    let n = leb (8 * nodeCount (machinesOf card) (length sets)) room in
+    let a = none-first (cardRefusal card) (refuse 7 r ∷ w ∷ refuse 9 n ∷ []) e in
+    let b = none-first (refuse 7 r) (w ∷ refuse 9 n ∷ []) (a .1) in
+    let d = none-first w (refuse 9 n ∷ []) (b .1) in
+    let f = none-first (refuse 9 n) [] (d .1) in
+    record {
+      accepted = a .0;
+      ranks = passed 7 r (lit< tt) (b .0);
+      sound = accepted-sets (symbolCount card) sets (d .0);
+      nodes-fit = leb-true (8 * nodeCount (machinesOf card) (length sets)) room (passed 9 n (lit< tt) (f .0));
+    }

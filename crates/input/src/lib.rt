@@ -1,7 +1,6 @@
-// The checks of the input that every search shares, 1 to 9: card, ranking, word, work slice.
+// The checks of the input that every search shares, 1 to 9: card, ranking, word, or sets in its place, work slice.
 ghost use mathlib.Core.Path.{_≡_};
-ghost use mathlib.Core.Bool.{true};
-ghost use Prim.Native.Nat.{_*_};
+ghost use Prim.Native.Nat.{_*_, _≤_};
 ghost use lib.Dec.{leb};
 ghost use lib.ListN.{length};
 ghost use Rattle.basics.specs.Refusals.{refuse};
@@ -10,6 +9,7 @@ ghost use Rattle.card.specs.Layout.{machineCount, symbolCount};
 ghost use Rattle.card.specs.Card.{cardRefusal, machinesOf};
 ghost use Rattle.product.specs.Nodes.{product, stateCounts, nodeCount};
 ghost use Rattle.product.specs.Optimizing.{soundWord, inputRefusal};
+ghost use Rattle.product.specs.OptimizingSets.{setsRefusal, setsInputRefusal};
 ghost use Rattle.input.specs.Refusals.{numberOf, stageNumber};
 
 // Why the input is refused.
@@ -31,6 +31,7 @@ impl Refusal {
             Refusal::Ranking(refusal) => refusal.number(),
             Refusal::Word(refusal) => match refusal {
                 product::Refusal::Word => 8,
+                product::Refusal::Set => 25,
             },
             Refusal::Work => 9,
         }
@@ -98,12 +99,23 @@ fn check_word(card: &[u8], word: &[u8]) -> Stage
     }
 }
 
-// Refusal 9, for an accepted card and word: whether a work slice of `room` numbers has eight for each node.
-fn check_work(card: &[u8], word: &[u8], room: usize) -> Stage
-    requires { ⌜ (cardRefusal (now card) ≡ 0) × (soundWord (symbolCount (now card)) (now word) ≡ true) ⌝ }
-    ensures { λ r. ⌜ stageNumber r ≡ refuse 9 (leb (8 * nodeCount (machinesOf (now (card .entry))) (length (now (word .entry)))) room) ⌝ }
+// The length limit of 8 and refusal 25, for an accepted card.
+fn check_sets(card: &[u8], sets: &[u64]) -> Stage
+    requires { ⌜ cardRefusal (now card) ≡ 0 ⌝ }
+    ensures { λ r. ⌜ stageNumber r ≡ setsRefusal (symbolCount (now (card .entry))) (now (sets .entry)) ⌝ }
 {
-    if room < (word.len() + 1) * joint_states(card) * 8 {
+    match product::check_sets(sets, card::symbol_count(card)) {
+        product::Stage::Passed => Stage::Passed,
+        product::Stage::Refused(refusal) => Stage::Refused(Refusal::Word(refusal)),
+    }
+}
+
+// Refusal 9, for an accepted card and that many symbols or sets: whether a work slice of `room` numbers has eight for each node.
+fn check_work(card: &[u8], count: usize, room: usize) -> Stage
+    requires { ⌜ (cardRefusal (now card) ≡ 0) × (count ≤ 24) ⌝ }
+    ensures { λ r. ⌜ stageNumber r ≡ refuse 9 (leb (8 * nodeCount (machinesOf (now (card .entry))) count) room) ⌝ }
+{
+    if room < (count + 1) * joint_states(card) * 8 {
         return Stage::Refused(Refusal::Work);
     }
     Stage::Passed
@@ -125,5 +137,24 @@ pub fn check_input(card: &[u8], ranking: &[u8], word: &[u8], room: usize) -> Sta
     let Stage::Passed = answer else {
         return answer;
     };
-    check_work(card, word, room)
+    check_work(card, word.len(), room)
+}
+
+// The first of refusals 1 to 8, 25 and 9 that the input meets with sets in the word's place, for a work slice of `room` numbers.
+pub fn check_sets_input(card: &[u8], ranking: &[u8], sets: &[u64], room: usize) -> Stage
+    ensures { λ r. ⌜ stageNumber r ≡ setsInputRefusal (now (card .entry)) (now (ranking .entry)) (now (sets .entry)) room ⌝ }
+{
+    let answer = check_card(card);
+    let Stage::Passed = answer else {
+        return answer;
+    };
+    let answer = check_ranking(card, ranking);
+    let Stage::Passed = answer else {
+        return answer;
+    };
+    let answer = check_sets(card, sets);
+    let Stage::Passed = answer else {
+        return answer;
+    };
+    check_work(card, sets.len(), room)
 }

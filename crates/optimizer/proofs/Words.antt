@@ -2,29 +2,29 @@
 use mathlib.Core.Path.{_≡_, refl, _∙_, ap}
 use mathlib.Core.Bool.{true, _&&_}
 use mathlib.Core.List.{List, [], _∷_}
-use mathlib.Core.Option.{Option, some, none}
 use Prim.Native.Nat.{ℕ, suc, _+_, _^_, _<_, _≤_}
 use native.Mathlib.Decide.{ℕ-discrete}
 use native.Mathlib.Omega.{arith}
 use lib.Dec.{leb, ltb}
 use lib.ListN.{length, getD, take, set, length-set}
 use lib.Seq.{getD-set-same, getD-set-other}
-use borrow.Author.Tests.{leb-true, ltb-true, lt-ltb}
+use borrow.Author.Tests.{leb-true, ltb-true}
 use Rattle.basics.specs.Search.{allOf}
 use Rattle.basics.specs.Refusals.{unlessRefused}
 use Rattle.basics.specs.Sets.{member}
 use Rattle.basics.proofs.Bools.{left, right}
-use Rattle.basics.proofs.Search.{all-at, each-at}
+use Rattle.basics.proofs.Search.{all-at}
 use Rattle.card.specs.Layout.{symbolCount}
 use Rattle.card.specs.Card.{cardRefusal}
 use Rattle.card.specs.Accepted.{accepted}
 use Rattle.candidate.specs.declared.Evaluation.{Evaluation}
 use Rattle.candidate.specs.Evaluating.{refused}
-use Rattle.product.specs.Best.{Contender, best}
+use Rattle.product.specs.Best.{best}
 use Rattle.product.specs.Sets.{singletons, bestOfSets}
-use Rattle.product.specs.Optimizing.{soundWord, evaluationOf}
+use Rattle.product.specs.Optimizing.{soundWord}
 use Rattle.product.specs.SetsTheorem.{best-of-one-word}
-use Rattle.product.specs.Laws.Words.{accepted-word}
+use Rattle.product.specs.OneSymbolEach.{evaluated-alike}
+use Rattle.product.specs.Laws.Words.{accepted-word, small-symbols}
 use Rattle.product.specs.Laws.Sets.{as-many, reads-word}
 use Rattle.product.specs.Laws.BestOfSets.{singletons-64}
 use Rattle.optimizer.specs.Searching.{searchRefusal, SetsPre, SearchPre, Searched}
@@ -68,7 +68,7 @@ module _ (card word : List ℕ) (ok : cardRefusal card ≡ 0) (sound : soundWord
       (leb-true 1 x (left (leb 1 x) (leb x S) t), leb-true x S (right (leb 1 x) (leb x S) t))
 
   pub all-small : allOf (λ x. ltb x 64) word ≡ true
-  all-small = each-at (λ x. ltb x 64) word 0 (λ i h. lt-ltb (getD word i 0) 64 (omega (arith, a-symbol i h, accepted card ok .head .counts .symbols)))
+  all-small = small-symbols (symbolCount card) word (accepted card ok .head .counts .symbols) (accepted-word (symbolCount card) word sound .symbols)
 
   pub of-sets : (i x : ℕ) → member (getD (singletons word) i 0) x ≡ true → (1 ≤ x) × (x ≤ symbolCount card)
   of-sets i x t =
@@ -101,14 +101,10 @@ module _ {card ranking word work : List ℕ} {size : ℕ} (pre : SearchPre card 
 
     pub word-searched : {after answer answerAfter : List ℕ} {r : Evaluation} → Searched (bestOfSets card ranking sets) sets work after answer answerAfter r → Searched (best card ranking word) word work after answer answerAfter r
     word-searched {after} {answer} {answerAfter} {r} T = record {
-      result = S .result ∙ ap (λ (e : Evaluation). unlessRefused (searchRefusal (best card ranking word) (length answer)) e refused) (evaluated (best card ranking word));
+      result = S .result ∙ ap (λ (e : Evaluation). unlessRefused (searchRefusal (best card ranking word) (length answer)) e refused) (evaluated-alike (best card ranking word) word);
       answer-slice = S .answer-slice;
       work-length = S .work-length;
     }
       where
         S : Searched (best card ranking word) (singletons word) work after answer answerAfter r
         S = rw (are, best-of-one-word card ranking word (pre .accepted) word-small) at T
-
-        evaluated : (o : Option Contender) → evaluationOf o (singletons word) ≡ evaluationOf o word
-        evaluated none = refl
-        evaluated (some b) = rw (as-many word)

@@ -16,6 +16,7 @@ ghost use Rattle.labels.specs.LabelCost.{costOf};
 ghost use Rattle.positions.specs.Labelling.{PositionsDone};
 ghost use Rattle.optimizer.specs.Refusals.{numberOf, stageNumber};
 ghost use Rattle.optimizer.specs.Optimizes.{Optimizes};
+ghost use Rattle.optimizer.specs.OptimizesSets.{OptimizesSets};
 ghost use Rattle.optimizer.specs.Searching.{SetsPre, SearchPre, Searched, RankingOfSome, CardOrder};
 ghost use Rattle.optimizer.specs.Telling.{TellsBest};
 use basics::index;
@@ -219,4 +220,23 @@ pub fn optimize(
     let size = input::joint_states(card);
     let nodes = (word.len() + 1) * size;
     search(card, ranking, word, size, &mut work[..nodes * 8], answer)
+}
+
+// Answers the best candidate over all words with one symbol from each set: 1 to 8, 25, 9, 10, 12.
+pub fn optimize_sets(
+    card: &[u8],
+    ranking: &[u8],
+    sets: &[u64],
+    work: &mut [u16],
+    answer: &mut [u8],
+) -> Evaluation
+    ensures { λ r. ⌜ OptimizesSets (now (card .entry)) (now (ranking .entry)) (now (sets .entry)) (now (work .entry)) (now (work .exit)) (now (answer .entry)) (now (answer .exit)) r ⌝ }
+{
+    let checked = input::check_sets_input(card, ranking, sets, work.len());
+    let input::Stage::Passed = checked else {
+        return refused(checked.number());
+    };
+    let size = input::joint_states(card);
+    let nodes = (sets.len() + 1) * size;
+    search_sets(card, ranking, sets, size, &mut work[..nodes * 8], answer)
 }

@@ -22,3 +22,4 @@ pub mod Counts
 pub mod Best
 pub mod BestCandidate
 pub mod BestOfSets
+pub mod SymbolSets

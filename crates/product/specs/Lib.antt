@@ -10,6 +10,7 @@ pub mod Pairs
 pub mod Best
 pub mod Sets
 pub mod Optimizing
+pub mod OptimizingSets
 pub mod BestCandidate
 -- lemmas
 pub mod Laws
@@ -17,4 +18,5 @@ pub mod Laws
 pub mod CandidatePaths
 pub mod BestTheorem
 pub mod SetsTheorem
+pub mod OneSymbolEach
 pub mod LabelTheorem

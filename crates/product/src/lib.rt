@@ -1,16 +1,22 @@
 // The product of a card's machines over a word, which every engine shares: its nodes, its joint step, and the theorem on the best candidate stand
-// in specs/. The code is the check of the word.
+// in specs/. The code is the check of the word, and that of the sets in its place.
 ghost use mathlib.Core.Path.{_≡_};
 ghost use mathlib.Core.Bool.{_&&_};
+ghost use Prim.Native.Nat.{ℕ, _^_, _<_};
 ghost use lib.Dec.{leb};
 ghost use Rattle.basics.specs.Refusals.{refuse};
 ghost use Rattle.product.specs.Optimizing.{soundWord};
+ghost use Rattle.product.specs.OptimizingSets.{symbolSet, setsRefusal};
 ghost use Rattle.product.specs.Refusals.{stageNumber};
 use machine::Pair;
+use machine::sets;
 
-// Why a word is refused.
+// Why a word is refused, or sets in its place.
 pub enum Refusal {
+    // The word has too many positions, or a symbol of it is none.
     Word,
+    // A set is empty, holds the empty symbol, or has a bit over S.
+    Set,
 }
 
 // What a checking stage answers.
@@ -36,6 +42,31 @@ pub fn check_word(word: &[u8], symbols: u8) -> Stage
     for at in 0..word.len() {
         if !is_symbol(word[at], symbols) {
             return Stage::Refused(Refusal::Word);
+        }
+    }
+    Stage::Passed
+}
+
+// Whether a set has symbols of 1 to S alone, and one at least; `last` is the set of S.
+fn is_symbol_set(set: u64, last: u64) -> bool
+    ensures { λ r. ⌜ ((S : ℕ) → last ≡ 2 ^ S → r ≡ symbolSet S set) ⌝ }
+{
+    let empty = sets::set_of(Pair::EMPTY);
+    sets::is_sound(set, last) & !sets::holds(set, empty)
+}
+
+// 8's length limit and refusal 25: whether there are at most 24 sets, each of symbols of 1 to `symbols`.
+pub fn check_sets(sets: &[u64], symbols: u8) -> Stage
+    requires { ⌜ symbols < 64 ⌝ }
+    ensures { λ r. ⌜ stageNumber r ≡ setsRefusal symbols (now (sets .entry)) ⌝ }
+{
+    if sets.len() > 24 {
+        return Stage::Refused(Refusal::Word);
+    }
+    let last = sets::set_of(symbols);
+    for at in 0..sets.len() {
+        if !is_symbol_set(sets[at], last) {
+            return Stage::Refused(Refusal::Set);
         }
     }
     Stage::Passed

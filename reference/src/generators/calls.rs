@@ -9,7 +9,8 @@ use crate::call::Call;
 use crate::card::{read_card, Card, Machine};
 use crate::optimizer::{best, Method};
 use crate::random::Random;
-use crate::samples::{self, CARD_A};
+use crate::samples::{self, set, CARD_A};
+use crate::sets::best_of_sets;
 use crate::Profile;
 
 /// The first length that 16 bits do not hold.
@@ -39,8 +40,9 @@ impl Generator {
     /// A call of any kind.
     pub fn call(&self, random: &mut Random) -> Call {
         match random.below(100) {
-            0..=31 => self.optimize(random),
-            32..=45 => self.judge(random),
+            0..=25 => self.optimize(random),
+            26..=33 => self.optimize_sets(random),
+            34..=45 => self.judge(random),
             46..=59 => self.evaluate(random),
             60..=66 => self.read_part(random),
             67..=75 => self.pack(random),
@@ -100,6 +102,31 @@ impl Generator {
         let answer = answer_length(random, found.map_or(word.len(), |candidate| candidate.len()));
         let work = (0..work).map(|_| random.number() as u16).collect();
         Call::Optimize { method: Method::Ranked, card, ranking, word, work, answer: random.bytes(answer) }
+    }
+
+    fn optimize_sets(&self, random: &mut Random) -> Call {
+        let read = self.card(random);
+        let mut ranking = any_ranking(random, read.machines.len());
+        let mut sets = any_sets(random, read.symbols);
+        if read.states() * sets.iter().map(|set| set.count_ones() as usize).sum::<usize>() > 4_000 {
+            // the heaviest take long
+            sets.truncate(3);
+        }
+        let found = best_of_sets(&read, &ranking, &sets);
+        if found.is_none() && random.percent(60) {
+            return self.optimize_sets(random);
+        }
+        let card = perhaps_damaged(random, &read, 30);
+        if random.percent(4) {
+            damage_a_ranking(random, &mut ranking);
+        }
+        if random.percent(8) {
+            damage_the_sets(random, &mut sets, read.symbols);
+        }
+        let work = work_length(random, 8 * (sets.len() + 1) * read.states());
+        let answer = answer_length(random, found.map_or(sets.len(), |candidate| candidate.len()));
+        let work = (0..work).map(|_| random.number() as u16).collect();
+        Call::OptimizeSets { method: Method::Ranked, card, ranking, sets, work, answer: random.bytes(answer) }
     }
 
     fn judge(&self, random: &mut Random) -> Call {
@@ -190,6 +217,31 @@ impl Generator {
             _ => exact,
         };
         Call::Pack { symbols, lengths, parts, target: random.bytes(target) }
+    }
+}
+
+/// Sets for the positions of a word: the symbol heard, and others that it may be.
+fn any_sets(random: &mut Random, symbols: u8) -> Vec<u64> {
+    let share = random.one_of(&[0, 10, 30, 60, 100]);
+    let mut sets = Vec::new();
+    for heard in any_word(random, symbols) {
+        let others = (1..=symbols).filter(|_| random.percent(share));
+        sets.push(set(others.collect::<Vec<_>>()) | 1 << heard);
+    }
+    sets
+}
+
+/// Too many positions, or a set that is none: refusals 8 and 25.
+fn damage_the_sets(random: &mut Random, sets: &mut Vec<u64>, symbols: u8) {
+    let place = random.below(sets.len().max(1));
+    match random.below(6) {
+        0 => sets.resize(25, 2),
+        1 => sets.resize(random.between(26, 290), 2),
+        2 if !sets.is_empty() => sets[place] = 0,
+        3 if !sets.is_empty() => sets[place] |= 1,
+        4 if !sets.is_empty() && symbols < 63 => sets[place] |= 1 << (symbols + 1),
+        5 if !sets.is_empty() && symbols < 63 => sets[place] |= 1 << 63,
+        _ => sets.push(random.one_of(&[0, 1])),
     }
 }
 

@@ -11,6 +11,7 @@ use Rattle.card.specs.Layout.{machineCount, symbolCount}
 use Rattle.card.specs.Card.{cardRefusal, machinesOf}
 use Rattle.product.specs.Nodes.{nodeCount}
 use Rattle.product.specs.Optimizing.{soundWord, inputRefusal}
+use Rattle.input.specs.AcceptedInput.{short-word}
 use Rattle.input.specs.Refusals.{stageNumber}
 use Rattle.input.proofs.Refusals.{number-positive}
 use borrow.Author.Needs.{needs}
@@ -69,7 +70,7 @@ returns-3 c =
     (c .before .before .check-word .ensures) (number-positive (c .enum-told6 .given .0 .0)))
 
 check-work-requires : tie.Need-check-work-requires
-check-work-requires c κs = (card-passed (c .before .before .before .before .before .before), word-passed c)
+check-work-requires c κs = (card-passed (c .before .before .before .before .before .before), short-word _ _ (word-passed c))
 
 returns-4 : tie.Need-returns-4
 unfolding inputRefusal

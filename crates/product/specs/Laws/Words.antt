@@ -3,11 +3,13 @@ use mathlib.Core.Path.{_≡_}
 use mathlib.Core.Bool.{true, _&&_}
 use mathlib.Core.List.{List}
 use Prim.Native.Nat.{ℕ, _≤_}
-use lib.Dec.{leb}
-use lib.ListN.{length}
-use borrow.Author.Tests.{leb-true}
+use native.Mathlib.Omega.{arith}
+use lib.Dec.{leb, ltb}
+use lib.ListN.{length, getD}
+use borrow.Author.Tests.{leb-true, lt-ltb}
 use Rattle.basics.specs.Search.{allOf}
 use Rattle.basics.proofs.Bools.{left, right}
+use Rattle.basics.proofs.Search.{all-at, each-at}
 use Rattle.product.specs.Optimizing.{soundWord}
 
 pub record AcceptedWord (S : ℕ) (word : List ℕ) : Type 0 where
@@ -20,3 +22,9 @@ accepted-word S word t =
     let b = leb (length word) 24 in
     let d = allOf (λ x. leb 1 x && leb x S) word in
     record { short = leb-true (length word) 24 (left b d t); symbols = right b d t }
+
+-- symbols of at most 63 are below 64
+pub small-symbols : (S : ℕ) (word : List ℕ) → S ≤ 63 → allOf (λ x. leb 1 x && leb x S) word ≡ true → allOf (λ x. ltb x 64) word ≡ true
+small-symbols S word h t =
+    each-at (λ x. ltb x 64) word 0
+    (λ i k. lt-ltb (getD word i 0) 64 (omega (arith, leb-true (getD word i 0) S (right (leb 1 (getD word i 0)) (leb (getD word i 0) S) (all-at (λ x. leb 1 x && leb x S) word 0 t i k)))))

@@ -1,0 +1,78 @@
+use mathlib.Core.Path.{_≡_, sym, _∙_, ap}
+use Prim.Native.Nat.{_≤_, _<_, _+_, _*_}
+use native.Mathlib.Omega.{arith}
+use lib.ListN.{length}
+use borrow.Author.Needs.{needs}
+use Rattle.product.specs.OptimizingSets.{setsInputRefusal}
+use Rattle.input.specs.Refusals.{stageNumber}
+use Rattle.input.proofs.Refusals.{number-positive}
+use Rattle.optimizer.proofs.Answers.{front-room, same-room}
+use Rattle.optimizer.proofs.SetsCalls.{sets-refused, accepts, sets-few, sets-fit, sets-given, sets-searched}
+use Rattle.optimizer.proofs.optimize_sets.Statement.{statement}
+use Rattle.optimizer.proofs.optimize_sets.Tie as tie
+
+returns : tie.Need-returns
+returns c =
+    let k = c .before .before .before .before in
+    let n = c .before .number in
+    let e = n .ensures ∙ k .check-sets-input .ensures in
+    let p : 0 < n .result = omega (arith, ap stageNumber (c .before .before .enum-told2 .given .1), number-positive (c .before .before .enum-told2 .given .0 .0), n .ensures) in
+    sets-refused (n .result) e p (c .refused .ensures)
+
+-- the input is accepted
+passed : (c : tie.After-enum-told) → setsInputRefusal (c .before .before .before .before .before .before .before .before .args .card .now) (c .before .before .before .before .before .before .before .before .args .ranking .now) (c .before .before .before .before .before .before .before .before .args .sets .now) (length (c .before .before .before .before .before .before .before .before .args .work .now)) ≡ 0
+passed c = sym (c .before .before .check-sets-input .ensures) ∙ ap stageNumber (c .enum-told .given .1)
+
+joint-states-requires : tie.Need-joint-states-requires
+joint-states-requires c κs = accepts _ _ _ _ (passed c) .accepted
+
+few : (c : tie.After-joint-states) → (length (c .before .before .before .before .before .before .before .before .before .args .sets .now) + 1) * c .joint-states .result ≤ 3200
+few c = sets-few _ _ _ _ (passed (c .before)) (c .joint-states .result) (c .joint-states .ensures)
+
+fits : (c : tie.After-joint-states) → (length (c .before .before .before .before .before .before .before .before .before .args .sets .now) + 1) * c .joint-states .result * 8 ≤ length (c .before .before .before .before .before .before .before .before .before .args .work .now)
+fits c = sets-fit _ _ _ _ (passed (c .before)) (c .joint-states .result) (c .joint-states .ensures)
+
+mul-nodes : tie.Need-mul-nodes
+mul-nodes c = omega (arith, few c)
+
+mul-search-sets : tie.Need-mul-search-sets
+mul-search-sets c = omega (arith, few c)
+
+slice-relend-prefix-search-sets : tie.Need-slice-relend-prefix-search-sets
+slice-relend-prefix-search-sets c = fits c
+
+slice-aggregate-search-sets : tie.Need-slice-aggregate-search-sets
+slice-aggregate-search-sets c = sym (front-room _ _ (fits (c .before)))
+
+search-sets-requires : tie.Need-search-sets-requires
+search-sets-requires c κs =
+    let j = c .before .before in
+    sets-given _ _ _ _ (passed (j .before)) (j .joint-states .result) (j .joint-states .ensures) (front-room _ _ (fits j))
+
+returns-2 : tie.Need-returns-2
+returns-2 c =
+    let j = c .before .before .before .before .before .before .before in
+    let a = j .before .before .before .before .before .before .before .before .before .args in
+    let s = c .before .before .before .before .search-sets .ensures in
+    sets-searched (passed (j .before)) (same-room _ (a .work .now) (c .before .before .before .before .search-sets .last .1 .1 .1 .1 .0) (fits j) (s .work-length)) s
+
+pub optimize-sets-spec : {M : Type 1} → statement M
+optimize-sets-spec =
+    tie.close
+    (tie.spec
+    (λ c κs. search needs)
+    (λ c. search needs)
+    (λ c. search needs)
+    (λ c κs. search needs)
+    (λ c κs. search needs)
+    returns
+    joint-states-requires
+    (λ c. search needs)
+    mul-nodes
+    mul-search-sets
+    slice-relend-prefix-search-sets
+    slice-aggregate-search-sets
+    search-sets-requires
+    (λ c. search needs)
+    (λ c. search needs)
+    returns-2)

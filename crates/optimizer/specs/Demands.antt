@@ -1,0 +1,154 @@
+-- What demand 3 says of an answer, by which candidates are meant and what it is for one of them to be the best; and that what a search answers meets it.
+use mathlib.Core.Path.{_≡_, refl, sym, _∙_, ap}
+use mathlib.Core.Logic.{_⊎_, inl, inr, _↔_, _≢_}
+use mathlib.Core.Bool.{true}
+use mathlib.Core.List.{List, [], _∷_, _++_}
+use mathlib.Core.Option.{Option, some, none}
+use Prim.Native.Nat.{ℕ, zero, suc, _*_, _-_, _<_, _≤_}
+use native.Mathlib.Decide.{decLt}
+use native.Mathlib.Omega.{arith}
+use lib.Dec.{leb}
+use lib.ListN.{length, drop, replicate}
+use borrow.Author.Tests.{le-leb, lt-leb}
+use Rattle.basics.specs.Search.{allOf}
+use Rattle.basics.specs.Refusals.{unlessRefused}
+use Rattle.basics.proofs.Bools.{both, left, right}
+use Rattle.machine.specs.declared.Pair.{Pair}
+use Rattle.machine.specs.Machine.{Machine}
+use Rattle.candidate.specs.declared.Evaluation.{Evaluation}
+use Rattle.candidate.specs.Candidates.{bytesOf, profileOf}
+use Rattle.candidate.specs.Evaluating.{profileWith, refused}
+use Rattle.product.specs.Best.{Contender, contenderOf}
+use Rattle.product.specs.Optimizing.{evaluationOf, filled}
+use Rattle.product.specs.BestCandidate.{BestOf}
+use Rattle.product.specs.BestTheorem.{SmallBest}
+use Rattle.optimizer.specs.Searching.{searchRefusal}
+
+-- the best candidate and where it stands: it beats every other one, however long, and the answer has it
+pub record Answers (ms : List Machine) (IsBest : List Pair → Type 0) (word answer after : List ℕ) (r : Evaluation) (c : List Pair) : Type 0 where
+  pub is-best : IsBest c
+  pub fits : 2 * length c ≤ length answer
+  pub bytes : after ≡ bytesOf c ++ drop (2 * length c) answer
+  pub profile : r .profile ≡ profileWith (profileOf ms c)
+  pub pairs : r .pairs ≡ length c
+  pub word-length : r .«word_length» ≡ length word
+
+pub record Demands (ms : List Machine) (Meant IsBest : List Pair → Type 0) (word answer after : List ℕ) (r : Evaluation) : Type 0 where
+  -- the number is 0, 10 or 12
+  pub numbers : (r .number ≡ 0) ⊎ ((r .number ≡ 10) ⊎ (r .number ≡ 12))
+  -- none exactly when no list of pairs, however long, is such a candidate
+  pub none-exactly : (r .number ≡ 10) ↔ ((c : List Pair) → ¬ (Meant c))
+  -- otherwise there is a best one
+  pub otherwise-best : (c : List Pair) → Meant c → (b : List Pair) × IsBest b
+  -- which has at most 3,199 pairs and no count above 48,000
+  pub few-pairs : (c : List Pair) → IsBest c → length c ≤ 3199
+  pub small-counts : (c : List Pair) → IsBest c → allOf (λ n. leb n 48000) (profileOf ms c) ≡ true
+  -- 12 exactly when there is a best candidate and its bytes are more than the answer slice has
+  pub room-exactly : (r .number ≡ 12) ↔ ((c : List Pair) × IsBest c × (length answer < 2 * length c))
+  -- 0 exactly when there is a best candidate whose bytes the answer slice has room for
+  pub best-exactly : (r .number ≡ 0) ↔ ((c : List Pair) × IsBest c × (2 * length c ≤ length answer))
+  -- and then it is answered, its pairs and counts as few
+  pub few-answered : r .number ≡ 0 → r .pairs ≤ 3199
+  pub small-answered : r .number ≡ 0 → allOf (λ n. leb n 48000) (r .profile .counts) ≡ true
+  pub answered : r .number ≡ 0 → (c : List Pair) × Answers ms IsBest word answer after r c
+  -- otherwise the answer slice keeps its bytes
+  pub untouched : r .number ≢ 0 → after ≡ answer
+
+-- unused counts are 0
+with-zeros : (xs : List ℕ) (b n : ℕ) → allOf (λ k. leb k b) xs ≡ true → allOf (λ k. leb k b) (xs ++ replicate n 0) ≡ true
+unfolding allOf
+with-zeros [] b zero t = refl
+with-zeros [] b (suc n) t = both (le-leb 0 b (omega arith)) (with-zeros [] b n t)
+with-zeros (x ∷ xs) b n t = both (left (leb x b) (allOf (λ k. leb k b) xs) t) (with-zeros xs b n (right (leb x b) (allOf (λ k. leb k b) xs) t))
+
+-- what is answered, by what the best is
+data Outcome (best : Option Contender) (word answer after : List ℕ) (r : Evaluation) : Type 0 where
+  nothing : best ≡ none → r .number ≡ 10 → after ≡ answer → Outcome best word answer after r
+  no-room : (b : Contender) → best ≡ some b → length answer < 2 * length (b .candidate) → r .number ≡ 12 → after ≡ answer → Outcome best word answer after r
+  found : (b : Contender) → best ≡ some b → 2 * length (b .candidate) ≤ length answer → r ≡ evaluationOf (some b) word → after ≡ filled (some b) answer → Outcome best word answer after r
+
+module _ (ms : List Machine) (Meant IsBest : List Pair → Type 0) (best : Option Contender) (all : BestOf ms Meant IsBest best) (meant : (c : List Pair) → IsBest c → Meant c)
+    (small : (b : Contender) → best ≡ some b → SmallBest b) (word answer after : List ℕ) (r : Evaluation)
+    (result : r ≡ unlessRefused (searchRefusal best (length answer)) (evaluationOf best word) refused) (slice : after ≡ unlessRefused (searchRefusal best (length answer)) (filled best answer) (λ n. answer))
+  where
+    outcome : Outcome best word answer after r
+    outcome = go best refl result slice
+      where
+        go : (o : Option Contender) → best ≡ o → r ≡ unlessRefused (searchRefusal o (length answer)) (evaluationOf o word) refused → after ≡ unlessRefused (searchRefusal o (length answer)) (filled o answer) (λ n. answer)
+            → Outcome best word answer after r
+        go none e q s = nothing e (ap (λ (v : Evaluation). v .number) q) s
+        go (some b) e q s = fits (decLt (length answer) (2 * length (b .candidate)))
+          where
+            fits : Dec (length answer < 2 * length (b .candidate)) → Outcome best word answer after r
+            fits (yes h) = let k = lt-leb (2 * length (b .candidate)) (length answer) h in no-room b e h (ap (λ (v : Evaluation). v .number) (rw k at q)) (rw k at s)
+            fits (no h) = let k = le-leb (2 * length (b .candidate)) (length answer) (omega arith) in found b e (omega arith) (rw k at q) (rw k at s)
+
+    -- the pairs of a best candidate are those of the definition's
+    same-pairs : (b : Contender) → best ≡ some b → (c : List Pair) → IsBest c → length c ≡ length (b .candidate)
+    same-pairs b e c k = let q : b ≡ record { candidate = c; profile = profileOf ms c } = cc (e, all .only-it c k) in ap (λ (f : Contender). length (f .candidate)) (sym q)
+
+    no-best : best ≡ none → (c : List Pair) → IsBest c → ⊥
+    no-best e c k = all .none-exactly .0 e c (meant c k)
+
+    some-candidate : (b : Contender) → best ≡ some b → ((c : List Pair) → ¬ (Meant c)) → ⊥
+    some-candidate b e f = f (b .candidate) (meant (b .candidate) (all .is-best b e))
+
+    -- a best candidate is the definition's
+    its-size : (c : List Pair) → IsBest c → SmallBest (contenderOf ms c)
+    its-size c k = small (contenderOf ms c) (all .only-it c k)
+
+    pub demanded : Demands ms Meant IsBest word answer after r
+    demanded = go outcome
+      where
+        go : Outcome best word answer after r → Demands ms Meant IsBest word answer after r
+        go (nothing e n u) = record {
+          numbers = inr (inl n);
+          none-exactly = (λ _. all .none-exactly .0 e, λ _. n);
+          otherwise-best = λ c h. absurd (all .none-exactly .0 e c h);
+          few-pairs = λ c k. its-size c k .pairs;
+          small-counts = λ c k. its-size c k .counts;
+          room-exactly = (λ h. absurd (omega arith), λ t. absurd (no-best e (t .0) (t .1)));
+          best-exactly = (λ h. absurd (omega arith), λ t. absurd (no-best e (t .0) (t .1)));
+          few-answered = λ h. absurd (omega arith);
+          small-answered = λ h. absurd (omega arith);
+          answered = λ h. absurd (omega arith);
+          untouched = λ _. u;
+        }
+        go (no-room b e l n u) = record {
+          numbers = inr (inr n);
+          none-exactly = (λ h. absurd (omega arith), λ f. absurd (some-candidate b e f));
+          otherwise-best = λ _ _. (b .candidate, all .is-best b e);
+          few-pairs = λ c k. its-size c k .pairs;
+          small-counts = λ c k. its-size c k .counts;
+          room-exactly = (λ _. (b .candidate, all .is-best b e, l), λ _. n);
+          best-exactly = (λ h. absurd (omega arith), λ t. absurd (omega (arith, same-pairs b e (t .0) (t .1), t .2)));
+          few-answered = λ h. absurd (omega arith);
+          small-answered = λ h. absurd (omega arith);
+          answered = λ h. absurd (omega arith);
+          untouched = λ _. u;
+        }
+        go (found b e l q u) =
+            let n : r .number ≡ 0 = ap (λ (v : Evaluation). v .number) q in
+            record {
+              numbers = inl n;
+              none-exactly = (λ h. absurd (omega arith), λ f. absurd (some-candidate b e f));
+              otherwise-best = λ _ _. (b .candidate, all .is-best b e);
+              few-pairs = λ c k. its-size c k .pairs;
+              small-counts = λ c k. its-size c k .counts;
+              room-exactly = (λ h. absurd (omega arith), λ t. absurd (omega (arith, same-pairs b e (t .0) (t .1), t .2)));
+              best-exactly = (λ _. (b .candidate, all .is-best b e, l), λ _. n);
+              few-answered = λ _. omega (arith, ap (λ (v : Evaluation). v .pairs) q, small b e .pairs);
+              small-answered = λ _. ap (λ (v : Evaluation). allOf (λ n. leb n 48000) (v .profile .counts)) q ∙ with-zeros (b .profile) 48000 (6 - length (b .profile)) (small b e .counts);
+              answered = λ _. (
+                b .candidate,
+                record {
+                  is-best = all .is-best b e;
+                  fits = l;
+                  bytes = u;
+                  profile = ap (λ (v : Evaluation). v .profile) q ∙ ap profileWith (all .its-profile b e);
+                  pairs = ap (λ (v : Evaluation). v .pairs) q;
+                  word-length = ap (λ (v : Evaluation). v .«word_length») q;
+                },
+              );
+              untouched = λ h. absurd (h n);
+            }

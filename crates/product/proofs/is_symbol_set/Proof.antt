@@ -1,0 +1,17 @@
+use mathlib.Core.Path.{_≡_, refl}
+use mathlib.Core.Bool.{Bool, not, _&&_}
+use Rattle.basics.specs.Sets.{member}
+use Rattle.machine.specs.Symbols.{emptySymbol}
+use Rattle.machine.specs.Part.{soundSet}
+use borrow.Author.Needs.{needs}
+use Rattle.product.proofs.is_symbol_set.Statement.{statement}
+use Rattle.product.proofs.is_symbol_set.Tie as tie
+
+returns : tie.Need-returns
+returns c S e =
+    let s : c .before .is-sound .result ≡ soundSet S (c .before .before .before .args .set) = c .before .is-sound .ensures S e in
+    let h : c .holds .result ≡ member (c .before .before .before .args .set) emptySymbol = c .holds .ensures emptySymbol (c .before .before .set-of .ensures) in
+    λ i. s i && not (h i)
+
+pub is-symbol-set-spec : {M : Type 1} → statement M
+is-symbol-set-spec = tie.close (tie.spec (λ c κs. search needs) (λ c κs. search needs) (λ c κs. search needs) returns)
