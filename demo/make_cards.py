@@ -4,6 +4,7 @@
     make_cards.py                write card.bin, stdin and tableaux/ of every card
     make_cards.py check          whether they are as written, the tableaux' rows have their counts, stdout has the winners
     make_cards.py show NAME ..   stdin and stdout of some cards, in names
+    make_cards.py unused NAME .. the arcs that no answer in stdout travels: without one of them the answers are the same
 
 What card.txt may say, one thing to a line (# starts a comment):
 
@@ -211,9 +212,21 @@ def show(directory, card):
     print(f"{answered}\n{total}")
 
 
+def unused(directory, card):
+    """An answer travels an arc exactly when it is no candidate without that arc."""
+    answers = [card.answer(text)[1] for text in (directory / "stdout").read_text().splitlines()[:-2] if text[0].isdigit()]
+    for name, machine in card.machines.items():
+        arcs = machine["arcs"]
+        for arc in arcs:
+            machine["arcs"] = [other for other in arcs if other is not arc]
+            if all(card.counts(pairs) is not None for pairs in answers):
+                print(f"{name}: arc {arc[0]} -> {arc[1]}  {','.join(arc[2])} : {','.join(arc[3])}  {arc[4]}")
+        machine["arcs"] = arcs
+
+
 def main():
     task, names = "".join(sys.argv[1:2]), sys.argv[2:]
-    if task not in ("", "check", "show"):
+    if task not in ("", "check", "show", "unused"):
         sys.exit(__doc__)
     failed = False
     for path in sorted(HERE.glob("*/card.txt")):
@@ -227,7 +240,7 @@ def main():
             failed = failed or bool(wrong)
             print(f"{directory.name}: {'; '.join(wrong) or 'right'}")
         elif directory.name in names:
-            show(directory, card)
+            {"show": show, "unused": unused}[task](directory, card)
     sys.exit(failed)
 
 

@@ -1,0 +1,147 @@
+-- The best candidate on a card that lacks one arc which it does not travel: it is the same. From the theorem on the best alone.
+use mathlib.Core.Path.{_≡_, refl, sym, _∙_, ap}
+use mathlib.Core.Logic.{_≢_}
+use mathlib.Core.Bool.{true, false, false≢true}
+use mathlib.Core.List.{List}
+use mathlib.Core.Option.{Option, some, none}
+use Prim.Native.Nat.{ℕ, _<_}
+use native.Mathlib.Omega.{arith}
+use lib.ListN.{getD, length-set}
+use lib.Seq.{map-set-same, getD-set-same}
+use Rattle.basics.specs.Search.{allOf}
+use Rattle.basics.proofs.Search.{all-at}
+use Rattle.machine.specs.declared.Pair.{Pair}
+use Rattle.machine.specs.Symbols.{isPair}
+use Rattle.machine.specs.Machine.{Machine, noMachine, startState}
+use Rattle.machine.specs.Part.{stateCount, machineOf}
+use Rattle.machine.specs.Accepted.{accepted as accepted-part}
+use Rattle.card.specs.Layout.{machineCount, symbolCount, partOf}
+use Rattle.card.specs.Card.{cardRefusal, machinesOf}
+use Rattle.card.specs.Accepted.{accepted}
+use Rattle.card.specs.Laws.Machines.{length-machines, machine-at}
+use Rattle.candidate.specs.Candidates.{isSome, marksOf, countOf, isComplete, profileOf, IsCandidate}
+use Rattle.paths.specs.Costs.{Costs}
+use Rattle.product.specs.Best.{Contender, contenderOf, ProfileOrder, bestIn, best}
+use Rattle.product.specs.Sets.{IsCandidateOf, bestOfSetsIn, bestOfSets}
+use Rattle.product.specs.Prices.{Price, Agrees, ranking-agrees}
+use Rattle.product.specs.BestCandidate.{BeatsIn, IsBestIn}
+use Rattle.product.specs.BestTheorem.{best-in-is-best-of-all}
+use Rattle.product.specs.SetsTheorem.{best-in-is-best-of-all-words}
+use Rattle.product.specs.Laws.BestOfSets.{are64Bits}
+use Rattle.trimming.specs.Travelling.{machineWithout, machinesWithout, travels}
+use Rattle.trimming.specs.Laws.Lists.{all-set-same}
+use Rattle.trimming.specs.Laws.Runs.{Clashless, run-same, run-kept, run-gone}
+use Rattle.trimming.specs.Acceptance.{LacksArc}
+
+-- ---- candidates
+
+-- a candidate that machine i and its trimmed one give the same marks is complete on both cards or on neither, with the same profile
+module _ (ms : List Machine) (i j : ℕ) (c : List Pair) (same : marksOf c (machineWithout j (getD ms i noMachine)) ≡ marksOf c (getD ms i noMachine)) where
+  same-complete : isComplete (machinesWithout i j ms) c ≡ isComplete ms c
+  unfolding isComplete
+  same-complete = all-set-same (λ m. isSome (marksOf c m)) ms i (machineWithout j (getD ms i noMachine)) noMachine (ap {A = Option ℕ} isSome same)
+
+  same-profile : profileOf (machinesWithout i j ms) c ≡ profileOf ms c
+  unfolding profileOf
+  same-profile = map-set-same (λ m. countOf (marksOf c m)) ms i (machineWithout j (getD ms i noMachine)) noMachine (ap countOf same)
+
+-- ---- the best of the candidates meant
+
+module _ {better : ProfileOrder} {ms ms′ : List Machine} {Meant Meant′ : List Pair → Type 0}
+    (kept : (d : List Pair) → Meant′ d → Meant d × (profileOf ms′ d ≡ profileOf ms d)) where
+  -- where the candidates on the second card are among those on the first, with their profiles, the best is the best there if it is one of them
+  still-best : (c : List Pair) → Meant′ c → IsBestIn better ms Meant c → IsBestIn better ms′ Meant′ c
+  still-best c is b = record { candidate = is; rivals = rivals }
+    where
+      rivals : (d : List Pair) → Meant′ d → d ≢ c → BeatsIn better (contenderOf ms′ c) (contenderOf ms′ d)
+      rivals d h n = rw (kept c is .1, kept d h .1) (b .rivals d (kept d h .0) n)
+
+module _ {card trimmed : List ℕ} {i j : ℕ} (ok : cardRefusal card ≡ 0) (ok′ : cardRefusal trimmed ≡ 0) (is : i < machineCount card) (lacks : LacksArc card i j trimmed) where
+  abbrev ms : List Machine
+  ms = machinesOf card
+
+  abbrev machine : Machine
+  machine = getD ms i noMachine
+
+  its-machine : machine ≡ machineOf (partOf card i)
+  its-machine = machine-at card i is noMachine
+
+  clashless : Clashless (symbolCount card) (stateCount (partOf card i)) (machine .arcs)
+  unfolding machineOf
+  clashless =
+      let a = accepted card ok in
+      let p = accepted-part (symbolCount card) (partOf card i) (a .part i is) in
+      rw its-machine (record { few = omega (arith, a .head .counts .symbols); sound = p .arcs; clashes = p .clashes })
+
+  -- a candidate on the trimmed card runs through machine i
+  runs : (d : List Pair) → isComplete (machinesWithout i j ms) d ≡ true → isSome (marksOf d (machineWithout j machine)) ≡ true
+  unfolding isComplete
+  runs d complete =
+      let t = all-at (λ m. isSome (marksOf d m)) (machinesWithout i j ms) noMachine complete i (omega (arith, length-set ms i (machineWithout j machine), length-machines card, is)) in
+      rw (getD-set-same ms i (machineWithout j machine) noMachine (omega (arith, length-machines card, is))) at t
+
+  -- as it did
+  ran : (d : List Pair) → allOf isPair d ≡ true → isComplete (machinesWithout i j ms) d ≡ true → marksOf d (machineWithout j machine) ≡ marksOf d machine
+  ran d pairs complete = go (marksOf d (machineWithout j machine)) refl
+    where
+      go : (o : Option ℕ) → marksOf d (machineWithout j machine) ≡ o → marksOf d (machineWithout j machine) ≡ marksOf d machine
+      go none e = absurd (false≢true (sym (ap {A = Option ℕ} isSome e) ∙ runs d complete))
+      go (some n) e = e ∙ sym (run-kept machine j clashless startState d pairs n e)
+
+  word-kept : (word : List ℕ) (d : List Pair) → IsCandidate (machinesOf trimmed) word d → IsCandidate ms word d × (profileOf (machinesOf trimmed) d ≡ profileOf ms d)
+  word-kept word d h =
+      let complete : isComplete (machinesWithout i j ms) d ≡ true = rw (lacks .machines) at (h .complete) in
+      let same = ran d (h .pairs) complete in
+      (record { pairs = h .pairs; spells = h .spells; complete = sym (same-complete ms i j d same) ∙ complete }, ap (λ (l : List Machine). profileOf l d) (lacks .machines) ∙ same-profile ms i j d same)
+
+  sets-kept : (sets : List ℕ) (d : List Pair) → IsCandidateOf (machinesOf trimmed) sets d → IsCandidateOf ms sets d × (profileOf (machinesOf trimmed) d ≡ profileOf ms d)
+  sets-kept sets d h = let k = word-kept (h .word) d (h .is) in (record { word = h .word; fits = h .fits; is = k .0 }, k .1)
+
+  -- and one that travels the arc is none there
+  pub travelled-gone : (word : List ℕ) (c : List Pair) → travels ms i j c ≡ true → ¬ (IsCandidate (machinesOf trimmed) word c)
+  travelled-gone word c t h =
+      let complete : isComplete (machinesWithout i j ms) c ≡ true = rw (lacks .machines) at (h .complete) in
+      false≢true (sym (ap {A = Option ℕ} isSome (run-gone machine j clashless startState c (h .pairs) t)) ∙ runs c complete)
+
+  -- a candidate that does not travel the arc is one on the trimmed card
+  module _ (c : List Pair) (off : travels ms i j c ≡ false) where
+    same : marksOf c (machineWithout j machine) ≡ marksOf c machine
+    same = run-same machine j startState c off
+
+    word-stays : (word : List ℕ) → IsCandidate ms word c → IsCandidate (machinesOf trimmed) word c
+    word-stays word h = record { pairs = h .pairs; spells = h .spells; complete = ap (λ (l : List Machine). isComplete l c) (lacks .machines) ∙ same-complete ms i j c same ∙ h .complete }
+
+    sets-stay : (sets : List ℕ) → IsCandidateOf ms sets c → IsCandidateOf (machinesOf trimmed) sets c
+    sets-stay sets h = record { word = h .word; fits = h .fits; is = word-stays (h .word) (h .is) }
+
+    trimmed-profile : profileOf (machinesOf trimmed) c ≡ profileOf ms c
+    trimmed-profile = ap (λ (l : List Machine). profileOf l c) (lacks .machines) ∙ same-profile ms i j c same
+
+  -- ---- the theorem, for every order on profiles with a price that agrees with it
+
+  module _ {costs : Costs} {price : Price costs} {better : ProfileOrder} (agrees : Agrees price better) (b : Contender) (off : travels ms i j (b .candidate) ≡ false) where
+    same-contender : b .profile ≡ profileOf ms (b .candidate) → contenderOf (machinesOf trimmed) (b .candidate) ≡ b
+    same-contender e = let q = trimmed-profile (b .candidate) off ∙ sym e in λ k. record { candidate = b .candidate; profile = q k }
+
+    pub same-best-in : (word : List ℕ) → bestIn better card word ≡ some b → bestIn better trimmed word ≡ some b
+    same-best-in word e =
+        let all = best-in-is-best-of-all agrees card word ok in
+        let here = all .is-best b e in
+        best-in-is-best-of-all agrees trimmed word ok′ .only-it (b .candidate) (still-best (word-kept word) (b .candidate) (word-stays (b .candidate) off word (here .candidate)) here)
+        ∙ ap {B = Option Contender} some (same-contender (all .its-profile b e))
+
+    pub same-best-of-sets-in : (sets : List ℕ) → are64Bits sets ≡ true → bestOfSetsIn better card sets ≡ some b → bestOfSetsIn better trimmed sets ≡ some b
+    same-best-of-sets-in sets bits e =
+        let all = best-in-is-best-of-all-words agrees card sets ok bits in
+        let here = all .is-best b e in
+        best-in-is-best-of-all-words agrees trimmed sets ok′ bits .only-it (b .candidate) (still-best (sets-kept sets) (b .candidate) (sets-stay (b .candidate) off sets (here .candidate)) here)
+        ∙ ap {B = Option Contender} some (same-contender (all .its-profile b e))
+
+  -- under a ranking
+  pub same-best : (ranking word : List ℕ) (b : Contender) → best card ranking word ≡ some b → travels ms i j (b .candidate) ≡ false → best trimmed ranking word ≡ some b
+  unfolding best
+  same-best ranking word b e off = same-best-in (ranking-agrees ranking) b off word e
+
+  pub same-best-of-sets : (ranking sets : List ℕ) → are64Bits sets ≡ true → (b : Contender) → bestOfSets card ranking sets ≡ some b → travels ms i j (b .candidate) ≡ false → bestOfSets trimmed ranking sets ≡ some b
+  unfolding bestOfSets
+  same-best-of-sets ranking sets bits b e off = same-best-of-sets-in (ranking-agrees ranking) b off sets bits e
