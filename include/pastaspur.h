@@ -12,9 +12,10 @@
  * either. What a call may write (work, answer, target, rows, result) overlaps nothing else that the call is lent.
  *
  * Stack: no call recurses, and none takes memory but its stack and what it is lent. The bytes of stack that a call takes, the
- * most over the rows of the benchmark, measured on x86-64 (bench/stack.c): pastaspur_cull 140,440, pastaspur_judge 107,272,
- * pastaspur_optimize 107,208, pastaspur_evaluate 744, pastaspur_pack 728, pastaspur_read_part 712, pastaspur_leader 120,
- * pastaspur_add_row 64, each of the others under 64. No proof speaks of the stack.
+ * most over the rows of the benchmark, measured on x86-64 (bench/stack.c): pastaspur_cull 140,648, pastaspur_cull_sets 140,440,
+ * pastaspur_judge 107,288, pastaspur_optimize 107,224, pastaspur_optimize_sets 107,016, pastaspur_evaluate 744, pastaspur_pack
+ * 728, pastaspur_read_part 712, pastaspur_leader 120, pastaspur_add_row 64, each of the others under 64. No proof speaks of the
+ * stack.
  *
  * Refusals (11 is not used)
  *    1  card under 2 bytes; machine count K not 1 to 6, symbol count S not 1 to 63
