@@ -19,6 +19,7 @@ static uint8_t *stack;
 static ucontext_t caller, callee;
 static struct Case asked;
 static uint16_t work[PASTASPUR_WORK_NUMBERS];
+static uint64_t weights_work[PASTASPUR_WEIGHTS_WORK_NUMBERS];
 static uint8_t answer[PASTASPUR_ANSWER_BYTES];
 static uint16_t result[8];
 static uint32_t number;
@@ -59,6 +60,16 @@ static void call_sets(uint32_t (*engine)(const uint8_t *, size_t, const uint8_t 
 static void call_optimize_sets(void) { call_sets(pastaspur_optimize_sets); }
 
 static void call_cull_sets(void) { call_sets(pastaspur_cull_sets); }
+
+// By equal weights; the result of the ranked call stays for the calls after it.
+static void call_optimize_weights(void) {
+  static const uint32_t weights[6] = {1000, 1000, 1000, 1000, 1000, 1000};
+  static uint8_t pairs[PASTASPUR_ANSWER_BYTES];
+  static uint64_t numbers[9];
+  number = pastaspur_optimize_weights(asked.card.start, asked.card.length, weights, asked.card.start[0], asked.word.start,
+                                      asked.word.length, weights_work, PASTASPUR_WEIGHTS_WORK_NUMBERS, pairs,
+                                      PASTASPUR_ANSWER_BYTES, numbers);
+}
 
 static void call_evaluate(void) {
   number = pastaspur_evaluate(asked.card.start, asked.card.length, answer, 2 * (size_t)result[6], result);
@@ -120,12 +131,12 @@ static void call_leader(void) {
 static const struct {
   const char *name;
   void (*call)(void);
-} calls[] = {{"optimize", call_optimize},           {"cull", call_cull},             {"optimize_sets", call_optimize_sets},
-             {"cull_sets", call_cull_sets},         {"evaluate", call_evaluate},     {"judge", call_judge},
+} calls[] = {{"optimize", call_optimize},           {"cull", call_cull},             {"optimize_weights", call_optimize_weights},
+             {"optimize_sets", call_optimize_sets}, {"cull_sets", call_cull_sets},         {"evaluate", call_evaluate},     {"judge", call_judge},
              {"read_part", call_read_part},         {"pack", call_pack},             {"compare", call_compare},
              {"condition", call_condition},         {"find_ranking", call_find_ranking}, {"add_row", call_add_row},
              {"remove_row", call_remove_row},       {"leader", call_leader}};
-enum { ENGINES = 2, CALLS = sizeof calls / sizeof *calls };
+enum { ENGINES = 3, CALLS = sizeof calls / sizeof *calls };
 
 // The bytes of a painted stack from its top down to the deepest one that is changed.
 static size_t depth_by(void (*call)(void), uint8_t paint) {
@@ -171,6 +182,6 @@ int main(int count, char **words) {
       }
     }
   }
-  if (!all) printf("%zu %zu\n", most[0], most[1]);
+  if (!all) printf("%zu %zu %zu\n", most[0], most[1], most[2]);
   for (int c = 0; all && c < CALLS; c++) printf("%s %zu\n", calls[c].name, most[c]);
 }

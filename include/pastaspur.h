@@ -26,7 +26,7 @@
  *    6  product of the state counts, P, over 128
  *    7  not a ranking: each of 0 to K - 1 once, the highest first
  *    8  word length n over 24 (n sets, for a call with sets), a symbol 0 or over S
- *    9  work slice under 8 * (n + 1) * P numbers
+ *    9  work slice under 8 * (n + 1) * P numbers, with weights under 2 * (n + 1) * P
  *   10  no complete candidate
  *   12  answer slice under 2 bytes for each pair of the best candidate
  *   13  candidate odd in length, over 3,199 pairs, a symbol over S, or the pair 0:0
@@ -42,6 +42,7 @@
  *   23  a live tableau's row count above 32 or above the list's length; on an add, one that equals either
  *   24  an added id that is present, or a removed one that is not
  *   25  a set is empty, holds the empty symbol (bit 0), or has a bit over S
+ *   26  not K weights, or one above 4,000,000,000
  */
 #ifndef PASTASPUR_H
 #define PASTASPUR_H
@@ -53,8 +54,9 @@
 extern "C" {
 #endif
 
-/* What is enough for every accepted card and word: numbers of work, bytes of answer. */
+/* What is enough for every accepted card and word: numbers of work, with weights 64-bit numbers of work, bytes of answer. */
 #define PASTASPUR_WORK_NUMBERS 25600
+#define PASTASPUR_WEIGHTS_WORK_NUMBERS 6400
 #define PASTASPUR_ANSWER_BYTES 6398
 
 /* Answers the best candidate for a word under a ranking: refusals 1 to 10, 12.
@@ -84,6 +86,18 @@ uint32_t pastaspur_optimize_sets(const uint8_t *card, size_t card_len, const uin
 uint32_t pastaspur_cull_sets(const uint8_t *card, size_t card_len, const uint8_t *ranking, size_t ranking_len,
                              const uint64_t *sets, size_t sets_len, uint16_t *work, size_t work_len,
                              uint8_t *answer, size_t answer_len, uint16_t result[8]);
+
+/* The largest weight, in thousandths. */
+#define PASTASPUR_LARGEST_WEIGHT 4000000000
+
+/* Answers the best candidate for a word by weights, one for each machine in card order, in whole thousandths: refusals 1 to 6, 26,
+ * 8, 9, 10, 12. The best has the smallest sum of weight times count, then the fewest pairs, then the smallest byte string.
+ * result: the candidate's six counts in card order (unused places 0), its pair count, the word's length, its sum in thousandths.
+ * answer: as pastaspur_optimize has it.
+ * work: at least 2 * (n + 1) * P numbers, else 9; kept on refusals 1 to 6, 26, 8 and 9; otherwise its contents are left open. */
+uint32_t pastaspur_optimize_weights(const uint8_t *card, size_t card_len, const uint32_t *weights, size_t weights_len,
+                                    const uint8_t *word, size_t word_len, uint64_t *work, size_t work_len, uint8_t *answer,
+                                    size_t answer_len, uint64_t result[9]);
 
 /* What pastaspur_judge says of a tableau; 0 on a refusal. */
 #define PASTASPUR_RIGHT 1

@@ -7,6 +7,7 @@ use crate::optimizer::{optimize_by, Method};
 use crate::ranking::{compare, condition, find_ranking};
 use crate::sets::optimize_sets;
 use crate::tableau::{judge, Verdict};
+use crate::weights::optimize_weights;
 use crate::{Profile, Refusal};
 use std::cmp::Ordering;
 
@@ -24,11 +25,12 @@ pub enum Call {
     Judge { card: Vec<u8>, ranking: Vec<u8>, word: Vec<u8>, work: Vec<u16>, tableau: Vec<u8> },
     Rows { machines: u8, ranking: Vec<u8>, used: usize, rows: Vec<Row>, step: Step },
     OptimizeSets { method: Method, card: Vec<u8>, ranking: Vec<u8>, sets: Vec<u64>, work: Vec<u16>, answer: Vec<u8> },
+    OptimizeWeights { card: Vec<u8>, weights: Vec<u32>, word: Vec<u8>, work: Vec<u64>, answer: Vec<u8> },
     Live { machines: u8, ranking: Vec<u8>, rows: Vec<Row>, steps: Vec<Step> },
 }
 
 /// A call's kind, its name, and the refusals that it can answer. The number 11 is not used.
-pub const KINDS: [(&str, &[u32]); 15] = [
+pub const KINDS: [(&str, &[u32]); 16] = [
     ("optimize", &[1, 2, 3, 4, 5, 6, 7, 8, 9, 10, 12]),
     ("evaluate", &[1, 2, 3, 4, 5, 6, 13, 14]),
     ("read part", &[1, 2, 3, 4, 5, 6, 17]),
@@ -43,6 +45,7 @@ pub const KINDS: [(&str, &[u32]); 15] = [
     ("leader", &[1, 7, 23]),
     ("optimize sets", &[1, 2, 3, 4, 5, 6, 7, 8, 9, 10, 12, 25]),
     ("cull sets", &[1, 2, 3, 4, 5, 6, 7, 8, 9, 10, 12, 25]),
+    ("optimize weights", &[1, 2, 3, 4, 5, 6, 8, 9, 10, 12, 26]),
     ("live tableau", &[]),
 ];
 
@@ -64,7 +67,8 @@ impl Call {
             Call::Rows { step: Step::Leader, .. } => 11,
             Call::OptimizeSets { method: Method::Ranked, .. } => 12,
             Call::OptimizeSets { method: Method::Cull, .. } => 13,
-            Call::Live { .. } => 14,
+            Call::OptimizeWeights { .. } => 14,
+            Call::Live { .. } => 15,
         }
     }
 
@@ -84,6 +88,7 @@ impl Call {
         match self {
             Call::Optimize { card, .. }
             | Call::OptimizeSets { card, .. }
+            | Call::OptimizeWeights { card, .. }
             | Call::Evaluate { card, .. }
             | Call::ReadPart { card, .. }
             | Call::Judge { card, .. } => Some(card),
@@ -184,6 +189,12 @@ pub fn reference(call: &Call) -> Outcome {
             let mut slice = answer.clone();
             let found = optimize_sets(*method, card, ranking, sets, work.len(), &mut slice);
             outcome(found.map(evaluation), 8, slice)
+        }
+        Call::OptimizeWeights { card, weights, word, work, answer } => {
+            let mut slice = answer.clone();
+            let found = optimize_weights(card, weights, word, work.len(), &mut slice);
+            let numbers = |(found, sum)| [evaluation(found), vec![sum as usize]].concat();
+            outcome(found.map(numbers), 9, slice)
         }
         Call::Evaluate { card, candidate } => outcome(evaluate(card, candidate).map(evaluation), 8, vec![]),
         Call::ReadPart { card, machine } => {

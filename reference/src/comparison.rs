@@ -5,12 +5,14 @@ use crate::card::read_card;
 use crate::coverage::Coverage;
 use crate::generators::Generator;
 use crate::live::{Row, Step};
+use crate::optimizer::Method;
 use crate::random::Random;
 use crate::shrinking::smallest;
 use crate::tableau::read_tableau;
+use crate::weights::dominates;
 use std::fmt::Write;
 
-/// What of an engine's outcome is not as it should be. The work slice is kept by refusals 1 to 9 and 25; afterwards its
+/// What of an engine's outcome is not as it should be. The work slice is kept by refusals 1 to 9, 25 and 26; afterwards its
 /// contents are left open.
 pub fn differences(expected: &Outcome, found: &Outcome) -> Vec<String> {
     let mut list = Vec::new();
@@ -23,7 +25,7 @@ pub fn differences(expected: &Outcome, found: &Outcome) -> Vec<String> {
     if found.slice != expected.slice {
         list.push("lent slice at exit".to_string());
     }
-    if matches!(expected.number, 1..=9 | 25) && !found.work_kept {
+    if matches!(expected.number, 1..=9 | 25 | 26) && !found.work_kept {
         list.push("work slice not kept".to_string());
     }
     list.extend(found.trespasses.iter().map(|place| format!("written: {place}")));
@@ -61,9 +63,42 @@ pub fn compare(engine: &dyn Engine, seed: u64, count: usize) -> Result<Coverage,
                 return Err(Box::new(Failure { case, call }));
             }
             coverage.take(&call, &expected);
+            // where the weights are far enough apart, the ranked engine gives the same candidate and profile
+            let Some(ranked) = ranked_alike(&call, &expected) else { continue };
+            let found = reference(&ranked);
+            let bytes = 2 * found.result[6];
+            let alike = (&found.result[..], &found.slice[..bytes]) == (&expected.result[..8], &expected.slice[..bytes]);
+            assert!(alike, "weights and ranking do not agree on {}", describe(&call));
+            if !differences(&found, &engine.answer(&ranked)).is_empty() {
+                return Err(Box::new(Failure { case, call: ranked }));
+            }
+            coverage.take_agreement();
         }
     }
     Ok(coverage)
+}
+
+/// The ranked call that a call with weights has to agree with: both answer, all weights are above zero, and each is more than
+/// c times the sum of those ranked below it, c being the largest count in the two profiles.
+fn ranked_alike(call: &Call, outcome: &Outcome) -> Option<Call> {
+    let Call::OptimizeWeights { card, weights, word, .. } = call else { return None };
+    if outcome.number != 0 || weights.contains(&0) {
+        return None;
+    }
+    let mut ranking: Vec<u8> = (0..weights.len() as u8).collect();
+    ranking.sort_by_key(|&machine| std::cmp::Reverse(weights[machine as usize]));
+    let ranked = Call::Optimize {
+        method: Method::Ranked,
+        card: card.clone(),
+        ranking: ranking.clone(),
+        word: word.clone(),
+        work: vec![0; 25_600],
+        answer: vec![0; 6_398],
+    };
+    let found = reference(&ranked);
+    let counts = outcome.result[..6].iter().chain(&found.result[..6]);
+    let most = *counts.max().expect("six counts");
+    (found.number == 0 && dominates(weights, &ranking, most as u16)).then_some(ranked)
 }
 
 fn hexadecimal(bytes: &[u8]) -> String {
@@ -160,6 +195,13 @@ pub fn describe(call: &Call) -> String {
             field("ranking", hexadecimal(ranking));
             field("sets", sets.iter().map(|&set| symbols(set)).collect::<Vec<_>>().join(" "));
             field("work", numbers(work));
+            field("answer", hexadecimal(answer));
+        }
+        Call::OptimizeWeights { card, weights, word, work, answer } => {
+            field("card", hexadecimal(card));
+            field("weights", weights.iter().map(u32::to_string).collect::<Vec<_>>().join(" "));
+            field("word", hexadecimal(word));
+            field("work", format!("{} numbers", work.len()));
             field("answer", hexadecimal(answer));
         }
         Call::Evaluate { card, candidate } => {

@@ -2,7 +2,7 @@
 //!
 //! The file is one call after another: a byte for its kind, from 1 in the order of `KINDS`, and its fields. Numbers have 16
 //! bits, the lower byte first. A list is its length and its elements. Of the work slice only the length is given, of the
-//! answer and target slices their length and the byte that they are filled with. A set of symbols has 64 bits.
+//! answer and target slices their length and the byte that they are filled with. A set of symbols has 64 bits, a weight 32.
 //!
 //! The live tableau's calls are not in it: the test program, itself proved safe, would have to go through a slice of rows
 //! by hand. The test program `live_test` makes them, and so does the comparison.
@@ -12,6 +12,7 @@ use crate::generators::Generator;
 use crate::optimizer::Method;
 use crate::random::Random;
 use crate::samples::{self, arc, machine, set};
+use crate::weights::HEAVIEST;
 use std::collections::BTreeMap;
 
 pub struct Corpus {
@@ -39,9 +40,10 @@ fn wanted(kind: usize, number: u32) -> usize {
         ("judge", 0) => 40,
         ("judge", 19..=21) => 12,
         ("judge", _) => 3,
-        ("cull" | "optimize sets" | "cull sets", 0) => 30,
+        ("cull" | "optimize sets" | "cull sets" | "optimize weights", 0) => 30,
         ("optimize sets" | "cull sets", 25) => 12,
-        ("cull" | "optimize sets" | "cull sets", _) => 3,
+        ("optimize weights", 26) => 12,
+        ("cull" | "optimize sets" | "cull sets" | "optimize weights", _) => 3,
         ("optimize", 12) => 20,
         (_, 0 | 13..=16) => 14,
         ("optimize", _) => 8,
@@ -81,6 +83,13 @@ fn fits(call: &Call) -> bool {
                 && work.len() <= 25_600
                 && answer.len() <= 6_398
         }
+        Call::OptimizeWeights { card, weights, word, work, answer } => {
+            card.len() <= 32_000
+                && weights.len() <= 8
+                && word.len() <= 255
+                && work.len() <= 6_401
+                && answer.len() <= 6_398
+        }
         Call::Rows { .. } | Call::Live { .. } => false,
     }
 }
@@ -89,6 +98,7 @@ fn fits(call: &Call) -> bool {
 fn filled(mut call: Call) -> Call {
     if let Call::Optimize { answer: slice, .. }
     | Call::OptimizeSets { answer: slice, .. }
+    | Call::OptimizeWeights { answer: slice, .. }
     | Call::Pack { target: slice, .. } = &mut call
     {
         let byte = slice.first().copied().unwrap_or(0);
@@ -148,6 +158,14 @@ fn fields(call: &Call) -> Vec<u8> {
             fields.number(work.len());
             fields.slice(answer);
         }
+        Call::OptimizeWeights { card, weights, word, work, answer } => {
+            fields.bytes(card);
+            fields.number(weights.len());
+            weights.iter().for_each(|weight| fields.0.extend(weight.to_le_bytes()));
+            fields.bytes(word);
+            fields.number(work.len());
+            fields.slice(answer);
+        }
         Call::Evaluate { card, candidate } => {
             fields.bytes(card);
             fields.bytes(candidate);
@@ -203,7 +221,7 @@ fn joined(numbers: &[usize], between: &str) -> String {
 fn line(call: &Call, outcome: &Outcome) -> String {
     let Outcome { number, result, slice, .. } = outcome;
     match call {
-        Call::Optimize { .. } | Call::OptimizeSets { .. } => {
+        Call::Optimize { .. } | Call::OptimizeSets { .. } | Call::OptimizeWeights { .. } => {
             let name = call.name();
             format!("{name} {number} {} {} {}", joined(&result[..6], ","), joined(&result[6..], " "), sum(slice))
         }
@@ -260,6 +278,31 @@ fn empty_words() -> Vec<Call> {
     ]
 }
 
+/// Weights: none, all alike, at the limit and above it, too few and too many, work and answer that just do and do not hold,
+/// for card B; and the largest sum that there is.
+fn weighings() -> Vec<Call> {
+    let call = |card: Vec<u8>, weights: &[u32], word: &[u8], work: usize, answer: usize| {
+        let (weights, word) = (weights.to_vec(), word.to_vec());
+        Call::OptimizeWeights { card, weights, word, work: vec![0; work], answer: vec![170; answer] }
+    };
+    let lists: [&[u32]; 9] = [
+        &[0, 0, 0],
+        &[1, 1, 1],
+        &[2, 1, 2],
+        &[HEAVIEST; 3],
+        &[HEAVIEST, HEAVIEST - 1, HEAVIEST],
+        &[0, 0, HEAVIEST + 1],
+        &[1, 1],
+        &[1; 4],
+        &[],
+    ];
+    let of_b = lists.iter().map(|weights| call(samples::card_b(), weights, &[2, 1], 12, 6));
+    let around = [(11, 6), (12, 2), (12, 3), (12, 4)];
+    let of_b =
+        of_b.chain(around.iter().map(|&(work, answer)| call(samples::card_b(), &[3, 2, 1], &[2, 1], work, answer)));
+    of_b.chain([call(samples::chain_ending(), &[HEAVIEST; 2], &[1; 24], 6_400, 6_398)]).collect()
+}
+
 /// Calls by chance until there are as many of each kind and number as wanted.
 pub fn corpus() -> Corpus {
     let generator = Generator::default();
@@ -271,7 +314,7 @@ pub fn corpus() -> Corpus {
         corpus.lines.push('\n');
         corpus.count += 1;
     };
-    for call in longest().into_iter().chain(empty_words()) {
+    for call in longest().into_iter().chain(empty_words()).chain(weighings()) {
         add(&call, &reference(&call));
     }
     let numbers = |kind: usize| [0].into_iter().chain(KINDS[kind].1.iter().copied());

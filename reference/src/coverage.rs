@@ -3,6 +3,7 @@
 use crate::call::{reference, Call, Outcome, KINDS};
 use crate::card::{read_card, Card, Machine};
 use crate::live::Step;
+use crate::weights::{ties, HEAVIEST};
 use std::collections::BTreeMap;
 use std::fmt;
 
@@ -28,6 +29,26 @@ const TRAITS: [&str; 10] = [
     "an arc of kind 1",
     "an arc of kind 2",
 ];
+
+/// What is met of weights: of answers; of refusals by 26.
+const WEIGHINGS: [&str; 9] = [
+    "answered, all weights 0",
+    "answered, all weights alike",
+    "answered, a weight at the limit",
+    "answered, longer candidates with the same sum",
+    "answered, others as long with the same sum",
+    "answered as the ranked engine",
+    "refused, one above the limit",
+    "refused, too few",
+    "refused, too many",
+];
+
+/// Which of the first five of `WEIGHINGS` an answered call has.
+fn weighings(card: &Card, weights: &[u32], word: &[u8]) -> [bool; 5] {
+    let (longer, as_long) = ties(card, weights, word);
+    let alike = weights.len() > 1 && weights.iter().all(|&weight| weight == weights[0]);
+    [weights.iter().all(|&weight| weight == 0), alike && weights[0] > 0, weights.contains(&HEAVIEST), longer, as_long]
+}
 
 /// The marks of a machine at the end of a complete candidate.
 fn ending_marks(machine: &Machine, pairs: &[u8]) -> u16 {
@@ -86,6 +107,10 @@ pub struct Coverage {
     /// Of the calls with sets past check 9: positions, and the symbols of the largest set.
     positions: Counts,
     set_sizes: Counts,
+    /// Lengths of work slices of the calls with weights, less what is needed.
+    wide_work: Counts,
+    /// How often the calls with weights had each of `WEIGHINGS`.
+    weighings: [u64; 9],
 }
 
 fn count(counts: &mut Counts, value: usize) {
@@ -148,6 +173,22 @@ impl Coverage {
                     count(&mut self.pairs, pairs);
                 }
             }
+            Call::OptimizeWeights { card, weights, word, work, .. } if matches!(outcome.number, 0 | 9 | 10 | 12) => {
+                count_around(&mut self.wide_work, work.len(), 2 * (word.len() + 1) * product(card));
+                if outcome.number == 0 {
+                    let read = read_card(card).expect("an accepted card");
+                    for (times, met) in self.weighings.iter_mut().zip(weighings(&read, weights, word)) {
+                        *times += met as u64;
+                    }
+                }
+            }
+            Call::OptimizeWeights { card, weights, .. } if outcome.number == 26 => {
+                let machines = card[0] as usize;
+                let met = [weights.contains(&(HEAVIEST + 1)), weights.len() < machines, weights.len() > machines];
+                for (times, met) in self.weighings[6..].iter_mut().zip(met) {
+                    *times += met as u64;
+                }
+            }
             Call::OptimizeSets { sets, .. } if matches!(outcome.number, 0 | 10 | 12) => {
                 count(&mut self.positions, sets.len());
                 count(&mut self.set_sizes, sets.iter().map(|set| set.count_ones() as usize).max().unwrap_or(0));
@@ -177,6 +218,11 @@ impl Coverage {
             }
             _ => (),
         }
+    }
+
+    /// Takes in that a call with weights was answered as the ranked engine has to.
+    pub fn take_agreement(&mut self) {
+        self.weighings[5] += 1;
     }
 
     /// What was not met as often as a whole run has to.
@@ -210,6 +256,9 @@ impl Coverage {
         for (name, &times) in TRAITS.iter().zip(&self.traits) {
             ask(format!("an answer with {name}"), &Counts::from([(0, times)]), 0, OFTEN);
         }
+        for (name, &times) in WEIGHINGS.iter().zip(&self.weighings) {
+            ask(format!("weights {name}"), &Counts::from([(0, times)]), 0, OFTEN);
+        }
         for number in [0, 9, 10, 12] {
             ask(format!("the empty word answered {number}"), &self.empty_words, number, OFTEN / 2);
         }
@@ -225,6 +274,7 @@ impl Coverage {
         ask("3199 pairs answered".to_string(), &self.pairs, 3_199, 1);
         for (name, counts, values) in [
             ("work slice", &self.work, -1..=1),
+            ("work slice with weights", &self.wide_work, -1..=1),
             ("answer slice", &self.answer, -2..=2),
             ("target slice", &self.target, -2..=1),
             ("candidate", &self.candidates, -1..=1),
@@ -259,7 +309,7 @@ impl fmt::Display for Coverage {
     fn fmt(&self, text: &mut fmt::Formatter) -> fmt::Result {
         writeln!(text, "how often each call answered each number (0 accepted)")?;
         for ((name, _), counts) in KINDS.iter().zip(&self.numbers) {
-            writeln!(text, "  {name:<13}{:>7}  {}", counts.values().sum::<u64>(), each(counts, false))?;
+            writeln!(text, "  {name:<17}{:>7}  {}", counts.values().sum::<u64>(), each(counts, false))?;
         }
         writeln!(text, "of the optimizer's calls past check 9")?;
         writeln!(text, "  machines, K          {}", each(&self.machines, false))?;
@@ -273,6 +323,10 @@ impl fmt::Display for Coverage {
         }
         writeln!(text, "  positions with sets  {}", range(&self.positions))?;
         writeln!(text, "  symbols in a set     {}", range(&self.set_sizes))?;
+        writeln!(text, "of the calls with weights")?;
+        for (name, times) in WEIGHINGS.iter().zip(&self.weighings) {
+            writeln!(text, "  {name:<46} {times}")?;
+        }
         writeln!(text, "of the tableaux that are judged")?;
         for (number, name) in VERDICTS {
             writeln!(text, "  {name:<20} {}", self.verdicts.get(&number).unwrap_or(&0))?;
@@ -280,6 +334,7 @@ impl fmt::Display for Coverage {
         writeln!(text, "  rows                 {}", range(&self.rows))?;
         writeln!(text, "lengths around their limits")?;
         writeln!(text, "  work slice           {}", each(&self.work, true))?;
+        writeln!(text, "  work with weights    {}", each(&self.wide_work, true))?;
         writeln!(text, "  answer slice         {}", each(&self.answer, true))?;
         writeln!(text, "  target slice         {}", each(&self.target, true))?;
         writeln!(text, "  pairs of a candidate {}", each(&self.candidates, true))?;

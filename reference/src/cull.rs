@@ -54,8 +54,8 @@ impl Graph {
     }
 
     /// From every node the least cost of a way to an end, again and again over all nodes until nothing changes.
-    fn least(&self, edge_cost: impl Fn(&Edge) -> u32, ending_cost: impl Fn(&Profile) -> u32) -> Vec<Option<u32>> {
-        let mut labels: Vec<Option<u32>> =
+    fn least(&self, edge_cost: impl Fn(&Edge) -> u64, ending_cost: impl Fn(&Profile) -> u64) -> Vec<Option<u64>> {
+        let mut labels: Vec<Option<u64>> =
             self.endings.iter().map(|ending| ending.as_ref().map(&ending_cost)).collect();
         let mut changed = true;
         while changed {
@@ -74,9 +74,9 @@ impl Graph {
     /// Drops the edges and endings that cost more than the least, and those that lead to no end.
     fn drop_dearer(
         &mut self,
-        labels: &[Option<u32>],
-        edge_cost: impl Fn(&Edge) -> u32,
-        ending_cost: impl Fn(&Profile) -> u32,
+        labels: &[Option<u64>],
+        edge_cost: impl Fn(&Edge) -> u64,
+        ending_cost: impl Fn(&Profile) -> u64,
     ) {
         for (node, edges) in self.edges.iter_mut().enumerate() {
             edges.retain(|edge| labels[edge.to].is_some_and(|rest| labels[node] == Some(edge_cost(edge) + rest)));
@@ -84,22 +84,63 @@ impl Graph {
         }
     }
 
+    /// Leaves the ways with the least cost, that of marks on arcs and at the end.
+    pub fn cull_by(&mut self, cost: impl Fn(&Profile) -> u64) {
+        let edge_cost = |edge: &Edge| cost(&edge.marks);
+        let labels = self.least(edge_cost, &cost);
+        self.drop_dearer(&labels, edge_cost, &cost);
+    }
+
     /// Leaves the ways with the fewest marks of one constraint.
     pub fn cull(&mut self, machine: usize) {
-        let (edge_cost, ending_cost) =
-            (|edge: &Edge| edge.marks[machine] as u32, |ending: &Profile| ending[machine] as u32);
-        let labels = self.least(edge_cost, ending_cost);
-        self.drop_dearer(&labels, edge_cost, ending_cost);
+        self.cull_by(|marks| marks[machine] as u64);
+    }
+
+    /// Leaves the ways with the fewest pairs.
+    pub fn cull_pairs(&mut self) {
+        let labels = self.least(|_| 1, |_| 0);
+        self.drop_dearer(&labels, |_| 1, |_| 0);
+    }
+
+    /// The fewest pairs from the start to each node by the ways that are left, if one leads there.
+    fn lengths(&self) -> Vec<Option<usize>> {
+        let mut lengths = vec![None; self.edges.len()];
+        lengths[0] = Some(0);
+        let mut list = vec![0];
+        for place in 0.. {
+            let Some(&node) = list.get(place) else { break };
+            for edge in &self.edges[node] {
+                if lengths[edge.to].is_none() {
+                    lengths[edge.to] = lengths[node].map(|length| length + 1);
+                    list.push(edge.to);
+                }
+            }
+        }
+        lengths
+    }
+
+    /// Whether the ways that are left from the start, each to an end, differ in length.
+    pub fn lengths_differ(&self) -> bool {
+        let lengths = self.lengths();
+        let reached = || (0..lengths.len()).filter_map(|node| Some((node, lengths[node]?)));
+        let mut ends = reached().filter(|&(node, _)| self.endings[node].is_some()).map(|(_, length)| length);
+        let first = ends.next();
+        ends.any(|length| Some(length) != first)
+            || reached().any(|(node, length)| self.edges[node].iter().any(|edge| lengths[edge.to] != Some(length + 1)))
+    }
+
+    /// Whether there is more than one way left from the start, each to an end.
+    pub fn forks(&self) -> bool {
+        let ways = |node: usize| self.edges[node].len() + self.endings[node].is_some() as usize;
+        self.lengths().iter().enumerate().any(|(node, length)| length.is_some() && ways(node) > 1)
     }
 
     /// Of the ways that are left from the start those with the fewest pairs, and of them the one with the smallest bytes.
     pub fn shortest(mut self) -> Option<Vec<Pair>> {
-        let labels = self.least(|_| 1, |_| 0);
-        self.drop_dearer(&labels, |_| 1, |_| 0);
-        labels[0]?;
+        self.cull_pairs();
         let (mut node, mut candidate) = (0, Vec::new());
         while self.endings[node].is_none() {
-            let edge = self.edges[node].first().expect("a way to an end");
+            let edge = self.edges[node].first()?;
             candidate.push(edge.pair);
             node = edge.to;
         }

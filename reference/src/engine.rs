@@ -18,51 +18,53 @@ fn row_of(numbers: &RowNumbers) -> Row {
     Row { id: numbers[0], counts: std::array::from_fn(|place| numbers[place + 1]) }
 }
 
-/// Searches, which are lent and answer the same.
+/// Searches, which are lent and answer the same: under a ranking or weights, for symbols or sets of them.
 macro_rules! searches {
-    ($symbol:ty: $($name:ident),*) => {
+    ($order:ty, $symbol:ty, $number:ty: $($name:ident),*) => {
         extern "C" {
             $(fn $name(
                 card: *const u8,
                 card_len: usize,
-                ranking: *const u8,
-                ranking_len: usize,
+                order: *const $order,
+                order_len: usize,
                 word: *const $symbol,
                 word_len: usize,
-                work: *mut u16,
+                work: *mut $number,
                 work_len: usize,
                 answer: *mut u8,
                 answer_len: usize,
-                result: *mut u16,
+                result: *mut $number,
             ) -> u32;)*
         }
     };
 }
 
-searches!(u8: pastaspur_optimize, pastaspur_cull);
-searches!(u64: pastaspur_optimize_sets, pastaspur_cull_sets);
+searches!(u8, u8, u16: pastaspur_optimize, pastaspur_cull);
+searches!(u8, u64, u16: pastaspur_optimize_sets, pastaspur_cull_sets);
+searches!(u32, u8, u64: pastaspur_optimize_weights);
 
-/// A search, by what a position of the word is.
-type Search<Symbol> = unsafe extern "C" fn(
+type Search<Order, Symbol, Number> = unsafe extern "C" fn(
     *const u8,
     usize,
-    *const u8,
+    *const Order,
     usize,
     *const Symbol,
     usize,
-    *mut u16,
+    *mut Number,
     usize,
     *mut u8,
     usize,
-    *mut u16,
+    *mut Number,
 ) -> u32;
 
-/// What a search is lent, but for the word.
-struct Lendings<'a> {
-    card: &'a [u8],
-    ranking: &'a [u8],
-    work: &'a [u16],
-    answer: &'a [u8],
+/// What a search is lent.
+struct Lendings<Order, Symbol, Number> {
+    card: Lent<u8>,
+    order: Lent<Order>,
+    word: Lent<Symbol>,
+    work: Lent<Number>,
+    answer: Lent<u8>,
+    result: Lent<Number>,
 }
 
 extern "C" {
@@ -234,32 +236,34 @@ impl Lender {
     }
 
     /// What a search leaves.
-    fn search<Symbol: Copy + Eq>(mut self, search: Search<Symbol>, lent: Lendings, mut word: Lent<Symbol>) -> Outcome {
-        let (mut card, mut ranking) = (self.bytes(lent.card), self.bytes(lent.ranking));
-        let (mut work, mut answer) = (self.shorts(lent.work), self.bytes(lent.answer));
-        let mut result = self.result(8, |number| number as u16);
+    fn search<Order: Copy + Eq, Symbol: Copy + Eq, Number: Copy + Eq>(
+        mut self,
+        search: Search<Order, Symbol, Number>,
+        mut lent: Lendings<Order, Symbol, Number>,
+        wide: fn(Number) -> usize,
+    ) -> Outcome {
         // SAFETY: each pointer leads to as many elements as are said; none overlaps another
         let number = unsafe {
             search(
-                card.pointer(),
-                card.length(),
-                ranking.pointer(),
-                ranking.length(),
-                word.pointer(),
-                word.length(),
-                work.pointer(),
-                work.length(),
-                answer.pointer(),
-                answer.length(),
-                result.pointer(),
+                lent.card.pointer(),
+                lent.card.length(),
+                lent.order.pointer(),
+                lent.order.length(),
+                lent.word.pointer(),
+                lent.word.length(),
+                lent.work.pointer(),
+                lent.work.length(),
+                lent.answer.pointer(),
+                lent.answer.length(),
+                lent.result.pointer(),
             )
         };
-        self.read_only("card", &card);
-        self.read_only("ranking", &ranking);
-        self.read_only("word", &word);
-        self.around("work", &work);
-        self.around("answer", &answer);
-        self.outcome(number, result, usize::from, answer.contents(), work.contents_kept())
+        self.read_only("card", &lent.card);
+        self.read_only("ranking or weights", &lent.order);
+        self.read_only("word", &lent.word);
+        self.around("work", &lent.work);
+        self.around("answer", &lent.answer);
+        self.outcome(number, lent.result, wide, lent.answer.contents(), lent.work.contents_kept())
     }
 
     fn outcome<T: Copy + Eq>(
@@ -291,16 +295,41 @@ impl Engine for Library {
                     Method::Ranked => pastaspur_optimize,
                     Method::Cull => pastaspur_cull,
                 };
-                let word = lender.bytes(word);
-                lender.search(search, Lendings { card, ranking, work, answer }, word)
+                let lent = Lendings {
+                    card: lender.bytes(card),
+                    order: lender.bytes(ranking),
+                    word: lender.bytes(word),
+                    work: lender.shorts(work),
+                    answer: lender.bytes(answer),
+                    result: lender.result(8, |number| number as u16),
+                };
+                lender.search(search, lent, usize::from)
             }
             Call::OptimizeSets { method, card, ranking, sets, work, answer } => {
                 let search = match method {
                     Method::Ranked => pastaspur_optimize_sets,
                     Method::Cull => pastaspur_cull_sets,
                 };
-                let sets = lender.lend(sets, |number| number);
-                lender.search(search, Lendings { card, ranking, work, answer }, sets)
+                let lent = Lendings {
+                    card: lender.bytes(card),
+                    order: lender.bytes(ranking),
+                    word: lender.lend(sets, |number| number),
+                    work: lender.shorts(work),
+                    answer: lender.bytes(answer),
+                    result: lender.result(8, |number| number as u16),
+                };
+                lender.search(search, lent, usize::from)
+            }
+            Call::OptimizeWeights { card, weights, word, work, answer } => {
+                let lent = Lendings {
+                    card: lender.bytes(card),
+                    order: lender.lend(weights, |number| number as u32),
+                    word: lender.bytes(word),
+                    work: lender.lend(work, |number| number),
+                    answer: lender.bytes(answer),
+                    result: lender.result(9, |number| number),
+                };
+                lender.search(pastaspur_optimize_weights, lent, |number| number as usize)
             }
             Call::Evaluate { card, candidate } => {
                 let (mut card, mut candidate) = (lender.bytes(card), lender.bytes(candidate));

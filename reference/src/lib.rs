@@ -22,6 +22,7 @@ pub mod samples;
 pub mod sets;
 pub mod shrinking;
 pub mod tableau;
+pub mod weights;
 
 /// The number of a refusal in the refusal table. An accepted call is an `Ok`.
 pub type Refusal = u8;

@@ -7,6 +7,7 @@ use crate::optimizer::best;
 use crate::ranking::is_ranking;
 use crate::sets::best_of_sets;
 use crate::tableau::{read_tableau, Tableau};
+use crate::weights::best_by_weights;
 use crate::Profile;
 use std::ops::Range;
 
@@ -25,6 +26,7 @@ pub fn smallest(call: &Call, fails: &dyn Fn(&Call) -> bool) -> Call {
         search.shorten_tableaux();
         search.shorten_row_lists();
         search.shorten_sets();
+        search.lower_weights();
         search.clear_lists();
         search.shorten_lists();
         search.lower_bytes();
@@ -63,6 +65,13 @@ fn size(call: &mut Call) -> [u64; 5] {
     ids(call).into_iter().for_each(|id| add(*id));
     let (rows, steps) = rows_and_steps(call);
     length += (rows.len() + steps.len()) as u64;
+    if let Call::OptimizeWeights { weights, work, .. } = call {
+        length += (weights.len() + work.len()) as u64;
+        for &weight in weights.iter() {
+            bits += weight.count_ones() as u64;
+            sum += weight as u64;
+        }
+    }
     if let Call::OptimizeSets { sets, .. } = call {
         length += sets.len() as u64;
         for &set in sets.iter() {
@@ -105,6 +114,7 @@ fn card(call: &mut Call) -> Option<&mut Vec<u8>> {
     match call {
         Call::Optimize { card, .. }
         | Call::OptimizeSets { card, .. }
+        | Call::OptimizeWeights { card, .. }
         | Call::Evaluate { card, .. }
         | Call::ReadPart { card, .. }
         | Call::Judge { card, .. } => Some(card),
@@ -116,6 +126,7 @@ fn byte_lists(call: &mut Call) -> Vec<&mut Vec<u8>> {
     match call {
         Call::Optimize { card, ranking, word, answer, .. } => vec![word, answer, ranking, card],
         Call::OptimizeSets { card, ranking, answer, .. } => vec![answer, ranking, card],
+        Call::OptimizeWeights { card, word, answer, .. } => vec![word, answer, card],
         Call::Evaluate { card, candidate } => vec![candidate, card],
         Call::ReadPart { card, .. } => vec![card],
         Call::Pack { parts, target, .. } => vec![target, parts],
@@ -328,6 +339,13 @@ fn with_part(call: &Call, machine: usize, change: impl Fn(&mut Part)) -> Option<
 /// What the call needs of the slices whose length can be too short: numbers of work, bytes of answer or target.
 fn needs(call: &Call) -> Option<(usize, usize)> {
     match call {
+        Call::OptimizeWeights { card, weights, word, .. } => {
+            let card = read_card(card).ok()?;
+            let right = weights.len() == card.machines.len() && word.len() <= 24;
+            let symbols = word.iter().all(|&symbol| symbol != 0 && symbol <= card.symbols);
+            let best = if right && symbols { best_by_weights(&card, weights, word) } else { None };
+            Some((2 * (word.len() + 1) * card.states(), 2 * best.map_or(0, |pairs| pairs.len())))
+        }
         Call::OptimizeSets { card, ranking, sets, .. } => {
             let card = read_card(card).ok()?;
             let right = is_ranking(card.machines.len(), ranking) && sets.len() <= 24;
@@ -354,6 +372,10 @@ fn refitted(earlier: &Call, later: &Call) -> Option<Call> {
     let mut call = later.clone();
     match &mut call {
         Call::Optimize { work, answer, .. } | Call::OptimizeSets { work, answer, .. } => {
+            work.resize(moved(work.len(), work_before, work_after), 0);
+            answer.resize(moved(answer.len(), slice_before, slice_after), 0);
+        }
+        Call::OptimizeWeights { work, answer, .. } => {
             work.resize(moved(work.len(), work_before, work_after), 0);
             answer.resize(moved(answer.len(), slice_before, slice_after), 0);
         }
@@ -405,6 +427,7 @@ fn without_machines(call: &Call, gone: &Range<usize>) -> Option<Call> {
         *machines -= gone.len() as u8;
     }
     match &mut call {
+        Call::OptimizeWeights { weights, .. } if gone.end <= weights.len() => drop(weights.drain(gone.clone())),
         Call::ReadPart { machine, .. } => *machine = renumbered(*machine, gone).unwrap_or(0),
         Call::FindRanking { conditions, .. } => {
             for set in conditions {
@@ -476,8 +499,10 @@ fn without_symbols(call: &Call, gone: &Range<usize>) -> Option<Call> {
     }
     let mut call = with_grammar(call, &grammar);
     let without = |list: &[u8]| list.iter().filter_map(|&symbol| renumbered(symbol, &symbols)).collect::<Vec<u8>>();
-    if let Call::Optimize { word: list, .. } | Call::Evaluate { candidate: list, .. } | Call::Judge { word: list, .. } =
-        &mut call
+    if let Call::Optimize { word: list, .. }
+    | Call::OptimizeWeights { word: list, .. }
+    | Call::Evaluate { candidate: list, .. }
+    | Call::Judge { word: list, .. } = &mut call
     {
         *list = without(list);
     }
@@ -648,11 +673,39 @@ impl Search<'_> {
                 work.fill(0);
                 answer.fill(0);
             }
+            Call::OptimizeWeights { work, answer, .. } => {
+                work.fill(0);
+                answer.fill(0);
+            }
             Call::Pack { target, .. } => target.fill(0),
             Call::Judge { work, .. } => work.fill(0),
             _ => (),
         }
         self.attempt(Some(call));
+    }
+
+    /// Lowers weights, and takes work and weights away.
+    fn lower_weights(&mut self) {
+        let Call::OptimizeWeights { weights, work, .. } = &self.call else { return };
+        let (count, numbers) = (weights.len(), work.len());
+        for length in [0, numbers / 2, numbers - numbers.min(1)] {
+            let mut call = self.call.clone();
+            if let Call::OptimizeWeights { work, .. } = &mut call {
+                work.truncate(length);
+            }
+            self.attempt(Some(call));
+        }
+        for place in (0..count).rev() {
+            for new in [0, 1, 2, 3] {
+                let mut call = self.call.clone();
+                if let Call::OptimizeWeights { weights, .. } = &mut call {
+                    weights[place] = weights[place].min(new);
+                }
+                if self.attempt(Some(call)) {
+                    break;
+                }
+            }
+        }
     }
 
     /// Takes positions away from a word of sets, and symbols from the sets.

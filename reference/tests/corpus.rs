@@ -78,6 +78,16 @@ fn read_call(rest: &mut &[u8]) -> usize {
             assert!(number(rest) <= 25_600);
             assert!(bytes(rest).len() <= 32_000);
         }
+        15 => {
+            list(32_000);
+            let weights = number(rest);
+            assert!(weights <= 8);
+            take(rest, 4 * weights);
+            assert!(bytes(rest).len() <= 255);
+            assert!(number(rest) <= 6_401);
+            assert!(number(rest) <= 6_398);
+            take(rest, 1);
+        }
         _ => panic!("no kind {kind}"),
     }
     kind as usize
@@ -88,7 +98,7 @@ fn every_call_and_every_refusal() {
     let corpus = corpus();
     assert!((300..=1_000).contains(&corpus.count));
     assert!(corpus.cases.len() <= 400_000);
-    // the live tableau's calls, 10 to 12 and 15, are not in it
+    // the live tableau's calls, 10 to 12 and the last, are not in it
     let names = BTreeMap::from([
         (1, "optimize"),
         (2, "evaluate"),
@@ -101,6 +111,7 @@ fn every_call_and_every_refusal() {
         (9, "cull"),
         (13, "optimize sets"),
         (14, "cull sets"),
+        (15, "optimize weights"),
     ]);
     let mut rest = &corpus.cases[..];
     let lines: Vec<&str> = corpus.lines.lines().collect();

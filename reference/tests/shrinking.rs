@@ -9,6 +9,7 @@ use reference::live::{Row, Step};
 use reference::optimizer::{best, Method};
 use reference::samples::{self, arc, machine, set};
 use reference::tableau::{read_tableau, verdict, Tableau, Verdict};
+use reference::weights::HEAVIEST;
 
 /// The smallest call on which the engine is found out, from some thousands made by chance.
 fn found_out(engine: impl Fn(&Call) -> Outcome) -> Call {
@@ -501,6 +502,50 @@ fn sets_of_symbols() {
 fn sizes_of_rows(call: &Call) -> (u8, usize, usize) {
     let Call::Rows { machines, used, rows, .. } = call else { panic!("a call on a list of rows") };
     (*machines, *used, rows.len())
+}
+
+/// The sum of the counts, without their weights.
+#[test]
+fn sums_without_weights() {
+    let call = found_out(|call| {
+        let right = reference(call);
+        let Call::OptimizeWeights { weights, .. } = call else { return right };
+        if !matches!(right.number, 0 | 12) {
+            return right;
+        }
+        let mut alike = call.clone();
+        if let Call::OptimizeWeights { weights, .. } = &mut alike {
+            weights.fill(1);
+        }
+        let found = reference(&alike);
+        let sum = weights.iter().zip(&found.result).map(|(&weight, count)| weight as usize * count).sum();
+        let result = match found.number {
+            0 => [&found.result[..8], &[sum]].concat(),
+            _ => found.result.clone(),
+        };
+        Outcome { result, ..found }
+    });
+    let Call::OptimizeWeights { card, weights, .. } = &call else { panic!("a call with weights") };
+    let read = read_card(card).unwrap();
+    assert!(read.machines.len() <= 2 && weights.iter().all(|&weight| weight <= 3), "{weights:?}");
+}
+
+/// A weight at the limit refused.
+#[test]
+fn the_limit_refused() {
+    let call = found_out(|call| match call {
+        Call::OptimizeWeights { weights, answer, .. } if weights.contains(&HEAVIEST) => {
+            let right = reference(call);
+            match right.number {
+                0 | 8.. => Outcome { number: 26, result: vec![0; 9], slice: answer.clone(), ..right },
+                _ => right,
+            }
+        }
+        _ => reference(call),
+    });
+    let Call::OptimizeWeights { card, weights, .. } = &call else { panic!("a call with weights") };
+    assert_eq!(read_card(card).unwrap().machines.len(), weights.len());
+    assert!(weights.len() == 1 && weights[0] == HEAVIEST, "{weights:?}");
 }
 
 /// Lists of rows: what is freed left as it was, the order of arrival lost, the latest of equals.

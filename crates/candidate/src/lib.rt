@@ -62,14 +62,14 @@ pub enum Marks {
     NotComplete,
 }
 
-fn wide(x: u8) -> u16
+pub fn wide(x: u8) -> u16
     ensures { λ r. ⌜ (r ≡ x) × (r < 256) ⌝ }
 {
     x as u16
 }
 
 // The pair whose two bytes start at a place.
-fn pair_at(candidate: &[u8], at: usize) -> Pair
+pub fn pair_at(candidate: &[u8], at: usize) -> Pair
     requires { ⌜ at + 2 ≤ length (now candidate) ⌝ }
     ensures { λ r. ⌜ r ≡ pairAt (now (candidate .entry)) at ⌝ }
 {

@@ -4,6 +4,7 @@ use crate::writing::write;
 use crate::writing::write_byte;
 use crate::writing::write_evaluation;
 use crate::writing::write_finding;
+use crate::writing::write_number;
 use crate::writing::write_order;
 use crate::writing::write_size;
 use crate::writing::write_slice;
@@ -13,6 +14,8 @@ use ranking::Profile;
 
 // What there is to lend.
 const WORK_NUMBERS: usize = 25600;
+
+const WEIGHTS_WORK_NUMBERS: usize = 6401;
 
 const ANSWER_BYTES: usize = 6398;
 
@@ -124,6 +127,52 @@ pub fn lend_and_search_sets(
             &mut answer[0..bytes],
         );
     }
+    true
+}
+
+fn optimize_weights(
+    card: &[u8],
+    weights: &[u32],
+    word: &[u8],
+    work: &mut [u64],
+    answer: &mut [u8],
+) {
+    let weighing = weights::optimize(card, weights, word, work, answer);
+    write(b"optimize weights");
+    write_evaluation(weighing.evaluation);
+    write_number(weighing.sum);
+    write_slice(answer);
+}
+
+// With the first weights, as many as `machines`, so many numbers of work, and an answer of so many bytes, each `fill`. Answers whether there is as much to
+// lend.
+pub fn lend_and_weigh(
+    card: &[u8],
+    weights: [u32; 8],
+    machines: usize,
+    word: &[u8],
+    room: usize,
+    bytes: usize,
+    fill: u8,
+) -> bool {
+    if machines > 8 {
+        return false;
+    }
+    if room > WEIGHTS_WORK_NUMBERS {
+        return false;
+    }
+    if bytes > ANSWER_BYTES {
+        return false;
+    }
+    let mut work = [0u64; WEIGHTS_WORK_NUMBERS];
+    let mut answer = [fill; ANSWER_BYTES];
+    optimize_weights(
+        card,
+        &weights[0..machines],
+        word,
+        &mut work[0..room],
+        &mut answer[0..bytes],
+    );
     true
 }
 

@@ -1,5 +1,5 @@
-// The fields of the file's cases. A number has 16 bits, the low byte first, a set 64; bytes, numbers, and sets, have a number before them that says how many
-// they are; a profile is six numbers. A field is known by its place. What the file is too short for is nowhere, and so is what comes after it.
+// The fields of the file's cases. A number has 16 bits, the low byte first, a weight 32, a set 64; bytes, numbers, weights and sets have a number before them
+// that says how many they are; a profile is six numbers. A field is known by its place. What the file is too short for is nowhere, and so is what comes after it.
 use ranking::Profile;
 ghost use Prim.Native.Nat.{_<_};
 
@@ -49,6 +49,11 @@ pub fn after_numbers(file: &[u8], at: usize) -> usize {
     after(file, halfway, size_at(file, at))
 }
 
+// The place after the weights at a place.
+pub fn after_weights(file: &[u8], at: usize) -> usize {
+    after(file, after(file, at, 2), 4 * number_at(file, at) as usize)
+}
+
 // The place after the sets at a place.
 pub fn after_sets(file: &[u8], at: usize) -> usize {
     after(file, after(file, at, 2), 8 * number_at(file, at) as usize)
@@ -77,6 +82,27 @@ pub fn numbers_at(file: &[u8], at: usize) -> [u16; 7] {
         number_at(file, after(file, at, 10)),
         number_at(file, after(file, at, 12)),
         number_at(file, after(file, at, 14)),
+    ]
+}
+
+// The weight at a place.
+fn weight_at(file: &[u8], at: usize) -> u32 {
+    let low = number_at(file, at) as u32;
+    let high = number_at(file, after(file, at, 2)) as u32;
+    low | (high << 16)
+}
+
+// The first eight of the weights at a place, and what stands in the file after them where they are fewer.
+pub fn weights_at(file: &[u8], at: usize) -> [u32; 8] {
+    [
+        weight_at(file, after(file, at, 2)),
+        weight_at(file, after(file, at, 6)),
+        weight_at(file, after(file, at, 10)),
+        weight_at(file, after(file, at, 14)),
+        weight_at(file, after(file, at, 18)),
+        weight_at(file, after(file, at, 22)),
+        weight_at(file, after(file, at, 26)),
+        weight_at(file, after(file, at, 30)),
     ]
 }
 

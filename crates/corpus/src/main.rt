@@ -13,6 +13,7 @@
 //     8 judge       card, ranking, word: bytes; numbers of work: a number; tableau: bytes
 //     9 cull        as optimize
 //    13 optimize sets, 14 cull sets    as optimize, but sets for the word
+//    15 optimize weights    as optimize, but weights for the ranking
 //
 // A case of another kind, one that the file ends in and one that asks to be lent more than there is are faulty. 10 to 12, the live tableau's calls, are not
 // in the file: `live_test` makes them. Each of the functions for a kind goes from the place of the first field to the place after the last, which is nowhere
@@ -29,18 +30,21 @@ use calls::lend_and_judge;
 use calls::lend_and_pack;
 use calls::lend_and_search;
 use calls::lend_and_search_sets;
+use calls::lend_and_weigh;
 use calls::read_part;
 use fields::NOWHERE;
 use fields::after;
 use fields::after_bytes;
 use fields::after_numbers;
 use fields::after_sets;
+use fields::after_weights;
 use fields::byte_at;
 use fields::bytes_at;
 use fields::numbers_at;
 use fields::profile_at;
 use fields::sets_at;
 use fields::size_at;
+use fields::weights_at;
 use writing::end_line;
 use writing::write_bad_case;
 ghost use Rattle.io.specs.Counts.{Counts};
@@ -86,6 +90,28 @@ fn search_sets_case(file: &[u8], culls: bool, card: usize) -> usize {
         bytes_at(file, ranking),
         sets_at(file, sets),
         size_at(file, sets),
+        size_at(file, room),
+        size_at(file, bytes),
+        byte_at(file, fill),
+    );
+    if lent { end } else { NOWHERE }
+}
+
+fn weigh_case(file: &[u8], card: usize) -> usize {
+    let weights = after_bytes(file, card);
+    let word = after_weights(file, weights);
+    let room = after_bytes(file, word);
+    let bytes = after(file, room, 2);
+    let fill = after(file, bytes, 2);
+    let end = after(file, fill, 1);
+    if end == NOWHERE {
+        return NOWHERE;
+    }
+    let lent = lend_and_weigh(
+        bytes_at(file, card),
+        weights_at(file, weights),
+        size_at(file, weights),
+        bytes_at(file, word),
         size_at(file, room),
         size_at(file, bytes),
         byte_at(file, fill),
@@ -204,6 +230,7 @@ fn case(file: &[u8], at: usize) -> usize {
         9 => search_case(file, true, start),
         13 => search_sets_case(file, false, start),
         14 => search_sets_case(file, true, start),
+        15 => weigh_case(file, start),
         _ => NOWHERE,
     }
 }

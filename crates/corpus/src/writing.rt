@@ -21,7 +21,7 @@ pub fn write_bad_case() {
     write(b"bad case\n");
 }
 
-fn write_number(number: u64) {
+pub fn write_number(number: u64) {
     write(b" ");
     io::print_decimal(1, number);
 }

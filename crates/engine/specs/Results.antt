@@ -13,10 +13,15 @@ use Rattle.candidate.specs.declared.Evaluation.{Evaluation}
 use Rattle.tableau.specs.declared.Judged.{Judged}
 use Rattle.live.specs.declared.Row.{Row}
 use Rattle.live.specs.declared.Lead.{Lead}
+use Rattle.weights.specs.declared.Weighing.{Weighing}
 
 -- the six counts, the pair count, the word length
 abbrev pub evaluationNumbers : Evaluation → List ℕ
 evaluationNumbers e = e .profile .counts ++ (e .pairs ∷ e .«word_length» ∷ [])
+
+-- and the sum, in thousandths
+abbrev pub weighingNumbers : Weighing → List ℕ
+weighingNumbers w = w .evaluation .profile .counts ++ (w .evaluation .pairs ∷ w .evaluation .«word_length» ∷ w .sum ∷ [])
 
 -- the offset and the length of a part
 abbrev pub placeNumbers : PartPlace → List ℕ

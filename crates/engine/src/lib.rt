@@ -15,7 +15,9 @@ ghost use Rattle.optimizer.specs.OptimizesSets.{OptimizesSets};
 ghost use Rattle.tableau.specs.Judging.{judging};
 ghost use Rattle.tableau.specs.Judges.{Judges};
 ghost use Rattle.live.specs.Calls.{adding, addedList, removing, removedList, leading};
-ghost use Rattle.engine.specs.Results.{evaluationNumbers, placeNumbers, orderNumber, decidingMachine, orderNumbers, conditionNumbers, judgedNumbers, asProfile, asRow, flagNumber, leadNumbers};
+ghost use Rattle.weights.specs.Searching;
+ghost use Rattle.weights.specs.Weighing.{weighed};
+ghost use Rattle.engine.specs.Results.{evaluationNumbers, weighingNumbers, placeNumbers, orderNumber, decidingMachine, orderNumbers, conditionNumbers, judgedNumbers, asProfile, asRow, flagNumber, leadNumbers};
 use candidate::Evaluation;
 use live::Counted;
 use live::Lead;
@@ -25,6 +27,7 @@ use ranking::Condition;
 use ranking::Derived;
 use ranking::Order;
 use ranking::Profile;
+use weights::Weighing;
 
 // Writes the counts, the pair count and the word length of an evaluation, and answers its number.
 fn give_evaluation(evaluation: Evaluation, result: &mut [u16; 8]) -> u32
@@ -99,6 +102,43 @@ pub extern "C" fn pastaspur_optimize_sets(
         optimizer::optimize_sets(card, ranking, sets, work, answer),
         result,
     )
+}
+
+// Writes the counts, the pair count, the word length and the sum of an answer by weights, and answers its number.
+fn give_weighing(weighing: Weighing, result: &mut [u64; 9]) -> u32
+    ensures { λ r. ⌜ (r ≡ weighing .evaluation .number) × (now (result .exit) ≡ weighingNumbers weighing) ⌝ }
+{
+    let evaluation = weighing.evaluation;
+    let profile = evaluation.profile;
+    *result = [
+        profile.count(0) as u64,
+        profile.count(1) as u64,
+        profile.count(2) as u64,
+        profile.count(3) as u64,
+        profile.count(4) as u64,
+        profile.count(5) as u64,
+        evaluation.pairs as u64,
+        evaluation.word_length as u64,
+        weighing.sum,
+    ];
+    evaluation.number as u32
+}
+
+// The best candidate for a word by weights: 1 to 6, 26, 8, 9, 10, 12.
+#[no_mangle]
+pub extern "C" fn pastaspur_optimize_weights(
+    card: &[u8],
+    weights: &[u32],
+    word: &[u8],
+    work: &mut [u64],
+    answer: &mut [u8],
+    result: &mut [u64; 9],
+) -> u32
+    ensures { λ r. ⌜ r ≡ weighed (now (card .entry)) (now (weights .entry)) (now (word .entry)) (length (now (work .entry))) (length (now (answer .entry))) .evaluation .number ⌝ }
+    ensures { λ _. ⌜ now (result .exit) ≡ weighingNumbers (weighed (now (card .entry)) (now (weights .entry)) (now (word .entry)) (length (now (work .entry))) (length (now (answer .entry)))) ⌝ }
+    ensures { λ _. ⌜ Searching.Optimizes (now (card .entry)) (now (weights .entry)) (now (word .entry)) (now (work .entry)) (now (work .exit)) (now (answer .entry)) (now (answer .exit)) (weighed (now (card .entry)) (now (weights .entry)) (now (word .entry)) (length (now (work .entry))) (length (now (answer .entry)))) ⌝ }
+{
+    give_weighing(weights::optimize(card, weights, word, work, answer), result)
 }
 
 // The same by Ellison's cull.

@@ -67,7 +67,7 @@ pub fn joint_states(card: &[u8]) -> usize
 }
 
 // Refusals 1 to 6.
-fn check_card(card: &[u8]) -> Stage
+pub fn check_card(card: &[u8]) -> Stage
     ensures { λ r. ⌜ stageNumber r ≡ cardRefusal (now (card .entry)) ⌝ }
 {
     match card::check(card) {
@@ -89,7 +89,7 @@ fn check_ranking(card: &[u8], ranking: &[u8]) -> Stage
 }
 
 // Refusal 8, for an accepted card.
-fn check_word(card: &[u8], word: &[u8]) -> Stage
+pub fn check_word(card: &[u8], word: &[u8]) -> Stage
     requires { ⌜ cardRefusal (now card) ≡ 0 ⌝ }
     ensures { λ r. ⌜ stageNumber r ≡ refuse 8 (soundWord (symbolCount (now (card .entry))) (now (word .entry))) ⌝ }
 {

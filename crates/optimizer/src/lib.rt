@@ -89,7 +89,7 @@ fn profile_of(label: Label, ranking: &[u8]) -> Profile
 }
 
 // The start node: the first position, every machine of an accepted card in its start state.
-fn start_node(card: &[u8]) -> usize
+pub fn start_node(card: &[u8]) -> usize
     requires { ⌜ cardRefusal (now card) ≡ 0 ⌝ }
     ensures { λ r. ⌜ r ≡ cardStart (now (card .entry)) ⌝ }
 {

@@ -169,7 +169,7 @@ fn try_input(
 }
 
 // The ins of the pairs at a position: the empty symbol, and the symbols of the set there.
-fn inputs_at(sets: &[u64], position: usize) -> u64
+pub fn inputs_at(sets: &[u64], position: usize) -> u64
     ensures { λ r. ⌜ ((x : ℕ) → member r x ≡ (eqb x emptySymbol || member (getD (now (sets .entry)) position 0) x)) ⌝ }
 {
     if position < sets.len() {
@@ -179,7 +179,7 @@ fn inputs_at(sets: &[u64], position: usize) -> u64
 }
 
 // Writes a pair after as many pairs.
-fn write_pair(answer: &mut [u8], pairs: usize, pair: Pair)
+pub fn write_pair(answer: &mut [u8], pairs: usize, pair: Pair)
     requires { ⌜ 2 * pairs + 1 < length (now answer) ⌝ }
     ensures { λ _. ⌜ now (answer .exit) ≡ set (set (now (answer .entry)) (2 * pairs) (pair .input)) (2 * pairs + 1) (pair .output) ⌝ }
 {
@@ -188,7 +188,7 @@ fn write_pair(answer: &mut [u8], pairs: usize, pair: Pair)
 }
 
 // The position after a pair: an insertion stays.
-fn pass(position: usize, pair: Pair) -> usize
+pub fn pass(position: usize, pair: Pair) -> usize
     requires { ⌜ position ≤ 24 ⌝ }
     ensures { λ r. ⌜ r ≡ positionAfter position (pair .input) ⌝ }
 {

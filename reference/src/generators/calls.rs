@@ -11,6 +11,7 @@ use crate::optimizer::{best, Method};
 use crate::random::Random;
 use crate::samples::{self, set, CARD_A};
 use crate::sets::best_of_sets;
+use crate::weights::{best_by_weights, HEAVIEST};
 use crate::Profile;
 
 /// The first length that 16 bits do not hold.
@@ -40,9 +41,10 @@ impl Generator {
     /// A call of any kind.
     pub fn call(&self, random: &mut Random) -> Call {
         match random.below(100) {
-            0..=25 => self.optimize(random),
-            26..=33 => self.optimize_sets(random),
-            34..=45 => self.judge(random),
+            0..=20 => self.optimize(random),
+            21..=28 => self.optimize_sets(random),
+            29..=35 => self.optimize_weights(random),
+            36..=45 => self.judge(random),
             46..=59 => self.evaluate(random),
             60..=66 => self.read_part(random),
             67..=75 => self.pack(random),
@@ -127,6 +129,27 @@ impl Generator {
         let answer = answer_length(random, found.map_or(sets.len(), |candidate| candidate.len()));
         let work = (0..work).map(|_| random.number() as u16).collect();
         Call::OptimizeSets { method: Method::Ranked, card, ranking, sets, work, answer: random.bytes(answer) }
+    }
+
+    fn optimize_weights(&self, random: &mut Random) -> Call {
+        let read = self.card(random);
+        let mut weights = any_weights(random, read.machines.len());
+        let mut word = any_word(random, read.symbols);
+        let found = best_by_weights(&read, &weights, &word);
+        if found.is_none() && random.percent(60) {
+            return self.optimize_weights(random);
+        }
+        let card = perhaps_damaged(random, &read, 30);
+        if random.percent(10) {
+            damage_the_weights(random, &mut weights);
+        }
+        if random.percent(6) {
+            damage_a_word(random, &mut word, read.symbols);
+        }
+        let work = work_length(random, 2 * (word.len() + 1) * read.states());
+        let answer = answer_length(random, found.map_or(word.len(), |candidate| candidate.len()));
+        let work = (0..work).map(|_| random.number()).collect();
+        Call::OptimizeWeights { card, weights, word, work, answer: random.bytes(answer) }
     }
 
     fn judge(&self, random: &mut Random) -> Call {
@@ -217,6 +240,36 @@ impl Generator {
             _ => exact,
         };
         Call::Pack { symbols, lengths, parts, target: random.bytes(target) }
+    }
+}
+
+/// Weights of so many machines: all alike, also none and the heaviest; each far above the next; any; small ones, also 0.
+fn any_weights(random: &mut Random, machines: usize) -> Vec<u32> {
+    let mut weights: Vec<u32> = match random.below(6) {
+        0 => vec![random.one_of(&[0, 1, 1_000, HEAVIEST]); machines],
+        1 | 2 => {
+            let base = random.one_of(&[2u32, 3, 20, 80]);
+            (0..machines as u32).map(|place| base.saturating_pow(place).min(HEAVIEST)).collect()
+        }
+        3 => (0..machines).map(|_| random.between(0, HEAVIEST as usize) as u32).collect(),
+        _ => (0..machines).map(|_| random.between(0, 5) as u32 * 500).collect(),
+    };
+    if random.percent(5) {
+        weights[0] = random.one_of(&[HEAVIEST, HEAVIEST - 1]);
+    }
+    random.shuffle(&mut weights);
+    weights
+}
+
+/// Too few weights, too many, or one that is too heavy.
+fn damage_the_weights(random: &mut Random, weights: &mut Vec<u32>) {
+    let machines = weights.len();
+    match random.below(8) {
+        0 | 1 => weights.truncate(random.one_of(&[0, machines - 1])),
+        2 => weights.push(0),
+        3 => weights.resize(random.one_of(&[7, 256 + machines]), 1),
+        4 if random.percent(5) => weights.resize(TOO_WIDE + machines, 1),
+        _ => weights[random.below(machines)] = random.one_of(&[HEAVIEST + 1, HEAVIEST + 1, u32::MAX]),
     }
 }
 

@@ -1,0 +1,22 @@
+use mathlib.Core.Path.{refl, ap, _∙_}
+use Rattle.weights.specs.declared.Weighing.{Weighing}
+use Rattle.engine.specs.Results.{weighingNumbers}
+use borrow.Author.Needs.{needs}
+use Rattle.engine.proofs.pastaspur_optimize_weights.Statement.{statement}
+use Rattle.engine.proofs.pastaspur_optimize_weights.Tie as tie
+
+returns : tie.Need-returns
+returns c =
+    let o = c .before .before .before .before .before .before .optimize .ensures in
+    let g = c .give-weighing .ensures in (
+      g .0 ∙ ap (λ (r : Weighing). r .evaluation .number) (o .result),
+      (
+        g .1 ∙ ap weighingNumbers (o .result),
+        record { result = refl; answer-slice = o .answer-slice; work-length = o .work-length; work-kept = o .work-kept },
+      ),
+    )
+
+pub pastaspur-optimize-weights-spec : {M : Type 1} → statement M
+pastaspur-optimize-weights-spec =
+    tie.close
+    (tie.spec (λ c κs. search needs) (λ c κs. search needs) (λ c. search needs) (λ c. search needs) returns)

@@ -1,0 +1,6 @@
+pub mod Numbers
+pub mod Weighing
+pub mod Sweeping
+pub mod Listing
+pub mod Ending
+pub mod Labelling

@@ -1,0 +1,54 @@
+-- What the checks find out. Assumes nothing.
+use mathlib.Core.Path.{_≡_, sym, _∙_, ap}
+use mathlib.Core.Logic.{_≢_}
+use mathlib.Core.Bool.{true, false}
+use mathlib.Core.List.{List}
+use Prim.Native.Nat.{ℕ, _+_, _*_, _<_, _≤_}
+use native.Mathlib.Omega.{arith}
+use lib.Dec.{leb, lit<}
+use lib.ListN.{length, getD, drop}
+use borrow.Author.Tests.{eq-eqb, ne-eqb, le-leb, lt-leb}
+use Rattle.basics.specs.Search.{allOf}
+use Rattle.basics.proofs.Search.{left-next, left-none, all-none, all-next, all-fails}
+use Rattle.card.specs.Card.{machinesOf}
+use Rattle.product.specs.Nodes.{product, stateCounts, nodeCount}
+use Rattle.input.proofs.Refusals.{number-positive as input-positive}
+use Rattle.sums.specs.Weights.{soundWeights}
+use Rattle.weights.specs.declared.Refusal.{Refusal}
+use Rattle.weights.specs.declared.Refusal.the-variants.{Input, Weights, Work, NoCandidate, Answer}
+use Rattle.weights.specs.Refusals.{numberOf}
+
+-- no refusal has the number 0
+pub number-positive : (r : Refusal) → 0 < numberOf r
+number-positive (Input r) = input-positive r
+number-positive Weights = lit< tt
+number-positive Work = lit< tt
+number-positive NoCandidate = lit< tt
+number-positive Answer = lit< tt
+
+-- ---- weights
+
+module _ (K : ℕ) (weights : List ℕ) where
+  pub other-count : length weights ≢ K → soundWeights K weights ≡ false
+  unfolding soundWeights
+  other-count n = rw (ne-eqb (length weights) K n)
+
+  module _ (n : length weights ≡ K) where
+    pub by-weights : soundWeights K weights ≡ allOf (λ w. leb w 4000000000) weights
+    unfolding soundWeights
+    by-weights = rw (eq-eqb (length weights) K n)
+
+    pub one-above : (i : ℕ) → i < length weights → 4000000000 < getD weights i 0 → allOf (λ w. leb w 4000000000) (drop i weights) ≡ allOf (λ w. leb w 4000000000) weights → soundWeights K weights ≡ false
+    one-above i h k e = by-weights ∙ sym e ∙ all-fails (λ w. leb w 4000000000) (left-next weights i h) (lt-leb (getD weights i 0) 4000000000 k)
+
+    pub none-above : (i : ℕ) → length weights ≤ i → allOf (λ w. leb w 4000000000) (drop i weights) ≡ allOf (λ w. leb w 4000000000) weights → soundWeights K weights ≡ true
+    none-above i h e = by-weights ∙ sym e ∙ all-none (λ w. leb w 4000000000) (left-none weights i h)
+
+pub one-passes : (weights : List ℕ) (i : ℕ) → i < length weights → getD weights i 0 ≤ 4000000000 → allOf (λ w. leb w 4000000000) (drop i weights) ≡ allOf (λ w. leb w 4000000000) weights
+    → allOf (λ w. leb w 4000000000) (drop (i + 1) weights) ≡ allOf (λ w. leb w 4000000000) weights
+one-passes weights i h k e = all-next (λ w. leb w 4000000000) (left-next weights i h) (le-leb (getD weights i 0) 4000000000 k) ∙ e
+
+-- ---- the room for the nodes
+
+pub node-room : (card word : List ℕ) (P : ℕ) → P ≡ product (stateCounts (machinesOf card)) → (length word + 1) * P * 2 ≡ 2 * nodeCount (machinesOf card) (length word)
+node-room card word P e = let q : (length word + 1) * P ≡ nodeCount (machinesOf card) (length word) = ap (λ (p : ℕ). (length word + 1) * p) e in omega arith

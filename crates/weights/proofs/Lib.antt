@@ -1,0 +1,5 @@
+pub mod Keeping
+pub mod Reading
+pub mod Checking
+pub mod Preparing
+pub mod Answering

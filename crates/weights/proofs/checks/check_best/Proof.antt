@@ -1,0 +1,31 @@
+use mathlib.Core.Path.{sym, ap, _∙_}
+use mathlib.Core.Bool.{Bool}
+use mathlib.Core.List.{[], _∷_}
+use Prim.Native.Nat.{_*_, _%_}
+use native.Mathlib.Omega.{arith}
+use lib.Dec.{leb}
+use borrow.Author.Tests.{lt-ltb, le-ltb, le-leb, lt-leb}
+use Rattle.basics.specs.Refusals.{refuse, firstOf}
+use Rattle.sums.specs.Numbers.{noLabel}
+use Rattle.weights.proofs.checks.check_best.Statement.{statement}
+use Rattle.weights.proofs.checks.check_best.Tie as tie
+
+returns : tie.Need-returns
+returns c =
+    let a = c .before .args in
+    sym (ap (λ (b : Bool). firstOf (refuse 10 b ∷ refuse 12 (leb (2 * (a .number % 4096)) (a .room)) ∷ [])) (le-ltb (a .number) noLabel (c .if1 .taken)))
+
+returns-2 : tie.Need-returns-2
+returns-2 c =
+    let a = c .before .before .args in
+    sym (ap (λ (b : Bool). firstOf (refuse 10 b ∷ refuse 12 (leb (2 * (a .number % 4096)) (a .room)) ∷ [])) (lt-ltb (a .number) noLabel (c .before .if1 .left))
+    ∙ ap (λ (b : Bool). firstOf (refuse 12 b ∷ [])) (lt-leb (2 * (a .number % 4096)) (a .room) (omega (arith, c .if2 .taken))))
+
+returns-3 : tie.Need-returns-3
+returns-3 c =
+    let a = c .before .before .args in
+    sym (ap (λ (b : Bool). firstOf (refuse 10 b ∷ refuse 12 (leb (2 * (a .number % 4096)) (a .room)) ∷ [])) (lt-ltb (a .number) noLabel (c .before .if1 .left))
+    ∙ ap (λ (b : Bool). firstOf (refuse 12 b ∷ [])) (le-leb (2 * (a .number % 4096)) (a .room) (omega (arith, c .if2 .left))))
+
+pub check-best-spec : {M : Type 1} → statement M
+check-best-spec = tie.close (tie.spec returns returns-2 returns-3)

@@ -1,0 +1,36 @@
+use mathlib.Core.Path.{sym, _∙_, ap}
+use native.Mathlib.Omega.{arith}
+use lib.ListN.{length}
+use borrow.Author.Needs.{needs}
+use Rattle.product.specs.Laws.Sets.{as-many}
+use Rattle.weights.proofs.Answering.{word-small, short, sets-pre, word-searched}
+use Rattle.weights.proofs.search.Statement.{statement}
+use Rattle.weights.proofs.search.Tie as tie
+
+fill-sets-requires : tie.Need-fill-sets-requires
+fill-sets-requires c κs = (short (c .before .before .before .before .before .before .pre), word-small (c .before .before .before .before .before .before .pre))
+
+array-share-prefix-sets : tie.Need-array-share-prefix-sets
+array-share-prefix-sets c = omega (arith, short (c .before .before .before .before .before .before .before .before .pre), c .before .fill-sets .kept .1 .0)
+
+slice-aggregate-search-sets : tie.Need-slice-aggregate-search-sets
+slice-aggregate-search-sets c = sym (ap length (c .before .before .fill-sets .ensures) ∙ as-many (c .before .before .before .before .before .before .before .before .before .args .word .now))
+
+search-sets-requires : tie.Need-search-sets-requires
+search-sets-requires c κs = sets-pre (c .before .before .before .before .before .before .before .before .before .before .before .pre) _ (c .before .before .before .before .fill-sets .ensures)
+
+returns : tie.Need-returns
+returns c = word-searched (c .before .before .before .before .before .before .before .before .before .before .before .before .before .before .before .before .pre) _ (c .before .before .before .before .before .before .before .before .before .fill-sets .ensures) (c .before .before .before .before .search-sets .ensures)
+
+pub search-spec : {M : Type 1} → statement M
+search-spec =
+    tie.close
+    (tie.spec
+    (λ c. search needs)
+    fill-sets-requires
+    array-share-prefix-sets
+    slice-aggregate-search-sets
+    search-sets-requires
+    (λ c. search needs)
+    (λ c. search needs)
+    returns)

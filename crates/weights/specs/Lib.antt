@@ -1,0 +1,15 @@
+-- definitions: the call's answer and its refusals
+pub mod Refusals
+pub mod Weighing
+pub mod Accepting
+-- theorems on the best by weights
+pub mod WeightedBest
+pub mod Agreement
+-- a word that shows what rankings cannot give
+pub mod GangingUp
+-- the walk and the search
+pub mod Walking
+pub mod Searching
+-- theorems of what the call answers: demand 3, and that the two engines agree
+pub mod Demand3
+pub mod TwoEngines

@@ -1,0 +1,123 @@
+-- The theorem on the best candidate, for weights: what the definition finds among the lists of fewer pairs than there are nodes is the best of the
+-- lists of any length. It holds for every accepted card, all weights, zero too, and every word.
+use mathlib.Core.Path.{_≡_}
+use mathlib.Core.Logic.{_≢_}
+use mathlib.Core.Bool.{true}
+use mathlib.Core.List.{List}
+use mathlib.Core.Option.{some}
+use Prim.Native.Nat.{ℕ, _<_, _≤_}
+use native.Mathlib.Omega.{arith}
+use lib.ListN.{length}
+use lib.Dec.{eqb, leb}
+use borrow.Author.Tests.{eqb-true, ltb-true, ltb-false, lt-ltb, le-ltb}
+use Rattle.basics.specs.Search.{allOf}
+use Rattle.basics.proofs.Bools.{left, right}
+use Rattle.machine.specs.declared.Pair.{Pair}
+use Rattle.machine.specs.Machine.{Machine}
+use Rattle.ranking.specs.ByteStrings.{smaller}
+use Rattle.card.specs.Layout.{machineCount}
+use Rattle.card.specs.Card.{machinesOf, cardRefusal}
+use Rattle.card.specs.Accepted.{accepted}
+use Rattle.candidate.specs.Candidates.{bytesOf, profileOf, IsCandidate}
+use Rattle.product.specs.Best.{Contender, contenderOf}
+use Rattle.paths.specs.Total.{lex-total, same?}
+use Rattle.product.specs.ProductGraph.{pairs}
+use Rattle.product.specs.Prices.{Alike}
+use Rattle.product.specs.BestCandidate.{BeatsIn, by-profile, by-pairs, by-bytes, BestOf}
+use Rattle.product.specs.BestTheorem.{best-in-is-best-of-all, ShortAt, best-in-is-short, SmallBest, best-in-is-small}
+use Rattle.sums.specs.Weights.{soundWeights, weightedSum, bySum, bestByWeights}
+use Rattle.sums.specs.Laws.Sums.{sum-bound}
+use Rattle.sums.specs.WeightedPaths.{byWeights, weights-agree}
+
+-- c beats d: it has the smaller sum; or an equal sum and fewer pairs; or an equal sum, as many pairs and the smaller byte string
+pub data BeatsBySum (weights : List ℕ) (ms : List Machine) (c d : List Pair) : Type 0 where
+  smaller-sum : weightedSum weights (profileOf ms c) < weightedSum weights (profileOf ms d) → BeatsBySum weights ms c d
+  fewer-pairs : weightedSum weights (profileOf ms c) ≡ weightedSum weights (profileOf ms d) → length c < length d → BeatsBySum weights ms c d
+  smaller-bytes : weightedSum weights (profileOf ms c) ≡ weightedSum weights (profileOf ms d) → length c ≡ length d → smaller (bytesOf c) (bytesOf d) ≡ true → BeatsBySum weights ms c d
+
+-- c is a candidate for the word, and beats every other one, however long
+pub record IsBestByWeights (weights : List ℕ) (ms : List Machine) (word : List ℕ) (c : List Pair) : Type 0 where
+  pub candidate : IsCandidate ms word c
+  pub rivals : (d : List Pair) → IsCandidate ms word d → d ≢ c → BeatsBySum weights ms c d
+
+module _ (weights : List ℕ) (ms : List Machine) where
+  same-sums : (c d : List Pair) → Alike (bySum weights) (profileOf ms c) (profileOf ms d) → weightedSum weights (profileOf ms c) ≡ weightedSum weights (profileOf ms d)
+  same-sums c d k = omega (arith, ltb-false (weightedSum weights (profileOf ms c)) (weightedSum weights (profileOf ms d)) (k .0), ltb-false (weightedSum weights (profileOf ms d)) (weightedSum weights (profileOf ms c)) (k .1))
+
+  beats-by-sum : (c d : List Pair) → BeatsIn (bySum weights) (contenderOf ms c) (contenderOf ms d) → BeatsBySum weights ms c d
+  beats-by-sum c d (by-profile k) = smaller-sum (ltb-true (weightedSum weights (profileOf ms c)) (weightedSum weights (profileOf ms d)) k)
+  beats-by-sum c d (by-pairs k l) = fewer-pairs (same-sums c d k) l
+  beats-by-sum c d (by-bytes k l m) = smaller-bytes (same-sums c d k) l m
+
+  alike-sums : (c d : List Pair) → weightedSum weights (profileOf ms c) ≡ weightedSum weights (profileOf ms d) → Alike (bySum weights) (profileOf ms c) (profileOf ms d)
+  alike-sums c d e = (le-ltb (weightedSum weights (profileOf ms c)) (weightedSum weights (profileOf ms d)) (omega arith), le-ltb (weightedSum weights (profileOf ms d)) (weightedSum weights (profileOf ms c)) (omega arith))
+
+  sum-beats : (c d : List Pair) → BeatsBySum weights ms c d → BeatsIn (bySum weights) (contenderOf ms c) (contenderOf ms d)
+  sum-beats c d (smaller-sum h) = by-profile (lt-ltb (weightedSum weights (profileOf ms c)) (weightedSum weights (profileOf ms d)) h)
+  sum-beats c d (fewer-pairs e h) = by-pairs (alike-sums c d e) h
+  sum-beats c d (smaller-bytes e h m) = by-bytes (alike-sums c d e) h m
+
+-- the best of the definition is the best of the lists of pairs of any length
+abbrev pub BestOfAllByWeights : (card weights word : List ℕ) → Type 0
+BestOfAllByWeights card weights word = BestOf (machinesOf card) (IsCandidate (machinesOf card) word) (IsBestByWeights weights (machinesOf card) word) (bestByWeights card weights word)
+
+pub weighted-best-is-best-of-all : (card weights word : List ℕ) → cardRefusal card ≡ 0 → BestOfAllByWeights card weights word
+unfolding bestByWeights
+weighted-best-is-best-of-all card weights word ok =
+    let all = best-in-is-best-of-all (weights-agree weights) card word ok in
+    record {
+      none-exactly = all .none-exactly;
+      is-best = λ b e. let k = all .is-best b e in record { candidate = k .candidate; rivals = λ d h n. beats-by-sum weights (machinesOf card) (b .candidate) d (k .rivals d h n) };
+      its-profile = all .its-profile;
+      only-it = λ c k. all .only-it c (record { candidate = k .candidate; rivals = λ d h n. sum-beats weights (machinesOf card) c d (k .rivals d h n) });
+    }
+
+-- no candidate, however long, has a smaller sum
+pub smallest-sum : (card weights word : List ℕ) → cardRefusal card ≡ 0 → (b : Contender) → bestByWeights card weights word ≡ some b → (d : List Pair) → IsCandidate (machinesOf card) word d
+    → weightedSum weights (b .profile) ≤ weightedSum weights (profileOf (machinesOf card) d)
+smallest-sum card weights word ok b e d h = rw (all .its-profile b e) (go (same? (lex-total (pairs ._◃_) (pairs .total)) d (b .candidate)))
+  where
+    all : BestOfAllByWeights card weights word
+    all = weighted-best-is-best-of-all card weights word ok
+
+    sum-at : List Pair → ℕ
+    sum-at c = weightedSum weights (profileOf (machinesOf card) c)
+
+    by : BeatsBySum weights (machinesOf card) (b .candidate) d → sum-at (b .candidate) ≤ sum-at d
+    by (smaller-sum k) = omega arith
+    by (fewer-pairs k l) = omega arith
+    by (smaller-bytes k l m) = omega arith
+
+    go : Dec (d ≡ b .candidate) → sum-at (b .candidate) ≤ sum-at d
+    go (yes q) = rw q (omega arith)
+    go (no n) = by (all .is-best b e .rivals d h n)
+
+-- it passes no node twice, so it has fewer pairs than there are nodes
+pub weighted-best-is-short : (card weights word : List ℕ) → cardRefusal card ≡ 0 → (b : Contender) → bestByWeights card weights word ≡ some b → ShortAt (byWeights weights) card word b
+unfolding bestByWeights
+weighted-best-is-short card weights word ok b e = best-in-is-short (weights-agree weights) card word ok b e
+
+-- of a word of at most 24 symbols it has at most 3,199 pairs and no count above 48,000
+pub weighted-best-is-small : (card weights word : List ℕ) → cardRefusal card ≡ 0 → length word ≤ 24 → (b : Contender) → bestByWeights card weights word ≡ some b → SmallBest b
+unfolding bestByWeights
+weighted-best-is-small card weights word ok h b e = best-in-is-small (weights-agree weights) card word ok h b e
+
+-- what sound weights are
+pub record Weighs (K : ℕ) (weights : List ℕ) : Type 0 where
+  pub count : length weights ≡ K
+  pub most : allOf (λ w. leb w 4000000000) weights ≡ true
+
+pub weighs : (K : ℕ) (weights : List ℕ) → soundWeights K weights ≡ true → Weighs K weights
+unfolding soundWeights
+weighs K weights sound = record {
+  count = eqb-true (length weights) K (left (eqb (length weights) K) (allOf (λ w. leb w 4000000000) weights) sound);
+  most = right (eqb (length weights) K) (allOf (λ w. leb w 4000000000) weights) sound;
+}
+
+-- so with sound weights its sum is at most six times 48,000 times 4,000,000,000, far below 2^64
+pub sum-fits : (card weights word : List ℕ) → cardRefusal card ≡ 0 → soundWeights (machineCount card) weights ≡ true → length word ≤ 24
+    → (b : Contender) → bestByWeights card weights word ≡ some b → weightedSum weights (b .profile) ≤ 1152000000000000
+sum-fits card weights word ok sound h b e =
+    let w = weighs (machineCount card) weights sound in
+    let a = accepted card ok in
+    omega (arith, w .count, a .head, sum-bound 4000000000 48000 weights (b .profile) (w .most) (weighted-best-is-small card weights word ok h b e .counts))
