@@ -15,6 +15,7 @@ What card.txt may say, one thing to a line (# starts a comment):
       final NAME ..                    the states that a candidate may end in; NAME=MARKS for one with ending marks
       arc FROM -> TO  IN : OUT  MARKS  IN and OUT are sets, names with commas; no MARKS are 0; after them 'same' for an arc
                                        that takes only pairs with in equal to out, 'different' for one that takes the others
+    join NAME = MACHINE MACHINE        the two as one machine, in the place of the first that stands in the card
     line MACHINE .. / SYMBOL ..        a ranking and a word: a line of stdin
     tableau MACHINE .. / SYMBOL ..     a line of stdin, and candidates for it, the best one marked with >:
     > IN:OUT .. = COUNT ..  FORM       with its counts in card order, and its form as the paper has it
@@ -73,6 +74,8 @@ class Card:
             kind = KINDS.index(more.pop()) if more[-1:] and more[-1] in KINDS else 0
             marks = int(more[0]) if more else 0
             self.machine["arcs"].append((start, end, self.set_of(inputs), self.set_of(outputs), marks, kind))
+        elif key == "join":
+            self.join(rest[0], rest[2], rest[3])
         elif key in ("line", "tableau", "claim"):
             at = rest.index("/")
             line, self.rows = (rest[:at], rest[at + 1:]), []
@@ -96,6 +99,27 @@ class Card:
         else:
             counts = dict(zip(rest[::2], map(int, rest[1::2])))
             self.rows.append(("" if key == "-" else key, [counts.get(name, 0) for name in self.machines]))
+
+    def join(self, name, first, second):
+        """The product of two machines, as the engine's call gives it: by the first in the card, then the other."""
+        names = list(self.machines)
+        a, b = sorted((first, second), key=names.index)
+        one, two = self.machines[a], self.machines[b]
+        pair = lambda s, t: s + "+" + t
+        arcs = []
+        for s1, e1, i1, o1, m1, k1 in one["arcs"]:
+            for s2, e2, i2, o2, m2, k2 in two["arcs"]:
+                arc = (pair(s1, s2), pair(e1, e2), [x for x in i1 if x in i2], [x for x in o1 if x in o2], m1 + m2, k1 or k2)
+                if k1 and k2 and k1 != k2:
+                    continue
+                if any(takes(arc, i, o) for i in arc[2] for o in arc[3] if (i, o) != ("0", "0")):
+                    arcs.append(arc)
+        joined = {
+            "states": [pair(s, t) for s in one["states"] for t in two["states"]],
+            "final": {pair(s, t): m + n for s, m in one["final"].items() for t, n in two["final"].items()},
+            "arcs": arcs,
+        }
+        self.machines = {(name if n == a else n): (joined if n == a else m) for n, m in self.machines.items() if n != b}
 
     def set_of(self, names):
         return [symbol for name in names.split(",") for symbol in self.sets.get(name, [name])]

@@ -43,6 +43,8 @@
  *   24  an added id that is present, or a removed one that is not
  *   25  a set is empty, holds the empty symbol (bit 0), or has a bit over S
  *   26  not K weights, or one above 4,000,000,000
+ *   27  not two different machines of the card, or both have marks
+ *   28  the joined machine has more than 32 states or 255 arcs
  */
 #ifndef PASTASPUR_H
 #define PASTASPUR_H
@@ -129,6 +131,15 @@ uint32_t pastaspur_read_part(const uint8_t *card, size_t card_len, uint8_t machi
  * target: the card fills the front; the other bytes, and on a refusal all of them, keep their values. */
 uint32_t pastaspur_pack(uint8_t symbols, const uint16_t *lengths, size_t lengths_len, const uint8_t *parts, size_t parts_len,
                         uint8_t *target, size_t target_len, size_t result[1]);
+
+/* Joins two machines of a card, in either order, by Ellison's product: refusals 1 to 6, 27, 28, 18. State a * Qb + b stands for a of the
+ * lower numbered and b of the other, which has Qb states; an arc for each two that take a common pair, by the first, then the second.
+ * The joined machine stands in the lower place, and those after the other one move down one number. A candidate is complete on the new
+ * card exactly when it is on the old, and its counts there are the old ones with the two added.
+ * result: the new card's length.
+ * target: the new card fills the front; the other bytes, and on a refusal all of them, keep their values. */
+uint32_t pastaspur_join(const uint8_t *card, size_t card_len, uint8_t first, uint8_t second, uint8_t *target, size_t target_len,
+                        size_t result[1]);
 
 /* How the first profile stands to the second, as pastaspur_compare answers it; 0 on a refusal. */
 #define PASTASPUR_BETTER 1

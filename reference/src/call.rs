@@ -2,6 +2,7 @@
 
 use crate::candidate::{evaluate, Evaluation};
 use crate::card::{pack, read_part};
+use crate::join::join;
 use crate::live::{self, Row, Step, Table};
 use crate::optimizer::{optimize_by, Method};
 use crate::ranking::{compare, condition, find_ranking};
@@ -26,11 +27,12 @@ pub enum Call {
     Rows { machines: u8, ranking: Vec<u8>, used: usize, rows: Vec<Row>, step: Step },
     OptimizeSets { method: Method, card: Vec<u8>, ranking: Vec<u8>, sets: Vec<u64>, work: Vec<u16>, answer: Vec<u8> },
     OptimizeWeights { card: Vec<u8>, weights: Vec<u32>, word: Vec<u8>, work: Vec<u64>, answer: Vec<u8> },
+    Join { card: Vec<u8>, first: u8, second: u8, target: Vec<u8> },
     Live { machines: u8, ranking: Vec<u8>, rows: Vec<Row>, steps: Vec<Step> },
 }
 
 /// A call's kind, its name, and the refusals that it can answer. The number 11 is not used.
-pub const KINDS: [(&str, &[u32]); 16] = [
+pub const KINDS: [(&str, &[u32]); 17] = [
     ("optimize", &[1, 2, 3, 4, 5, 6, 7, 8, 9, 10, 12]),
     ("evaluate", &[1, 2, 3, 4, 5, 6, 13, 14]),
     ("read part", &[1, 2, 3, 4, 5, 6, 17]),
@@ -46,6 +48,7 @@ pub const KINDS: [(&str, &[u32]); 16] = [
     ("optimize sets", &[1, 2, 3, 4, 5, 6, 7, 8, 9, 10, 12, 25]),
     ("cull sets", &[1, 2, 3, 4, 5, 6, 7, 8, 9, 10, 12, 25]),
     ("optimize weights", &[1, 2, 3, 4, 5, 6, 8, 9, 10, 12, 26]),
+    ("join", &[1, 2, 3, 4, 5, 6, 18, 27, 28]),
     ("live tableau", &[]),
 ];
 
@@ -68,7 +71,8 @@ impl Call {
             Call::OptimizeSets { method: Method::Ranked, .. } => 12,
             Call::OptimizeSets { method: Method::Cull, .. } => 13,
             Call::OptimizeWeights { .. } => 14,
-            Call::Live { .. } => 15,
+            Call::Join { .. } => 15,
+            Call::Live { .. } => 16,
         }
     }
 
@@ -89,6 +93,7 @@ impl Call {
             Call::Optimize { card, .. }
             | Call::OptimizeSets { card, .. }
             | Call::OptimizeWeights { card, .. }
+            | Call::Join { card, .. }
             | Call::Evaluate { card, .. }
             | Call::ReadPart { card, .. }
             | Call::Judge { card, .. } => Some(card),
@@ -195,6 +200,11 @@ pub fn reference(call: &Call) -> Outcome {
             let found = optimize_weights(card, weights, word, work.len(), &mut slice);
             let numbers = |(found, sum)| [evaluation(found), vec![sum as usize]].concat();
             outcome(found.map(numbers), 9, slice)
+        }
+        Call::Join { card, first, second, target } => {
+            let mut slice = target.clone();
+            let found = join(card, *first, *second, &mut slice);
+            outcome(found.map(|length| vec![length]), 1, slice)
         }
         Call::Evaluate { card, candidate } => outcome(evaluate(card, candidate).map(evaluation), 8, vec![]),
         Call::ReadPart { card, machine } => {

@@ -3,13 +3,15 @@
 use crate::call::{reference, Call, Engine, Outcome};
 use crate::card::read_card;
 use crate::coverage::Coverage;
-use crate::generators::Generator;
+use crate::generators::{walk, Generator};
+use crate::join::moved;
 use crate::live::{Row, Step};
 use crate::optimizer::Method;
 use crate::random::Random;
 use crate::shrinking::smallest;
 use crate::tableau::read_tableau;
 use crate::weights::dominates;
+use crate::Profile;
 use std::fmt::Write;
 
 /// What of an engine's outcome is not as it should be. The work slice is kept by refusals 1 to 9, 25 and 26; afterwards its
@@ -51,7 +53,8 @@ pub fn compare(engine: &dyn Engine, seed: u64, count: usize) -> Result<Coverage,
     let mut coverage = Coverage::default();
     for case in 1..=count {
         // a case depends on the seed and its number alone
-        let call = generator.call(&mut Random::new(seeds.number()));
+        let mut random = Random::new(seeds.number());
+        let call = generator.call(&mut random);
         let twin = call.twin();
         let mut outcome = None;
         for call in [call].into_iter().chain(twin) {
@@ -63,19 +66,57 @@ pub fn compare(engine: &dyn Engine, seed: u64, count: usize) -> Result<Coverage,
                 return Err(Box::new(Failure { case, call }));
             }
             coverage.take(&call, &expected);
-            // where the weights are far enough apart, the ranked engine gives the same candidate and profile
-            let Some(ranked) = ranked_alike(&call, &expected) else { continue };
-            let found = reference(&ranked);
-            let bytes = 2 * found.result[6];
-            let alike = (&found.result[..], &found.slice[..bytes]) == (&expected.result[..8], &expected.slice[..bytes]);
-            assert!(alike, "weights and ranking do not agree on {}", describe(&call));
-            if !differences(&found, &engine.answer(&ranked)).is_empty() {
-                return Err(Box::new(Failure { case, call: ranked }));
+            let also = [
+                ranked_calls(&call, &expected, &mut coverage),
+                evaluations(&call, &expected, &mut random, &mut coverage),
+            ];
+            for call in also.into_iter().flatten() {
+                if differs(engine, &call) {
+                    return Err(Box::new(Failure { case, call }));
+                }
             }
-            coverage.take_agreement();
         }
     }
     Ok(coverage)
+}
+
+/// The ranked call that a call with weights has to agree with, if there is one: its candidate and profile are the same.
+fn ranked_calls(call: &Call, outcome: &Outcome, coverage: &mut Coverage) -> Vec<Call> {
+    let Some(ranked) = ranked_alike(call, outcome) else { return vec![] };
+    let found = reference(&ranked);
+    let bytes = 2 * found.result[6];
+    let alike = (&found.result[..], &found.slice[..bytes]) == (&outcome.result[..8], &outcome.slice[..bytes]);
+    assert!(alike, "weights and ranking do not agree on {}", describe(call));
+    coverage.take_agreement();
+    vec![ranked]
+}
+
+/// Evaluations of candidates on a card and on the card with two machines joined: each is complete on both or on neither, and its
+/// profile on the new card is the old one with the two counts added.
+fn evaluations(call: &Call, outcome: &Outcome, random: &mut Random, coverage: &mut Coverage) -> Vec<Call> {
+    let Call::Join { card: old, first, second, .. } = call else { return vec![] };
+    if outcome.number != 0 {
+        return vec![];
+    }
+    let new = &outcome.slice[..outcome.result[0]];
+    let cards = [old, new].map(|card| read_card(card).expect("an accepted card"));
+    let mut calls = Vec::new();
+    for card in &cards {
+        let pairs = random.below(12);
+        let candidate = walk(random, card, pairs);
+        let both = [old, new].map(|card| Call::Evaluate { card: card.to_vec(), candidate: candidate.clone() });
+        let [before, after] = both.each_ref().map(reference);
+        let mut right = before.clone();
+        if before.number == 0 {
+            let counts: Profile = std::array::from_fn(|place| before.result[place] as u16);
+            let counts = moved(&counts, *first.min(second) as usize, *first.max(second) as usize);
+            right.result[..6].copy_from_slice(&counts.map(usize::from));
+        }
+        assert_eq!(after, right, "a candidate has another profile on the joined card of {}", describe(call));
+        coverage.take_candidate(before.number == 0);
+        calls.extend(both);
+    }
+    calls
 }
 
 /// The ranked call that a call with weights has to agree with: both answer, all weights are above zero, and each is more than
@@ -203,6 +244,11 @@ pub fn describe(call: &Call) -> String {
             field("word", hexadecimal(word));
             field("work", format!("{} numbers", work.len()));
             field("answer", hexadecimal(answer));
+        }
+        Call::Join { card, first, second, target } => {
+            field("card", hexadecimal(card));
+            field("machines", format!("{first} and {second}"));
+            field("target", hexadecimal(target));
         }
         Call::Evaluate { card, candidate } => {
             field("card", hexadecimal(card));

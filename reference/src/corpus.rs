@@ -8,7 +8,8 @@
 //! by hand. The test program `live_test` makes them, and so does the comparison.
 
 use crate::call::{reference, Call, Outcome, KINDS};
-use crate::generators::Generator;
+use crate::card::{read_card, Card};
+use crate::generators::{two_machines, Generator};
 use crate::optimizer::Method;
 use crate::random::Random;
 use crate::samples::{self, arc, machine, set};
@@ -26,7 +27,7 @@ const SEED: u64 = 1998;
 /// The most bytes of a file, and of the calls in it that take more than `LARGE`.
 const MOST: usize = 400_000;
 const MOST_OF_LARGE: usize = 40_000;
-const LARGE: usize = 900;
+const LARGE: usize = 700;
 
 /// The kinds that are not in it.
 const LEFT_OUT: [&str; 4] = ["add row", "remove row", "leader", "live tableau"];
@@ -40,10 +41,11 @@ fn wanted(kind: usize, number: u32) -> usize {
         ("judge", 0) => 40,
         ("judge", 19..=21) => 12,
         ("judge", _) => 3,
-        ("cull" | "optimize sets" | "cull sets" | "optimize weights", 0) => 30,
+        ("cull" | "optimize sets" | "cull sets" | "optimize weights" | "join", 0) => 30,
         ("optimize sets" | "cull sets", 25) => 12,
         ("optimize weights", 26) => 12,
-        ("cull" | "optimize sets" | "cull sets" | "optimize weights", _) => 3,
+        ("join", 18 | 27 | 28) => 10,
+        ("cull" | "optimize sets" | "cull sets" | "optimize weights" | "join", _) => 3,
         ("optimize", 12) => 20,
         (_, 0 | 13..=16) => 14,
         ("optimize", _) => 8,
@@ -90,6 +92,7 @@ fn fits(call: &Call) -> bool {
                 && work.len() <= 6_401
                 && answer.len() <= 6_398
         }
+        Call::Join { card, target, .. } => card.len() <= 32_000 && target.len() <= 32_000,
         Call::Rows { .. } | Call::Live { .. } => false,
     }
 }
@@ -99,6 +102,7 @@ fn filled(mut call: Call) -> Call {
     if let Call::Optimize { answer: slice, .. }
     | Call::OptimizeSets { answer: slice, .. }
     | Call::OptimizeWeights { answer: slice, .. }
+    | Call::Join { target: slice, .. }
     | Call::Pack { target: slice, .. } = &mut call
     {
         let byte = slice.first().copied().unwrap_or(0);
@@ -166,6 +170,12 @@ fn fields(call: &Call) -> Vec<u8> {
             fields.number(work.len());
             fields.slice(answer);
         }
+        Call::Join { card, first, second, target } => {
+            fields.bytes(card);
+            fields.byte(*first);
+            fields.byte(*second);
+            fields.slice(target);
+        }
         Call::Evaluate { card, candidate } => {
             fields.bytes(card);
             fields.bytes(candidate);
@@ -229,7 +239,9 @@ fn line(call: &Call, outcome: &Outcome) -> String {
             format!("evaluate {number} {} {}", joined(&result[..6], ","), joined(&result[6..], " "))
         }
         Call::ReadPart { .. } => format!("part {number} {}", joined(result, " ")),
-        Call::Pack { .. } => format!("pack {number} {} {}", joined(result, " "), sum(slice)),
+        Call::Pack { .. } | Call::Join { .. } => {
+            format!("{} {number} {} {}", call.name(), joined(result, " "), sum(slice))
+        }
         Call::Compare { .. } => format!("compare {number} {}", joined(result, " ")),
         Call::Condition { .. } => format!("condition {number} {}", joined(result, " ")),
         Call::FindRanking { .. } => format!("ranking {number} {}", joined(result, ",")),
@@ -303,6 +315,27 @@ fn weighings() -> Vec<Call> {
     of_b.chain([call(samples::chain_ending(), &[HEAVIEST; 2], &[1; 24], 6_400, 6_398)]).collect()
 }
 
+/// Machines joined: card B with its deletion machine without marks, in either order, into targets that just do and do not hold,
+/// and what 27 refuses; and joined machines of 32 states and 33, of 255 arcs and 256.
+fn joins() -> Vec<Call> {
+    let call = |card: &[u8], first: u8, second: u8, target: usize| {
+        let (card, target) = (card.to_vec(), vec![170; target]);
+        Call::Join { card, first, second, target }
+    };
+    let mut machines = read_card(&samples::card_b()).expect("card B").machines;
+    machines[2].arcs.iter_mut().for_each(|arc| arc.marks = 0);
+    let plain = samples::card(2, &machines);
+    let length = reference(&call(&plain, 0, 2, 1_000)).result[0];
+    let of_b = [(0, 2, 0), (2, 0, 3), (0, 2, -1), (2, 2, 0), (0, 3, 0), (255, 1, 0), (0, 1, 0)];
+    let of_b = of_b.map(|(first, second, more)| call(&plain, first, second, length.wrapping_add_signed(more)));
+    let mut random = Random::new(SEED);
+    let at_the_limits = [(4, 9, 8), (3, 7, 11), (1, 51, 5), (1, 64, 4)].map(|(states, arcs, others)| {
+        let Card { symbols, machines, .. } = two_machines(&mut random, 16, states, arcs, others);
+        call(&samples::card(symbols, &machines), 1, 0, 6_000)
+    });
+    of_b.into_iter().chain(at_the_limits).collect()
+}
+
 /// Calls by chance until there are as many of each kind and number as wanted.
 pub fn corpus() -> Corpus {
     let generator = Generator::default();
@@ -314,7 +347,7 @@ pub fn corpus() -> Corpus {
         corpus.lines.push('\n');
         corpus.count += 1;
     };
-    for call in longest().into_iter().chain(empty_words()).chain(weighings()) {
+    for call in longest().into_iter().chain(empty_words()).chain(weighings()).chain(joins()) {
         add(&call, &reference(&call));
     }
     let numbers = |kind: usize| [0].into_iter().chain(KINDS[kind].1.iter().copied());

@@ -1,7 +1,8 @@
 //! What a comparison met: how often each call answered each number, and the sizes of what it was lent.
 
 use crate::call::{reference, Call, Outcome, KINDS};
-use crate::card::{read_card, Card, Machine};
+use crate::card::{read_card, share_a_pair, Arc, Card, Machine};
+use crate::join::{join, joined};
 use crate::live::Step;
 use crate::weights::{ties, HEAVIEST};
 use std::collections::BTreeMap;
@@ -48,6 +49,47 @@ fn weighings(card: &Card, weights: &[u32], word: &[u8]) -> [bool; 5] {
     let (longer, as_long) = ties(card, weights, word);
     let alike = weights.len() > 1 && weights.iter().all(|&weight| weight == weights[0]);
     [weights.iter().all(|&weight| weight == 0), alike && weights[0] > 0, weights.contains(&HEAVIEST), longer, as_long]
+}
+
+/// What is met of machines to join: of new cards; of refusals by 27 and 28; of candidates on the two cards.
+const JOININGS: [&str; 12] = [
+    "answered, 32 states",
+    "answered, 255 arcs",
+    "answered, arcs of kind 1 or 2",
+    "answered, ending marks",
+    "answered, arcs that share only 0:0",
+    "refused, one machine twice",
+    "refused, no machine of the card",
+    "refused, marks of both",
+    "refused, states alone",
+    "refused, 256 arcs",
+    "candidates complete on both cards",
+    "candidates complete on neither",
+];
+
+/// Which of the first ten of `JOININGS` a call on an accepted card has.
+fn joinings(card: &Card, first: u8, second: u8, number: u32) -> [bool; 10] {
+    let (low, high) = (first.min(second) as usize, first.max(second) as usize);
+    let mut met = [false; 10];
+    if high >= card.machines.len() || low == high {
+        met[if high >= card.machines.len() { 6 } else { 5 }] = true;
+        return met;
+    }
+    let (lower, other) = (&card.machines[low], &card.machines[high]);
+    let made = joined(lower, other);
+    let (states, arcs) = (made.endings.len(), made.arcs.len());
+    let share_only_0_0 = |a: &Arc, b: &Arc| a.inputs & b.inputs & a.outputs & b.outputs & 1 == 1 && !share_a_pair(a, b);
+    if number == 0 {
+        met[0] = states == 32;
+        met[1] = arcs == 255;
+        met[2] = made.arcs.iter().any(|arc| arc.kind > 0);
+        met[3] = made.endings.iter().flatten().any(|&marks| marks > 0);
+        met[4] = lower.arcs.iter().any(|a| other.arcs.iter().any(|b| share_only_0_0(a, b)));
+    }
+    met[7] = number == 27;
+    met[8] = number == 28 && arcs <= 255;
+    met[9] = number == 28 && states <= 32 && arcs == 256;
+    met
 }
 
 /// The marks of a machine at the end of a complete candidate.
@@ -111,6 +153,10 @@ pub struct Coverage {
     wide_work: Counts,
     /// How often the calls with weights had each of `WEIGHINGS`.
     weighings: [u64; 9],
+    /// Lengths of targets of joined cards, less what is needed.
+    joined: Counts,
+    /// How often the calls that join had each of `JOININGS`.
+    joinings: [u64; 12],
 }
 
 fn count(counts: &mut Counts, value: usize) {
@@ -196,6 +242,16 @@ impl Coverage {
             Call::Evaluate { candidate, .. } if !(1..=6).contains(&outcome.number) => {
                 count_around(&mut self.candidates, candidate.len() / 2, 3_199);
             }
+            Call::Join { card, first, second, target } if matches!(outcome.number, 0 | 18 | 27 | 28) => {
+                let read = read_card(card).expect("an accepted card");
+                let met = joinings(&read, *first, *second, outcome.number);
+                for (times, met) in self.joinings.iter_mut().zip(met) {
+                    *times += met as u64;
+                }
+                if let Ok(length) = join(card, *first, *second, &mut vec![0; 32_000]) {
+                    count_around(&mut self.joined, target.len(), length);
+                }
+            }
             Call::Pack { lengths, parts, target, .. } if matches!(outcome.number, 0 | 18) => {
                 count_around(&mut self.target, target.len(), 2 + 4 * lengths.len() + parts.len());
             }
@@ -223,6 +279,11 @@ impl Coverage {
     /// Takes in that a call with weights was answered as the ranked engine has to.
     pub fn take_agreement(&mut self) {
         self.weighings[5] += 1;
+    }
+
+    /// Takes in that a candidate, complete or not, has on a joined card what it has on the old one.
+    pub fn take_candidate(&mut self, complete: bool) {
+        self.joinings[if complete { 10 } else { 11 }] += 1;
     }
 
     /// What was not met as often as a whole run has to.
@@ -259,6 +320,9 @@ impl Coverage {
         for (name, &times) in WEIGHINGS.iter().zip(&self.weighings) {
             ask(format!("weights {name}"), &Counts::from([(0, times)]), 0, OFTEN);
         }
+        for (name, &times) in JOININGS.iter().zip(&self.joinings) {
+            ask(format!("joining {name}"), &Counts::from([(0, times)]), 0, OFTEN);
+        }
         for number in [0, 9, 10, 12] {
             ask(format!("the empty word answered {number}"), &self.empty_words, number, OFTEN / 2);
         }
@@ -277,6 +341,7 @@ impl Coverage {
             ("work slice with weights", &self.wide_work, -1..=1),
             ("answer slice", &self.answer, -2..=2),
             ("target slice", &self.target, -2..=1),
+            ("target slice of a joined card", &self.joined, -1..=1),
             ("candidate", &self.candidates, -1..=1),
             ("list of conditions", &self.conditions, -1..=1),
             ("row count", &self.used, -1..=1),
@@ -327,6 +392,10 @@ impl fmt::Display for Coverage {
         for (name, times) in WEIGHINGS.iter().zip(&self.weighings) {
             writeln!(text, "  {name:<46} {times}")?;
         }
+        writeln!(text, "of the calls that join")?;
+        for (name, times) in JOININGS.iter().zip(&self.joinings) {
+            writeln!(text, "  {name:<46} {times}")?;
+        }
         writeln!(text, "of the tableaux that are judged")?;
         for (number, name) in VERDICTS {
             writeln!(text, "  {name:<20} {}", self.verdicts.get(&number).unwrap_or(&0))?;
@@ -337,6 +406,7 @@ impl fmt::Display for Coverage {
         writeln!(text, "  work with weights    {}", each(&self.wide_work, true))?;
         writeln!(text, "  answer slice         {}", each(&self.answer, true))?;
         writeln!(text, "  target slice         {}", each(&self.target, true))?;
+        writeln!(text, "  target, joined       {}", each(&self.joined, true))?;
         writeln!(text, "  pairs of a candidate {}", each(&self.candidates, true))?;
         writeln!(text, "  pairs of conditions  {}", each(&self.conditions, true))?;
         writeln!(text, "  rows before adding   {}", each(&self.used, true))?;

@@ -75,6 +75,15 @@ extern "C" {
         candidate_len: usize,
         result: *mut u16,
     ) -> u32;
+    fn pastaspur_join(
+        card: *const u8,
+        card_len: usize,
+        first: u8,
+        second: u8,
+        target: *mut u8,
+        target_len: usize,
+        result: *mut usize,
+    ) -> u32;
     fn pastaspur_read_part(card: *const u8, card_len: usize, machine: u8, result: *mut usize) -> u32;
     fn pastaspur_pack(
         symbols: u8,
@@ -330,6 +339,25 @@ impl Engine for Library {
                     result: lender.result(9, |number| number),
                 };
                 lender.search(pastaspur_optimize_weights, lent, |number| number as usize)
+            }
+            Call::Join { card, first, second, target } => {
+                let (mut card, mut target) = (lender.bytes(card), lender.bytes(target));
+                let mut result = lender.result(1, |number| number as usize);
+                // SAFETY: as above
+                let number = unsafe {
+                    pastaspur_join(
+                        card.pointer(),
+                        card.length(),
+                        *first,
+                        *second,
+                        target.pointer(),
+                        target.length(),
+                        result.pointer(),
+                    )
+                };
+                lender.read_only("card", &card);
+                lender.around("target", &target);
+                lender.outcome(number, result, |element| element, target.contents(), true)
             }
             Call::Evaluate { card, candidate } => {
                 let (mut card, mut candidate) = (lender.bytes(card), lender.bytes(candidate));

@@ -4,7 +4,10 @@ mod calls;
 mod candidates;
 mod cards;
 mod damage;
+mod joining;
 mod live;
 mod tableaux;
 
 pub use calls::Generator;
+pub use candidates::walk;
+pub use joining::two_machines;

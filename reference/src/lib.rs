@@ -12,6 +12,7 @@ pub mod cull;
 #[cfg(feature = "engine")]
 pub mod engine;
 pub mod generators;
+pub mod join;
 pub mod lent;
 pub mod lines;
 pub mod live;

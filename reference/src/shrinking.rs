@@ -2,6 +2,7 @@
 
 use crate::call::Call;
 use crate::card::{lay_out, read_card, share_a_pair, Arc};
+use crate::join::join;
 use crate::live::{Row, Step};
 use crate::optimizer::best;
 use crate::ranking::is_ranking;
@@ -59,6 +60,10 @@ fn size(call: &mut Call) -> [u64; 5] {
     if let Call::ReadPart { machine, .. } = call {
         add(*machine as u16);
     }
+    if let Call::Join { first, second, .. } = call {
+        add(*first as u16);
+        add(*second as u16);
+    }
     if let Call::Rows { used, .. } = call {
         add((*used).min(u16::MAX as usize) as u16);
     }
@@ -115,6 +120,7 @@ fn card(call: &mut Call) -> Option<&mut Vec<u8>> {
         Call::Optimize { card, .. }
         | Call::OptimizeSets { card, .. }
         | Call::OptimizeWeights { card, .. }
+        | Call::Join { card, .. }
         | Call::Evaluate { card, .. }
         | Call::ReadPart { card, .. }
         | Call::Judge { card, .. } => Some(card),
@@ -127,6 +133,7 @@ fn byte_lists(call: &mut Call) -> Vec<&mut Vec<u8>> {
         Call::Optimize { card, ranking, word, answer, .. } => vec![word, answer, ranking, card],
         Call::OptimizeSets { card, ranking, answer, .. } => vec![answer, ranking, card],
         Call::OptimizeWeights { card, word, answer, .. } => vec![word, answer, card],
+        Call::Join { card, target, .. } => vec![target, card],
         Call::Evaluate { card, candidate } => vec![candidate, card],
         Call::ReadPart { card, .. } => vec![card],
         Call::Pack { parts, target, .. } => vec![target, parts],
@@ -360,6 +367,10 @@ fn needs(call: &Call) -> Option<(usize, usize)> {
             let pairs = if right && symbols { best(&card, ranking, word).map_or(0, |pairs| pairs.len()) } else { 0 };
             Some((8 * (word.len() + 1) * card.states(), 2 * pairs))
         }
+        Call::Join { card, first, second, .. } => {
+            let mut long = vec![0; 40_000];
+            Some((0, join(card, *first, *second, &mut long).unwrap_or(0)))
+        }
         Call::Pack { lengths, parts, .. } => Some((0, 2 + 4 * lengths.len() + parts.len())),
         _ => None,
     }
@@ -379,6 +390,7 @@ fn refitted(earlier: &Call, later: &Call) -> Option<Call> {
             work.resize(moved(work.len(), work_before, work_after), 0);
             answer.resize(moved(answer.len(), slice_before, slice_after), 0);
         }
+        Call::Join { target, .. } => target.resize(moved(target.len(), slice_before, slice_after), 0),
         Call::Pack { target, .. } => target.resize(moved(target.len(), slice_before, slice_after), 0),
         Call::Judge { work, .. } => work.resize(moved(work.len(), work_before, work_after), 0),
         _ => (),
@@ -428,6 +440,11 @@ fn without_machines(call: &Call, gone: &Range<usize>) -> Option<Call> {
     }
     match &mut call {
         Call::OptimizeWeights { weights, .. } if gone.end <= weights.len() => drop(weights.drain(gone.clone())),
+        Call::Join { first, second, .. } => {
+            for machine in [first, second] {
+                *machine = renumbered(*machine, gone).unwrap_or(0);
+            }
+        }
         Call::ReadPart { machine, .. } => *machine = renumbered(*machine, gone).unwrap_or(0),
         Call::FindRanking { conditions, .. } => {
             for set in conditions {
@@ -677,7 +694,7 @@ impl Search<'_> {
                 work.fill(0);
                 answer.fill(0);
             }
-            Call::Pack { target, .. } => target.fill(0),
+            Call::Pack { target, .. } | Call::Join { target, .. } => target.fill(0),
             Call::Judge { work, .. } => work.fill(0),
             _ => (),
         }

@@ -88,6 +88,12 @@ fn read_call(rest: &mut &[u8]) -> usize {
             assert!(number(rest) <= 6_398);
             take(rest, 1);
         }
+        16 => {
+            list(32_000);
+            take(rest, 2);
+            assert!(number(rest) <= 32_000);
+            take(rest, 1);
+        }
         _ => panic!("no kind {kind}"),
     }
     kind as usize
@@ -112,6 +118,7 @@ fn every_call_and_every_refusal() {
         (13, "optimize sets"),
         (14, "cull sets"),
         (15, "optimize weights"),
+        (16, "join"),
     ]);
     let mut rest = &corpus.cases[..];
     let lines: Vec<&str> = corpus.lines.lines().collect();

@@ -2,9 +2,10 @@
 
 use reference::call::{reference, row_bytes, Call, Outcome};
 use reference::candidate::Pair;
-use reference::card::{read_card, Card};
+use reference::card::{read_card, Arc, Card, Machine};
 use reference::comparison::{compare, describe};
 use reference::cull::Graph;
+use reference::join::joined;
 use reference::live::{Row, Step};
 use reference::optimizer::{best, Method};
 use reference::samples::{self, arc, machine, set};
@@ -528,6 +529,54 @@ fn sums_without_weights() {
     let Call::OptimizeWeights { card, weights, .. } = &call else { panic!("a call with weights") };
     let read = read_card(card).unwrap();
     assert!(read.machines.len() <= 2 && weights.iter().all(|&weight| weight <= 3), "{weights:?}");
+}
+
+/// Joining by another way of making the machine, where the right one has a card and the target holds the other as well.
+fn making(make: impl Fn(&Machine, &Machine) -> Machine) -> impl Fn(&Call) -> Outcome {
+    move |call| {
+        let right = reference(call);
+        let Call::Join { card, first, second, target } = call else { return right };
+        if right.number != 0 {
+            return right;
+        }
+        let Card { symbols, mut machines, .. } = read_card(card).unwrap();
+        let other = machines.remove(*first.max(second) as usize);
+        let place = *first.min(second) as usize;
+        machines[place] = make(&machines[place], &other);
+        let new = samples::card(symbols, &machines);
+        let mut slice = target.clone();
+        match slice.get_mut(..new.len()) {
+            Some(front) => front.copy_from_slice(&new),
+            None => return right,
+        }
+        Outcome { slice, result: vec![new.len()], ..right }
+    }
+}
+
+/// Joined arcs in the order of the other machine first.
+#[test]
+fn arcs_by_the_second() {
+    let call = found_out(making(|lower, other| {
+        let turned = joined(other, lower);
+        let place = |state: usize| state % lower.endings.len() * other.endings.len() + state / lower.endings.len();
+        let arcs = turned.arcs.iter().map(|arc| Arc { from: place(arc.from), to: place(arc.to), ..arc.clone() });
+        Machine { arcs: arcs.collect(), ..joined(lower, other) }
+    }));
+    let Call::Join { card, .. } = call else { panic!("a call that joins") };
+    let machines = read_card(&card).unwrap().machines;
+    assert!(machines.len() == 2 && machines.iter().all(|machine| machine.arcs.len() == 2), "{machines:?}");
+}
+
+/// The other machine's ending marks forgotten.
+#[test]
+fn ending_marks_forgotten() {
+    let call = found_out(making(|lower, other| {
+        let plain = other.endings.iter().map(|ending| ending.map(|_| 0)).collect();
+        joined(lower, &Machine { endings: plain, ..other.clone() })
+    }));
+    let Call::Join { card, .. } = call else { panic!("a call that joins") };
+    let machines = read_card(&card).unwrap().machines;
+    assert!(machines.len() == 2 && machines.iter().all(|machine| machine.arcs.is_empty()), "{machines:?}");
 }
 
 /// A weight at the limit refused.

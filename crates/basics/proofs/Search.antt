@@ -14,10 +14,13 @@ use Rattle.basics.proofs.Bools.{clash, both, left, right}
 
 -- how a loop over a list goes on: what is left of the list, at its end, and at an element and the rest
 
-pub left-next : (l : List ℕ) (i : ℕ) → i < length l → drop i l ≡ getD l i 0 ∷ drop (i + 1) l
-left-next l i h = rw add-one (drop-cons l i 0 h)
+pub left-at : {A : Type 0} (l : List A) (i : ℕ) (d : A) → i < length l → drop i l ≡ getD l i d ∷ drop (i + 1) l
+left-at l i d h = rw add-one (drop-cons l i d h)
 
-pub left-none : (l : List ℕ) (i : ℕ) → length l ≤ i → drop i l ≡ []
+pub left-next : (l : List ℕ) (i : ℕ) → i < length l → drop i l ≡ getD l i 0 ∷ drop (i + 1) l
+left-next l i h = left-at l i 0 h
+
+pub left-none : {A : Type 0} (l : List A) (i : ℕ) → length l ≤ i → drop i l ≡ []
 left-none l i h = drop-of-length-le l h
 
 pub all-none : {A : Type 0} (f : A → Bool) {xs : List A} → xs ≡ [] → allOf f xs ≡ true
@@ -146,6 +149,14 @@ module _ {A : Type 0} (f : A → Bool) where
       go false e r = rw (e, firstThat) (r (rw e at t) p)
 
   -- the elements that pass
+  pub those-here : (x : A) (xs : List A) → f x ≡ true → those f (x ∷ xs) ≡ x ∷ those f xs
+  unfolding those
+  those-here x xs t = rw (t, those)
+
+  pub those-later : (x : A) (xs : List A) → f x ≡ false → those f (x ∷ xs) ≡ those f xs
+  unfolding those
+  those-later x xs t = rw (t, those)
+
   pub those-member : {x : A} (xs : List A) → List·Memᴰ x (those f xs) → List·Memᴰ x xs × (f x ≡ true)
   unfolding those
   those-member [] m = absurd (List·Memᴰ·not-nil m)
@@ -177,6 +188,25 @@ module _ {A : Type 0} (f : A → Bool) where
       go true e r = rw (e, those) (omega arith)
       go false e r = rw (e, those) (omega arith)
 
+  -- what all pass, and every two with each other, those of them pass
+  all-those : (g : A → Bool) (xs : List A) → allOf g xs ≡ true → allOf g (those f xs) ≡ true
+  unfolding allOf those
+  all-those g [] t = refl
+  all-those g (x ∷ xs) t = go (f x) refl (all-those g xs (right (g x) (allOf g xs) t))
+    where
+      go : (b : Bool) → f x ≡ b → allOf g (those f xs) ≡ true → allOf g (those f (x ∷ xs)) ≡ true
+      go true e k = rw (those-here x xs e) (both (left (g x) (allOf g xs) t) k)
+      go false e k = rw (those-later x xs e) k
+
+  pub pairwise-those : (g : A → A → Bool) (xs : List A) → pairwise g xs ≡ true → pairwise g (those f xs) ≡ true
+  unfolding pairwise those
+  pairwise-those g [] t = refl
+  pairwise-those g (x ∷ xs) t = go (f x) refl (pairwise-those g xs (right (allOf (g x) xs) (pairwise g xs) t))
+    where
+      go : (b : Bool) → f x ≡ b → pairwise g (those f xs) ≡ true → pairwise g (those f (x ∷ xs)) ≡ true
+      go true e k = rw (those-here x xs e) (both (all-those (g x) xs (left (allOf (g x) xs) (pairwise g xs) t)) k)
+      go false e k = rw (those-later x xs e) k
+
 -- lists joined
 module _ {A B : Type 0} (f : A → List B) where
   pub joined-member : {y : B} (xs : List A) → List·Memᴰ y (joined f xs) → (x : A) × List·Memᴰ x xs × List·Memᴰ y (f x)
@@ -198,3 +228,9 @@ pub map-at : {A B : Type 0} (f : A → B) (xs : List A) (i : ℕ) → i < length
 map-at f [] i h d a = absurd (omega arith)
 map-at f (x ∷ xs) zero h d a = refl
 map-at f (x ∷ xs) (suc i) h d a = map-at f xs i (omega arith) d a
+
+-- within a list the default does not matter
+pub any-default : {A : Type 0} (xs : List A) (i : ℕ) (d e : A) → i < length xs → getD xs i d ≡ getD xs i e
+any-default [] i d e h = absurd (omega arith)
+any-default (x ∷ xs) zero d e h = refl
+any-default (x ∷ xs) (suc i) d e h = any-default xs i d e (omega arith)

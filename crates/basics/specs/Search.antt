@@ -21,6 +21,12 @@ module _ {A : Type 0} where
   those f [] = []
   those f (x ∷ xs) = elim (f x) [ true ↦ x ∷ those f xs | false ↦ those f xs ]
 
+  -- all but the element in place j
+  unfoldable pub without : ℕ → List A → List A
+  without j [] = []
+  without zero (x ∷ xs) = xs
+  without (suc j) (x ∷ xs) = x ∷ without j xs
+
   -- the first element that passes
   unfoldable pub firstThat : (A → Bool) → List A → Option A
   firstThat f [] = none

@@ -6,4 +6,5 @@ pub mod Refusals
 pub mod Laws
 pub mod Accepted
 pub mod RoundTrip
+pub mod OfParts
 pub mod OldArcs

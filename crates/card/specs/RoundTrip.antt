@@ -3,12 +3,11 @@ use mathlib.Core.Path.{_≡_, refl, ap, sym, _∙_}
 use mathlib.Core.List.{List, [], _∷_, _++_, map}
 use Prim.Native.Nat.{ℕ, _+_, _*_, _<_, _≤_}
 use native.Mathlib.Omega.{arith}
-use lib.ListN.{length, getD, take, drop, length-map}
+use lib.ListN.{length, getD, take, drop}
 use lib.Seq.{take-at, drop-at}
 use borrow.Author.Tests.{lt-ltb, le-leb}
 use Rattle.basics.specs.Search.{joined}
-use Rattle.basics.specs.Products.{product}
-use Rattle.machine.specs.Part.{machineOf, stateCount}
+use Rattle.machine.specs.Part.{machineOf}
 use Rattle.layout.specs.Layout.{Bytes, offsetOf, lengthOf}
 use Rattle.card.specs.Layout.{machineCount, symbolCount, counted, partsOf}
 use Rattle.card.specs.Card.{machinesOf, cardRefusal}
@@ -16,12 +15,12 @@ use Rattle.card.specs.Reading.{reading}
 use Rattle.card.specs.Packing.{split, places, packed, packingRefusal, packedTarget}
 use Rattle.card.specs.Laws.Bytes.{bytes-cons, bytes-append}
 use Rattle.card.specs.Laws.Places.{places-bytes}
-use Rattle.card.specs.Laws.Parts.{split-lengths, split-joined, joined-split, joined-total}
+use Rattle.card.specs.Laws.Parts.{split-lengths, split-joined}
 use Rattle.layout.specs.LaidOut.{layout-holds}
-use Rattle.card.specs.Laws.Layout.{counts-told, counts-hold, part-at, length-parts}
+use Rattle.card.specs.Laws.Layout.{counts-told, part-at, length-parts}
 use Rattle.card.specs.Laws.Packed.{packed-length, packed-machines, packed-symbols, packed-parts, packed-laid-out}
 use Rattle.card.specs.Laws.Repacked.{repacked}
-use Rattle.card.specs.Laws.Packable.{Packable, packable, packs}
+use Rattle.card.specs.Laws.Packable.{Packable, packable, PartsPass, parts-pack}
 use Rattle.card.specs.Accepted.{accepted}
 use Rattle.card.specs.Laws.Checked.{parts-small}
 
@@ -95,18 +94,8 @@ accepted-packs-back card b e =
     let bytes = joined (λ part. part) parts in
     let a = accepted card e in
     let p = repacked card (a .layout) b in
-    let k : length lengths ≡ machineCount card = length-map parts length ∙ length-parts card in
-    let s = joined-split parts in
-    let ok : (room : ℕ) → length card ≤ room → packingRefusal S lengths bytes room ≡ 0 =
-    λ room h.
-    packs S lengths bytes room
-    (record {
-      counts = rw k (counts-hold (machineCount card) S (a .head .counts));
-      sum = joined-total parts;
-      parts = rw s (a .all-parts);
-      states = rw s (le-leb (product (map stateCount parts)) 128 (a .states));
-      fits = rw p h;
-    }) in
+    let pass : PartsPass S parts = record { counts = rw (length-parts card) (a .head .counts); each = a .all-parts; states = a .states } in
+    let ok : (room : ℕ) → length card ≤ room → packingRefusal S lengths bytes room ≡ 0 = λ room h. parts-pack S parts pass room (rw p h) in
     record { packs = p; accepts = ok; writes = λ target h. rw (ok (length target) h, p) }
 
 -- The packed card's bytes are bytes, where the packed ones are.

@@ -9,7 +9,7 @@ ghost use Rattle.card.specs.Reading.{readingRefusal, reading};
 ghost use Rattle.card.specs.Packing.{packingRefusal, packing, packedTarget};
 
 mod head; // head.rt: K, S and the lengths of the parts
-mod packing; // packing.rt: the writing of a card
+pub mod packing; // packing.rt: the writing of a card
 mod parts; // parts.rt: the check of the machine parts
 
 use basics::index;

@@ -44,7 +44,7 @@ pub fn write_table(target: &mut [u8], symbols: u8, lengths: &[u16])
 }
 
 // Writes a part to its stretch of the target, which then holds the part.
-fn write_part(stretch: &mut [u8], part: &[u8])
+pub fn write_part(stretch: &mut [u8], part: &[u8])
     requires { ⌜ length (now stretch) ≡ length (now part) ⌝ }
     ensures { λ _. ⌜ now (stretch .exit) ≡ now (part .entry) ⌝ }
 {

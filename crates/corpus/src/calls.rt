@@ -241,6 +241,24 @@ pub fn lend_and_pack(
     true
 }
 
+fn join(card: &[u8], first: u8, second: u8, target: &mut [u8]) {
+    let joined = join::join(card, first, second, target);
+    write(b"join");
+    write_byte(joined.number);
+    write_size(joined.length);
+    write_slice(target);
+}
+
+// With a target of so many bytes, each `fill`. Answers whether there is as much to lend.
+pub fn lend_and_join(card: &[u8], first: u8, second: u8, bytes: usize, fill: u8) -> bool {
+    if bytes > TARGET_BYTES {
+        return false;
+    }
+    let mut target = [fill; TARGET_BYTES];
+    join(card, first, second, &mut target[0..bytes]);
+    true
+}
+
 pub fn compare(machines: u8, ranking: &[u8], first: Profile, second: Profile) {
     write(b"compare");
     match ranking::harmony::compare(machines, ranking, first, second) {

@@ -14,6 +14,7 @@
 //     9 cull        as optimize
 //    13 optimize sets, 14 cull sets    as optimize, but sets for the word
 //    15 optimize weights    as optimize, but weights for the ranking
+//    16 join        card: bytes; two machines: a byte each; bytes of target: a number; what it is filled with: a byte
 //
 // A case of another kind, one that the file ends in and one that asks to be lent more than there is are faulty. 10 to 12, the live tableau's calls, are not
 // in the file: `live_test` makes them. Each of the functions for a kind goes from the place of the first field to the place after the last, which is nowhere
@@ -26,6 +27,7 @@ use calls::compare;
 use calls::derive;
 use calls::evaluate;
 use calls::find;
+use calls::lend_and_join;
 use calls::lend_and_judge;
 use calls::lend_and_pack;
 use calls::lend_and_search;
@@ -157,6 +159,25 @@ fn pack_case(file: &[u8], symbols: usize) -> usize {
     if lent { end } else { NOWHERE }
 }
 
+fn join_case(file: &[u8], card: usize) -> usize {
+    let first = after_bytes(file, card);
+    let second = after(file, first, 1);
+    let bytes = after(file, second, 1);
+    let fill = after(file, bytes, 2);
+    let end = after(file, fill, 1);
+    if end == NOWHERE {
+        return NOWHERE;
+    }
+    let lent = lend_and_join(
+        bytes_at(file, card),
+        byte_at(file, first),
+        byte_at(file, second),
+        size_at(file, bytes),
+        byte_at(file, fill),
+    );
+    if lent { end } else { NOWHERE }
+}
+
 fn compare_case(file: &[u8], machines: usize) -> usize {
     let ranking = after(file, machines, 1);
     let first = after_bytes(file, ranking);
@@ -231,6 +252,7 @@ fn case(file: &[u8], at: usize) -> usize {
         13 => search_sets_case(file, false, start),
         14 => search_sets_case(file, true, start),
         15 => weigh_case(file, start),
+        16 => join_case(file, start),
         _ => NOWHERE,
     }
 }

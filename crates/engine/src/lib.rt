@@ -14,6 +14,7 @@ ghost use Rattle.optimizer.specs.Optimizes.{Optimizes};
 ghost use Rattle.optimizer.specs.OptimizesSets.{OptimizesSets};
 ghost use Rattle.tableau.specs.Judging.{judging};
 ghost use Rattle.tableau.specs.Judges.{Judges};
+ghost use Rattle.join.specs.JoinedCard.{joiningAnswer, joiningTarget};
 ghost use Rattle.live.specs.Calls.{adding, addedList, removing, removedList, leading};
 ghost use Rattle.weights.specs.Searching;
 ghost use Rattle.weights.specs.Weighing.{weighed};
@@ -213,6 +214,24 @@ pub extern "C" fn pastaspur_pack(
     let packed = card::pack(symbols, lengths, parts, target);
     *result = [packed.length];
     packed.number as u32
+}
+
+// Joins two machines of a card, and answers the new card's length: 1 to 6, 27, 28, 18.
+#[no_mangle]
+pub extern "C" fn pastaspur_join(
+    card: &[u8],
+    first: u8,
+    second: u8,
+    target: &mut [u8],
+    result: &mut [usize; 1],
+) -> u32
+    ensures { λ r. ⌜ r ≡ joiningAnswer (now (card .entry)) first second (length (now (target .entry))) .number ⌝ }
+    ensures { λ _. ⌜ now (result .exit) ≡ joiningAnswer (now (card .entry)) first second (length (now (target .entry))) .length ∷ [] ⌝ }
+    ensures { λ _. ⌜ now (target .exit) ≡ joiningTarget (now (card .entry)) first second (now (target .entry)) ⌝ }
+{
+    let joined = join::join(card, first, second, target);
+    *result = [joined.length];
+    joined.number as u32
 }
 
 // The profile of six counts.

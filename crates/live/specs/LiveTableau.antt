@@ -12,6 +12,7 @@ use borrow.Author.Tests.{ltb-true, le-leb, not-true}
 use Rattle.basics.specs.Refusals.{refuse, firstOf, unlessRefused}
 use Rattle.basics.specs.Search.{pairwise}
 use Rattle.basics.proofs.Bools.{both, left, right}
+use Rattle.basics.proofs.Search.{pairwise-those}
 use Rattle.basics.proofs.Refusals.{passed, passes-with, none-first, not-accepted}
 use Rattle.basics.proofs.Refusals as by-number
 use Rattle.ranking.specs.Refusals.{isMachineCount}
@@ -20,7 +21,7 @@ use Rattle.live.specs.declared.Row.{Row}
 use Rattle.live.specs.Rows.{zeroRow, present, without, removed, fits, hasRoom, leaderOf, counted, refusedCount, unled, leadAnswer}
 use Rattle.live.specs.Calls.{addingRefusal, removingRefusal, leading}
 use Rattle.live.specs.Afresh.{Call, Add, Remove, Table, started, answerTo, next, after, accepted, afresh}
-use Rattle.live.specs.Laws.Rows.{lacks, differ, length-without, without-those, pairwise-those, differ-last}
+use Rattle.live.specs.Laws.Rows.{lacks, differ, length-without, without-those, differ-last}
 use Rattle.live.specs.Laws.Afresh.{afresh-add, afresh-remove}
 
 -- the table t after calls of which those accepted are done, from an empty table over a list as long as l

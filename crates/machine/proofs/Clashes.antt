@@ -10,18 +10,18 @@ use lib.Dec.{eqb, ltb}
 use lib.ListN.{length, getD, set, drop, replicate, getD-replicate, drop-of-length-le}
 use lib.Seq.{drop-cons, getD-set-same, getD-set-other}
 use borrow.Author.Tests.{eqb-true, eq-eqb, ne-eqb, lt-ltb, ltb-true}
-use Rattle.basics.specs.Search.{allOf, pairwise, someBelow}
+use Rattle.basics.specs.Search.{allOf, pairwise}
 use Rattle.basics.specs.Sets.{member}
 use Rattle.basics.proofs.Bools.{clash as never, both, left, right, fails, left-fails, right-fails}
 use Rattle.basics.proofs.Search.{pairwise-next, pairwise-fails}
-use Rattle.basics.proofs.Below.{finds-below}
 use Rattle.basics.proofs.Sets.{no-member, its-member, member-and, member-or}
 use Rattle.machine.specs.declared.Arc.{Arc}
 use Rattle.machine.specs.declared.Pair.{Pair}
 use Rattle.machine.specs.Symbols.{emptySymbol, isPair}
-use Rattle.machine.specs.Machine.{ofKind, takes, takesFrom, bothTake, takeOnePair, clash}
+use Rattle.machine.specs.Machine.{ofKind, takes, takesFrom, takeOnePair, clash}
 use Rattle.machine.specs.Part.{stateCount, arcCount, arcAt, arcsOf, soundArc, soundArcs, clashFree}
 use Rattle.machine.specs.Accepted.{sound-facts}
+use Rattle.machine.specs.CommonPair.{common-pair}
 use Rattle.machine.specs.Steps.{clash-at}
 use Rattle.machine.specs.Clashes.{LeavesStates, clashFreeFrom, pairsWith, noted, takenFrom, Taken, PairsNoted}
 use Rattle.machine.proofs.Partners.{without-empty, in-partners}
@@ -149,7 +149,7 @@ taken-none s = record { pairs = λ p h. ap (λ (n : ℕ). member n (p .input)) (
 module _ (s : ℕ) (a : Arc) where
   -- no arc of the rest takes a pair that this one takes
   free-all : (rest : List Arc) → ((p : Pair) → p .output < 64 → isPair p ≡ true → takesFrom a s p ≡ true → takenFrom s rest p ≡ false) → allOf (clashFreeFrom s a) rest ≡ true
-  unfolding takenFrom allOf clash takeOnePair
+  unfolding takenFrom allOf clash
   free-all [] h = refl
   free-all (b ∷ rest) h =
       both (go (eqb (a .from) s) refl (clash a b) refl) (free-all rest (λ p l i t. right-fails (takesFrom b s p) (takenFrom s rest p) (h p l i t)))
@@ -159,12 +159,10 @@ module _ (s : ℕ) (a : Arc) where
       go true e false f = rw (e, f)
       go true e true f =
           let same = eqb-true (a .from) (b .from) (left (eqb (a .from) (b .from)) (takeOnePair a b) f) in
-          let x = finds-below (λ x. someBelow (λ y. bothTake a b (record { input = x; output = y })) 64) 64 (right (eqb (a .from) (b .from)) (takeOnePair a b) f) in
-          let y = finds-below (λ y. bothTake a b (record { input = x .0; output = y })) 64 (x .2) in
-          let p : Pair = record { input = x .0; output = y .0 } in
-          let ia : (isPair p && takes a p) ≡ true = left (isPair p && takes a p) (takes b p) (y .2) in
-          let tb : takesFrom b s p ≡ true = both (eq-eqb (b .from) s (sym same ∙ eqb-true (a .from) s e)) (right (isPair p && takes a p) (takes b p) (y .2)) in
-          absurd (never tb (left-fails (takesFrom b s p) (takenFrom s rest p) (h p (y .1) (left (isPair p) (takes a p) ia) (both e (right (isPair p) (takes a p) ia)))))
+          let c = common-pair a b (right (eqb (a .from) (b .from)) (takeOnePair a b) f) in
+          let p = c .pair in
+          let tb : takesFrom b s p ≡ true = both (eq-eqb (b .from) s (sym same ∙ eqb-true (a .from) s e)) (c .second) in
+          absurd (never tb (left-fails (takesFrom b s p) (takenFrom s rest p) (h p (c .output) (c .is-pair) (both e (c .first)))))
 
   -- an arc of the rest takes a pair that this one takes
   free-fails : (rest : List Arc) (p : Pair) → p .input < 64 → p .output < 64 → isPair p ≡ true → takesFrom a s p ≡ true → takenFrom s rest p ≡ true → allOf (clashFreeFrom s a) rest ≡ false

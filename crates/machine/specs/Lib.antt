@@ -5,6 +5,7 @@ pub mod Part
 pub mod SymbolSets
 pub mod Clashes
 pub mod Accepted
+pub mod CommonPair
 pub mod Steps
 pub mod OldArcs
 pub mod SameAndDifferent

@@ -1,18 +1,17 @@
 -- What an arc's kind says of the pairs that it takes; arcs of kinds 1 and 2 never clash. Assumes nothing.
-use mathlib.Core.Path.{_≡_, _∙_}
-use mathlib.Core.Bool.{Bool, true, false, not, _&&_}
+use mathlib.Core.Path.{_≡_}
+use mathlib.Core.Bool.{true, false, _&&_}
 use Prim.Native.Nat.{ℕ, zero, suc}
 use native.Mathlib.Omega.{arith}
 use lib.Dec.{eqb}
 use borrow.Author.Tests.{eqb-true, eqb-false, not-true}
-use Rattle.basics.specs.Search.{someBelow}
 use Rattle.basics.specs.Sets.{member}
 use Rattle.basics.proofs.Bools.{fails, left, right}
-use Rattle.basics.proofs.Below.{finds-below}
 use Rattle.machine.specs.declared.Arc.{Arc}
 use Rattle.machine.specs.declared.Pair.{Pair}
-use Rattle.machine.specs.Symbols.{isPair, pairOf}
-use Rattle.machine.specs.Machine.{ofKind, takes, bothTake, takeOnePair, clash}
+use Rattle.machine.specs.Symbols.{isPair}
+use Rattle.machine.specs.Machine.{ofKind, takes, takeOnePair, clash}
+use Rattle.machine.specs.CommonPair.{common-pair}
 
 kind-same : (k : ℕ) (p : Pair) → k ≡ 1 → ofKind k p ≡ true → (isPair p ≡ true) × (p .input ≡ p .output)
 unfolding ofKind
@@ -42,10 +41,7 @@ module _ (a : Arc) (p : Pair) (t : takes a p ≡ true) where
 
 -- whatever their sets are
 pub same-and-different : (a b : Arc) → a .kind ≡ 1 → b .kind ≡ 2 → clash a b ≡ false
-unfolding clash takeOnePair
+unfolding clash
 same-and-different a b e f = fails (clash a b) (λ t.
-    let x = finds-below (λ x. someBelow (λ y. bothTake a b (pairOf x y)) 64) 64 (right (eqb (a .from) (b .from)) (takeOnePair a b) t) in
-    let y = finds-below (λ y. bothTake a b (pairOf (x .0) y)) 64 (x .2) in
-    let p = pairOf (x .0) (y .0) in
-    let ia : (isPair p && takes a p) ≡ true = left (isPair p && takes a p) (takes b p) (y .2) in
-    takes-different b p (right (isPair p && takes a p) (takes b p) (y .2)) f (takes-same a p (right (isPair p) (takes a p) ia) e .1))
+    let c = common-pair a b (right (eqb (a .from) (b .from)) (takeOnePair a b) t) in
+    takes-different b (c .pair) (c .second) f (takes-same a (c .pair) (c .first) e .1))

@@ -8,39 +8,44 @@ use native.Mathlib.Omega.{arith}
 use lib.Dec.{eqb, ltb, leb}
 use lib.ListN.{length, getD, length-map, List·getD-map, List·getD-eq-default}
 use borrow.Author.Tests.{ltb-true, ltb-false, leb-true, eqb-true, eq-eqb, not-true}
-use Rattle.basics.specs.Search.{someBelow}
 use Rattle.basics.proofs.Bools.{clash as never, both, left, right}
 use Rattle.basics.proofs.Search.{all-at, pairwise-at}
-use Rattle.basics.proofs.Below.{found-below}
 use Rattle.machine.specs.declared.Arc.{Arc}
 use Rattle.machine.specs.declared.Pair.{Pair}
 use Rattle.machine.specs.Symbols.{isPair}
-use Rattle.machine.specs.Machine.{takes, takesFrom, stepAmong, stepOf, endingOf, bothTake, takeOnePair, clash}
+use Rattle.machine.specs.Machine.{takes, takesFrom, stepAmong, stepOf, endingOf, clash}
 use Rattle.machine.specs.Part.{stateCount, stateBytes, endingByte, arcsOf, machineOf, soundArc, clashFree, partRefusal}
 use Rattle.machine.specs.Accepted.{state-count, accepted, sound-facts, taken-within}
+use Rattle.machine.specs.CommonPair.{take-one}
 
 -- two arcs that take a pair from a state clash
 pub clash-at : (a b : Arc) (s : ℕ) (p : Pair) → p .input < 64 → p .output < 64 → isPair p ≡ true → takesFrom a s p ≡ true → takesFrom b s p ≡ true → clash a b ≡ true
-unfolding clash takeOnePair
+unfolding clash
 clash-at a b s p hx hy q ta tb =
     let ea = eqb-true (a .from) s (left (eqb (a .from) s) (takes a p) ta) in
     let eb = eqb-true (b .from) s (left (eqb (b .from) s) (takes b p) tb) in
-    both (eq-eqb (a .from) (b .from) (ea ∙ sym eb))
-    (found-below (λ x. someBelow (λ y. bothTake a b (record { input = x; output = y })) 64) 64 (p .input) hx
-    (found-below (λ y. bothTake a b (record { input = p .input; output = y })) 64 (p .output) hy
-    (both (both q (right (eqb (a .from) s) (takes a p) ta)) (right (eqb (b .from) s) (takes b p) tb))))
+    both (eq-eqb (a .from) (b .from) (ea ∙ sym eb)) (take-one a b p hx hy q (right (eqb (a .from) s) (takes a p) ta) (right (eqb (b .from) s) (takes b p) tb))
+
+-- the first of the arcs that takes the pair
+pub step-taken : (a : Arc) (arcs : List Arc) (s : ℕ) (p : Pair) → takesFrom a s p ≡ true → stepAmong (a ∷ arcs) s p ≡ some (a .to, a .marks)
+unfolding stepAmong
+step-taken a arcs s p t = rw (t, stepAmong)
+
+pub step-passed : (a : Arc) (arcs : List Arc) (s : ℕ) (p : Pair) → takesFrom a s p ≡ false → stepAmong (a ∷ arcs) s p ≡ stepAmong arcs s p
+unfolding stepAmong
+step-passed a arcs s p t = rw (t, stepAmong)
 
 -- where one place alone has an arc that takes the pair from the state, the step is by that arc
 step-at : (d : Arc) (s : ℕ) (p : Pair) (arcs : List Arc) (i : ℕ) → i < length arcs → takesFrom (getD arcs i d) s p ≡ true
     → ((j : ℕ) → j < length arcs → takesFrom (getD arcs j d) s p ≡ true → j ≡ i) → stepAmong arcs s p ≡ some (getD arcs i d .to, getD arcs i d .marks)
 unfolding stepAmong
 step-at d s p [] i h t u = absurd (omega arith)
-step-at d s p (a ∷ rest) zero h t u = rw (t, stepAmong)
+step-at d s p (a ∷ rest) zero h t u = step-taken a rest s p t
 step-at d s p (a ∷ rest) (suc i) h t u = go (takesFrom a s p) refl (step-at d s p rest i (omega arith) t (λ j q e. let z = u (suc j) (omega arith) e in omega arith))
   where
     go : (b : Bool) → takesFrom a s p ≡ b → stepAmong rest s p ≡ some (getD rest i d .to, getD rest i d .marks) → stepAmong (a ∷ rest) s p ≡ some (getD rest i d .to, getD rest i d .marks)
     go true e r = let z = u 0 (omega arith) e in absurd (omega arith)
-    go false e r = rw (e, stepAmong) r
+    go false e r = step-passed a rest s p e ∙ r
 
 -- a step is by an arc that takes the pair from the state
 step-by : (d : Arc) (s : ℕ) (p : Pair) (arcs : List Arc) (r : ℕ × ℕ) → stepAmong arcs s p ≡ some r

@@ -2,12 +2,10 @@
 use mathlib.Core.Path.{_≡_, refl, sym, _∙_, ap}
 use mathlib.Core.List.{List, [], _∷_, map}
 use Prim.Native.Nat.{ℕ, zero, suc, _+_, _*_, _<_}
-use native.Mathlib.Decide.{decLt, ℕ-discrete}
+use native.Mathlib.Decide.{ℕ-discrete}
 use native.Mathlib.Omega.{arith}
-use lib.ListN.{length, getD, set, length-map, length-set, List·getD-eq-default}
+use lib.ListN.{length, getD, set, length-set}
 use lib.Seq.{map-set-same, getD-set-same, getD-set-other}
-use borrow.Author.Tests.{le-leb}
-use Rattle.basics.specs.Search.{joined}
 use Rattle.basics.specs.Products.{product}
 use Rattle.basics.proofs.Refusals.{none-first}
 use Rattle.machine.specs.Machine.{Machine, noMachine, stateCountOf}
@@ -16,16 +14,12 @@ use Rattle.machine.specs.Accepted.{Shaped}
 use Rattle.layout.specs.Layout.{Bytes, lengthOf, offsetOf}
 use Rattle.card.specs.Layout.{machineCount, symbolCount, partsOf, partOf}
 use Rattle.card.specs.Card.{cardRefusal, machinesOf, partsRefusal}
-use Rattle.card.specs.Packing.{packed, packingRefusal}
 use Rattle.card.specs.Accepted.{Accepted, accepted}
-use Rattle.card.specs.RoundTrip.{ReadsBack, packed-reads-back, packed-is-bytes}
-use Rattle.card.specs.Laws.Bytes.{bytes-none, bytes-append, bytes-take, bytes-drop}
+use Rattle.card.specs.OfParts.{cardOf, MadeOf, made-of}
+use Rattle.card.specs.Laws.Bytes.{bytes-take, bytes-drop}
 use Rattle.card.specs.Laws.Checked.{part-shaped}
-use Rattle.card.specs.Laws.Layout.{counts-hold, length-parts, part-at}
+use Rattle.card.specs.Laws.Layout.{length-parts, part-at}
 use Rattle.card.specs.Laws.Machines.{machine-at}
-use Rattle.card.specs.Laws.Packable.{packs}
-use Rattle.card.specs.Laws.Packed.{packed-machines}
-use Rattle.card.specs.Laws.Parts.{joined-split, joined-total}
 use Rattle.product.specs.Nodes.{nodeCount}
 use Rattle.trimming.specs.Travelling.{machineWithout, machinesWithout}
 use Rattle.trimming.specs.Trimmed.{HasArc, partWithout, partsWithout, cardWithout}
@@ -59,11 +53,6 @@ map-set f [] i y = refl
 map-set f (x ∷ xs) zero y = refl
 map-set f (x ∷ xs) (suc i) y = ap (λ (l : List _). f x ∷ l) (map-set f xs i y)
 
-joined-bytes : (parts : List (List ℕ)) → ((k : ℕ) → Bytes (getD parts k [])) → Bytes (joined (λ part. part) parts)
-unfolding joined
-joined-bytes [] b = bytes-none
-joined-bytes (p ∷ ps) b = bytes-append p (joined (λ part. part) ps) (b 0) (joined-bytes ps (λ k. b (suc k)))
-
 module _ (card : List ℕ) (i j : ℕ) (ok : cardRefusal card ≡ 0) (has : HasArc card i j) where
   abbrev S : ℕ
   S = symbolCount card
@@ -83,31 +72,20 @@ module _ (card : List ℕ) (i j : ℕ) (ok : cardRefusal card ≡ 0) (has : HasA
   abbrev parts : List (List ℕ)
   parts = set (partsOf card) i (partWithout j part)
 
-  abbrev lengths : List ℕ
-  lengths = map length parts
-
-  abbrev bytes : List ℕ
-  bytes = joined (λ part. part) parts
-
-  count : length lengths ≡ machineCount card
-  count = length-map parts length ∙ length-set (partsOf card) i (partWithout j part) ∙ length-parts card
+  count : length parts ≡ machineCount card
+  count = length-set (partsOf card) i (partWithout j part) ∙ length-parts card
 
   same-states : map stateCount parts ≡ map stateCount (partsOf card)
   same-states = map-set-same stateCount (partsOf card) i (partWithout j part) [] (same-state-count part j shape (has .arc) ∙ sym (ap stateCount its-part))
 
-  can-be-packed : packingRefusal S lengths bytes (length (packed S lengths bytes)) ≡ 0
-  can-be-packed =
-      packs S lengths bytes (length (packed S lengths bytes))
+  made : MadeOf S parts (cardOf S parts)
+  made =
+      made-of S parts
       (record {
-        counts = rw count (counts-hold (machineCount card) S (a .head .counts));
-        sum = joined-total parts;
-        parts = rw (joined-split parts) (set-passes S (partsOf card) i (partWithout j part) (a .all-parts) (trimmed-part part j shape (has .arc) S (a .part i (has .machine))));
-        states = rw (joined-split parts, same-states) (le-leb (product (map stateCount (partsOf card))) 128 (a .states));
-        fits = omega arith;
+        counts = rw count (a .head .counts);
+        each = set-passes S (partsOf card) i (partWithout j part) (a .all-parts) (trimmed-part part j shape (has .arc) S (a .part i (has .machine)));
+        states = rw same-states (a .states);
       })
-
-  reads : ReadsBack S lengths bytes (packed S lengths bytes) (packed S lengths bytes)
-  reads = packed-reads-back S lengths bytes (packed S lengths bytes) can-be-packed
 
   trimmed-machines : map machineOf parts ≡ machinesWithout i j (machinesOf card)
   unfolding machinesOf
@@ -117,31 +95,23 @@ module _ (card : List ℕ) (i j : ℕ) (ok : cardRefusal card ≡ 0) (has : HasA
 
   pub trimmed-accepted : cardRefusal (cardWithout i j card) ≡ 0
   unfolding cardWithout partsWithout
-  trimmed-accepted = reads .accepts
+  trimmed-accepted = made .accepts
 
   pub trimmed-lacks : LacksArc card i j (cardWithout i j card)
   unfolding cardWithout partsWithout
-  trimmed-lacks = record {
-    symbols = reads .symbols;
-    count = packed-machines S lengths bytes ∙ count;
-    machines = reads .machines ∙ ap (map machineOf) (joined-split parts) ∙ trimmed-machines;
-  }
+  trimmed-lacks = record { symbols = made .symbols; count = made .count ∙ count; machines = made .machines ∙ trimmed-machines }
 
   -- and it is a card of bytes, if the first is
   pub trimmed-is-bytes : Bytes card → Bytes (cardWithout i j card)
   unfolding cardWithout partsWithout
-  trimmed-is-bytes b = packed-is-bytes S lengths bytes (length (packed S lengths bytes)) (joined-bytes parts each) can-be-packed
+  trimmed-is-bytes b = made .bytes each
     where
       part-bytes : (k : ℕ) → Bytes (partOf card k)
       part-bytes k = bytes-take (lengthOf card k) _ (bytes-drop (offsetOf card k) card b)
 
-      old : (k : ℕ) → Dec (k < machineCount card) → Bytes (getD (partsOf card) k [])
-      old k (yes h) = rw (part-at card k h []) (part-bytes k)
-      old k (no h) = rw (List·getD-eq-default (partsOf card) [] {n = k} (omega (arith, length-parts card))) bytes-none
-
-      each : (k : ℕ) → Bytes (getD parts k [])
-      each k = go (ℕ-discrete k i)
+      each : (k : ℕ) → k < length parts → Bytes (getD parts k [])
+      each k h = go (ℕ-discrete k i)
         where
           go : Dec (k ≡ i) → Bytes (getD parts k [])
           go (yes e) = rw (e, getD-set-same (partsOf card) i (partWithout j part) [] (omega (arith, length-parts card, has .machine))) (trimmed-bytes part j shape (has .arc) (part-bytes i))
-          go (no n) = rw (getD-set-other (partsOf card) i k (partWithout j part) [] n) (old k (decLt k (machineCount card)))
+          go (no n) = rw (getD-set-other (partsOf card) i k (partWithout j part) [] n, part-at card k (omega (arith, count, h)) []) (part-bytes k)

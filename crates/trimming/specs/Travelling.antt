@@ -4,15 +4,10 @@ use mathlib.Core.List.{List, [], _∷_}
 use mathlib.Core.Option.{some, none}
 use Prim.Native.Nat.{ℕ, zero, suc}
 use lib.ListN.{getD, set}
+use Rattle.basics.specs.Search.{without}
 use Rattle.machine.specs.declared.Arc.{Arc}
 use Rattle.machine.specs.declared.Pair.{Pair}
 use Rattle.machine.specs.Machine.{Machine, noMachine, startState, takesFrom, stepOf}
-
--- a list without its element j
-unfoldable pub without : {A : Type 0} → ℕ → List A → List A
-without j [] = []
-without zero (x ∷ xs) = xs
-without (suc j) (x ∷ xs) = x ∷ without j xs
 
 -- a machine that lacks its arc j
 abbrev pub machineWithout : ℕ → Machine → Machine

@@ -15,9 +15,9 @@ use Rattle.product.specs.Best.{Contender}
 use Rattle.product.specs.Sets.{bestOfSets}
 use Rattle.product.specs.SetsTheorem.{best-is-best-of-all-words}
 use Rattle.product.specs.Nodes.{nodeCount}
-use Rattle.product.specs.OptimizingSets.{setsRefusal, setsInputRefusal, optimizerSetsRefusal, optimizedSets, optimizedSetsAnswer}
+use Rattle.product.specs.OptimizingSets.{setsInputRefusal, optimizerSetsRefusal, optimizedSets, optimizedSetsAnswer}
 use Rattle.product.specs.Laws.BestOfSets.{are64Bits}
-use Rattle.product.specs.Laws.SymbolSets.{AcceptedSets, sets-64}
+use Rattle.product.specs.Laws.SymbolSets.{sets-pass, sets-64}
 use Rattle.input.specs.AcceptedInput.{AcceptedSetsInput, accepted-sets-input}
 use Rattle.optimizer.specs.OptimizesSets.{OptimizesSets}
 use Rattle.trimming.specs.Travelling.{travels}
@@ -30,11 +30,6 @@ use Rattle.trimming.specs.SameBest.{same-best-of-sets, travelled-gone}
 called : {card ranking sets work workAfter answer after : List ℕ} {r : Evaluation} → OptimizesSets card ranking sets work workAfter answer after r → Called (setsInputRefusal card ranking sets (length work)) (bestOfSets card ranking sets) sets answer after r
 unfolding optimizedSets optimizedSetsAnswer optimizerSetsRefusal
 called c = record { result = c .result; answer-slice = c .answer-slice }
-
--- accepted sets meet no refusal
-sets-pass : (S : ℕ) (sets : List ℕ) → AcceptedSets S sets → setsRefusal S sets ≡ 0
-unfolding setsRefusal
-sets-pass S sets a = rw (le-leb (length sets) 24 (a .short), a .symbols)
 
 module _ {card ranking sets work workAfter answer answerAfter : List ℕ} {r : Evaluation} (first : OptimizesSets card ranking sets work workAfter answer answerAfter r) (answered : r .number ≡ 0) (i j : ℕ) (has : HasArc card i j) where
   found : (b : Contender) × CallAnswers (setsInputRefusal card ranking sets (length work)) (bestOfSets card ranking sets) sets answer answerAfter r b

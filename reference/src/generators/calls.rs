@@ -3,10 +3,12 @@
 use super::candidates::{bytes_of, damage_a_candidate, walk};
 use super::cards::{any_card, any_ranking, any_word, open_card};
 use super::damage::{add_states, damage_a_part, damage_a_ranking, damage_a_word, perhaps_damaged};
+use super::joining::joined_at_the_limits;
 use super::live::{live_table, row_call};
 use super::tableaux::any_tableau;
 use crate::call::Call;
 use crate::card::{read_card, Card, Machine};
+use crate::join::join;
 use crate::optimizer::{best, Method};
 use crate::random::Random;
 use crate::samples::{self, set, CARD_A};
@@ -41,16 +43,17 @@ impl Generator {
     /// A call of any kind.
     pub fn call(&self, random: &mut Random) -> Call {
         match random.below(100) {
-            0..=20 => self.optimize(random),
-            21..=28 => self.optimize_sets(random),
-            29..=35 => self.optimize_weights(random),
-            36..=45 => self.judge(random),
-            46..=59 => self.evaluate(random),
-            60..=66 => self.read_part(random),
-            67..=75 => self.pack(random),
-            76..=80 => compare(random),
-            81..=82 => condition(random),
-            83..=89 => find_ranking(random),
+            0..=19 => self.optimize(random),
+            20..=27 => self.optimize_sets(random),
+            28..=34 => self.optimize_weights(random),
+            35..=40 => self.join(random),
+            41..=50 => self.judge(random),
+            51..=62 => self.evaluate(random),
+            63..=68 => self.read_part(random),
+            69..=76 => self.pack(random),
+            77..=81 => compare(random),
+            82..=83 => condition(random),
+            84..=89 => find_ranking(random),
             90..=97 => row_call(random),
             _ => live_table(random),
         }
@@ -152,6 +155,40 @@ impl Generator {
         Call::OptimizeWeights { card, weights, word, work, answer: random.bytes(answer) }
     }
 
+    /// Two machines joined, one of them mostly without marks.
+    fn join(&self, random: &mut Random) -> Call {
+        let mut read = if random.percent(12) { joined_at_the_limits(random) } else { self.card(random) };
+        let machines = read.machines.len();
+        if machines == 1 && random.percent(80) {
+            return self.join(random);
+        }
+        let (mut first, mut second) = (random.below(machines), random.below(machines));
+        if first == second && random.percent(80) {
+            second = (first + 1) % machines;
+        }
+        if random.percent(85) {
+            let plain = &mut read.machines[random.one_of(&[first, second])];
+            plain.arcs.iter_mut().for_each(|arc| arc.marks = 0);
+            plain.endings.iter_mut().flatten().for_each(|marks| *marks = 0);
+            if random.percent(5) {
+                // a single mark, of an arc or of an ending
+                match plain.arcs.first_mut() {
+                    Some(arc) if random.percent(50) => arc.marks = 1,
+                    _ => plain.endings[0] = Some(1),
+                }
+            }
+        }
+        let bytes = samples::card(read.symbols, &read.machines);
+        let length = join(&bytes, first as u8, second as u8, &mut vec![0; 32_000]).unwrap_or(bytes.len());
+        if random.percent(5) {
+            let none = random.one_of(&[machines, 6, 7, 128, 255]);
+            (first, second) = random.one_of(&[(none, second), (first, none), (none, none)]);
+        }
+        let target = target_length(random, length);
+        let card = perhaps_damaged(random, &read, 25);
+        Call::Join { card, first: first as u8, second: second as u8, target: random.bytes(target) }
+    }
+
     fn judge(&self, random: &mut Random) -> Call {
         let read = self.card(random);
         let mut ranking = any_ranking(random, read.machines.len());
@@ -228,18 +265,22 @@ impl Generator {
             damage_the_lengths(random, &mut lengths, &mut parts);
         }
         let symbols = if random.percent(4) { random.one_of(&[0, 64, 65, 128, 255]) } else { symbols };
-        let exact = 2 + 4 * lengths.len() + parts.len();
-        let target = match random.below(12) {
-            0 => exact - 1,
-            1 => exact - 2,
-            2 => random.below(exact),
-            3 => 0,
-            4 => exact + 1,
-            5 => exact + random.below(100),
-            6 if random.percent(2) => random.below(exact) + TOO_WIDE,
-            _ => exact,
-        };
+        let target = target_length(random, 2 + 4 * lengths.len() + parts.len());
         Call::Pack { symbols, lengths, parts, target: random.bytes(target) }
+    }
+}
+
+/// The length of a target for a card of so many bytes.
+fn target_length(random: &mut Random, exact: usize) -> usize {
+    match random.below(12) {
+        0 => exact - 1,
+        1 => exact - 2,
+        2 => random.below(exact),
+        3 => 0,
+        4 => exact + 1,
+        5 => exact + random.below(100),
+        6 if random.percent(2) => random.below(exact) + TOO_WIDE,
+        _ => exact,
     }
 }
 

@@ -1,17 +1,22 @@
 -- What the checks of packing tell of its input. Assumes nothing.
 use mathlib.Core.Path.{_≡_}
 use mathlib.Core.Bool.{true}
-use mathlib.Core.List.{List, [], _∷_}
+use mathlib.Core.List.{List, [], _∷_, map}
 use Prim.Native.Nat.{ℕ, _≤_}
 use lib.Dec.{eqb, leb, lit<}
-use lib.ListN.{length}
+use lib.ListN.{length, length-map}
 use borrow.Author.Tests.{leb-true, eqb-true, le-leb, eq-eqb}
 use Rattle.basics.specs.Refusals.{refuse}
+use Rattle.basics.specs.Search.{joined}
+use Rattle.basics.specs.Products.{product}
 use Rattle.basics.proofs.Refusals.{passed}
+use Rattle.machine.specs.Part.{stateCount}
 use Rattle.card.specs.Layout.{soundCounts}
 use Rattle.card.specs.Card.{partsRefusal, fewStates}
 use Rattle.card.specs.Packing.{total, split, packed, packingRefusal}
 use Rattle.card.specs.Laws.Search.{first-passed, rest-passed}
+use Rattle.card.specs.Laws.Parts.{joined-split, joined-total}
+use Rattle.card.specs.Laws.Layout.{Counted, counts-hold}
 
 -- what an accepted packing input is known to be
 pub record Packable (S : ℕ) (lengths bytes : List ℕ) (room : ℕ) : Type 0 where
@@ -45,3 +50,21 @@ pub packs : (S : ℕ) (lengths bytes : List ℕ) (room : ℕ) → Packable S len
 unfolding packingRefusal
 packs S lengths bytes room p =
     rw (p .counts, eq-eqb (total lengths) (length bytes) (p .sum), p .parts, p .states, le-leb (length (packed S lengths bytes)) room (p .fits))
+
+-- parts that make a card of S symbols that is accepted
+pub record PartsPass (S : ℕ) (ps : List (List ℕ)) : Type 0 where
+  pub counts : Counted (length ps) S
+  pub each : partsRefusal S ps ≡ 0
+  pub states : product (map stateCount ps) ≤ 128
+
+pub parts-pack : (S : ℕ) (ps : List (List ℕ)) → PartsPass S ps → (room : ℕ) → length (packed S (map length ps) (joined (λ part. part) ps)) ≤ room
+    → packingRefusal S (map length ps) (joined (λ part. part) ps) room ≡ 0
+parts-pack S ps p room h =
+    packs S (map length ps) (joined (λ part. part) ps) room
+    (record {
+      counts = rw (length-map ps length) (counts-hold (length ps) S (p .counts));
+      sum = joined-total ps;
+      parts = rw (joined-split ps) (p .each);
+      states = rw (joined-split ps) (le-leb (product (map stateCount ps)) 128 (p .states));
+      fits = h;
+    })

@@ -7,10 +7,11 @@ use lib.Dec.{eqb}
 use borrow.Author.Tests.{eqb-true, eq-eqb}
 use Rattle.basics.specs.Search.{those}
 use Rattle.basics.proofs.Bools.{same}
+use Rattle.basics.proofs.Search.{those-here, those-later}
 use Rattle.live.specs.declared.Row.{Row}
 use Rattle.live.specs.Rows.{hasId}
 use Rattle.live.specs.Afresh.{Call, Add, Remove, removes, afresh}
-use Rattle.live.specs.Laws.Rows.{lacks, those-here, those-later}
+use Rattle.live.specs.Laws.Rows.{lacks}
 
 afresh-gone : (row : Row) (cs : List Call) → removes (row .id) cs ≡ true → afresh (Add row ∷ cs) ≡ afresh cs
 unfolding afresh

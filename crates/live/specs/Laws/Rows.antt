@@ -8,7 +8,7 @@ use lib.ListN.{length, take}
 use borrow.Author.Tests.{eqb-true, eq-eqb}
 use Rattle.basics.specs.Search.{allOf, pairwise, those}
 use Rattle.basics.proofs.Bools.{both, left, right, clash, fails}
-use Rattle.basics.proofs.Search.{all-append}
+use Rattle.basics.proofs.Search.{all-append, those-here, those-later}
 use Rattle.live.specs.declared.Row.{Row}
 use Rattle.live.specs.Rows.{hasId, present, without}
 
@@ -51,40 +51,13 @@ lacks id row = not (hasId id row)
 abbrev pub differ : Row → Row → Bool
 differ row other = lacks (row .id) other
 
-module _ {A : Type 0} (f : A → Bool) where
-  pub those-here : (x : A) (xs : List A) → f x ≡ true → those f (x ∷ xs) ≡ x ∷ those f xs
-  unfolding those
-  those-here x xs t = rw (t, those)
-
-  pub those-later : (x : A) (xs : List A) → f x ≡ false → those f (x ∷ xs) ≡ those f xs
-  unfolding those
-  those-later x xs t = rw (t, those)
-
-  those-all : (xs : List A) → allOf f xs ≡ true → those f xs ≡ xs
-  unfolding allOf those
-  those-all [] t = refl
-  those-all (x ∷ xs) t =
-      let h : f x ≡ true = left (f x) (allOf f xs) t in
-      those-here x xs h ∙ ap {B = List A} (λ ys. x ∷ ys) (those-all xs (right (f x) (allOf f xs) t))
-
-  -- what all pass, those of them pass
-  all-those : (g : A → Bool) (xs : List A) → allOf g xs ≡ true → allOf g (those f xs) ≡ true
-  unfolding allOf those
-  all-those g [] t = refl
-  all-those g (x ∷ xs) t = go (f x) refl (all-those g xs (right (g x) (allOf g xs) t))
-    where
-      go : (b : Bool) → f x ≡ b → allOf g (those f xs) ≡ true → allOf g (those f (x ∷ xs)) ≡ true
-      go true e k = rw (those-here x xs e) (both (left (g x) (allOf g xs) t) k)
-      go false e k = rw (those-later x xs e) k
-
-  pub pairwise-those : (g : A → A → Bool) (xs : List A) → pairwise g xs ≡ true → pairwise g (those f xs) ≡ true
-  unfolding pairwise those
-  pairwise-those g [] t = refl
-  pairwise-those g (x ∷ xs) t = go (f x) refl (pairwise-those g xs (right (allOf (g x) xs) (pairwise g xs) t))
-    where
-      go : (b : Bool) → f x ≡ b → pairwise g (those f xs) ≡ true → pairwise g (those f (x ∷ xs)) ≡ true
-      go true e k = rw (those-here x xs e) (both (all-those (g x) xs (left (allOf (g x) xs) (pairwise g xs) t)) k)
-      go false e k = rw (those-later x xs e) k
+-- those that pass, where all do
+those-all : {A : Type 0} (f : A → Bool) (xs : List A) → allOf f xs ≡ true → those f xs ≡ xs
+unfolding allOf those
+those-all f [] t = refl
+those-all {A} f (x ∷ xs) t =
+    let h : f x ≡ true = left (f x) (allOf f xs) t in
+    those-here f x xs h ∙ ap {B = List A} (λ ys. x ∷ ys) (those-all f xs (right (f x) (allOf f xs) t))
 
 -- where no two rows have one id, all rows but the first with an id are those with another
 pub without-those : (id : ℕ) (l : List Row) → pairwise differ l ≡ true → without id l ≡ those (lacks id) l

@@ -8,7 +8,7 @@ use native.Mathlib.Omega.{arith}
 use lib.Dec.{leb, ltb, eqb, lit<}
 use lib.ListN.{length, getD}
 use lib.Pow.{pow-pos, pow-lt, pow-mono}
-use borrow.Author.Tests.{leb-true, ltb-true, lt-ltb, ne-eqb, not-true}
+use borrow.Author.Tests.{leb-true, le-leb, ltb-true, lt-ltb, ne-eqb, not-true}
 use Rattle.basics.specs.Search.{allOf}
 use Rattle.basics.specs.Sets.{member}
 use Rattle.basics.specs.Refusals.{refuse, firstOf}
@@ -54,6 +54,11 @@ accepted-sets S sets e =
     let a = none-first (refuse 8 n) (refuse 25 w ∷ []) e in
     let b = none-first (refuse 25 w) [] (a .1) in
     record { short = leb-true (length sets) 24 (passed 8 n (lit< tt) (a .0)); symbols = passed 25 w (lit< tt) (b .0) }
+
+-- they meet no refusal
+pub sets-pass : (S : ℕ) (sets : List ℕ) → AcceptedSets S sets → setsRefusal S sets ≡ 0
+unfolding setsRefusal
+sets-pass S sets a = rw (le-leb (length sets) 24 (a .short), a .symbols)
 
 module _ (S : ℕ) (sets : List ℕ) (t : allOf (symbolSet S) sets ≡ true) where
   -- what is read at a position is a symbol

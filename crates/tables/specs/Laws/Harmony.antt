@@ -6,6 +6,7 @@ use Prim.Native.Nat.{ℕ, zero, suc, _-_, _<_, _≤_}
 use native.Mathlib.Decide.{decLt}
 use native.Mathlib.Omega.{arith}
 use lib.ListN.{length, getD, replicate, List·getD-eq-default}
+pub use Rattle.basics.proofs.Search.{any-default}
 use Rattle.ranking.specs.Harmony.{harmony}
 use Rattle.ranking.specs.Rankings.{isRanking}
 use Rattle.ranking.specs.Lemmas.Harmony.{Standing, fewer, same, more, standing, at-fewer, at-more, at-same}
@@ -42,12 +43,6 @@ module _ (v w : List ℕ) (hv : length v ≤ 6) (hw : length w ≤ 6) where
 
   pub six-harmony : (r : List ℕ) → length r ≤ 6 → harmony (sixPlaces r) v w ≡ harmony r v w
   six-harmony r h = ap (λ (l : List ℕ). harmony l v w) (six-as-list r h) ∙ with-sixes r (6 - length r)
-
--- within a list the default does not matter
-pub any-default : (l : List ℕ) (i a b : ℕ) → i < length l → getD l i a ≡ getD l i b
-any-default [] i a b h = absurd (omega arith)
-any-default (x ∷ l) zero a b h = refl
-any-default (x ∷ l) (suc i) a b h = any-default l i a b (omega arith)
 
 -- a ranking's six places
 pub six-places : (K : ℕ) (r : List ℕ) → K ≤ 6 → isRanking K r ≡ true → SixPlaces (sixPlaces r)

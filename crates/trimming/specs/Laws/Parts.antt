@@ -8,12 +8,12 @@ use lib.Dec.{leb}
 use lib.ListN.{length, getD, take, drop, length-append, length-drop, length-set, List·getD-append}
 use lib.Seq.{slice, length-take-le, getD-take, getD-drop, getD-append-add, getD-set-same, getD-set-other, take-set-lt, drop-set-lt, take-append-le, take-take}
 use borrow.Author.Tests.{le-leb, eq-eqb}
-use Rattle.basics.specs.Search.{allOf, pairwise}
+use Rattle.basics.specs.Search.{allOf, pairwise, without}
 use Rattle.machine.specs.declared.Arc.{Arc}
 use Rattle.machine.specs.Part.{stateCount, arcCount, fourBytesAt, eightBytesAt, arcAt, arcsAt, stateBytes, arcsOf, endingByte, machineOf, shaped, soundArc, clashFree, partRefusal}
 use Rattle.machine.specs.Accepted.{Shaped, accepted}
 use Rattle.layout.specs.Layout.{Bytes}
-use Rattle.trimming.specs.Travelling.{without, machineWithout}
+use Rattle.trimming.specs.Travelling.{machineWithout}
 use Rattle.trimming.specs.Trimmed.{arcPlace, partWithout}
 use Rattle.trimming.specs.Laws.Lists.{all-without, pairwise-without}
 

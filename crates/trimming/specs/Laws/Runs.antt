@@ -8,7 +8,7 @@ use Prim.Native.Nat.{ℕ, zero, suc, _<_}
 use native.Mathlib.Omega.{arith}
 use lib.Dec.{eqb}
 use borrow.Author.Tests.{not-true}
-use Rattle.basics.specs.Search.{allOf, pairwise}
+use Rattle.basics.specs.Search.{allOf, pairwise, without}
 use Rattle.basics.proofs.Bools.{clash as never, left, right, left-fails, right-fails}
 use Rattle.machine.specs.declared.Arc.{Arc}
 use Rattle.machine.specs.declared.Pair.{Pair}
@@ -16,19 +16,11 @@ use Rattle.machine.specs.Symbols.{isPair}
 use Rattle.machine.specs.Machine.{Machine, takes, takesFrom, stepAmong, stepOf, endingOf, clash}
 use Rattle.machine.specs.Part.{soundArc, clashFree}
 use Rattle.machine.specs.Accepted.{taken-within}
-use Rattle.machine.specs.Steps.{clash-at}
+use Rattle.machine.specs.Steps.{clash-at, step-taken, step-passed}
 use Rattle.candidate.specs.Candidates.{addMarks, marksFrom}
-use Rattle.trimming.specs.Travelling.{without, machineWithout, arcTakes, travelsFrom}
+use Rattle.trimming.specs.Travelling.{machineWithout, arcTakes, travelsFrom}
 
 -- ---- one step
-
-step-taken : (a : Arc) (arcs : List Arc) (s : ℕ) (p : Pair) → takesFrom a s p ≡ true → stepAmong (a ∷ arcs) s p ≡ some (a .to, a .marks)
-unfolding stepAmong
-step-taken a arcs s p t = rw (t, stepAmong)
-
-step-passed : (a : Arc) (arcs : List Arc) (s : ℕ) (p : Pair) → takesFrom a s p ≡ false → stepAmong (a ∷ arcs) s p ≡ stepAmong arcs s p
-unfolding stepAmong
-step-passed a arcs s p t = rw (t, stepAmong)
 
 -- without an arc that does not take the pair the step is the same
 step-same : (arcs : List Arc) (j s : ℕ) (p : Pair) → arcTakes arcs j s p ≡ false → stepAmong (without j arcs) s p ≡ stepAmong arcs s p

@@ -1,0 +1,4 @@
+pub mod Rest
+pub mod Parts
+pub mod CardParts
+pub mod Answers

@@ -1,0 +1,213 @@
+-- The best candidate with two machines joined, one of them without marks: it is the best candidate of the old card, under the ranking in which the
+-- joined machine stands in the place of the one with marks. Assumes nothing.
+use mathlib.Core.Path.{_≡_, refl, sym, ap, _∙_}
+use mathlib.Core.Logic.{_⊎_, inl, inr, _↔_}
+use mathlib.Core.Bool.{Bool, true, false}
+use mathlib.Core.List.{List}
+use mathlib.Core.Option.{Option, some, none}
+use Prim.Native.Nat.{ℕ, suc, _+_, _*_, _<_}
+use native.Mathlib.Omega.{arith}
+use lib.Dec.{eqb}
+use lib.ListN.{length, getD}
+use lib.Seq.{ext-getD}
+use borrow.Author.Tests.{eqb-true, eqb-false}
+use Rattle.machine.specs.declared.Pair.{Pair}
+use Rattle.machine.specs.Machine.{Machine, startState}
+use Rattle.ranking.specs.Rankings.{isRanking}
+use Rattle.ranking.specs.Harmony.{worse}
+use Rattle.card.specs.Layout.{machineCount, symbolCount, partsOf}
+use Rattle.card.specs.Card.{machinesOf, cardRefusal}
+use Rattle.card.specs.Accepted.{accepted}
+use Rattle.basics.proofs.Search.{map-at}
+use Rattle.candidate.specs.Candidates.{marksOf, countOf, profileOf, IsCandidate}
+use Rattle.product.specs.Nodes.{nodeCount}
+use Rattle.product.specs.Best.{Contender, best}
+use Rattle.product.specs.Sets.{IsCandidateOf, bestOfSets}
+use Rattle.product.specs.BestCandidate.{Beats, better-profile, fewer-pairs, smaller-bytes, IsBestCandidate, IsBestOfSets, BestOf}
+use Rattle.product.specs.BestTheorem.{best-is-best-of-all}
+use Rattle.product.specs.SetsTheorem.{best-is-best-of-all-words}
+use Rattle.product.specs.Laws.BestOfSets.{are64Bits}
+use Rattle.product.specs.Laws.BestCandidate.{profile-length}
+use Rattle.product.specs.Laws.Accepted.{accepted-machines}
+use Rattle.join.specs.Merged.{mergedCounts}
+use Rattle.join.specs.JoinedMachine.{machineAt, joinedMachine, joinedMachines, markless}
+use Rattle.join.specs.JoinedRanking.{renumbered, joinedRanking}
+use Rattle.join.specs.JoinTheorem.{Joins, JoinKeeps, join-keeps}
+use Rattle.join.specs.Laws.Merged.{length-merged}
+use Rattle.join.specs.Laws.Ranking.{merged-count, joined-worse, joined-ranking}
+use Rattle.join.specs.Laws.Markless.{counts-nothing}
+use Rattle.join.specs.Laws.Parts.{machines-sound}
+
+-- u is one of the two, and has no marks
+pub record Unmarked (i j u : ℕ) (ms : List Machine) : Type 0 where
+  pub which : (u ≡ i) ⊎ (u ≡ j)
+  pub no-marks : markless (machineAt ms u) ≡ true
+
+module _ {S i j u : ℕ} {ms : List Machine} (k : Joins S i j ms) (n : Unmarked i j u ms) where
+  ms′ : List Machine
+  ms′ = joinedMachines i j ms
+
+  keeps : JoinKeeps i j ms
+  keeps = join-keeps k
+
+  counts : (c : List Pair) → j < length (profileOf ms c)
+  counts c = omega (arith, k .within, profile-length ms c)
+
+  below : (u ≡ i) ⊎ (u ≡ j) → u < length ms
+  below (inl e) = omega (arith, e, k .order, k .within)
+  below (inr e) = omega (arith, e, k .within)
+
+  no-count : (c : List Pair) → getD (profileOf ms c) u 0 ≡ 0
+  unfolding profileOf
+  no-count c = map-at (λ m. countOf (marksOf c m)) ms u (below (n .which)) 0 _ ∙ counts-nothing (machineAt ms u) (n .no-marks) startState c
+
+  new-profile : {word : List ℕ} (c : List Pair) → IsCandidate ms word c → profileOf ms′ c ≡ mergedCounts i j (profileOf ms c)
+  unfolding keeps ms′
+  new-profile c h = keeps .profile c (h .pairs) (h .complete)
+
+  -- equal counts once merged were equal before
+  same-counts : (c d : List Pair) → mergedCounts i j (profileOf ms d) ≡ mergedCounts i j (profileOf ms c) → profileOf ms d ≡ profileOf ms c
+  same-counts c d e = ext-getD 0 (profileOf ms d) (profileOf ms c) (profile-length ms d ∙ sym (profile-length ms c)) (λ m h. go m (eqb m u) refl)
+    where
+      go : (m : ℕ) (b : Bool) → eqb m u ≡ b → getD (profileOf ms d) m 0 ≡ getD (profileOf ms c) m 0
+      go m true t =
+          let q = eqb-true m u t in
+          ap (λ x. getD (profileOf ms d) x 0) q ∙ no-count d ∙ sym (no-count c) ∙ ap (λ x. getD (profileOf ms c) x 0) (sym q)
+      go m false t =
+          let f = eqb-false m u t in
+          sym (merged-count i j u (k .order) (n .which) (profileOf ms d) (counts d) (no-count d) m f)
+          ∙ ap (λ (v : List ℕ). getD v (renumbered i j m) 0) e
+          ∙ merged-count i j u (k .order) (n .which) (profileOf ms c) (counts c) (no-count c) m f
+
+  -- two candidates, for one word or for two
+  module _ (r : List ℕ) {word other : List ℕ} (c d : List Pair) (hc : IsCandidate ms word c) (hd : IsCandidate ms other d) where
+    new-order : worse (joinedRanking i j u r) (profileOf ms′ d) (profileOf ms′ c) ≡ worse r (profileOf ms d) (profileOf ms c)
+    new-order =
+        ap (λ (v : List ℕ). worse (joinedRanking i j u r) v (profileOf ms′ c)) (new-profile d hd)
+        ∙ ap (λ (v : List ℕ). worse (joinedRanking i j u r) (mergedCounts i j (profileOf ms d)) v) (new-profile c hc)
+        ∙ joined-worse i j u (k .order) (n .which) r (profileOf ms d) (profileOf ms c) (counts d) (counts c) (no-count d) (no-count c)
+
+    to-old : profileOf ms′ d ≡ profileOf ms′ c → profileOf ms d ≡ profileOf ms c
+    to-old e = same-counts c d (sym (new-profile d hd) ∙ e ∙ new-profile c hc)
+
+    to-new : profileOf ms d ≡ profileOf ms c → profileOf ms′ d ≡ profileOf ms′ c
+    to-new e = new-profile d hd ∙ ap (mergedCounts i j) e ∙ sym (new-profile c hc)
+
+    beats-old : Beats (joinedRanking i j u r) ms′ c d → Beats r ms c d
+    beats-old (better-profile h) = better-profile (sym new-order ∙ h)
+    beats-old (fewer-pairs e h) = fewer-pairs (to-old e) h
+    beats-old (smaller-bytes e h l) = smaller-bytes (to-old e) h l
+
+    beats-new : Beats r ms c d → Beats (joinedRanking i j u r) ms′ c d
+    beats-new (better-profile h) = better-profile (new-order ∙ h)
+    beats-new (fewer-pairs e h) = fewer-pairs (to-new e) h
+    beats-new (smaller-bytes e h l) = smaller-bytes (to-new e) h l
+
+  -- the best candidate is the same
+  pub best-joined : (r word : List ℕ) (c : List Pair) → IsBestCandidate (joinedRanking i j u r) (joinedMachines i j ms) word c ↔ IsBestCandidate r ms word c
+  unfolding ms′ keeps
+  best-joined r word c = (
+    λ b.
+        let h = keeps .candidate word c .0 (b .candidate) in
+        record { candidate = h; rivals = λ d hd ne. beats-old r c d h hd (b .rivals d (keeps .candidate word d .1 hd) ne) },
+    λ b. record {
+      candidate = keeps .candidate word c .1 (b .candidate);
+      rivals = λ d hd ne. let h = keeps .candidate word d .0 hd in beats-new r c d (b .candidate) h (b .rivals d h ne);
+    },
+  )
+
+  -- so is the best for a word heard only in part
+  pub best-of-sets-joined : (r sets : List ℕ) (c : List Pair) → IsBestOfSets (joinedRanking i j u r) (joinedMachines i j ms) sets c ↔ IsBestOfSets r ms sets c
+  unfolding ms′ keeps
+  best-of-sets-joined r sets c = (
+    λ b.
+        let h = keeps .candidate-of sets c .0 (b .candidate) in
+        record { candidate = h; rivals = λ d hd ne. beats-old r c d (h .is) (hd .is) (b .rivals d (keeps .candidate-of sets d .1 hd) ne) },
+    λ b. record {
+      candidate = keeps .candidate-of sets c .1 (b .candidate);
+      rivals = λ d hd ne. let h = keeps .candidate-of sets d .0 hd in beats-new r c d (b .candidate .is) (h .is) (b .rivals d h ne);
+    },
+  )
+
+-- ---- for cards
+
+-- the best candidate with its profile, the two counts added
+abbrev pub joinedContender : ℕ → ℕ → Option Contender → Option Contender
+joinedContender i j none = none
+joinedContender i j (some b) = some (record { candidate = b .candidate; profile = mergedCounts i j (b .profile) })
+
+-- two machines of an accepted card
+pub card-joins : (card : List ℕ) → cardRefusal card ≡ 0 → (i j : ℕ) → i < j → j < machineCount card → Joins (symbolCount card) i j (machinesOf card)
+unfolding machinesOf
+card-joins card ok i j h k =
+    let a = accepted card ok in
+    record { symbols = omega (arith, a .head); order = h; within = omega (arith, k, accepted-machines card ok .count); sound = machines-sound (symbolCount card) (partsOf card) (a .all-parts) }
+
+-- two accepted cards, the second with the machines i and j of the first joined
+pub record TwoCards (i j : ℕ) (card new : List ℕ) : Type 0 where
+  pub first-accepted : cardRefusal card ≡ 0
+  pub order : i < j
+  pub within : j < machineCount card
+  pub second-accepted : cardRefusal new ≡ 0
+  pub machines : machinesOf new ≡ joinedMachines i j (machinesOf card)
+
+module _ {card new : List ℕ} {i j : ℕ} (two : TwoCards i j card new) where
+  joins : Joins (symbolCount card) i j (machinesOf card)
+  joins = card-joins card (two .first-accepted) i j (two .order) (two .within)
+
+  kept : JoinKeeps i j (machinesOf card)
+  kept = join-keeps joins
+
+  -- they have as many nodes
+  pub same-nodes : (n : ℕ) → nodeCount (machinesOf new) n ≡ nodeCount (machinesOf card) n
+  same-nodes n = ap (λ (ms : List Machine). nodeCount ms n) (two .machines) ∙ ap (λ (P : ℕ). (n + 1) * P) (kept .states)
+
+  -- candidates are the same, and their profiles are the old ones with the two counts added
+  pub same-candidate : (word : List ℕ) (c : List Pair) → IsCandidate (machinesOf new) word c ↔ IsCandidate (machinesOf card) word c
+  same-candidate word c = rw (two .machines) (kept .candidate word c)
+
+  pub same-candidate-of : (sets : List ℕ) (c : List Pair) → IsCandidateOf (machinesOf new) sets c ↔ IsCandidateOf (machinesOf card) sets c
+  same-candidate-of sets c = rw (two .machines) (kept .candidate-of sets c)
+
+  pub added-profile : {word : List ℕ} (c : List Pair) → IsCandidate (machinesOf card) word c → profileOf (machinesOf new) c ≡ mergedCounts i j (profileOf (machinesOf card) c)
+  added-profile c is = rw (two .machines) (kept .profile c (is .pairs) (is .complete))
+
+  module _ {u : ℕ} (n : Unmarked i j u (machinesOf card)) where
+    pub new-ranking : (ranking : List ℕ) → isRanking (machineCount card) ranking ≡ true → isRanking (machineCount new) (joinedRanking i j u ranking) ≡ true
+    new-ranking ranking is = joined-ranking i j u (two .order) (n .which) (machineCount new) ranking (omega (arith, count, two .within)) (ap (λ K. isRanking K ranking) count ∙ is)
+      where
+        count : suc (machineCount new) ≡ machineCount card
+        count =
+            ap suc (sym (accepted-machines new (two .second-accepted) .count) ∙ ap length (two .machines))
+            ∙ length-merged joinedMachine (machinesOf card) i j (two .order) (joins .within)
+            ∙ accepted-machines card (two .first-accepted) .count
+
+    pub same-best : (ranking word : List ℕ) (c : List Pair) → IsBestCandidate (joinedRanking i j u ranking) (machinesOf new) word c ↔ IsBestCandidate ranking (machinesOf card) word c
+    same-best ranking word c = rw (two .machines) (best-joined joins n ranking word c)
+
+    pub same-best-of-sets : (ranking sets : List ℕ) (c : List Pair) → IsBestOfSets (joinedRanking i j u ranking) (machinesOf new) sets c ↔ IsBestOfSets ranking (machinesOf card) sets c
+    same-best-of-sets ranking sets c = rw (two .machines) (best-of-sets-joined joins n ranking sets c)
+
+    -- so what the definitions find is the same, for a word and for sets
+    found-too : {Meant Best NewMeant NewBest : List Pair → Type 0} {o new-o : Option Contender} → BestOf (machinesOf card) Meant Best o → BestOf (machinesOf new) NewMeant NewBest new-o
+        → ((c : List Pair) → NewMeant c → Meant c) → ((c : List Pair) → Best c → NewBest c) → ((c : List Pair) → Best c → profileOf (machinesOf new) c ≡ mergedCounts i j (profileOf (machinesOf card) c))
+        → new-o ≡ joinedContender i j o
+    found-too {Meant} {Best} {NewMeant} {NewBest} {o} {new-o} here there meant bests profiles = go o refl
+      where
+        go : (b : Option Contender) → o ≡ b → new-o ≡ joinedContender i j b
+        go none q = there .none-exactly .1 (λ c x. here .none-exactly .0 q c (meant c x))
+        go (some b) q =
+            let c = b .candidate in
+            let is = here .is-best b q in
+            there .only-it c (bests c is) ∙ ap (λ (v : List ℕ). some (record { candidate = c; profile = v })) (profiles c is ∙ ap (mergedCounts i j) (sym (here .its-profile b q)))
+
+    pub best-of-joined : (ranking word : List ℕ) → isRanking (machineCount card) ranking ≡ true → best new (joinedRanking i j u ranking) word ≡ joinedContender i j (best card ranking word)
+    best-of-joined ranking word is =
+        found-too (best-is-best-of-all card ranking word (two .first-accepted) is) (best-is-best-of-all new (joinedRanking i j u ranking) word (two .second-accepted) (new-ranking ranking is))
+        (λ c. same-candidate word c .0) (λ c. same-best ranking word c .1) (λ c b. added-profile c (b .candidate))
+
+    pub best-of-sets-of-joined : (ranking sets : List ℕ) → isRanking (machineCount card) ranking ≡ true → are64Bits sets ≡ true
+        → bestOfSets new (joinedRanking i j u ranking) sets ≡ joinedContender i j (bestOfSets card ranking sets)
+    best-of-sets-of-joined ranking sets is bits =
+        found-too (best-is-best-of-all-words card ranking sets (two .first-accepted) is bits) (best-is-best-of-all-words new (joinedRanking i j u ranking) sets (two .second-accepted) (new-ranking ranking is) bits)
+        (λ c. same-candidate-of sets c .0) (λ c. same-best-of-sets ranking sets c .1) (λ c b. added-profile c (b .candidate .is))

@@ -1,0 +1,102 @@
+-- The theorem on joined machines, over decoded machines: a candidate is complete with the two joined exactly when it was, and its profile is the
+-- old one with the two counts added; and the joined machines are sound, with as many joint states. Assumes nothing.
+use mathlib.Core.Path.{_≡_, refl, sym, ap, _∙_}
+use mathlib.Core.Logic.{_⊎_, _↔_}
+use mathlib.Core.Bool.{true, _&&_}
+use mathlib.Core.List.{List}
+use mathlib.Core.Option.{Option, some, none}
+use Prim.Native.Nat.{ℕ, _+_, _*_, _<_}
+use native.Mathlib.Omega.{arith}
+use lib.ListN.{length, length-map}
+use Rattle.basics.specs.Search.{allOf}
+use Rattle.basics.proofs.Bools.{both, clash}
+use Rattle.basics.proofs.Search.{all-at}
+use Rattle.machine.specs.declared.Pair.{Pair}
+use Rattle.machine.specs.Symbols.{isPair}
+use Rattle.machine.specs.Machine.{Machine}
+use Rattle.candidate.specs.Candidates.{marksOf, isSome, countOf, isComplete, profileOf, IsCandidate}
+use Rattle.product.specs.Nodes.{stateCountOf, stateCounts, product}
+use Rattle.product.specs.Sets.{IsCandidateOf}
+use Rattle.join.specs.Merged.{mergedCounts}
+use Rattle.join.specs.JoinedMachine.{machineAt, joinedMachine, joinedMachines, bothMarks, markless}
+use Rattle.join.specs.Laws.Machines.{soundMachine}
+use Rattle.join.specs.Laws.Merged.{map-merged, all-merged, product-merged}
+use Rattle.join.specs.Laws.Steps.{joined-marks}
+use Rattle.join.specs.Laws.Sound.{joined-states, joined-sound}
+
+-- the machines i and j of a card of S symbols, i < j, all of them sound
+pub record Joins (S i j : ℕ) (ms : List Machine) : Type 0 where
+  pub symbols : S < 64
+  pub order : i < j
+  pub within : j < length ms
+  pub sound : allOf (soundMachine S) ms ≡ true
+
+-- what joining them keeps
+pub record JoinKeeps (i j : ℕ) (ms : List Machine) : Type 0 where
+  pub complete : (c : List Pair) → allOf isPair c ≡ true → isComplete (joinedMachines i j ms) c ≡ isComplete ms c
+  pub profile : (c : List Pair) → allOf isPair c ≡ true → isComplete ms c ≡ true → profileOf (joinedMachines i j ms) c ≡ mergedCounts i j (profileOf ms c)
+  pub candidate : (word : List ℕ) (c : List Pair) → IsCandidate (joinedMachines i j ms) word c ↔ IsCandidate ms word c
+  pub candidate-of : (sets : List ℕ) (c : List Pair) → IsCandidateOf (joinedMachines i j ms) sets c ↔ IsCandidateOf ms sets c
+  pub states : product (stateCounts (joinedMachines i j ms)) ≡ product (stateCounts ms)
+
+module _ {S i j : ℕ} {ms : List Machine} (k : Joins S i j ms) where
+  first-sound : soundMachine S (machineAt ms i) ≡ true
+  first-sound = all-at (soundMachine S) ms _ (k .sound) i (omega (arith, k .order, k .within))
+
+  second-sound : soundMachine S (machineAt ms j) ≡ true
+  second-sound = all-at (soundMachine S) ms _ (k .sound) j (k .within)
+
+  its-marks : (c : List Pair) → allOf isPair c ≡ true → marksOf c (joinedMachine (machineAt ms i) (machineAt ms j)) ≡ bothMarks (marksOf c (machineAt ms i)) (marksOf c (machineAt ms j))
+  its-marks = joined-marks S (k .symbols) (machineAt ms i) (machineAt ms j) first-sound second-sound
+
+  some-both : (x y : Option ℕ) → isSome (bothMarks x y) ≡ (isSome x && isSome y)
+  some-both none y = refl
+  some-both (some m) none = refl
+  some-both (some m) (some n) = refl
+
+  count-both : (x y : Option ℕ) → isSome x ≡ true → isSome y ≡ true → countOf (bothMarks x y) ≡ countOf x + countOf y
+  count-both none y p q = absurd (clash p refl)
+  count-both (some m) none p q = absurd (clash q refl)
+  count-both (some m) (some n) p q = refl
+
+  keeps-complete : (c : List Pair) → allOf isPair c ≡ true → isComplete (joinedMachines i j ms) c ≡ isComplete ms c
+  unfolding isComplete
+  keeps-complete c is =
+      all-merged (λ m. isSome (marksOf c m)) joinedMachine ms i j _ (k .order) (k .within)
+      (ap isSome (its-marks c is) ∙ some-both (marksOf c (machineAt ms i)) (marksOf c (machineAt ms j)))
+
+  keeps-profile : (c : List Pair) → allOf isPair c ≡ true → isComplete ms c ≡ true → profileOf (joinedMachines i j ms) c ≡ mergedCounts i j (profileOf ms c)
+  unfolding isComplete profileOf
+  keeps-profile c is t =
+      map-merged (λ m. countOf (marksOf c m)) joinedMachine (λ m n. m + n) ms i j _ (k .order) (k .within)
+      (ap countOf (its-marks c is)
+      ∙ count-both (marksOf c (machineAt ms i)) (marksOf c (machineAt ms j))
+      (all-at (λ m. isSome (marksOf c m)) ms _ t i (omega (arith, k .order, k .within)))
+      (all-at (λ m. isSome (marksOf c m)) ms _ t j (k .within)))
+
+  keeps-candidate : (word : List ℕ) (c : List Pair) → IsCandidate (joinedMachines i j ms) word c ↔ IsCandidate ms word c
+  keeps-candidate word c = (
+    λ h. record { pairs = h .pairs; spells = h .spells; complete = sym (keeps-complete c (h .pairs)) ∙ h .complete },
+    λ h. record { pairs = h .pairs; spells = h .spells; complete = keeps-complete c (h .pairs) ∙ h .complete },
+  )
+
+  pub join-keeps : JoinKeeps i j ms
+  join-keeps = record {
+    complete = keeps-complete;
+    profile = keeps-profile;
+    candidate = keeps-candidate;
+    candidate-of = λ sets c. (
+      λ h. record { word = h .word; fits = h .fits; is = keeps-candidate (h .word) c .0 (h .is) },
+      λ h. record { word = h .word; fits = h .fits; is = keeps-candidate (h .word) c .1 (h .is) },
+    );
+    states =
+        ap product (map-merged stateCountOf joinedMachine (λ m n. m * n) ms i j _ (k .order) (k .within) (joined-states (machineAt ms i) (machineAt ms j)))
+        ∙ product-merged (stateCounts ms) i j (k .order) (omega (arith, k .within, length-map ms stateCountOf));
+  }
+
+  -- the joined machines are sound, where one of the two has no marks
+  pub join-sound : (markless (machineAt ms i) ≡ true) ⊎ (markless (machineAt ms j) ≡ true) → allOf (soundMachine S) (joinedMachines i j ms) ≡ true
+  join-sound u =
+      all-merged (soundMachine S) joinedMachine ms i j _ (k .order) (k .within)
+      (joined-sound S (machineAt ms i) (machineAt ms j) first-sound second-sound u ∙ sym (both first-sound second-sound))
+      ∙ k .sound

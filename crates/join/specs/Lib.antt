@@ -1,0 +1,12 @@
+pub mod Merged
+pub mod JoinedMachine
+pub mod Refusals
+pub mod JoinedRanking
+pub mod JoinedCard
+pub mod CommonPairs
+pub mod Writing
+pub mod Laws
+pub mod JoinTheorem
+pub mod BestJoined
+pub mod JoinedCardTheorem
+pub mod SameAnswers

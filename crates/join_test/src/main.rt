@@ -1,0 +1,333 @@
+// Tries the call that joins two machines of a card: the new card byte by byte, every word of at most three symbols on a card and its join, kinds in all
+// pairs, arcs that share only 0:0, ending marks, the refusals 27 and 28 with their neighbours that pass, the order of the checks, and targets that are
+// exact, longer and one short. A line for each case: the number, the new card's length, how many bytes of the target still hold 9.
+mod samples; // samples.rt: the cards
+
+use candidate::Evaluation;
+use card::Packed;
+use samples::ENDINGS;
+use samples::FEW_ARCS;
+use samples::FOUR;
+use samples::KINDS;
+use samples::MANY_ARCS;
+use samples::ONLY_0_0;
+use samples::STATES_32;
+use samples::STATES_33;
+
+fn write(text: &[u8]) {
+    io::write_all(1, text);
+}
+
+fn write_number(number: u64) {
+    io::print_decimal(1, number);
+}
+
+fn write_byte(byte: u8) {
+    write(b" ");
+    write_number(byte as u64);
+}
+
+fn write_count(count: u16) {
+    write_number(count as u64);
+}
+
+// How many bytes are 9.
+fn nines(bytes: &[u8; 400]) -> u64 {
+    let mut count: u64 = 0;
+    let mut at = 0;
+    while at < 400 {
+        if bytes[at] == 9 {
+            count += 1;
+        }
+        at += 1;
+    }
+    count
+}
+
+fn write_answer(joined: Packed) {
+    write_byte(joined.number);
+    write(b" ");
+    write_number(joined.length as u64);
+}
+
+// The call with the first `room` bytes of a target of 9s.
+fn join(card: &[u8], first: u8, second: u8, room: usize) {
+    let mut target = [9u8; 400];
+    if room > 400 {
+        return;
+    }
+    let joined = join::join(card, first, second, &mut target[0..room]);
+    write_answer(joined);
+    write(b" ");
+    write_number(nines(&target));
+    write(b"\n");
+}
+
+// A line of bytes.
+fn write_bytes(bytes: &[u8]) {
+    for i in 0..bytes.len() {
+        write_byte(bytes[i]);
+    }
+    write(b"\n");
+}
+
+// The new card's bytes.
+fn show(card: &[u8], first: u8, second: u8) {
+    let mut target = [9u8; 400];
+    let joined = join::join(card, first, second, &mut target);
+    let length = joined.length;
+    write_answer(joined);
+    write(b":");
+    if length <= 400 {
+        write_bytes(&target[0..length]);
+    }
+}
+
+// A target that is longer, exact and one short, and the two numbers in either order.
+fn targets() {
+    let card = FOUR;
+    show(&card, 0, 3);
+    show(&card, 3, 0);
+    join(&card, 0, 3, 400);
+    join(&card, 0, 3, 346);
+    join(&card, 0, 3, 345);
+    join(&card, 0, 3, 0);
+}
+
+// Other two machines of the card, which all may be joined with the one that has no marks.
+fn other_two() {
+    let card = FOUR;
+    show(&card, 1, 3);
+    show(&card, 3, 2);
+}
+
+// Refusal 27: one machine twice, a number not below K, two machines with marks.
+fn machines() {
+    let card = FOUR;
+    join(&card, 3, 3, 400);
+    join(&card, 3, 4, 400);
+    join(&card, 255, 3, 400);
+    join(&card, 0, 1, 400);
+    join(&card, 1, 2, 400);
+}
+
+// Marks of an arc that is never reached, and marks for ending, are marks too.
+fn marks() {
+    let card = FOUR;
+    let mut marked = FOUR;
+    marked[293] = 0;
+    marked[314] = 1;
+    join(&marked, 0, 3, 400);
+    let mut ending = FOUR;
+    ending[270] = 2;
+    join(&ending, 0, 3, 400);
+    join(&card, 0, 3, 400);
+}
+
+// The card is looked at first, then 27, then 28, and the target last.
+fn order() {
+    let mut card = FOUR;
+    card[1] = 0;
+    join(&card, 3, 3, 0);
+    let states = STATES_33;
+    join(&states, 0, 0, 0);
+    join(&states, 0, 1, 0);
+}
+
+fn states() {
+    let many = STATES_33;
+    let few = STATES_32;
+    join(&many, 0, 1, 400);
+    join(&few, 0, 1, 400);
+    join(&few, 0, 1, 39);
+}
+
+// 15 arcs with 17, and 16 with 16.
+fn many_arcs(card: &[u8], room: usize) {
+    let mut target = [9u8; 5200];
+    if room > 5200 {
+        return;
+    }
+    let joined = join::join(card, 0, 1, &mut target[0..room]);
+    write_answer(joined);
+    write_byte(target[6]);
+    write_byte(target[7]);
+    write(b"\n");
+}
+
+fn arcs() {
+    let few = FEW_ARCS;
+    many_arcs(&few, 5200);
+    many_arcs(&few, 5109);
+    many_arcs(&few, 5108);
+}
+
+fn too_many_arcs() {
+    let many = MANY_ARCS;
+    many_arcs(&many, 5200);
+}
+
+// Two machines of one arc each, on all symbols, of two kinds.
+fn kinds_of(first: u8, second: u8) {
+    let mut card = KINDS;
+    card[16] = first;
+    card[39] = second;
+    show(&card, 0, 1);
+}
+
+fn kinds_with(first: u8) {
+    kinds_of(first, 0);
+    kinds_of(first, 1);
+    kinds_of(first, 2);
+}
+
+fn kinds() {
+    kinds_with(0);
+    kinds_with(1);
+    kinds_with(2);
+}
+
+// Sets with one symbol in common, of two kinds: with kind 2 there is no common pair, and with kind 1 one.
+fn one_symbol(first: u8, second: u8) {
+    let mut card = KINDS;
+    card[16] = first;
+    card[39] = second;
+    card[17] = 3;
+    card[25] = 2;
+    card[40] = 6;
+    show(&card, 0, 1);
+}
+
+fn one_symbols() {
+    one_symbol(0, 0);
+    one_symbol(0, 1);
+    one_symbol(2, 0);
+}
+
+fn no_pair() {
+    let card = ONLY_0_0;
+    show(&card, 0, 1);
+}
+
+fn endings() {
+    let card = ENDINGS;
+    show(&card, 0, 1);
+}
+
+fn write_pair(input: u8, output: u8) {
+    write_byte(input);
+    write(b":");
+    write_number(output as u64);
+}
+
+fn write_pairs(answer: &[u8; 20], pairs: u16) {
+    let mut left = pairs;
+    let mut at = 0;
+    while left > 0 {
+        if at + 1 < 20 {
+            write_pair(answer[at], answer[at + 1]);
+            at += 2;
+        }
+        left -= 1;
+    }
+}
+
+// Whether two answer slices are the same.
+fn same_bytes(first: &[u8; 20], second: &[u8; 20]) -> bool {
+    for i in 0..20 {
+        if first[i] != second[i] {
+            return false;
+        }
+    }
+    true
+}
+
+// Whether the second is the first with the counts 0 and 3 added: machine 3 counts nothing.
+fn same_result(first: Evaluation, second: Evaluation) -> bool {
+    let counts = first.profile;
+    let others = second.profile;
+    (first.number == second.number)
+        & (counts.counts[0] == others.counts[0])
+        & (counts.counts[1] == others.counts[1])
+        & (counts.counts[2] == others.counts[2])
+        & (counts.counts[3] == 0)
+        & (first.pairs == second.pairs)
+        & (first.word_length == second.word_length)
+}
+
+fn answered(card: &[u8], ranking: &[u8], word: &[u8], answer: &mut [u8; 20]) -> Evaluation {
+    let mut work = [0u16; 128];
+    optimizer::optimize(card, ranking, word, &mut work, answer)
+}
+
+// The answer on the new card.
+fn answered_joined(ranking: &[u8], word: &[u8], answer: &mut [u8; 20]) -> Evaluation {
+    let card = FOUR;
+    let mut target = [9u8; 346];
+    join::join(&card, 3, 0, &mut target);
+    answered(&target, ranking, word, answer)
+}
+
+// A line with the two cards' answer for a word, where it is one.
+fn compared(ranking: &[u8], joined_ranking: &[u8], word: &[u8]) {
+    let card = FOUR;
+    let mut first = [9u8; 20];
+    let mut second = [9u8; 20];
+    let old = answered(&card, ranking, word, &mut first);
+    let new = answered_joined(joined_ranking, word, &mut second);
+    let profile = new.profile;
+    if same_result(old, new) & same_bytes(&first, &second) {
+        write_byte(new.number);
+        write(b":");
+        write_count(profile.counts[0]);
+        write(b",");
+        write_count(profile.counts[1]);
+        write(b",");
+        write_count(profile.counts[2]);
+        write_pairs(&second, new.pairs);
+        write(b"\n");
+    } else {
+        write(b" not the same\n");
+    }
+}
+
+fn in_three_rankings(word: &[u8]) {
+    compared(b"\x03\x00\x01\x02", b"\x00\x01\x02", word);
+    compared(b"\x00\x02\x03\x01", b"\x00\x02\x01", word);
+    compared(b"\x01\x02\x00\x03", b"\x01\x02\x00", word);
+}
+
+// The word of three symbols that a number says, and the shorter words that are its end, each once.
+fn words_from(number: u8) {
+    let word = [number / 4 % 2 + 1, number / 2 % 2 + 1, number % 2 + 1];
+    in_three_rankings(&word);
+    if number < 4 {
+        in_three_rankings(&word[1..]);
+    }
+    if number < 2 {
+        in_three_rankings(&word[2..]);
+    }
+}
+
+fn words() {
+    for number in 0..8 {
+        words_from(number);
+    }
+}
+
+fn main() {
+    targets();
+    other_two();
+    machines();
+    marks();
+    order();
+    states();
+    arcs();
+    too_many_arcs();
+    kinds();
+    one_symbols();
+    no_pair();
+    endings();
+    in_three_rankings(b"");
+    words();
+}
