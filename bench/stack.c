@@ -131,11 +131,21 @@ static void call_leader(void) {
 static const struct {
   const char *name;
   void (*call)(void);
-} calls[] = {{"optimize", call_optimize},           {"cull", call_cull},             {"optimize_weights", call_optimize_weights},
-             {"optimize_sets", call_optimize_sets}, {"cull_sets", call_cull_sets},         {"evaluate", call_evaluate},     {"judge", call_judge},
-             {"read_part", call_read_part},         {"pack", call_pack},             {"compare", call_compare},
-             {"condition", call_condition},         {"find_ranking", call_find_ranking}, {"add_row", call_add_row},
-             {"remove_row", call_remove_row},       {"leader", call_leader}};
+} calls[] = {{"optimize", call_optimize},
+             {"cull", call_cull},
+             {"optimize_weights", call_optimize_weights},
+             {"optimize_sets", call_optimize_sets},
+             {"cull_sets", call_cull_sets},
+             {"evaluate", call_evaluate},
+             {"judge", call_judge},
+             {"read_part", call_read_part},
+             {"pack", call_pack},
+             {"compare", call_compare},
+             {"condition", call_condition},
+             {"find_ranking", call_find_ranking},
+             {"add_row", call_add_row},
+             {"remove_row", call_remove_row},
+             {"leader", call_leader}};
 enum { ENGINES = 3, CALLS = sizeof calls / sizeof *calls };
 
 // The bytes of a painted stack from its top down to the deepest one that is changed.

@@ -36,14 +36,14 @@ use Rattle.walk.specs.declared.Kept.the-variants.{To, No}
 use Rattle.walk.specs.declared.Step.{Step}
 use Rattle.walk.specs.declared.Tried.{Tried}
 use Rattle.walk.specs.declared.Tried.the-variants.{Least, Without}
-use Rattle.sums.specs.Numbers.{noLabel, costOf, labelFrom, labelOf, pairNumber, endingNumber}
+use Rattle.sums.specs.Numbers.{noLabel, costOf, labelFrom, labelOf, cardPlaces, pairNumber, endingNumber}
 use Rattle.sums.specs.WeightedPaths.{weightedGraph}
 use Rattle.sums.specs.WeightedGraph.{weighted-sized}
 use Rattle.sums.specs.Sweeping.{Weighted, SweepPre}
 use Rattle.sums.specs.Labelling.{Lent}
 use Rattle.sums.proofs.Numbers.{number-of, number-upto, number-add, label-at, labelled-at}
 use Rattle.sums.proofs.Sweeping.{over, six-card, next-within, node-there, SmallNumber, number-small, label-small, no-edge, EdgeTo, edge-to}
-use Rattle.weights.specs.Walking.{KeepsAt, TightTo, KeepsPair, Tries, Labelled, TryPre, StartsAt, Finds}
+use Rattle.weights.specs.Walking.{KeepsAt, TightTo, KeepsPair, Tries, Labelled, TryPre, StartsAt, Finds, Filled, filledAfter, FillPre}
 
 -- ---- by the joint step found
 
@@ -191,19 +191,42 @@ module _ {card weights sets ins cs ps ws xs : List ℕ} {P i code x : ℕ} (T : 
         room = rw (T .labelled .counts, ← (s .states)) (L .joint);
       }
 
-  pub symbol-ready : {js : List ℕ} {S : ℕ} → x ≢ emptySymbol → S ≡ symbolCount card → HoldsJoint S (machinesOf card) x ps js → SweepPre card weights sets js ws xs P i (i + 1) x 0
-  symbol-ready n k H = record {
+  pub symbol-ready : {js : List ℕ} → x ≢ emptySymbol → HoldsJoint (symbolCount card) (machinesOf card) x cardPlaces js → SweepPre card weights sets js ws xs P i (i + 1) x 0
+  symbol-ready n H = record {
     weighted = T .labelled .weighted;
     position = T .position;
     reads = T .reads;
     next = rw (ne-eqb x 0 n) refl;
     outputs = rw (ne-eqb x 0 n) refl;
-    joint = rw (k, T .labelled .places) at H;
+    joint = H;
     costs = T .labelled .costs;
   }
 
+  pub table-ready : {ss js : List ℕ} {y : ℕ} → x ≢ emptySymbol → Lent ss js P → Filled card js y → FillPre card cs ps ss js x y
+  table-ready n L F = record { table = fill-ready refl L; places = T .labelled .places; symbol = n; filled = F }
+
   pub position-small : i < 25
   position-small = omega (arith, T .position, T .labelled .weighted .setting .few)
+
+-- the table that is there after an in
+
+pub filled-kept : (card js : List ℕ) (y x : ℕ) → x ≡ emptySymbol → Filled card js y → Filled card js (filledAfter y x)
+filled-kept card js y x e F = rw (eq-eqb x 0 e) F
+
+pub filled-new : (card js : List ℕ) (y x : ℕ) → x ≢ emptySymbol → HoldsJoint (symbolCount card) (machinesOf card) x cardPlaces js → Filled card js (filledAfter y x)
+filled-new card js y x n H = rw (ne-eqb x 0 n) (λ _. H)
+
+-- filling it, or finding it there
+module _ {card cs ps ss js : List ℕ} {x y : ℕ} (Q : FillPre card cs ps ss js x y) where
+  pub filled-same : x ≡ y → HoldsJoint (symbolCount card) (machinesOf card) x cardPlaces js
+  filled-same e = rw e (Q .filled (λ z. Q .symbol (e ∙ z)))
+
+  module _ {S : ℕ} (k : S ≡ symbolCount card) where
+    pub fill-as : JointTablePre card cs ps ss js x S
+    fill-as = rw k (Q .table)
+
+    pub filled-as : {ls : List ℕ} → HoldsJoint S (machinesOf card) x ps ls → HoldsJoint (symbolCount card) (machinesOf card) x cardPlaces ls
+    filled-as H = rw (k, Q .places) at H
 
 -- ---- in by in
 

@@ -2,10 +2,11 @@
 -- pair that does.
 use mathlib.Core.Path.{_≡_}
 use mathlib.Core.Logic.{_≢_}
-use mathlib.Core.Bool.{true}
+use mathlib.Core.Bool.{true, cond}
 use mathlib.Core.Option.{some}
 use mathlib.Core.List.{List}
 use Prim.Native.Nat.{ℕ, _+_, _*_, _<_, _≤_}
+use lib.Dec.{eqb}
 use lib.ListN.{length, getD}
 use Rattle.basics.specs.Sets.{member}
 use Rattle.machine.specs.declared.Pair.{Pair}
@@ -18,7 +19,7 @@ use Rattle.paths.specs.Walk.{Tight}
 use Rattle.product.specs.Nodes.{stateCounts}
 use Rattle.product.specs.ProductGraph.{pairs, cardStart}
 use Rattle.product.specs.Pairs.{positionAfter}
-use Rattle.tables.specs.JointTable.{HoldsJoint}
+use Rattle.tables.specs.JointTable.{HoldsJoint, JointTablePre}
 use Rattle.walk.specs.declared.Kept.{Kept}
 use Rattle.walk.specs.declared.Kept.the-variants.{To, No}
 use Rattle.walk.specs.declared.Step.{Step}
@@ -65,6 +66,20 @@ pub record TryPre (card weights sets ins cs ps ws xs : List ℕ) (P i code x : �
   pub state : code < P
   pub reads : x ≢ emptySymbol → member (getD sets i 0) x ≡ true
   pub small : x < 64
+
+-- js is the table of the joint steps of x, where x is a symbol
+abbrev pub Filled : (card js : List ℕ) (x : ℕ) → Type 0
+Filled card js x = x ≢ emptySymbol → HoldsJoint (symbolCount card) (machinesOf card) x cardPlaces js
+
+-- whose table is there once the in x was tried, where y's was
+abbrev pub filledAfter : ℕ → ℕ → ℕ
+filledAfter y x = cond (eqb x emptySymbol) y x
+
+pub record FillPre (card cs ps ss js : List ℕ) (x y : ℕ) : Type 0 where
+  pub table : JointTablePre card cs ps ss js x (symbolCount card)
+  pub places : ps ≡ cardPlaces
+  pub symbol : x ≢ emptySymbol
+  pub filled : Filled card js y
 
 -- the start has a label, and the answer slice has room for as many pairs as it says
 pub record StartsAt (card xs : List ℕ) (room : ℕ) : Type 0 where

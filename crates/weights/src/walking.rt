@@ -1,14 +1,17 @@
 // The walk from the start along the labels, which writes the pairs of the best candidate.
+ghost use mathlib.Core.Path.{_≡_};
 ghost use Prim.Native.Nat.{_+_, _*_, _<_, _≤_};
 ghost use lib.ListN.{length};
 ghost use Rattle.card.specs.Layout.{symbolCount};
+ghost use Rattle.card.specs.Card.{machinesOf};
 ghost use Rattle.product.specs.ProductGraph.{cardStart};
 ghost use Rattle.product.specs.Laws.Following.{Followed};
-ghost use Rattle.sums.specs.Numbers.{labelOf};
+ghost use Rattle.tables.specs.JointTable.{HoldsJoint};
+ghost use Rattle.sums.specs.Numbers.{labelOf, cardPlaces};
 ghost use Rattle.sums.specs.WeightedPaths.{weightedGraph};
 ghost use Rattle.sums.specs.Sweeping.{SweepPre};
 ghost use Rattle.sums.specs.Labelling.{Lent};
-ghost use Rattle.weights.specs.Walking.{Labelled, KeepsPair, Tries, TryPre, StartsAt};
+ghost use Rattle.weights.specs.Walking.{Labelled, KeepsPair, Tries, TryPre, Filled, filledAfter, FillPre, StartsAt};
 use machine::Pair;
 use tables::Joint;
 use walk::Kept;
@@ -97,6 +100,36 @@ fn try_outputs(
     Tried::Without
 }
 
+// The symbol whose table of joint steps is there once an input was tried.
+fn filled_after(filled: u8, input: u8) -> u8
+    ensures { λ r. ⌜ r ≡ filledAfter filled input ⌝ }
+{
+    if input == Pair::EMPTY {
+        return filled;
+    }
+    input
+}
+
+// Fills the table of the joint steps of a symbol, unless it is there: words have a symbol more than once.
+fn fill_for(
+    card: &[u8],
+    input: u8,
+    filled: u8,
+    counts: &[u8],
+    places: &[u8; 6],
+    stretch: &mut [u16],
+    joint: &mut [u32],
+)
+    requires { ⌜ FillPre (now card) (now counts) (now places) (now stretch) (now joint) input filled ⌝ }
+    ensures { λ _. ⌜ HoldsJoint (symbolCount (now (card .entry))) (machinesOf (now (card .entry))) input cardPlaces (now (joint .exit)) ⌝ }
+{
+    if input == filled {
+        return;
+    }
+    let symbols = card::symbol_count(card) as usize;
+    tables::joint_table::fill(card, input, counts, places, symbols, stretch, joint);
+}
+
 // The least pair with an input that keeps to the labels. The table of the insertions is filled; that of a symbol is filled here.
 fn try_input(
     work: &[u64],
@@ -111,11 +144,12 @@ fn try_input(
     position: usize,
     code: usize,
     input: u8,
+    filled: u8,
     stretch: &mut [u16],
     joint: &mut [u32],
 ) -> Tried
-    requires { ⌜ TryPre (now card) (now weights) (now sets) (now insertions) (now counts) (now places) (now costs) (now work) size position code input × Lent (now stretch) (now joint) size ⌝ }
-    ensures { λ r. ⌜ Tries (now (card .entry)) (now (weights .entry)) (now (sets .entry)) (now (work .entry)) size position input code r ⌝ }
+    requires { ⌜ TryPre (now card) (now weights) (now sets) (now insertions) (now counts) (now places) (now costs) (now work) size position code input × Lent (now stretch) (now joint) size × Filled (now card) (now joint) filled ⌝ }
+    ensures { λ r. ⌜ Tries (now (card .entry)) (now (weights .entry)) (now (sets .entry)) (now (work .entry)) size position input code r × Filled (now (card .entry)) (now (joint .exit)) (filledAfter filled input) ⌝ }
 {
     if input == Pair::EMPTY {
         return try_outputs(
@@ -133,8 +167,7 @@ fn try_input(
             code,
         );
     }
-    let symbols = card::symbol_count(card) as usize;
-    tables::joint_table::fill(card, input, counts, places, symbols, stretch, joint);
+    fill_for(card, input, filled, counts, places, stretch, joint);
     try_outputs(
         work,
         card,
@@ -172,6 +205,7 @@ pub fn follow(
     let mut position = 0;
     let mut code = tables::start_node(counts);
     let mut pairs = 0;
+    let mut filled = Pair::EMPTY;
     loop {
         if work[position * size + code] % 4096 == 0 {
             break pairs;
@@ -192,9 +226,11 @@ pub fn follow(
                 position,
                 code,
                 input,
+                filled,
                 stretch,
                 joint,
             );
+            filled = filled_after(filled, input);
             if let Tried::Least(found) = tried {
                 break 'least found;
             }
