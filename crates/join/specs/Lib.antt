@@ -8,5 +8,6 @@ pub mod Writing
 pub mod Laws
 pub mod JoinTheorem
 pub mod BestJoined
+pub mod JoinedEvaluation
 pub mod JoinedCardTheorem
 pub mod SameAnswers

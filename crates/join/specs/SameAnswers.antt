@@ -123,6 +123,7 @@ module _ {i j u : ℕ} {card new : List ℕ} (joins : CardJoins card i j) (joine
     order = joins .may .order;
     within = omega (arith, joins .may .within, accepted-machines card (joins .accepted) .count);
     second-accepted = joined .accepts;
+    symbols = joined .symbols;
     machines = joined .machines;
   }
 
