@@ -336,16 +336,16 @@ fn words() {
     }
 }
 
-// The machines 1 and 2 joined, machine 3 is machine 2 of the new card.
-fn compared_moved(ranking: &[u8], joined_ranking: &[u8], word: &[u8]) {
+// Where the machines 1 and 2 are joined, machine 3 is machine 2 of the new card.
+fn compared_one_moved(ranking: &[u8], joined_ranking: &[u8], word: &[u8]) {
     let card = SECOND;
     let mut target = [9u8; 365];
     join::join(&card, 2, 1, &mut target);
     compared(&card, &target, 1, ranking, joined_ranking, word);
 }
 
-// The machines 0 and 1 joined, machine 2 is machine 1 and machine 3 is machine 2.
-fn compared_moved_twice(ranking: &[u8], joined_ranking: &[u8], word: &[u8]) {
+// Where the machines 0 and 1 are joined, machine 2 is machine 1 of the new card, and machine 3 is machine 2.
+fn compared_two_moved(ranking: &[u8], joined_ranking: &[u8], word: &[u8]) {
     let card = SECOND;
     let mut target = [9u8; 346];
     join::join(&card, 0, 1, &mut target);
@@ -359,12 +359,12 @@ fn second_gone() {
 }
 
 fn moved(word: &[u8]) {
-    compared_moved(b"\x01\x00\x02\x03", b"\x00\x01\x02", word);
-    compared_moved(b"\x00\x03\x01\x02", b"\x00\x02\x01", word);
-    compared_moved(b"\x03\x02\x00\x01", b"\x02\x01\x00", word);
-    compared_moved_twice(b"\x01\x00\x02\x03", b"\x00\x01\x02", word);
-    compared_moved_twice(b"\x00\x03\x01\x02", b"\x00\x02\x01", word);
-    compared_moved_twice(b"\x03\x02\x00\x01", b"\x02\x01\x00", word);
+    compared_one_moved(b"\x01\x00\x02\x03", b"\x00\x01\x02", word);
+    compared_one_moved(b"\x00\x03\x01\x02", b"\x00\x02\x01", word);
+    compared_one_moved(b"\x03\x02\x00\x01", b"\x02\x01\x00", word);
+    compared_two_moved(b"\x01\x00\x02\x03", b"\x00\x01\x02", word);
+    compared_two_moved(b"\x00\x03\x01\x02", b"\x00\x02\x01", word);
+    compared_two_moved(b"\x03\x02\x00\x01", b"\x02\x01\x00", word);
 }
 
 // A line with what the two cards make of a candidate, where it is one: the result, the pairs, the word's length.
