@@ -14,7 +14,7 @@ ghost use Rattle.product.specs.Best.{best};
 ghost use Rattle.product.specs.Sets.{bestOfSets};
 ghost use Rattle.optimizer.specs.Searching.{SetsPre, SearchPre, Searched};
 ghost use Rattle.cull.specs.Relaxing.{countsOf, noCounts, LeftTold, NodePre, Compared, Written, Lowered, ArcPre, ArcTried, EntryPre, EntryTried, RunEnd, RowRuns, Runs, RunsPre, RowFound, RelaxPre, Relaxed, SettledBy};
-ghost use Rattle.cull.specs.Culling.{LentTables, CullPre, PositionPre, PositionEntered, PositionDone, EndPre, EndsTried, StagePre, Blanked};
+ghost use Rattle.cull.specs.Culling.{LentTables, CullPre, PositionPre, PositionEntered, PositionDone, EndPre, EndsTried, StagePre, StageDone, Blanked};
 use basics::index;
 use candidate::Evaluation;
 use candidate::refused;
@@ -507,7 +507,7 @@ fn label_stage(
     stage: usize,
 )
     requires { ⌜ StagePre (now card) (now ranking) (now sets) (now rows) (now counts) (now places) (now insertions) (now «insertion_ends») (now work) size stage × LentTables (now stretch) (now joint) (now «joint_ends») size ⌝ }
-    ensures { λ _. ⌜ PositionDone (now (card .entry)) (now (ranking .entry)) (now (sets .entry)) (now (work .entry)) (now (work .exit)) 0 stage ⌝ }
+    ensures { λ _. ⌜ StageDone (now (card .entry)) (now (ranking .entry)) (now (sets .entry)) (now (work .entry)) (now (work .exit)) stage ⌝ }
 {
     blank(work, (sets.len() + 1) * size);
     let mut left = sets.len() + 1;
