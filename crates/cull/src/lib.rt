@@ -14,7 +14,7 @@ ghost use Rattle.product.specs.Best.{best};
 ghost use Rattle.product.specs.Sets.{bestOfSets};
 ghost use Rattle.optimizer.specs.Searching.{SetsPre, SearchPre, Searched};
 ghost use Rattle.cull.specs.Relaxing.{countsOf, noCounts, LeftTold, NodePre, Compared, Written, Lowered, ArcPre, ArcTried, EntryPre, EntryTried, RunEnd, RowRuns, Runs, RunsPre, RowFound, RelaxPre, Relaxed, SettledBy};
-ghost use Rattle.cull.specs.Culling.{LentTables, CullPre, PositionPre, PositionEntered, PositionDone, EndPre, EndsTried, StagePre, Blanked};
+ghost use Rattle.cull.specs.Culling.{LentTables, CullPre, PositionPre, PositionEntered, PositionDone, EndPre, EndsTried, StagePre, StageDone, Blanked};
 use basics::index;
 use candidate::Evaluation;
 use candidate::refused;
@@ -72,7 +72,7 @@ fn arc_left(work: &[u16], node: usize, target: usize, marks: u32, stage: usize) 
     true
 }
 
-// Whether they kept the node's ending, which has those marks.
+// Whether the stages before kept the node's ending, which has those marks: they are the node's fewest.
 fn ending_left(work: &[u16], node: usize, marks: u32, stage: usize) -> bool
     requires { ⌜ HasNode (now work) node × (marks < 16 ^ 6) × (stage < 6) ⌝ }
     ensures { λ r. ⌜ LeftTold (now (work .entry)) node marks stage noCounts r ⌝ }
@@ -507,7 +507,7 @@ fn label_stage(
     stage: usize,
 )
     requires { ⌜ StagePre (now card) (now ranking) (now sets) (now rows) (now counts) (now places) (now insertions) (now «insertion_ends») (now work) size stage × LentTables (now stretch) (now joint) (now «joint_ends») size ⌝ }
-    ensures { λ _. ⌜ PositionDone (now (card .entry)) (now (ranking .entry)) (now (sets .entry)) (now (work .entry)) (now (work .exit)) 0 stage ⌝ }
+    ensures { λ _. ⌜ StageDone (now (card .entry)) (now (ranking .entry)) (now (sets .entry)) (now (work .entry)) (now (work .exit)) stage ⌝ }
 {
     blank(work, (sets.len() + 1) * size);
     let mut left = sets.len() + 1;
@@ -533,7 +533,7 @@ fn label_stage(
     }
 }
 
-// Goes down the ranking.
+// Goes down the ranking, stage by stage.
 fn label_stages(
     work: &mut [u16],
     card: &[u8],
@@ -574,14 +574,14 @@ fn label_stages(
     }
 }
 
-// The place of each machine in the ranking: the order in which the constraints are gone down.
+// The machine at each place of the ranking: the order in which the constraints are gone down.
 fn places_of(ranking: &[u8]) -> [u8; 6]
     ensures { λ r. ⌜ r ≡ sixPlaces (now (ranking .entry)) ⌝ }
 {
     tables::six_places(ranking)
 }
 
-// The same, with tables for the joint steps of the insertions and of a symbol.
+// Labels all nodes, with room lent for tables of the joint steps of the insertions and of a symbol.
 fn label_with(
     work: &mut [u16],
     card: &[u8],
@@ -693,7 +693,7 @@ pub fn cull(
     search(card, ranking, word, size, &mut work[..nodes * 8], answer)
 }
 
-// The same over all words with one symbol from each set: 1 to 8, 25, 9, 10, 12.
+// Answers the best candidate over all words with one symbol from each set, by Ellison's method: 1 to 8, 25, 9, 10, 12.
 pub fn cull_sets(
     card: &[u8],
     ranking: &[u8],

@@ -1,11 +1,11 @@
 -- `label_stage` meets its contract.
 use mathlib.Core.Path.{_≡_, refl, _∙_}
-use Prim.Native.Nat.{_+_, _-_, _≤_}
+use Prim.Native.Nat.{_+_, _≤_}
 use native.Mathlib.Omega.{arith}
 use lib.ListN.{length}
 use Rattle.product.specs.Laws.Setting.{few-nodes}
 use Rattle.cull.specs.Culling.{PositionDone}
-use Rattle.cull.proofs.Culling.{stage-begun, stage-start, position-ready, position-passed, positions-end}
+use Rattle.cull.proofs.Culling.{stage-begun, stage-start, position-ready, position-passed, stage-end}
 use Rattle.cull.proofs.label_stage.Statement.{statement}
 use Rattle.cull.proofs.label_stage.Tie as tie
 
@@ -52,7 +52,7 @@ loop-again c =
     (omega (arith, l .0), position-passed (l .1) (k .ensures), k .kept .1 .1 .1 .1 .1 .1 .1 .1 .1 .0 ∙ l .2, k .kept .1 .1 .1 .1 .1 .1 .1 .1 .1 .1 .0 ∙ l .3, k .kept .1 .1 .1 .1 .1 .1 .1 .1 .1 .1 .1 .0 ∙ l .4)
 
 same-length : tie.Need-same-length Inv-loop μ-loop
-same-length c = positions-end (position-passed (stage-begun (c .before .before .before .before .before .before .before .before .before .before .before .before .before .before .before .before .before .pre .0) (c .before .before .before .before .blank .ensures)) (c .before .loop .inv .1)) (omega arith) .size
+same-length c = stage-end (position-passed (stage-begun (c .before .before .before .before .before .before .before .before .before .before .before .before .before .before .before .before .before .pre .0) (c .before .before .before .before .blank .ensures)) (c .before .loop .inv .1)) (omega arith) .size
 
 same-length-2 : tie.Need-same-length-2 Inv-loop μ-loop
 same-length-2 c = c .before .loop .inv .2
@@ -64,7 +64,7 @@ same-length-4 : tie.Need-same-length-4 Inv-loop μ-loop
 same-length-4 c = c .before .loop .inv .4
 
 returns : tie.Need-returns Inv-loop μ-loop
-returns c = positions-end (position-passed (stage-begun (c .before .before .before .before .before .before .before .before .before .before .before .before .before .before .before .before .before .pre .0) (c .before .before .before .before .blank .ensures)) (c .before .loop .inv .1)) (omega arith)
+returns c = stage-end (position-passed (stage-begun (c .before .before .before .before .before .before .before .before .before .before .before .before .before .before .before .before .before .pre .0) (c .before .before .before .before .blank .ensures)) (c .before .loop .inv .1)) (omega arith)
 
 pub label-stage-spec : {M : Type 1} → statement M
 label-stage-spec =
