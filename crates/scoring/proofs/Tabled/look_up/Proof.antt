@@ -22,6 +22,14 @@ returns c =
     let s = c .before .before .before .before .before .before .before in
     stuck (s .args .part .now) (s .args .stretch .now) _ (s .args .pair) (s .pre .0 .0) (s .pre .0 .1) (s .pre .1 .0) (s .pre .1 .1) (place (c .before .before)) (c .if1 .taken)
 
+cast-state : tie.Need-cast-t14
+cast-state c =
+    let s = c .before .before .before .before .before .before .before in
+    omega (
+      arith,
+      state-small (s .args .part .now) (s .args .stretch .now) _ (s .args .pair) (s .pre .0 .0) (s .pre .0 .1) (s .pre .1 .0) (s .pre .1 .1) (place (c .before .before)) (c .if1 .left),
+    )
+
 returns-2 : tie.Need-returns-2
 returns-2 c =
     let s = c .before .before .before .before .before .before .before in
@@ -38,8 +46,6 @@ look-up-spec =
     (λ c. search needs)
     shared-slice-read-step
     returns
-    (λ c.
-        let s = c .before .before .before .before .before .before .before in
-        omega (arith, state-small (s .args .part .now) (s .args .stretch .now) _ (s .args .pair) (s .pre .0 .0) (s .pre .0 .1) (s .pre .1 .0) (s .pre .1 .1) (place (c .before .before)) (c .if1 .left)))
+    cast-state
     (λ c. search needs)
     returns-2)
