@@ -276,7 +276,17 @@ fn settle(
     ensures { λ _. ⌜ SettledBy (now (work .entry)) (now (work .exit)) (now (insertions .entry)) stage base size firstSymbol symbols ⌝ }
 {
     loop {
-        if !relax(work, insertions, ends, base, base, size, machine::Pair::FIRST, symbols, stage) {
+        if !relax(
+            work,
+            insertions,
+            ends,
+            base,
+            base,
+            size,
+            machine::Pair::FIRST,
+            symbols,
+            stage,
+        ) {
             return;
         }
     }
