@@ -6,6 +6,7 @@ use libc::STDIN_FILENO;
 use libc::STDOUT_FILENO;
 use lines::Next;
 use lines::Parsed;
+use ranking::Profile;
 ghost use mathlib.Core.Path.{_≡_};
 ghost use mathlib.Core.Bool.{false};
 ghost use mathlib.Core.Option.{some, none};
@@ -186,7 +187,7 @@ fn answer_line(card: &[u8], line: &[u8], out: &mut [u8]) -> Reply
     } = parsed
     else {
         let size = lines::write_bad_line(out);
-        let counts = [0u16; 6];
+        let counts = Profile::ZERO.counts;
         return Reply {
             size,
             answered: false,
