@@ -7,4 +7,5 @@ pub mod Laws
 pub mod Accepted
 pub mod RoundTrip
 pub mod OfParts
+pub mod OldStates
 pub mod OldArcs

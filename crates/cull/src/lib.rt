@@ -4,6 +4,7 @@ ghost use mathlib.Core.Path.{_≡_};
 ghost use Prim.Native.Nat.{_+_, _*_, _^_, _≤_, _<_};
 ghost use Rattle.paths.specs.Ranked.{countAt};
 ghost use Rattle.labels.specs.Marks.{marksCost};
+ghost use Rattle.machine.specs.Symbols.{firstSymbol};
 ghost use lib.ListN.{length};
 ghost use Rattle.labels.specs.Work.{HasNode, HasNodes};
 ghost use Rattle.tables.specs.Places.{sixPlaces};
@@ -271,11 +272,21 @@ fn settle(
     symbols: usize,
     stage: usize,
 )
-    requires { ⌜ RelaxPre (now work) (now insertions) stage base base size 1 symbols × Runs (now insertions) (now ends) size symbols ⌝ }
-    ensures { λ _. ⌜ SettledBy (now (work .entry)) (now (work .exit)) (now (insertions .entry)) stage base size 1 symbols ⌝ }
+    requires { ⌜ RelaxPre (now work) (now insertions) stage base base size firstSymbol symbols × Runs (now insertions) (now ends) size symbols ⌝ }
+    ensures { λ _. ⌜ SettledBy (now (work .entry)) (now (work .exit)) (now (insertions .entry)) stage base size firstSymbol symbols ⌝ }
 {
     loop {
-        if !relax(work, insertions, ends, base, base, size, 1, symbols, stage) {
+        if !relax(
+            work,
+            insertions,
+            ends,
+            base,
+            base,
+            size,
+            machine::Pair::FIRST,
+            symbols,
+            stage,
+        ) {
             return;
         }
     }
@@ -327,7 +338,7 @@ fn enter_symbol(
             position * size,
             (position + 1) * size,
             size,
-            0,
+            tables::DELETION,
             symbols,
             stage,
         );

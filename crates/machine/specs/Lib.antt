@@ -7,5 +7,6 @@ pub mod Clashes
 pub mod Accepted
 pub mod CommonPair
 pub mod Steps
+pub mod OldStates
 pub mod OldArcs
 pub mod SameAndDifferent

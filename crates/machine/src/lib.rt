@@ -25,6 +25,9 @@ impl Pair {
     // The empty symbol.
     pub const EMPTY: u8 = 0;
 
+    // The first of the other symbols.
+    pub const FIRST: usize = Pair::EMPTY as usize + 1;
+
     // The pair of an in and an out.
     pub fn new(input: u8, output: u8) -> Self
         ensures { λ r. ⌜ r ≡ pairOf input output ⌝ }

@@ -132,7 +132,7 @@ fn pairs_with(inputs: u64, kind: u8, output: usize) -> u64
 {
     let one = sets::set_of(output as u8);
     if output == index(Pair::EMPTY) {
-        return sets::of_kind(inputs / 2 * 2, kind, one);
+        return sets::of_kind(sets::without_empty(inputs), kind, one);
     }
     sets::of_kind(inputs, kind, one)
 }

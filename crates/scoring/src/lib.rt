@@ -31,35 +31,44 @@ use machine::sets;
 use ranking::Profile;
 use steps::NO_STEP;
 
-// Takes a pair whose input the table is for: its number has the state moved on to and the marks.
-fn look_up(part: &[u8], stretch: &[u16], position: Position, pair: Pair) -> Step
-    requires { ⌜ AcceptedPart (now part) × HoldsMachine (machineOf (now part)) (pair .input) (now stretch) ⌝ }
-    requires { ⌜ (position .state < stateCount (now part)) × (pair .output < 64) ⌝ }
-    ensures { λ r. ⌜ stepped r ≡ stepOf (machineOf (now (part .entry))) (position .state) pair ⌝ }
-{
-    let place = index(position.state) * 64 + index(pair.output);
-    let step = stretch[place];
-    if step == NO_STEP {
-        return Step::Stuck;
-    }
-    Step::Moved(
-        Position {
-            state: (step / 16) as u8,
-        },
-        (step % 16) as u8,
-    )
+// A position in a machine whose insertions are looked up.
+struct Tabled {
+    position: Position,
 }
 
-// Takes a pair, as `Position::step` does: an insertion by the table of insertions.
-fn step(part: &[u8], stretch: &[u16], position: Position, pair: Pair) -> Step
-    requires { ⌜ AcceptedPart (now part) × HoldsMachine (machineOf (now part)) emptySymbol (now stretch) ⌝ }
-    requires { ⌜ (position .state < stateCount (now part)) × (pair .input < 64) × (pair .output < 64) ⌝ }
-    ensures { λ r. ⌜ stepped r ≡ stepOf (machineOf (now (part .entry))) (position .state) pair ⌝ }
-{
-    if pair.inserts() {
-        return look_up(part, stretch, position, pair);
+impl Tabled {
+    // Takes a pair whose input the table is for: its number has the state moved on to and the marks.
+    fn look_up(self, part: &[u8], stretch: &[u16], pair: Pair) -> Step
+        requires { ⌜ AcceptedPart (now part) × HoldsMachine (machineOf (now part)) (pair .input) (now stretch) ⌝ }
+        requires { ⌜ (self .position .state < stateCount (now part)) × (pair .output < 64) ⌝ }
+        ensures { λ r. ⌜ stepped r ≡ stepOf (machineOf (now (part .entry))) (self .position .state) pair ⌝ }
+    {
+        let position = self.position;
+        let place = index(position.state) * 64 + index(pair.output);
+        let step = stretch[place];
+        if step == NO_STEP {
+            return Step::Stuck;
+        }
+        Step::Moved(
+            Position {
+                state: (step / 16) as u8,
+            },
+            (step % 16) as u8,
+        )
     }
-    position.step(part, pair)
+
+    // Takes a pair, as `Position::step` does: an insertion by the table of insertions.
+    fn step(self, part: &[u8], stretch: &[u16], pair: Pair) -> Step
+        requires { ⌜ AcceptedPart (now part) × HoldsMachine (machineOf (now part)) emptySymbol (now stretch) ⌝ }
+        requires { ⌜ (self .position .state < stateCount (now part)) × (pair .input < 64) × (pair .output < 64) ⌝ }
+        ensures { λ r. ⌜ stepped r ≡ stepOf (machineOf (now (part .entry))) (self .position .state) pair ⌝ }
+    {
+        if pair.inserts() {
+            return self.look_up(part, stretch, pair);
+        }
+        let position = self.position;
+        position.step(part, pair)
+    }
 }
 
 // Takes a candidate's pairs in turn on one machine, by its table of insertions, and ends.
@@ -72,7 +81,8 @@ fn run_by(part: &[u8], stretch: &[u16], candidate: &[u8], symbols: u8) -> Marks
     let mut marks: u16 = 0;
     let mut at = 0;
     while at < candidate.len() {
-        let Step::Moved(next, more) = step(part, stretch, position, pair_at(candidate, at)) else {
+        let tabled = Tabled { position };
+        let Step::Moved(next, more) = tabled.step(part, stretch, pair_at(candidate, at)) else {
             return Marks::NotComplete;
         };
         position = next;

@@ -5,8 +5,8 @@ use borrow.Author.Tests.{eqb-true}
 use Rattle.machine.specs.Part.{machineOf}
 use Rattle.machine.specs.Accepted.{accepted}
 use Rattle.steps.specs.StepTable.{HoldsMachine}
-use Rattle.scoring.proofs.step.Statement.{statement}
-use Rattle.scoring.proofs.step.Tie as tie
+use Rattle.scoring.proofs.Tabled.step.Statement.{statement}
+use Rattle.scoring.proofs.Tabled.step.Tie as tie
 
 look-up-requires : tie.Need-look-up-requires
 look-up-requires c κs =
@@ -16,7 +16,7 @@ look-up-requires c κs =
 
 step-requires : tie.Need-step-requires
 step-requires c κs =
-    let s = c .before .before .before .before in
+    let s = c .before .before .before .before .before in
     (accepted (s .pre .0 .0 .0) (s .args .part .now) (s .pre .0 .0 .1) .shape, s .pre .1 .1, s .pre .1 .2)
 
 pub step-spec : {M : Type 1} → statement M
