@@ -161,7 +161,7 @@ module _ {card ranking sets rs cs ps ins es xs : List ℕ} {P k : ℕ} (Q : Stag
     done = record {
       fewest = fewestIn xs;
       culled = culled-kept (λ i w h. B .counts i w (omega (arith, Q .given .stage))) culled;
-      done = let q : length sets + 1 ≡ suc (length sets) = omega arith in rw q (done-start (stageGraph card ranking sets (fewestIn xs) k) (placeOf card) (over-positioned (stage-over (Q .given .setting) ranking (fewestIn xs) k culled)) (stageLabel ys k) (λ u. unlabelled u (decLt u ((length sets + 1) * P))));
+      done = let q : length sets + 1 ≡ suc (length sets) = omega arith in rw q nothing;
     };
   }
     where
@@ -171,6 +171,9 @@ module _ {card ranking sets rs cs ps ins es xs : List ℕ} {P k : ℕ} (Q : Stag
       unlabelled : (u : ℕ) → Dec (u < (length sets + 1) * P) → stageLabel ys k u ≡ none
       unlabelled u (yes h) = stage-unlabelled ys k u (B .states u h)
       unlabelled u (no h) = stage-unlabelled ys k u (List·getD-eq-default ys 0 (omega (arith, B .size, Q .given .room)))
+
+      nothing : Done (stageGraph card ranking sets (fewestIn xs) k) (placeOf card) (stageLabel ys k) (suc (length sets))
+      nothing = done-start (stageGraph card ranking sets (fewestIn xs) k) (placeOf card) (over-positioned (stage-over (Q .given .setting) ranking (fewestIn xs) k culled)) (stageLabel ys k) (λ u. unlabelled u (decLt u ((length sets + 1) * P)))
 
   pub stage-start : {ys : List ℕ} → Blanked xs ys ((length sets + 1) * P) → PositionDone card ranking sets ys ys (length sets + 1) k
   stage-start B = record { size = refl; done = stage-begun B .done }

@@ -1,7 +1,7 @@
 -- Theorem: for every input the cull and the optimizer give the same result and the same answer slice. Both calls have the contract `Optimizes`, so what
 -- `Demand3.demand-3` says of the one it says of the other. The work slices may differ: at entry in their contents, and in their length where both are
 -- accepted; at exit in any way.
-use mathlib.Core.Path.{_≡_, sym, _∙_, ap}
+use mathlib.Core.Path.{_≡_, refl, sym, _∙_, ap}
 use mathlib.Core.List.{List}
 use Prim.Native.Nat.{ℕ}
 use lib.ListN.{length}

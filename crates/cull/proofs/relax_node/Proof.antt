@@ -66,22 +66,25 @@ shared-slice-read-index c =
 index-requires : tie.Need-index-requires Inv-loop μ-loop
 index-requires c κs = tt
 
+abbrev turn : tie.After-index Inv-loop μ-loop → tie.In-loop Inv-loop μ-loop
+turn c = c .before .before .before .before .before .before .before
+
 -- the run of the entry that was tried
-run : (c : tie.After-index Inv-loop μ-loop) → RunEnd (start (c .before .before .before .before .before .before .before) .args .table .now) (start (c .before .before .before .before .before .before .before) .args .code) (c .before .before .before .before .before .before .before .before .loop .output) (start (c .before .before .before .before .before .before .before) .args .last) (c .index .result)
+run : (c : tie.After-index Inv-loop μ-loop) → RunEnd (start (turn c) .args .table .now) (start (turn c) .args .code) (turn c .before .loop .output) (start (turn c) .args .last) (c .index .result)
 run c =
-    let l = c .before .before .before .before .before .before .before in
+    let l = turn c in
     let t = start l in
     let u = l .before .loop .output in
     subst (λ (z : ℕ). RunEnd (t .args .table .now) (t .args .code) u (t .args .last) z) (sym (c .index .ensures .0)) (t .pre .1 .row (t .args .code) (t .pre .2) .end u (omega arith) (l .loop-test .taken))
 
 loop-less : tie.Need-loop-less Inv-loop μ-loop
-loop-less c = omega (arith, run c .beyond, c .before .before .before .before .before .before .before .loop-test .taken)
+loop-less c = omega (arith, run c .beyond, turn c .loop-test .taken)
 
 loop-again : tie.Need-loop-again Inv-loop μ-loop
 loop-again c =
-    let l = c .before .before .before .before .before .before .before .before .loop in
-    let t = start (c .before .before .before .before .before .before .before) in
-    let n = c .before .before .before .before .before .before .before .loop-test .taken in
+    let l = turn c .before .loop in
+    let t = start (turn c) in
+    let n = turn c .loop-test .taken in
     let tried = relaxed-entry (relax-next (t .pre .0) (l .inv .2)) (t .args .code) (l .output) (t .pre .2) (l .inv .0) n (c .before .before .before .before .try-entry .ensures) in (
       omega (arith, run c .beyond, l .inv .0),
       run c .within,

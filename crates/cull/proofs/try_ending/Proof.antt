@@ -85,9 +85,10 @@ same-length-2 c = search needs
 
 returns-3 : tie.Need-returns-3
 returns-3 c =
-    let e = c .before .before .before .before .before .before .before .before .before in
+    let x = c .before .before .before .before .before in
+    let e = x .before .before .before .before in
     let t = start (asked e) in
-    ending-lowered (t .pre .0 .setting) (t .args .ranking .now) (t .args .code) (t .pre .1) (e .ending .given .0 .0) (ending-is e) (c .before .before .before .before .before .before .ending-left .ensures) (not-false _ (c .before .before .before .before .before .if1 .left)) (c .before .before .before .marks-at .ensures) (c .before .before .lower .ensures)
+    ending-lowered (t .pre .0 .setting) (t .args .ranking .now) (t .args .code) (t .pre .1) (e .ending .given .0 .0) (ending-is e) (x .before .ending-left .ensures) (not-false _ (x .if1 .left)) (c .before .before .before .marks-at .ensures) (c .before .before .lower .ensures)
 
 pub try-ending-spec : {M : Type 1} → statement M
 try-ending-spec =
