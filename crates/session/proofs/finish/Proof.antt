@@ -1,8 +1,7 @@
 use mathlib.Core.Path.{_≡_, ap, sym, _∙_}
-use mathlib.Core.List.{List, _++_}
-use Prim.Native.Nat.{ℕ}
+use mathlib.Core.List.{_++_}
 use native.Mathlib.Omega.{arith}
-use lib.ListN.{length, take, drop, length-take, length-drop, length-append}
+use lib.ListN.{length, take, length-take, length-drop, length-append}
 use lib.Seq.{length-take-le}
 use Rattle.basics.proofs.Bools.{left-fails, right-fails}
 use Rattle.session.specs.declared.Tally.{Tally}
