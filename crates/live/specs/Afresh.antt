@@ -4,7 +4,7 @@ use mathlib.Core.Bool.{Bool, true, false, _||_}
 use mathlib.Core.List.{List, [], _∷_}
 use Prim.Native.Nat.{ℕ}
 use lib.Dec.{eqb}
-use Rattle.basics.specs.Refusals.{unlessRefused}
+use Rattle.refusals.specs.Refusals.{unlessRefused}
 use Rattle.live.specs.declared.Row.{Row}
 use Rattle.live.specs.declared.Counted.{Counted}
 use Rattle.live.specs.Calls.{adding, addedList, removing, removedList}
