@@ -1,4 +1,3 @@
-pub mod Refusals
 pub mod Candidates
 pub mod ProfileMerge
 pub mod Evaluating

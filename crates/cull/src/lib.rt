@@ -21,6 +21,7 @@ use candidate::Evaluation;
 use candidate::refused;
 use tables::Joint;
 use tables::JointEnding;
+use refusals::Checked;
 
 // The marks of the constraint at a place of the ranking, of those that a number stands for.
 fn marks_at(marks: u32, place: usize) -> u16
@@ -696,7 +697,7 @@ pub fn cull(
     ensures { λ r. ⌜ Optimizes (now (card .entry)) (now (ranking .entry)) (now (word .entry)) (now (work .entry)) (now (work .exit)) (now (answer .entry)) (now (answer .exit)) r ⌝ }
 {
     let checked = input::check_input(card, ranking, word, work.len());
-    let input::Stage::Passed = checked else {
+    let Checked::Passed = checked else {
         return refused(checked.number());
     };
     let size = input::joint_states(card);
@@ -715,7 +716,7 @@ pub fn cull_sets(
     ensures { λ r. ⌜ OptimizesSets (now (card .entry)) (now (ranking .entry)) (now (sets .entry)) (now (work .entry)) (now (work .exit)) (now (answer .entry)) (now (answer .exit)) r ⌝ }
 {
     let checked = input::check_sets_input(card, ranking, sets, work.len());
-    let input::Stage::Passed = checked else {
+    let Checked::Passed = checked else {
         return refused(checked.number());
     };
     let size = input::joint_states(card);

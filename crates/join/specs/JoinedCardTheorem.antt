@@ -11,10 +11,10 @@ use lib.ListN.{length, getD, take, drop, length-map}
 use lib.Seq.{take-at}
 use borrow.Author.Tests.{eqb-true, leb-true, eq-eqb}
 use Rattle.basics.specs.Search.{allOf}
-use Rattle.basics.specs.Refusals.{refuse, firstOf}
+use Rattle.refusals.specs.Refusals.{refuse, firstOf}
 use Rattle.basics.proofs.Bools.{both, left, right}
 use Rattle.basics.proofs.Search.{all-at, map-at}
-use Rattle.basics.proofs.Refusals.{passed, none-first, last-one}
+use Rattle.refusals.proofs.Refusals.{passed, none-first, last-one}
 use Rattle.machine.specs.declared.Pair.{Pair}
 use Rattle.machine.specs.Symbols.{isPair}
 use Rattle.machine.specs.Machine.{Machine}

@@ -1,6 +1,5 @@
 pub mod Merged
 pub mod JoinedMachine
-pub mod Refusals
 pub mod JoinedRanking
 pub mod JoinedCard
 pub mod CommonPairs

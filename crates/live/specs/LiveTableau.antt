@@ -9,14 +9,13 @@ use lib.Dec.{ltb, lit<}
 use lib.ListN.{length, set, take, drop, length-append, length-drop, length-set}
 use lib.Seq.{length-take-le, take-suc-set, take-at}
 use borrow.Author.Tests.{ltb-true, le-leb, not-true}
-use Rattle.basics.specs.Refusals.{refuse, firstOf, unlessRefused}
+use Rattle.refusals.specs.Refusals.{refuse, firstOf, unlessRefused}
 use Rattle.basics.specs.Search.{pairwise}
 use Rattle.basics.proofs.Bools.{both, left, right}
 use Rattle.basics.proofs.Search.{pairwise-those}
-use Rattle.basics.proofs.Refusals.{passed, passes-with, none-first, not-accepted}
-use Rattle.basics.proofs.Refusals as by-number
-use Rattle.ranking.specs.Refusals.{isMachineCount}
-use Rattle.ranking.specs.Rankings.{isRanking}
+use Rattle.refusals.proofs.Refusals.{passed, passes-with, none-first, not-accepted}
+use Rattle.refusals.proofs.Refusals as by-number
+use Rattle.ranking.specs.Rankings.{isMachineCount, isRanking}
 use Rattle.live.specs.declared.Row.{Row}
 use Rattle.live.specs.declared.Counted.{Counted}
 use Rattle.live.specs.Rows.{zeroRow, present, without, removed, fits, hasRoom, leaderOf, counted, refusedCount, unled, leadAnswer}

@@ -1,4 +1,3 @@
-pub mod Refusals
 pub mod Symbols
 pub mod Machine
 pub mod Part

@@ -4,7 +4,7 @@ use mathlib.Core.List.{List, [], _∷_, _++_}
 use Prim.Native.Nat.{ℕ, zero, suc, _<_, _≤_}
 use native.Mathlib.Omega.{arith}
 use lib.ListN.{length, take, drop, length-append, length-drop}
-use Rattle.basics.specs.Refusals.{unlessRefused}
+use Rattle.refusals.specs.Refusals.{unlessRefused}
 use Rattle.candidate.specs.Evaluating.{refused}
 use Rattle.product.specs.Best.{best}
 use Rattle.product.specs.Optimizing.{inputRefusal, optimizerRefusal, evaluationOf, filled, optimized, optimizedAnswer}

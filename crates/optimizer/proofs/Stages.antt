@@ -6,8 +6,8 @@ use Prim.Native.Nat.{ℕ, _+_, _*_, _<_, _≤_}
 use native.Mathlib.Omega.{arith}
 use lib.Dec.{leb}
 use lib.ListN.{length, drop}
-use Rattle.basics.specs.Refusals.{refuse, unlessRefused}
-use Rattle.basics.proofs.Refusals.{accepted as taken, not-accepted, last-one}
+use Rattle.refusals.specs.Refusals.{refuse, unlessRefused}
+use Rattle.refusals.proofs.Refusals.{accepted as taken, not-accepted, last-one}
 use Rattle.machine.specs.declared.Pair.{Pair}
 use Rattle.ranking.specs.declared.Profile.{Profile}
 use Rattle.ranking.specs.Lemmas.Rankings.{ranking-facts}

@@ -11,7 +11,7 @@ use lib.Dec.{leb}
 use lib.ListN.{length, drop, replicate}
 use borrow.Author.Tests.{le-leb, lt-leb}
 use Rattle.basics.specs.Search.{allOf}
-use Rattle.basics.specs.Refusals.{unlessRefused}
+use Rattle.refusals.specs.Refusals.{unlessRefused}
 use Rattle.basics.proofs.Bools.{both, left, right}
 use Rattle.machine.specs.declared.Pair.{Pair}
 use Rattle.machine.specs.Machine.{Machine}

@@ -1,5 +1,4 @@
 -- definitions
-pub mod Refusals
 pub mod Optimizes
 pub mod OptimizesSets
 pub mod Searching

@@ -1,5 +1,4 @@
 -- definitions
-pub mod Refusals
 pub mod Nodes
 pub mod JointStep
 pub mod Prices

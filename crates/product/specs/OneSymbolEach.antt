@@ -8,8 +8,8 @@ use Prim.Native.Nat.{ℕ, zero, suc, _*_}
 use lib.Dec.{leb}
 use lib.ListN.{length}
 use Rattle.basics.specs.Search.{allOf}
-use Rattle.basics.specs.Refusals.{refuse}
-use Rattle.basics.proofs.Refusals.{none-first}
+use Rattle.refusals.specs.Refusals.{refuse}
+use Rattle.refusals.proofs.Refusals.{none-first}
 use Rattle.ranking.specs.Rankings.{isRanking}
 use Rattle.card.specs.Layout.{machineCount, symbolCount}
 use Rattle.card.specs.Card.{cardRefusal, machinesOf}

@@ -18,9 +18,7 @@ ghost use Rattle.steps.specs.StepTable.{HoldsMachine};
 ghost use Rattle.steps.specs.Filling.{AcceptedPart};
 use basics::index;
 use candidate::Marks;
-use candidate::Refusal;
 use candidate::Scored;
-use candidate::Stage;
 use candidate::pair_at;
 use candidate::wide;
 use machine::Ending;
@@ -30,6 +28,8 @@ use machine::Step;
 use machine::sets;
 use ranking::Profile;
 use steps::NO_STEP;
+use refusals::Checked;
+use refusals::Refusal;
 
 // A position in a machine whose insertions are looked up.
 struct Tabled {
@@ -118,14 +118,14 @@ pub fn score(card: &[u8], candidate: &[u8]) -> Scored
     for machine in 0..machines {
         let Marks::Complete(marks) = run(card::part(card, machine), candidate, symbols) else {
             return Scored {
-                stage: Stage::Refused(Refusal::NotComplete),
+                checked: Checked::Refused(Refusal::NotComplete),
                 profile: Profile::zero(),
             };
         };
         counts[machine] = marks;
     }
     Scored {
-        stage: Stage::Passed,
+        checked: Checked::Passed,
         profile: Profile { counts },
     }
 }

@@ -1,12 +1,14 @@
 // The board's work from its first byte to its last: the card from `card.bin`, lines from standard input, and for each a line on
 // standard output, then the lesson's totals. What a line says, what is printed for it and how lines are taken from pieces is proved
 // in the crate lines; no contract can speak of what is read and written.
-use card::Stage;
 use libc::STDIN_FILENO;
 use libc::STDOUT_FILENO;
 use lines::Next;
 use lines::Parsed;
 use ranking::Profile;
+use refusals::Checked;
+use refusals::Refusal;
+use refusals::tested;
 ghost use mathlib.Core.Path.{_≡_};
 ghost use mathlib.Core.Bool.{true, false};
 ghost use mathlib.Core.List.{[]};
@@ -211,11 +213,12 @@ fn answer_next(card: &[u8], line: &[u8], tally: Tally, out: &mut [u8]) -> Turn
     ensures text { λ r. ⌜ Prints (lineText (now (card .entry)) tally (now (line .entry))) (now (out .entry)) (now (out .exit)) (r .size) ⌝ }
     ensures tally { λ r. ⌜ (r .tally ≡ lineTally (now (card .entry)) tally (now (line .entry))) × Fits (r .tally) ⌝ }
 {
-    if tally.is_full() {
-        let size = lines::write_refused(22, out);
+    let answer = tested(!tally.is_full(), Refusal::Line);
+    let Checked::Passed = answer else {
+        let size = lines::write_refused(answer.number(), out);
         let tally = tally.passed();
         return Turn { size, tally };
-    }
+    };
     let reply = answer_line(card, line, out);
     let size = reply.size;
     let tally = tally.count(reply);
@@ -348,8 +351,8 @@ fn answer_pieces(
 fn shown_machines(card: &[u8]) -> usize
     ensures { λ r. ⌜ (r ≡ shownMachines (now (card .entry))) × (r ≤ 6) ⌝ }
 {
-    let stage = card::check(card);
-    let Stage::Passed = stage else {
+    let answer = card::check(card);
+    let Checked::Passed = answer else {
         return 0;
     };
     card::machine_count(card)

@@ -7,7 +7,7 @@ use native.Mathlib.Omega.{arith}
 use lib.ListN.{length, getD, set, length-set}
 use lib.Seq.{map-set-same, getD-set-same, getD-set-other}
 use Rattle.basics.specs.Products.{product}
-use Rattle.basics.proofs.Refusals.{none-first}
+use Rattle.refusals.proofs.Refusals.{none-first}
 use Rattle.machine.specs.Machine.{Machine, noMachine, stateCountOf}
 use Rattle.machine.specs.Part.{stateCount, machineOf, partRefusal}
 use Rattle.machine.specs.Accepted.{Shaped}

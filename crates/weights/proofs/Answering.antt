@@ -8,7 +8,7 @@ use native.Mathlib.Omega.{arith}
 use lib.Dec.{ltb}
 use lib.ListN.{length, replicate, length-replicate}
 use Rattle.basics.specs.Search.{allOf}
-use Rattle.basics.specs.Refusals.{unlessRefused}
+use Rattle.refusals.specs.Refusals.{unlessRefused}
 use Rattle.card.specs.Layout.{symbolCount}
 use Rattle.product.specs.Best.{Contender}
 use Rattle.product.specs.Sets.{singletons, bestOfSetsIn}

@@ -1,5 +1,4 @@
 -- definitions: the call's answer and its refusals
-pub mod Refusals
 pub mod Weighing
 pub mod Accepting
 -- theorems on the best by weights

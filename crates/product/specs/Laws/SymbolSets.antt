@@ -11,11 +11,11 @@ use lib.Pow.{pow-pos, pow-lt, pow-mono}
 use borrow.Author.Tests.{leb-true, le-leb, ltb-true, lt-ltb, ne-eqb, not-true}
 use Rattle.basics.specs.Search.{allOf}
 use Rattle.basics.specs.Sets.{member}
-use Rattle.basics.specs.Refusals.{refuse, firstOf}
+use Rattle.refusals.specs.Refusals.{refuse, firstOf}
 use Rattle.basics.proofs.Bools.{both, left, right, clash}
 use Rattle.basics.proofs.Search.{all-at, each-at}
 use Rattle.basics.proofs.Sets.{member-beyond, member-one}
-use Rattle.basics.proofs.Refusals.{passed, none-first}
+use Rattle.refusals.proofs.Refusals.{passed, none-first}
 use Rattle.machine.specs.Symbols.{emptySymbol}
 use Rattle.machine.specs.Part.{soundSet}
 use Rattle.product.specs.Sets.{singletons}
