@@ -17,5 +17,6 @@ pub mod Laws
 pub mod CandidatePaths
 pub mod BestTheorem
 pub mod SetsTheorem
+pub mod CountsFit
 pub mod OneSymbolEach
 pub mod LabelTheorem
