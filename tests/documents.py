@@ -53,7 +53,11 @@ def names():
     """Every name is somewhere in the crates; one with its crate and file is there."""
     crates = {path.name: path for path in pathlib.Path("crates").iterdir()}
     crates.setdefault("pastaspur", crates[LIBRARY])
-    words = set(re.findall(r"[\w-]+", read("include/pastaspur.h") + read("crates.txt"))) | set(crates)
+    beside = [path for part in ("include", "bench", "reference/src", "demo") for path in pathlib.Path(part).rglob("*") if "target" not in path.parts]
+    words = set(crates) | {path.name for path in beside}
+    for path in beside:
+        if path.suffix in (".h", ".cc", ".c", ".rs", ".py"):
+            words |= set(re.findall(r"[\w-]+", path.read_text()))
     texts = {}
     for path in pathlib.Path("crates").glob("*/*/**/*"):
         if path.suffix in (".antt", ".rt"):
@@ -63,6 +67,8 @@ def names():
             words.add(path.stem)
     for document in ["README.md", "docs/PROMISES.md", "docs/ARCHITECTURE.md", "docs/PROOFS.md", "docs/DECISIONS.md", "CONTRIBUTING.md"]:
         for name in re.findall(r"`([^`\n]+)`", re.sub(r"```.*?```", "", read(document), flags=re.S)):
+            if name.startswith("rattle_") or (pathlib.Path("crates") / name).exists():  # the kit's; a file of a crate
+                continue
             placed = re.fullmatch(r"([a-z_0-9]+)/((?:\w+/)*)(\w+)(?:\.([\w-]+))?", name)
             if placed and placed[1] in crates:
                 crate, _, stem, inner = placed.groups()
@@ -79,7 +85,7 @@ def names():
 
 def paths():
     """What looks like a path of the repository is one."""
-    roots = "docs|bench|demo|include|examples|reference|tests|desk"
+    roots = "docs|bench|demo|include|examples/c|reference|tests"
     for document in ["README.md", "CONTRIBUTING.md", *map(str, pathlib.Path("docs").glob("*.md")), "bench/README.md", "demo/README.md", "reference/README.md"]:
         for path in re.findall(rf"(?<![\w/.])((?:{roots})/[\w/.]*\w)", read(document)):
             must(pathlib.Path(path).exists() or "/target/" in path, f"{document}: no {path}")
