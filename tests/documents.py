@@ -1,7 +1,8 @@
 """Holds the documents to the tree: documents.py LIBRARY, the crate of the static library.
 
 README's program is examples/c/best.c; the cards of docs/FORMAT.md are those of the demo and of the examples; its refusals and calls are those of
-the header; every name in backquotes that looks like one of the code's, and every path, is there."""
+the header; docs/ARCHITECTURE.md has the crates of crates.txt; every name in backquotes that looks like one of the code's, and every path, is
+there."""
 import pathlib
 import re
 import sys
@@ -49,6 +50,17 @@ def readme():
     must(read("examples/c/best.stdout").strip() in read("README.md"), "README.md: not what examples/c/best prints")
 
 
+def architecture():
+    """docs/ARCHITECTURE.md has the crates of crates.txt, in its sections and its order, and names the others among the test programs."""
+    text = read("docs/ARCHITECTURE.md").split("## The crates")[1].split("## Beside the crates")[0]
+    shown = re.findall(r"^\*\*([^*]+)\*\*$|^\| `(\w+)` \|", text, re.M)
+    listed, tests = read("crates.txt").split("# Test programs\n")
+    due = re.findall(r"^# (?!Crates)(.+)$|^(\w+):", listed, re.M)
+    must([a or b for a, b in shown] == [a or b.replace(LIBRARY, "pastaspur") for a, b in due], "docs/ARCHITECTURE.md: other crates, sections or order than crates.txt's")
+    for name in re.findall(r"^(\w+):", tests, re.M):
+        must(f"`{name}`" in text or "`board_`" in text and name.startswith("board_"), f"docs/ARCHITECTURE.md: no test program `{name}`")
+
+
 def names():
     """Every name is somewhere in the crates; one with its crate and file is there."""
     crates = {path.name: path for path in pathlib.Path("crates").iterdir()}
@@ -91,7 +103,7 @@ def paths():
             must(pathlib.Path(path).exists() or "/target/" in path, f"{document}: no {path}")
 
 
-for check in (cards, refusals, readme, names, paths):
+for check in (cards, refusals, readme, architecture, names, paths):
     check()
 print("\n".join(wrong) or "as the tree has it")
 sys.exit(bool(wrong))
