@@ -1,6 +1,6 @@
-// Tries the cull's call, and the first engine beside it on the same input. A line for each case: the cull's number, profile, pair count and word length,
-// its first pairs, and whether the first engine gives the same result and the same answer slice. Then words by the dozen, a dot for each on which they agree,
-// and the worst accepted cards, from the files.
+// Tries the cull's call, and after it the first engine on the same input with slices of its own. A line for each case: the cull's number, profile, pair
+// count and word length, its first pairs, what it kept where it refused, and whether the first engine gives the same result and the same answer slice. Then
+// words by the dozen, a dot for each on which they agree, and the worst accepted cards, from the files.
 ghost use Rattle.io.specs.Counts.{Counts};
 use candidate::Evaluation;
 use ranking::Profile;
@@ -47,6 +47,13 @@ const CARD_LAST: [u8; 103] = *b"\x03\x02\
     \x01\x02\x01\
     \x00\x00\x01\x00\x02\x00\x00\x00\x00\x00\x00\x00\x02\x00\x00\x00\x00\x00\x00\x00\
     \x00\x00\x00\x00\x02\x00\x00\x00\x00\x00\x00\x00\x04\x00\x00\x00\x00\x00\x00\x00";
+
+// Two machines of 5 and 32 states, none final, with no arcs.
+const CARD_160: [u8; 51] = *b"\x02\x02\
+    \x0a\x00\x07\x00\x11\x00\x22\x00\
+    \x05\x00\x00\x00\x00\x00\x00\
+    \x20\x00\x00\x00\x00\x00\x00\x00\x00\x00\x00\x00\x00\x00\x00\x00\x00\x00\
+    \x00\x00\x00\x00\x00\x00\x00\x00\x00\x00\x00\x00\x00\x00\x00\x00";
 
 fn write(text: &[u8]) {
     io::write_all(1, text);
@@ -139,28 +146,68 @@ fn same_bytes(a: &[u8], b: &[u8]) -> bool {
     same
 }
 
-// Both engines, with the same work slice.
+// Whether all bytes are still 9.
+fn all_nines(bytes: &[u8]) -> bool {
+    for at in 0..bytes.len() {
+        if bytes[at] != 9 {
+            return false;
+        }
+    }
+    true
+}
+
+// Whether all numbers are still 7.
+fn all_sevens(numbers: &[u16]) -> bool {
+    for at in 0..numbers.len() {
+        if numbers[at] != 7 {
+            return false;
+        }
+    }
+    true
+}
+
+// What a refusal kept of the slices. The work slice is left open past 9.
+fn write_kept(number: u8, work: &[u16], answer: &[u8]) {
+    if number == 0 {
+        return;
+    }
+    write(b"; kept");
+    if all_nines(answer) {
+        write(b" answer");
+    }
+    if number > 9 {
+        return;
+    }
+    if all_sevens(work) {
+        write(b" work");
+    }
+}
+
+// The cull, with a work slice of 7s and an answer slice of 9s, and then the first engine with its own.
 fn on_both(
     card: &[u8],
     ranking: &[u8],
     word: &[u8],
     work: &mut [u16],
-    first: &mut [u8],
-    second: &mut [u8],
+    answer: &mut [u8],
+    their_work: &mut [u16],
+    their_answer: &mut [u8],
 ) {
-    let theirs = optimizer::optimize(card, ranking, word, work, first);
-    let ours = cull::cull(card, ranking, word, work, second);
+    let ours = cull::cull(card, ranking, word, work, answer);
     write_evaluation(ours);
     write(b";");
-    write_pairs(second, ours.pairs);
-    write_same(same_results(theirs, ours) & same_bytes(first, second));
+    write_pairs(answer, ours.pairs);
+    write_kept(ours.number, work, answer);
+    let theirs = optimizer::optimize(card, ranking, word, their_work, their_answer);
+    write_same(same_results(theirs, ours) & same_bytes(their_answer, answer));
 }
 
-// With the first `room` numbers of a work slice and the first `bytes` bytes of answer slices.
+// With the first `room` numbers of work slices and the first `bytes` bytes of answer slices.
 fn lend(card: &[u8], ranking: &[u8], word: &[u8], room: usize, bytes: usize) {
     let mut work = [7u16; 400];
-    let mut first = [9u8; 60];
-    let mut second = [9u8; 60];
+    let mut answer = [9u8; 60];
+    let mut their_work = [5u16; 400];
+    let mut their_answer = [9u8; 60];
     if room > 400 {
         return;
     }
@@ -172,8 +219,9 @@ fn lend(card: &[u8], ranking: &[u8], word: &[u8], room: usize, bytes: usize) {
         ranking,
         word,
         &mut work[0..room],
-        &mut first[0..bytes],
-        &mut second[0..bytes],
+        &mut answer[0..bytes],
+        &mut their_work[0..room],
+        &mut their_answer[0..bytes],
     );
 }
 
@@ -209,18 +257,52 @@ fn on_last(ranking: &[u8]) {
     lend(&card, ranking, b"\x01\x01", 400, 60);
 }
 
-// One case for each number from 1 to 12 but 3 to 6 and 11.
-fn refusals() {
+// Card A with another byte at a place.
+fn on_changed_a(at: usize, byte: u8) {
+    let mut card = CARD_A;
+    if at >= 29 {
+        return;
+    }
+    card[at] = byte;
+    write(b"A, changed ");
+    lend(&card, b"\x00", b"\x01", 400, 60);
+}
+
+// Card A with its arc twice.
+fn on_a_twice() {
+    let mut card = CARD_A_INSERTS;
+    card[33] = 2;
+    write(b"A, arc twice ");
+    lend(&card, b"\x00", b"\x01", 400, 60);
+}
+
+fn on_160() {
+    let card = CARD_160;
+    write(b"160 states ");
+    lend(&card, b"\x00\x01", b"\x01", 400, 60);
+}
+
+// The checks of the card. What comes after them is wrong too where the card is none or short: no ranking, and a work slice that is too short.
+fn refused_cards() {
     let card = CARD_A;
     write(b"none ");
-    lend(&card[0..0], b"", b"", 0, 0);
+    lend(&card[0..0], b"", b"", 7, 1);
     write(b"short ");
-    lend(&card[0..28], b"", b"", 0, 0);
+    lend(&card[0..28], b"", b"", 7, 1);
+    on_changed_a(6, 0);
+    on_changed_a(11, 16);
+    on_a_twice();
+    on_160();
+}
+
+// The other checks, 10, 12, and an answer slice that is just long enough.
+fn refusals() {
     on_b(b"\x00\x01\x01", b"\x02", 400, 60);
     on_a(b"\x00", b"\x03", 400, 60);
     on_b(b"\x00\x02\x01", b"\x02", 31, 60);
-    on_a(b"\x00", b"\x02", 16, 0);
+    on_a(b"\x00", b"\x02", 16, 1);
     on_b(b"\x00\x02\x01", b"\x02", 32, 3);
+    on_b(b"\x00\x02\x01", b"\x02", 32, 4);
 }
 
 fn examples() {
@@ -250,11 +332,12 @@ fn last_decides() {
 // A dot where the engines agree on a word.
 fn on_word(card: &[u8], ranking: &[u8], word: &[u8]) {
     let mut work = [7u16; 400];
-    let mut first = [9u8; 60];
-    let mut second = [9u8; 60];
-    let theirs = optimizer::optimize(card, ranking, word, &mut work, &mut first);
-    let ours = cull::cull(card, ranking, word, &mut work, &mut second);
-    if same_results(theirs, ours) & same_bytes(&first, &second) {
+    let mut answer = [9u8; 60];
+    let mut their_work = [5u16; 400];
+    let mut their_answer = [9u8; 60];
+    let ours = cull::cull(card, ranking, word, &mut work, &mut answer);
+    let theirs = optimizer::optimize(card, ranking, word, &mut their_work, &mut their_answer);
+    if same_results(theirs, ours) & same_bytes(&their_answer, &answer) {
         write(b".");
     } else {
         write(b"x");
@@ -305,10 +388,19 @@ fn free_loops() {
 
 // With slices that are enough for every card and word.
 fn lend_all(card: &[u8], ranking: &[u8], word: &[u8]) {
-    let mut work = [0u16; 25600];
-    let mut first = [0u8; 6398];
-    let mut second = [0u8; 6398];
-    on_both(card, ranking, word, &mut work, &mut first, &mut second);
+    let mut work = [7u16; 25600];
+    let mut answer = [9u8; 6398];
+    let mut their_work = [5u16; 25600];
+    let mut their_answer = [9u8; 6398];
+    on_both(
+        card,
+        ranking,
+        word,
+        &mut work,
+        &mut answer,
+        &mut their_work,
+        &mut their_answer,
+    );
 }
 
 // Reads a file, and answers its length: 0 where there is none, or it cannot be read.
@@ -398,6 +490,7 @@ fn worst() {
 }
 
 fn main() {
+    refused_cards();
     refusals();
     examples();
     endings();

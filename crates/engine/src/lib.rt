@@ -142,7 +142,7 @@ pub extern "C" fn pastaspur_optimize_weights(
     give_weighing(weights::optimize(card, weights, word, work, answer), result)
 }
 
-// The same by Ellison's cull.
+// The best candidate over all words with one symbol from each set, by Ellison's cull: 1 to 8, 25, 9, 10, 12.
 #[no_mangle]
 pub extern "C" fn pastaspur_cull_sets(
     card: &[u8],

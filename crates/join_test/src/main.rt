@@ -1,16 +1,19 @@
-// Tries the call that joins two machines of a card: the new card byte by byte, every word of at most three symbols on a card and its join, kinds in all
-// pairs, arcs that share only 0:0, ending marks, the refusals 27 and 28 with their neighbours that pass, the order of the checks, and targets that are
-// exact, longer and one short. A line for each case: the number, the new card's length, how many bytes of the target still hold 9.
+// Tries the call that joins two machines of a card: the new card byte by byte, every word of at most three symbols on a card and its join, words and
+// candidates where machines move down and a ranking names them by their new numbers, kinds in all pairs, arcs that share only 0:0, ending marks, the
+// refusals 27 and 28 with their neighbours that pass, the order of the checks, and targets that are exact, longer and one short. A line for each case: the
+// number, the new card's length, how many bytes of the target still hold 9.
 mod samples; // samples.rt: the cards
 
 use candidate::Evaluation;
 use card::Packed;
+use ranking::Profile;
 use samples::ENDINGS;
 use samples::FEW_ARCS;
 use samples::FOUR;
 use samples::KINDS;
 use samples::MANY_ARCS;
 use samples::ONLY_0_0;
+use samples::SECOND;
 use samples::STATES_32;
 use samples::STATES_33;
 
@@ -242,17 +245,25 @@ fn same_bytes(first: &[u8; 20], second: &[u8; 20]) -> bool {
     true
 }
 
-// Whether the second is the first with the counts 0 and 3 added: machine 3 counts nothing.
-fn same_result(first: Evaluation, second: Evaluation) -> bool {
-    let counts = first.profile;
-    let others = second.profile;
-    (first.number == second.number)
-        & (counts.counts[0] == others.counts[0])
-        & (counts.counts[1] == others.counts[1])
-        & (counts.counts[2] == others.counts[2])
-        & (counts.counts[3] == 0)
-        & (first.pairs == second.pairs)
-        & (first.word_length == second.word_length)
+// Whether four counts are three others and that of the machine without marks, which is 0.
+fn same_counts(old: Profile, new: Profile, unmarked: u8) -> bool {
+    let four = old.counts;
+    let three = new.counts;
+    if unmarked == 1 {
+        return (four[0] == three[0])
+            & (four[1] == 0)
+            & (four[2] == three[1])
+            & (four[3] == three[2]);
+    }
+    (four[0] == three[0]) & (four[1] == three[1]) & (four[2] == three[2]) & (four[3] == 0)
+}
+
+// Whether the new card's result is the old one's with the two counts added: the machine without marks counts nothing.
+fn same_result(old: Evaluation, new: Evaluation, unmarked: u8) -> bool {
+    (old.number == new.number)
+        & same_counts(old.profile, new.profile, unmarked)
+        & (old.pairs == new.pairs)
+        & (old.word_length == new.word_length)
 }
 
 fn answered(card: &[u8], ranking: &[u8], word: &[u8], answer: &mut [u8; 20]) -> Evaluation {
@@ -260,30 +271,33 @@ fn answered(card: &[u8], ranking: &[u8], word: &[u8], answer: &mut [u8; 20]) -> 
     optimizer::optimize(card, ranking, word, &mut work, answer)
 }
 
-// The answer on the new card.
-fn answered_joined(ranking: &[u8], word: &[u8], answer: &mut [u8; 20]) -> Evaluation {
-    let card = FOUR;
-    let mut target = [9u8; 346];
-    join::join(&card, 3, 0, &mut target);
-    answered(&target, ranking, word, answer)
+// A line's number and three counts.
+fn write_result(result: Evaluation) {
+    let counts = result.profile.counts;
+    write_byte(result.number);
+    write(b":");
+    write_count(counts[0]);
+    write(b",");
+    write_count(counts[1]);
+    write(b",");
+    write_count(counts[2]);
 }
 
 // A line with the two cards' answer for a word, where it is one.
-fn compared(ranking: &[u8], joined_ranking: &[u8], word: &[u8]) {
-    let card = FOUR;
+fn compared(
+    card: &[u8],
+    joined: &[u8],
+    unmarked: u8,
+    ranking: &[u8],
+    joined_ranking: &[u8],
+    word: &[u8],
+) {
     let mut first = [9u8; 20];
     let mut second = [9u8; 20];
-    let old = answered(&card, ranking, word, &mut first);
-    let new = answered_joined(joined_ranking, word, &mut second);
-    let profile = new.profile;
-    if same_result(old, new) & same_bytes(&first, &second) {
-        write_byte(new.number);
-        write(b":");
-        write_count(profile.counts[0]);
-        write(b",");
-        write_count(profile.counts[1]);
-        write(b",");
-        write_count(profile.counts[2]);
+    let old = answered(card, ranking, word, &mut first);
+    let new = answered(joined, joined_ranking, word, &mut second);
+    if same_result(old, new, unmarked) & same_bytes(&first, &second) {
+        write_result(new);
         write_pairs(&second, new.pairs);
         write(b"\n");
     } else {
@@ -291,10 +305,17 @@ fn compared(ranking: &[u8], joined_ranking: &[u8], word: &[u8]) {
     }
 }
 
+fn compared_last(ranking: &[u8], joined_ranking: &[u8], word: &[u8]) {
+    let card = FOUR;
+    let mut target = [9u8; 346];
+    join::join(&card, 3, 0, &mut target);
+    compared(&card, &target, 3, ranking, joined_ranking, word);
+}
+
 fn in_three_rankings(word: &[u8]) {
-    compared(b"\x03\x00\x01\x02", b"\x00\x01\x02", word);
-    compared(b"\x00\x02\x03\x01", b"\x00\x02\x01", word);
-    compared(b"\x01\x02\x00\x03", b"\x01\x02\x00", word);
+    compared_last(b"\x03\x00\x01\x02", b"\x00\x01\x02", word);
+    compared_last(b"\x00\x02\x03\x01", b"\x00\x02\x01", word);
+    compared_last(b"\x01\x02\x00\x03", b"\x01\x02\x00", word);
 }
 
 // The word of three symbols that a number says, and the shorter words that are its end, each once.
@@ -315,6 +336,63 @@ fn words() {
     }
 }
 
+// Where the machines 1 and 2 are joined, machine 3 is machine 2 of the new card.
+fn compared_one_moved(ranking: &[u8], joined_ranking: &[u8], word: &[u8]) {
+    let card = SECOND;
+    let mut target = [9u8; 365];
+    join::join(&card, 2, 1, &mut target);
+    compared(&card, &target, 1, ranking, joined_ranking, word);
+}
+
+// Where the machines 0 and 1 are joined, machine 2 is machine 1 of the new card, and machine 3 is machine 2.
+fn compared_two_moved(ranking: &[u8], joined_ranking: &[u8], word: &[u8]) {
+    let card = SECOND;
+    let mut target = [9u8; 346];
+    join::join(&card, 0, 1, &mut target);
+    compared(&card, &target, 1, ranking, joined_ranking, word);
+}
+
+fn second_gone() {
+    let card = SECOND;
+    show(&card, 2, 1);
+    show(&card, 0, 1);
+}
+
+fn moved(word: &[u8]) {
+    compared_one_moved(b"\x01\x00\x02\x03", b"\x00\x01\x02", word);
+    compared_one_moved(b"\x00\x03\x01\x02", b"\x00\x02\x01", word);
+    compared_one_moved(b"\x03\x02\x00\x01", b"\x02\x01\x00", word);
+    compared_two_moved(b"\x01\x00\x02\x03", b"\x00\x01\x02", word);
+    compared_two_moved(b"\x00\x03\x01\x02", b"\x00\x02\x01", word);
+    compared_two_moved(b"\x03\x02\x00\x01", b"\x02\x01\x00", word);
+}
+
+// A line with what the two cards make of a candidate, where it is one: the result, the pairs, the word's length.
+fn evaluated(candidate: &[u8]) {
+    let card = SECOND;
+    let mut target = [9u8; 365];
+    join::join(&card, 2, 1, &mut target);
+    let old = candidate::evaluate(&card, candidate);
+    let new = candidate::evaluate(&target, candidate);
+    if same_result(old, new, 1) {
+        write_result(new);
+        write(b" ");
+        write_count(new.pairs);
+        write(b" ");
+        write_count(new.word_length);
+        write(b"\n");
+    } else {
+        write(b" not the same\n");
+    }
+}
+
+fn evaluations() {
+    evaluated(b"\x00\x01\x02\x00");
+    evaluated(b"\x02\x02\x00\x01\x02\x02");
+    evaluated(b"\x02\x02\x02\x02");
+    evaluated(b"\x00\x00");
+}
+
 fn main() {
     targets();
     other_two();
@@ -330,4 +408,8 @@ fn main() {
     endings();
     in_three_rankings(b"");
     words();
+    second_gone();
+    moved(b"\x02");
+    moved(b"\x02\x02");
+    evaluations();
 }

@@ -1,5 +1,5 @@
 // Tries arcs for same and different: an arc of each kind on each sort of pair; and a card with an arc per symbol against one with two arcs by kind,
-// on every word of at most three symbols.
+// on every word of at most three symbols, by both engines.
 use candidate::Evaluation;
 
 // Three symbols. The first machine counts each 2 that stands behind a 2, the second each pair with in unlike out: an arc for each symbol kept, one
@@ -144,7 +144,26 @@ fn answered(card: &[u8], ranking: &[u8], word: &[u8], answer: &mut [u8; 20]) -> 
     optimizer::optimize(card, ranking, word, &mut work, answer)
 }
 
-// A line with the two cards' answer for a word, where it is one.
+fn culled(card: &[u8], ranking: &[u8], word: &[u8], answer: &mut [u8; 20]) -> Evaluation {
+    let mut work = [7u16; 64];
+    cull::cull(card, ranking, word, &mut work, answer)
+}
+
+// Whether the cull gives the same answer for a word, with either card.
+fn cull_agrees(ranking: &[u8], word: &[u8], result: Evaluation, answer: &[u8; 20]) -> bool {
+    let many = MANY_ARCS;
+    let two = TWO_ARCS;
+    let mut first = [9u8; 20];
+    let mut second = [9u8; 20];
+    let by_symbol = culled(&many, ranking, word, &mut first);
+    let by_kind = culled(&two, ranking, word, &mut second);
+    same_result(by_symbol, result)
+        & same_result(by_kind, result)
+        & same_bytes(&first, answer)
+        & same_bytes(&second, answer)
+}
+
+// A line with the answer for a word, where it is one: that of the two cards and the two engines.
 fn compared(ranking: &[u8], word: &[u8]) {
     let many = MANY_ARCS;
     let two = TWO_ARCS;
@@ -153,7 +172,10 @@ fn compared(ranking: &[u8], word: &[u8]) {
     let by_symbol = answered(&many, ranking, word, &mut first);
     let by_kind = answered(&two, ranking, word, &mut second);
     let profile = by_kind.profile;
-    if same_result(by_symbol, by_kind) & same_bytes(&first, &second) {
+    if same_result(by_symbol, by_kind)
+        & same_bytes(&first, &second)
+        & cull_agrees(ranking, word, by_kind, &second)
+    {
         write_byte(by_kind.number);
         write(b":");
         write_count(profile.counts[0]);

@@ -3,7 +3,7 @@ use ranking::Comparison;
 use ranking::Derived;
 use ranking::Order;
 use ranking::Profile;
-use ranking::Refusal;
+use refusals::Refusal;
 
 fn write(text: &[u8]) {
     io::write_all(1, text);

@@ -1,4 +1,4 @@
-// Tries both engines' calls for words heard only in part: sets that decide, the empty list, refusal 25 with its neighbours that pass and its place between 8 and 9, and
+// Tries both engines' calls for words heard only in part: sets that decide, the empty list, refusal 25 with its neighbours that pass and its place after 2, 7 and 8 and before 9, and
 // slices longer than needed. A line for each case and engine: the number, profile, pair count and word length, the pairs, how many bytes of the answer slice still hold 9, and, where the
 // call keeps the work slice, how many of its numbers still hold 7.
 use candidate::Evaluation;
@@ -128,7 +128,7 @@ fn write_answer(evaluation: Evaluation, answer: &[u8; 60], work: &[u16; 400]) {
 }
 
 // The optimizer's call on a card of one machine, with the first `room` numbers of a work slice of 7s and the first `bytes` bytes of an answer slice of 9s.
-fn try_optimizer(card: &[u8], sets: &[u64], room: usize, bytes: usize) {
+fn try_optimizer(card: &[u8], ranking: &[u8], sets: &[u64], room: usize, bytes: usize) {
     let mut work = [7u16; 400];
     let mut answer = [9u8; 60];
     if room > 400 {
@@ -139,7 +139,7 @@ fn try_optimizer(card: &[u8], sets: &[u64], room: usize, bytes: usize) {
     }
     let evaluation = optimizer::optimize_sets(
         card,
-        b"\x00",
+        ranking,
         sets,
         &mut work[0..room],
         &mut answer[0..bytes],
@@ -148,7 +148,7 @@ fn try_optimizer(card: &[u8], sets: &[u64], room: usize, bytes: usize) {
 }
 
 // The cull's.
-fn try_cull(card: &[u8], sets: &[u64], room: usize, bytes: usize) {
+fn try_cull(card: &[u8], ranking: &[u8], sets: &[u64], room: usize, bytes: usize) {
     let mut work = [7u16; 400];
     let mut answer = [9u8; 60];
     if room > 400 {
@@ -159,7 +159,7 @@ fn try_cull(card: &[u8], sets: &[u64], room: usize, bytes: usize) {
     }
     let evaluation = cull::cull_sets(
         card,
-        b"\x00",
+        ranking,
         sets,
         &mut work[0..room],
         &mut answer[0..bytes],
@@ -167,10 +167,14 @@ fn try_cull(card: &[u8], sets: &[u64], room: usize, bytes: usize) {
     write_answer(evaluation, &answer, &work);
 }
 
-fn try_on(card: &[u8], sets: &[u64], room: usize, bytes: usize) {
-    try_optimizer(card, sets, room, bytes);
+fn try_ranked(card: &[u8], ranking: &[u8], sets: &[u64], room: usize, bytes: usize) {
+    try_optimizer(card, ranking, sets, room, bytes);
     write(b"  cull ");
-    try_cull(card, sets, room, bytes);
+    try_cull(card, ranking, sets, room, bytes);
+}
+
+fn try_on(card: &[u8], sets: &[u64], room: usize, bytes: usize) {
+    try_ranked(card, b"\x00", sets, room, bytes);
 }
 
 fn on_a(sets: &[u64], room: usize, bytes: usize) {
@@ -258,8 +262,19 @@ fn many_on_a(set: u64, count: usize, room: usize, bytes: usize) {
     on_a(&sets[0..count], room, bytes);
 }
 
-// 25 comes after 8's length limit and before 9.
+// Card A without its last byte, and with a ranking that is none.
+fn refused_before() {
+    let card = CARD_A;
+    let sets = [0];
+    write(b"A, short ");
+    try_on(&card[0..28], &sets, 0, 0);
+    write(b"A, ranking 1 ");
+    try_ranked(&card, b"\x01", &sets, 0, 0);
+}
+
+// 25 comes after 2, after 7, after 8's length limit, and before 9.
 fn places() {
+    refused_before();
     many_on_a(0, 25, 0, 0);
     many_on_a(0, 24, 0, 0);
     many_on_a(2, 25, 0, 0);

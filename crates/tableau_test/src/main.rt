@@ -1,14 +1,17 @@
 // Tries the call that judges a tableau: the tableaux of document 002 for /tag/, the refusals 19, 20 and 21 with their neighbours that pass, the
-// order of the checks over several rows, ties, 32 rows, and ending marks. A line for each case: what it is, the number, the verdict, the row; where the number is
-// 1 to 9, how many numbers of the work slice still hold 7.
+// order of the checks over several rows, ties, 32 rows, rows of 3,199 pairs, and ending marks. A line for each case: what it is, the number, the verdict,
+// the row; where the number is 1 to 9, how many numbers of the work slice still hold 7.
 mod samples; // samples.rt: the card and the tableaux
 
 use samples::CARD;
 use samples::CARD_B;
+use samples::FREE;
 use samples::MISSING;
 use samples::ONE;
 use samples::TAG;
 use samples::TIES;
+use samples::WRAPPED;
+use samples::WRAPPED_END;
 use tableau::Judged;
 
 fn write(text: &[u8]) {
@@ -287,6 +290,19 @@ fn layouts() {
     change(117, 1);
 }
 
+// Offset and length past 65,535.
+fn wrapped() {
+    let tableau = WRAPPED;
+    write(b"a row's offset is wrapped");
+    on_tag(&tableau);
+}
+
+fn wrapped_end() {
+    let tableau = WRAPPED_END;
+    write(b"the last row's end is wrapped");
+    on_tag(&tableau);
+}
+
 fn candidates() {
     write(b"odd");
     last_row(25);
@@ -304,6 +320,46 @@ fn candidates() {
     judge_word(b"\x01\x02");
     write(b"the word");
     judge_word(b"\x01\x02\x03");
+}
+
+// Out byte 1 in each pair of the candidate of the first row.
+fn fill_outputs(tableau: &mut [u8; 6418]) {
+    let mut at = 19;
+    while at < 6418 {
+        tableau[at] = 1;
+        at += 2;
+    }
+}
+
+fn judge_long(tableau: [u8; 6418], length: usize) {
+    let card = FREE;
+    let mut work = [7u16; 16];
+    if length <= 6418 {
+        write_judged(tableau::judge(&card, b"\x00", b"\x01", &mut work, &tableau[0..length]));
+    }
+    write(b"\n");
+}
+
+// A row of that many pairs: 0:1 in all but the last, which is 1:1. Insertions are free, so it wins.
+fn long_row(pairs: usize) {
+    let mut tableau = [0u8; 6418];
+    if pairs > 3200 {
+        return;
+    }
+    fill_outputs(&mut tableau);
+    tableau[0] = 1;
+    tableau[2] = 6;
+    tableau[4] = ((12 + 2 * pairs) % 256) as u8;
+    tableau[5] = ((12 + 2 * pairs) / 256) as u8;
+    tableau[16 + 2 * pairs] = 1;
+    judge_long(tableau, 18 + 2 * pairs);
+}
+
+fn long_rows() {
+    write(b"a row of 3,199 pairs");
+    long_row(3199);
+    write(b"a row of 3,200 pairs");
+    long_row(3200);
 }
 
 fn judge_word(word: &[u8]) {
@@ -352,7 +408,10 @@ fn main() {
     endings();
     row_counts();
     layouts();
+    wrapped();
+    wrapped_end();
     candidates();
+    long_rows();
     profiles();
     orders();
     inputs();

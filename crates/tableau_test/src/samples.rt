@@ -1,4 +1,4 @@
-// The card `tag` of demo/, and tableaux of /tag/ under NoCoda >> DEP >> PARSE; card B and a tableau of its word 1.
+// The card `tag` of demo/, and tableaux of /tag/ under NoCoda >> DEP >> PARSE; card B and a tableau of its word 1; card A with an arc for insertions.
 
 // Machines NoCoda, DEP, PARSE; symbols t a g e and the dot.
 pub const CARD: [u8; 406] = [
@@ -1015,3 +1015,20 @@ pub const ONE: [u8; 38] = [
     1,
     0,
 ];
+
+// Two rows whose places are right only if 10 + 65,530 is wrapped at 16 bits.
+pub const WRAPPED: [u8; 34] = *b"\x02\x00\
+    \x0a\x00\xfa\xff\x04\x00\x1e\x00\
+    \x00\x00\x00\x00\x00\x00\x00\x00\x00\x00\x00\x00\x00\x00\x00\x00\x00\x00\x00\x00\x00\x00\x00\x00";
+
+// Two rows of which the second ends at the end only if 34 + 65,535 is wrapped at 16 bits.
+pub const WRAPPED_END: [u8; 33] = *b"\x02\x00\
+    \x0a\x00\x18\x00\x22\x00\xff\xff\
+    \x00\x00\x00\x00\x00\x00\x00\x00\x00\x00\x00\x00\x00\x00\x00\x00\x00\x00\x00\x00\x00\x00\x00";
+
+// Card A with another arc, in {0}, out {1,2}, 0 marks.
+pub const FREE: [u8; 49] = *b"\x01\x02\
+    \x06\x00\x2b\x00\
+    \x01\x02\x01\
+    \x00\x00\x00\x00\x02\x00\x00\x00\x00\x00\x00\x00\x06\x00\x00\x00\x00\x00\x00\x00\
+    \x00\x00\x00\x00\x01\x00\x00\x00\x00\x00\x00\x00\x06\x00\x00\x00\x00\x00\x00\x00";

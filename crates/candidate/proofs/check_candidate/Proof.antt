@@ -8,7 +8,7 @@ use native.Mathlib.Omega.{arith}
 use lib.ListN.{length, drop}
 use Rattle.basics.specs.Search.{allOf}
 use Rattle.basics.proofs.Search.{all-none, all-next, all-fails}
-use Rattle.basics.proofs.Refusals.{passes-with, refuses-with}
+use Rattle.refusals.proofs.Refusals.{passes-with, refuses-with}
 use Rattle.candidate.specs.Candidates.{pairsOf}
 use Rattle.candidate.specs.Evaluating.{soundPair, soundCandidate}
 use Rattle.candidate.proofs.Pairs.{pairs-next, pairs-end, odd-refused, long-refused, sound-is}

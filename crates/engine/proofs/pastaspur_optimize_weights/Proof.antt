@@ -1,4 +1,4 @@
-use mathlib.Core.Path.{refl, ap, _∙_}
+use mathlib.Core.Path.{ap, _∙_}
 use Rattle.weights.specs.declared.Weighing.{Weighing}
 use Rattle.engine.specs.Results.{weighingNumbers}
 use borrow.Author.Needs.{needs}
@@ -12,7 +12,7 @@ returns c =
       g .0 ∙ ap (λ (r : Weighing). r .evaluation .number) (o .result),
       (
         g .1 ∙ ap weighingNumbers (o .result),
-        record { result = refl; answer-slice = o .answer-slice; work-length = o .work-length; work-kept = o .work-kept },
+        rw (o .result) at o,
       ),
     )
 

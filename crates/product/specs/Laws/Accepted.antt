@@ -6,7 +6,7 @@ use native.Mathlib.Omega.{arith}
 use lib.ListN.{length, length-map}
 use borrow.Author.Tests.{le-leb}
 use Rattle.basics.proofs.Bools.{both}
-use Rattle.basics.proofs.Refusals.{none-first}
+use Rattle.refusals.proofs.Refusals.{none-first}
 use Rattle.machine.specs.Part.{machineOf, stateCount, partRefusal}
 use Rattle.machine.specs.Accepted.{shape-facts, state-count, accepted}
 use Rattle.machine.specs.Steps.{step-bounds, ending-bounds}

@@ -6,7 +6,7 @@ use borrow.Author.Tests.{not-true, not-false}
 use native.Mathlib.Omega.{arith}
 use Rattle.basics.specs.Search.{everyBelow}
 use Rattle.basics.proofs.Below.{every-start, every-next, one-below-fails}
-use Rattle.basics.proofs.Refusals.{passes-with, refuses-with}
+use Rattle.refusals.proofs.Refusals.{passes-with, refuses-with}
 use Rattle.layout.specs.LaidOut.{part-within}
 use Rattle.tableau.specs.Tableau.{rowCount, rowOf}
 use Rattle.tableau.specs.Judging.{countsAreProfile}
