@@ -95,6 +95,13 @@ def names():
                 must(name in words, f"{document}: no `{name}`")
 
 
+def edits():
+    """Every must-fail edit is named in docs/PROMISES.md, where it says what the edit shows."""
+    text = read("docs/PROMISES.md")
+    for path in sorted(pathlib.Path("crates").glob("*/must-fail/*.edit")):
+        must(f"{path.stem}`" in text, f"docs/PROMISES.md: {path} is not named")
+
+
 def paths():
     """What looks like a path of the repository is one."""
     roots = "docs|bench|demo|include|examples/c|reference|tests"
@@ -103,7 +110,7 @@ def paths():
             must(pathlib.Path(path).exists() or "/target/" in path, f"{document}: no {path}")
 
 
-for check in (cards, refusals, readme, architecture, names, paths):
+for check in (cards, refusals, readme, architecture, names, edits, paths):
     check()
 print("\n".join(wrong) or "as the tree has it")
 sys.exit(bool(wrong))
