@@ -1,0 +1,102 @@
+"""`desk typology`: every language that the rankings of a card make of some words."""
+import dataclasses
+
+import pastaspur
+
+from . import asking, conditions, output
+from .cards import Card
+
+
+@dataclasses.dataclass(frozen=True)
+class Language:
+    """The words' answers, the rankings that give them, the smallest first, and the conditions that pick these rankings out."""
+
+    answers: tuple[asking.Answer, ...]
+    rankings: list[bytes]
+    conditions: list[pastaspur.Condition]
+
+
+@dataclasses.dataclass(frozen=True)
+class Typology:
+    """The languages of some words, in the order of their smallest rankings."""
+
+    words: list[bytes]
+    languages: list[Language]
+
+
+def make(card: Card, asked: asking.Asked) -> Typology:
+    """The languages of what was asked."""
+    found: dict[tuple[asking.Answer, ...], list[bytes]] = {}
+    for ranking, answers in zip(asked.rankings, asked.answers):
+        found.setdefault(answers, []).append(ranking)
+    contenders = [asked.contenders(word) for word in range(len(asked.words))]
+    languages = [Language(answers, orders, picked_out(card, answers, contenders)) for answers, orders in found.items()]
+    return Typology(list(asked.words), languages)
+
+
+def picked_out(
+    card: Card, answers: tuple[asking.Answer, ...], contenders: list[list[pastaspur.Best]]
+) -> list[pastaspur.Condition]:
+    """The conditions under which these answers are the best: for each word, against everything that some ranking makes the best."""
+    return conditions.few(
+        card.k,
+        (
+            pastaspur.condition(card.k, best.counts, other.counts)
+            for best, others in zip(answers, contenders)
+            if best is not None
+            for other in others
+        ),
+    )
+
+
+def answer_line(card: Card, answer: asking.Answer) -> str:
+    """An answer as the board prints it."""
+    return f"refused {asking.NO_CANDIDATE}" if answer is None else card.names.line(answer)
+
+
+def as_json(card: Card, typology: Typology) -> dict[str, object]:
+    names = card.names
+    languages = [
+        {
+            "answers": [answer_line(card, answer) for answer in language.answers],
+            "rankings": len(language.rankings),
+            "smallest": names.digits(language.rankings[0]),
+        }
+        for language in typology.languages
+    ]
+    return {"words": [names.commas(word) for word in typology.words], "languages": languages}
+
+
+def as_text(card: Card, typology: Typology) -> str:
+    names, count = card.names, len(typology.languages)
+    of = sum(len(language.rankings) for language in typology.languages)
+    parts = [f"{count} language{'s' * (count != 1)} from {of} ranking{'s' * (of != 1)} of {', '.join(names.machines)}"]
+    for number, language in enumerate(typology.languages, 1):
+        share = f"{len(language.rankings)} of {of} rankings, the smallest {names.digits(language.rankings[0])}"
+        smallest = names.ranking(language.rankings[0])
+        rows = []
+        for word, answer in zip(typology.words, language.answers):
+            shown = ["(no candidate)", "", ""] if answer is None else [
+                names.form(answer.candidate), ",".join(map(str, card.counts(answer.counts))), names.candidate(answer.candidate)
+            ]
+            rows.append(["  " + names.word(word), "->", *shown])
+        picked = [conditions.in_words(names, each) for each in language.conditions]
+        parts.append(
+            f"{output.painted(f'language {number}', output.BOLD)}: {share}: {smallest}\n{output.table(rows)}\n"
+            f"  exactly when {'; '.join(picked) or 'under every ranking'}"
+        )
+    return "\n\n".join(parts)
+
+
+def run(card: Card, words: list[bytes], json: bool) -> int:
+    """Shows the typology, with a bar on a terminal while it asks."""
+    bar = asking.Bar(len(asking.rankings(card.k)))
+    try:
+        typology = make(card, asking.ask_all(card, words, bar.show))
+    finally:
+        bar.clear()
+    if json:
+        output.show_json(as_json(card, typology))
+    else:
+        print(as_text(card, typology))
+    return 0

@@ -1,0 +1,118 @@
+"""The page: what it holds, and in a headless browser how it is ranked anew."""
+import json
+import pathlib
+import re
+import sys
+import time
+import unittest
+
+from . import CARDS, DEMO
+from .browser import CHROMIUM, Browser
+from .running import DeskCase
+
+WINNER = "document.querySelector('tr.best th.row').lastChild.textContent"
+COLUMNS = "[...document.querySelectorAll('.word-tableau:first-child thead th')].slice(1).map(cell => cell.textContent).join(' ')"
+CELLS = "[...document.querySelectorAll('.word-tableau:first-child tbody tr')].map(row => [...row.querySelectorAll('td:not(.pairs)')].map(cell => cell.firstChild.textContent + (cell.className === 'shaded' ? '#' : '')).join(' '))"
+
+
+class Made(DeskCase):
+    def test_every_demo_card_has_a_page_that_needs_nothing_else(self) -> None:
+        for folder in CARDS:
+            self.assertEqual(self.text("page", folder), f"{folder.name}.html\n")
+            page = (self.folder / f"{folder.name}.html").read_text(encoding="utf-8")
+            self.assertIsNone(re.search(r'\b(src|href|action)=|url\(|@import|fetch\(|XMLHttpRequest', page), folder.name)
+            self.assertNotIn("@@", page)
+            data = json.loads(re.search(r'id="data">(.*?)</script>', page)[1])
+            self.assertEqual(page.count("<svg "), len(data["machines"]))
+            self.assertEqual(sorted(ranking for each in data["languages"] for ranking in each["rankings"]), list(range(len(data["rankings"]))))
+
+    def test_under_a_second(self) -> None:
+        start = time.perf_counter()
+        self.text("page", DEMO / "syllables")
+        self.assertLess(time.perf_counter() - start, 1)
+
+    def test_without_pictures_and_with_words(self) -> None:
+        self.text("page", DEMO / "tag", "--no-pictures", "-o", "own.html", "g a", "")
+        page = (self.folder / "own.html").read_text(encoding="utf-8")
+        self.assertNotIn("<svg ", page)
+        self.assertIn('"word":"/ga/"', page)
+        self.assertIn('"word":"/∅/"', page)
+
+
+@unittest.skipUnless(CHROMIUM, "no chromium is installed")
+class InBrowser(DeskCase):
+    @classmethod
+    def setUpClass(cls) -> None:
+        cls.browser = Browser()
+        cls.addClassCleanup(cls.browser.__exit__, None, None, None)
+
+    def page(self, card: str, fragment: str = "") -> Browser:
+        self.text("page", DEMO / card)
+        self.browser.size(1000, 900)
+        self.browser.open(self.folder / f"{card}.html", fragment)
+        return self.browser
+
+    def test_keys_rank_anew(self) -> None:
+        browser = self.page("tag")
+        self.assertEqual((browser.value(WINNER), browser.value(COLUMNS)), ("ta.", "NoCoda DEP PARSE"))
+        self.assertEqual(browser.value(CELLS), ["  *", " *! #", "*! # #", "  **!", "*! **# #"])
+        browser.value("document.querySelector('.chip[data-machine=\"2\"] .name').focus()")
+        browser.press("ArrowLeft")
+        self.assertEqual((browser.value(WINNER), browser.value(COLUMNS)), ("ta.ge.", "NoCoda PARSE DEP"))
+        self.assertEqual(browser.value("document.activeElement.textContent"), "PARSE")
+        self.assertIn("PARSE is now 2 of 3. Best: /tag/ ta.ge.", browser.value("document.getElementById('said').textContent"))
+        browser.press("Home")
+        browser.value("document.querySelector('.chip[data-machine=\"0\"] .name').focus()")
+        browser.press("End")
+        self.assertEqual((browser.value(WINNER), browser.value(COLUMNS)), ("tag.", "PARSE DEP NoCoda"))
+        self.assertEqual(browser.value("location.hash"), "#210")
+        self.assertEqual(browser.value("document.querySelector('tr.chosen button').textContent"), "3")
+
+    def test_arrows_and_languages(self) -> None:
+        browser = self.page("tag")
+        browser.value("document.querySelector('.chip[data-machine=\"1\"] [data-step=lower]').click()")
+        self.assertEqual(browser.value(COLUMNS), "NoCoda PARSE DEP")
+        browser.value("document.querySelectorAll('.typology button')[2].click()")
+        self.assertEqual((browser.value(WINNER), browser.value(COLUMNS)), ("tag.", "DEP PARSE NoCoda"))
+        self.assertEqual(browser.value("document.activeElement.getAttribute('aria-pressed')"), "true")
+
+    def test_dragged(self) -> None:
+        browser = self.page("tag")
+        place = "(() => {{ const box = document.querySelector('.chip[data-machine=\"{}\"]').getBoundingClientRect(); return [box.x + box.width {} , box.y + box.height / 2]; }})()"
+        start, end = browser.value(place.format(0, "/ 2")), browser.value(place.format(2, "- 4"))
+        browser.drag(tuple(start), tuple(end))
+        self.assertEqual((browser.value(WINNER), browser.value(COLUMNS)), ("tag.", "DEP PARSE NoCoda"))
+        self.assertEqual(browser.value("document.querySelectorAll('.held').length"), 0)
+
+    def test_a_ranking_in_the_address(self) -> None:
+        self.assertEqual(self.page("tag", "#021").value(WINNER), "ta.ge.")
+        self.assertEqual(self.page("tag", "#022").value(WINNER), "ta.")
+
+    def test_every_ranking_shows_the_engine_s_answer(self) -> None:
+        """All 24 rankings of the syllable card: hand and columns are those of `desk tableau`."""
+        browser = self.page("syllables")
+        for number, ranking in enumerate(browser.value("data.rankings")):
+            browser.value(f"order = [...'{ranking}'].map(Number); show()")
+            view = browser.value(f"data.words[0].rows[data.words[0].views[data.words[0].view[{number}]][0]].form")
+            self.assertEqual(browser.value(WINNER), view)
+        self.assertEqual(len(browser.value("[...new Set(data.words[0].view.map(at => data.words[0].views[at][0]))]")), 6)
+
+    def test_a_word_without_candidate(self) -> None:
+        self.assertIn("No candidate is complete", self.page("alqalamu").value("document.body.textContent"))
+
+    def test_a_phone(self) -> None:
+        """Nothing but the tables' own frames is wider than the screen."""
+        browser = self.page("syllables_five")
+        browser.size(360, 740, phone=True)
+        self.assertLessEqual(browser.value("document.documentElement.scrollWidth"), 360)
+
+    def test_print(self) -> None:
+        browser = self.page("tag")
+        browser.media("print")
+        self.addCleanup(browser.media, "")
+        self.assertEqual(browser.value("getComputedStyle(document.querySelector('.step')).display"), "none")
+        self.assertEqual(browser.value("getComputedStyle(document.querySelector('.bar')).position"), "static")
+
+
+if not CHROMIUM:
+    print("skipped: the page in a browser: no chromium is installed", file=sys.stderr)
