@@ -9,6 +9,7 @@ from concurrent import futures
 
 import pastaspur
 
+from . import output
 from .bad_input import BadInput
 from .cards import Card
 
@@ -22,7 +23,7 @@ class Stopped(Exception):
     """The asking was stopped by the keyboard: how many rankings were asked, of how many, and how many languages they gave."""
 
     def __init__(self, asked: int, of: int, languages: int) -> None:
-        super().__init__(f"stopped after {asked} of {of} rankings; {languages} languages in these")
+        super().__init__(f"stopped after {asked} of {of} rankings; {output.counted(languages, 'language')} in these")
 
 
 def rankings(machines: int) -> list[bytes]:
@@ -77,7 +78,7 @@ class Bar:
 
 def check_words(card: Card, words: Sequence[bytes]) -> None:
     """A word that the engine does not take is bad input, named."""
-    searcher = pastaspur.Searcher(card.bytes)
+    searcher = pastaspur.Searcher(card.contents)
     for word in words:
         try:
             ask(searcher, bytes(range(card.k)), word)
@@ -94,11 +95,14 @@ def ask_all(card: Card, words: Sequence[bytes], progress: Callable[[int], None] 
     stop = threading.Event()
 
     def work() -> None:
-        searcher = pastaspur.Searcher(card.bytes)
+        searcher = pastaspur.Searcher(card.contents)
         for number in left:
-            if stop.is_set():
-                return
-            answers[number] = tuple(ask(searcher, orders[number], word) for word in words)
+            found = []
+            for word in words:
+                if stop.is_set():
+                    return
+                found.append(ask(searcher, orders[number], word))
+            answers[number] = tuple(found)
 
     threads = thread_count(len(orders) * len(words))
     with futures.ThreadPoolExecutor(threads) as pool:

@@ -35,17 +35,28 @@ def read_names(path: pathlib.Path) -> make_cards.Card:
 
 
 @dataclasses.dataclass(frozen=True)
+class Sent:
+    """A tableau of card.txt: its ranking and word, its rows' candidates, its bytes, and the verdict that is said of it."""
+
+    ranking: bytes
+    word: bytes
+    candidates: list[bytes]
+    tableau: bytes
+    verdict: str
+
+
+@dataclasses.dataclass(frozen=True)
 class Card:
     """An accepted card: its bytes, machines and names, and what its card.txt says beside the machines."""
 
     title: str
-    bytes: bytes
+    contents: bytes
     machines: list[Machine]
     names: Names
     states: list[list[str]]
     sets: dict[int, str]
     lines: list[tuple[bytes, bytes]]
-    tableaux: list[tuple[bytes, bytes, list[bytes], bytes, str]]
+    tableaux: list[Sent]
 
     @property
     def k(self) -> int:
@@ -55,15 +66,15 @@ class Card:
     @property
     def symbols(self) -> int:
         """The symbol count."""
-        return self.bytes[1]
+        return self.contents[1]
 
     def words(self) -> list[bytes]:
         """The words of the card's lines, each once."""
         return list(dict.fromkeys(word for _, word in self.lines))
 
     def candidates(self, word: bytes) -> list[bytes]:
-        """The candidates for a word in the card's tableaux, each once."""
-        rows = [row for _, asked, rows, _, _ in self.tableaux if asked == word for row in rows]
+        """The candidates for a word in the card's right tableaux, each once."""
+        rows = [row for sent in self.tableaux if sent.word == word and sent.verdict == "right" for row in sent.candidates]
         return list(dict.fromkeys(rows))
 
     def counts(self, profile: pastaspur.Profile) -> tuple[int, ...]:
@@ -88,11 +99,6 @@ def place(path: pathlib.Path) -> pathlib.Path:
     return path
 
 
-def numbers_for_names(symbols: int, machines: int) -> Names:
-    """Names of a card that has none."""
-    return Names([str(symbol) for symbol in range(symbols + 1)], [str(machine) for machine in range(machines)])
-
-
 def load(path: pathlib.Path) -> Card:
     """The card at a path, with its names. A card.bin that its card.txt does not say is bad input."""
     file = place(path)
@@ -102,15 +108,22 @@ def load(path: pathlib.Path) -> Card:
     except pastaspur.Refused as refused:
         raise BadInput(f"{file}: {refused}; `desk show` says where") from refused
     title = file.resolve().parent.name if file.name == "card.bin" else file.stem
-    names, text = numbers_for_names(card[1], len(machines)), file.with_name("card.txt")
+    text = file.with_name("card.txt")
     if not text.is_file():
-        return Card(title, card, machines, names, [[str(s) for s in range(len(m.endings))] for m in machines], {}, [], [])
+        return numbered(title, card, machines)
     said = read_names(text)
-    if said.card_bin() != card:
-        if file.name == "card.bin":
-            raise BadInput(f"{text} says another card than {file.name} beside it: python3 demo/make_cards.py makes it anew")
-        return Card(title, card, machines, names, [[str(s) for s in range(len(m.endings))] for m in machines], {}, [], [])
-    return named(title, card, machines, said)
+    if said.card_bin() == card:
+        return named(title, card, machines, said)
+    if file.name == "card.bin":
+        raise BadInput(f"{text} says another card than {file.name} beside it: python3 demo/make_cards.py makes it anew")
+    return numbered(title, card, machines)
+
+
+def numbered(title: str, card: bytes, machines: list[Machine]) -> Card:
+    """A card without names: numbers stand for them."""
+    numbers = lambda count: [str(number) for number in range(count)]
+    states = [numbers(len(machine.endings)) for machine in machines]
+    return Card(title, card, machines, Names(numbers(card[1] + 1), numbers(len(machines))), states, {}, [], [])
 
 
 def named(title: str, card: bytes, machines: list[Machine], said: make_cards.Card) -> Card:
@@ -121,10 +134,10 @@ def named(title: str, card: bytes, machines: list[Machine], said: make_cards.Car
         ranking, word = asked
         return names.read_ranking(" ".join(ranking)), bytes(said.symbols[symbol] for symbol in word)
 
-    def tableau(number: int) -> tuple[bytes, bytes, list[bytes], bytes, str]:
-        asked, rows, verdict = said.claims[number]
+    def sent(claim: list) -> Sent:
+        asked, rows, verdict = claim
         candidates = [names.read_candidate(" ".join(pairs)) for _, pairs, _ in rows]
-        return *line(asked), candidates, said.tableau_bin(rows), verdict
+        return Sent(*line(asked), candidates, said.tableau_bin(rows), verdict)
 
     return Card(
         title,
@@ -134,5 +147,5 @@ def named(title: str, card: bytes, machines: list[Machine], said: make_cards.Car
         [machine["states"] for machine in said.machines.values()],
         {sum({1 << said.symbols[symbol] for symbol in members}): name for name, members in reversed(said.sets.items())},
         [line(asked) for asked in said.lines],
-        [tableau(number) for number in range(len(said.claims))],
+        [sent(claim) for claim in said.claims],
     )

@@ -12,6 +12,7 @@ from .machines import KINDS, Arc
 INK, MARKED, SOFT = "#222222", "#a3263b", "#6b6b6b"
 # dot measures with it what a browser then draws: a font whose measures all have.
 FONT = "Times"
+LISTED = 8
 
 
 def escaped(text: str) -> str:
@@ -19,10 +20,17 @@ def escaped(text: str) -> str:
     return text.replace("&", "&amp;").replace("<", "&lt;").replace(">", "&gt;").replace('"', "&quot;")
 
 
+def set_label(card: Card, bits: int) -> str:
+    """A set by its name, cut short where it is a long list of symbols."""
+    name = card.set_name(bits)
+    listed = name.split(",")
+    return escaped(name if len(listed) <= LISTED else f"{','.join(listed[:LISTED])}… ({len(listed)})")
+
+
 def arc_label(card: Card, arc: Arc) -> str:
     """An arc's sets by name, its kind and its marks."""
     kind = "" if arc.kind == 0 else f" <I>{KINDS[arc.kind]}</I>"
-    text = f"{escaped(card.set_name(arc.inputs))} : {escaped(card.set_name(arc.outputs))}{kind}"
+    text = f"{set_label(card, arc.inputs)} : {set_label(card, arc.outputs)}{kind}"
     if not arc.marks:
         return text
     stars = "*" * arc.marks if arc.marks < 5 else f"{arc.marks} *"

@@ -13,7 +13,7 @@ def run(card: Card, ranking_text: str, sets_text: str, json: bool) -> int:
     names = card.names
     ranking, sets = names.read_ranking(ranking_text), names.read_sets(sets_text)
     try:
-        best = pastaspur.optimize_sets(card.bytes, ranking, sets)
+        best = pastaspur.optimize_sets(card.contents, ranking, sets)
     except pastaspur.Refused as refused:
         if refused.number != asking.NO_CANDIDATE:
             raise BadInput(f"ranking {ranking_text!r}, sets {sets_text!r}: {refused}") from refused
@@ -26,8 +26,8 @@ def run(card: Card, ranking_text: str, sets_text: str, json: bool) -> int:
     if json:
         output.show_json({"word": names.commas(word), "answer": names.line(best)})
         return 0
-    words = math.prod(each.bit_count() for each in sets)
-    print(f"{words} word{'s' * (words != 1)} perhaps heard, {names.ranking(ranking)}")
+    words = output.counted(math.prod(each.bit_count() for each in sets), "word")
+    print(f"{words} perhaps heard, {names.ranking(ranking)}")
     counts = ", ".join(f"{name} {count}" for name, count in zip(names.machines, best.counts))
     print(f"{names.word(word)} -> {output.painted(names.form(best.candidate), output.BOLD)}  ({names.candidate(best.candidate)})  {counts}")
     return 0

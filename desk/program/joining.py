@@ -32,11 +32,10 @@ def run(card: Card, first_text: str, second_text: str, words: list[bytes], file:
     names = card.names
     first, second = names.read_machine(first_text), names.read_machine(second_text)
     try:
-        joined = pastaspur.join(card.bytes, first, second)
-        old, new = pastaspur.Searcher(card.bytes), pastaspur.Searcher(joined)
-        pastaspur.read_part(joined, 0)
+        joined = pastaspur.join(card.contents, first, second)
     except pastaspur.Refused as refused:
         raise BadInput(f"{names.machines[first]} and {names.machines[second]}: {refused}") from refused
+    old, new = pastaspur.Searcher(card.contents), pastaspur.Searcher(joined)
     gone, kept = (first, second) if not card.machines[first].marked else (second, first)
     lines = card.lines if not words else [(ranking, word) for ranking in asking.rankings(card.k) for word in words]
     rows, same = [], 0
@@ -51,8 +50,9 @@ def run(card: Card, first_text: str, second_text: str, words: list[bytes], file:
     if json:
         output.show_json({"card": str(file), "bytes": len(joined), "lines": len(rows), "alike": same})
     else:
-        print(f"{file}: {card.k - 1} machines, {len(joined)} bytes; {names.machines[gone]} has no marks and left the rankings")
+        machines = output.counted(card.k - 1, "machine")
+        print(f"{file}: {machines}, {len(joined)} bytes; {names.machines[gone]} has no marks and left the rankings")
         if rows:
             print(output.table(rows, "  "))
-        print(f"{same} of {len(rows)} lines answered alike")
+        print(f"{same} of {output.counted(len(rows), 'line')} answered alike")
     return 0 if same == len(rows) else 1

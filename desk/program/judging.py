@@ -54,7 +54,7 @@ def where(card: Card, word: bytes, tableau: bytes, number: int) -> str:
         return ""
     for at, (counts, candidate) in enumerate(rows_of(tableau)):
         try:
-            found = pastaspur.evaluate(card.bytes, candidate).counts
+            found = pastaspur.evaluate(card.contents, candidate).counts
         except pastaspur.Refused as refused:
             return f"; row {at}: {refused.reason}"
         spelled = bytes(symbol for symbol in candidate[::2] if symbol)
@@ -70,7 +70,7 @@ def verdict(card: Card, ranking: bytes, word: bytes, tableau: bytes) -> tuple[st
     """The verdict as the demo's files have it, and more about it in names."""
     names = card.names
     try:
-        judged = pastaspur.judge(card.bytes, ranking, word, tableau)
+        judged = pastaspur.judge(card.contents, ranking, word, tableau)
     except pastaspur.Refused as refused:
         if refused.number not in OF_THE_TABLEAU:
             raise
@@ -80,7 +80,7 @@ def verdict(card: Card, ranking: bytes, word: bytes, tableau: bytes) -> tuple[st
     if judged.verdict == pastaspur.Verdict.ANOTHER_ROW:
         candidate = rows_of(tableau)[judged.row][1]
         return f"another row {judged.row}", f"{names.form(candidate)}  ({names.candidate(candidate)})"
-    best = asking.ask(pastaspur.Searcher(card.bytes), ranking, word)
+    best = asking.ask(pastaspur.Searcher(card.contents), ranking, word)
     return "not in the table", f"the best is {names.form(best.candidate)}  ({names.candidate(best.candidate)})"
 
 
@@ -88,7 +88,7 @@ def run(card: Card, ranking: str | None, word: str | None, rows: list[str], json
     """Judges rows, a tableau's file, or the tableaux of the card's folder; status 1 where one is not right."""
     names = card.names
     if ranking is None:
-        asked = [(order, asked, sent) for order, asked, _, sent, _ in card.tableaux]
+        asked = [(sent.ranking, sent.word, sent.tableau) for sent in card.tableaux]
         if not asked:
             raise BadInput(f"{card.title} has no tableaux of its own: give a ranking, a word and rows")
     elif word is None:

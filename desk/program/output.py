@@ -9,7 +9,7 @@ from collections.abc import Sequence
 
 from .bad_input import BadInput
 
-BOLD, RED, GREEN, DIM = "1", "31", "32", "2"
+BOLD, RED = "1", "31"
 
 
 def painted(text: str, paint: str) -> str:
@@ -17,6 +17,11 @@ def painted(text: str, paint: str) -> str:
     if not text or not sys.stdout.isatty() or os.environ.get("NO_COLOR"):
         return text
     return f"\x1b[{paint}m{text}\x1b[0m"
+
+
+def counted(count: int, what: str) -> str:
+    """So many of something, in words."""
+    return f"{count} {what}{'' if count == 1 else 's'}"
 
 
 def width(text: str) -> int:

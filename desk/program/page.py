@@ -65,7 +65,7 @@ def figures(card: Card) -> str:
     """The machines drawn."""
     parts = []
     for name, machine, svg in zip(card.names.machines, card.machines, drawing.pictures(card)):
-        size = f"{len(machine.endings)} states, {len(machine.arcs)} arcs" if len(machine.endings) > 1 else f"one state, {len(machine.arcs)} arcs"
+        size = f"{output.counted(len(machine.endings), 'state')}, {output.counted(len(machine.arcs), 'arc')}"
         parts.append(f"<figure><div class=scroll tabindex=0>{svg}</div><figcaption><b>{html.escape(name)}</b> {size}</figcaption></figure>")
     return "\n".join(parts)
 

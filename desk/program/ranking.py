@@ -57,10 +57,10 @@ def check(card: Card, ranking: bytes, wanted: Wanted) -> pastaspur.Best:
     """Asks the engine: the candidate, sent as a tableau of one row, is judged right. Answers the engine's own best."""
     row = b"".join(count.to_bytes(2, "little") for count in wanted.counts) + wanted.candidate
     sent = bytes([1, 0, 6, 0]) + len(row).to_bytes(2, "little") + row
-    judged = pastaspur.judge(card.bytes, ranking, wanted.word, sent)
+    judged = pastaspur.judge(card.contents, ranking, wanted.word, sent)
     if judged.verdict != pastaspur.Verdict.RIGHT:
         raise AssertionError(f"{card.names.candidate(wanted.candidate)} is not the best under {card.names.digits(ranking)}")
-    return pastaspur.optimize(card.bytes, ranking, wanted.word)
+    return pastaspur.optimize(card.contents, ranking, wanted.word)
 
 
 def shown(card: Card, wanted: Wanted) -> str:

@@ -12,21 +12,21 @@ from .machines import symbols_of
 
 def ending(marks: int | None) -> str:
     """How a candidate may end in a state."""
-    return "" if marks is None else "final" if marks == 0 else f"final, {marks} mark{'s' * (marks > 1)}"
+    return "" if marks is None else "final" if marks == 0 else f"final, {output.counted(marks, 'mark')}"
 
 
 def as_text(card: Card) -> str:
     names = card.names
     product = math.prod(len(machine.endings) for machine in card.machines)
     parts = [
-        f"{card.title}: {card.k} machine{'s' * (card.k > 1)}, {card.symbols} symbol{'s' * (card.symbols > 1)}, {len(card.bytes)} bytes; "
+        f"{card.title}: {output.counted(card.k, 'machine')}, {output.counted(card.symbols, 'symbol')}, {len(card.contents)} bytes; "
         f"{product} of at most 128 joint states",
         "symbols: " + "  ".join(f"{name} {number}" for number, name in enumerate(names.symbols) if number) + "  (0 is the empty one)",
     ]
     for number, machine in enumerate(card.machines):
         states = card.states[number]
         head = f"machine {number}, {names.machines[number]}" if names.machines[number] != str(number) else f"machine {number}"
-        lines = [f"{output.painted(head, output.BOLD)}: {len(states)} states, {len(machine.arcs)} arcs"]
+        lines = [f"{output.painted(head, output.BOLD)}: {output.counted(len(states), 'state')}, {output.counted(len(machine.arcs), 'arc')}"]
         rows = [
             ["  state", name, "start" if state == 0 else "", ending(marks)]
             for state, (name, marks) in enumerate(zip(states, machine.endings))

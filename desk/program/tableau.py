@@ -34,7 +34,7 @@ def evaluated(card: Card, word: bytes, candidate: bytes) -> pastaspur.Profile:
     """The counts of a candidate for a word, as the engine evaluates it."""
     names = card.names
     try:
-        evaluation = pastaspur.evaluate(card.bytes, candidate)
+        evaluation = pastaspur.evaluate(card.contents, candidate)
     except pastaspur.Refused as refused:
         raise BadInput(f"candidate {names.candidate(candidate)!r}: {refused}") from refused
     spelled = bytes(symbol for symbol in candidate[::2] if symbol)
@@ -60,7 +60,7 @@ def decided(card: Card, ranking: bytes, counts: pastaspur.Profile, best: pastasp
 def make(card: Card, ranking: bytes, word: bytes, named: list[bytes]) -> Tableau:
     """The tableau of a word, with every candidate that some ranking makes the best, and those that are named."""
     try:
-        pastaspur.optimize(card.bytes, ranking, b"")
+        pastaspur.optimize(card.contents, ranking, b"")
     except pastaspur.Refused as refused:
         if refused.number != asking.NO_CANDIDATE:
             raise BadInput(f"ranking {card.names.digits(ranking)}: {refused}") from refused

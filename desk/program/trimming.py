@@ -16,7 +16,7 @@ def answers(card: Card, words: list[bytes], orders: list[bytes]) -> list[asking.
     if not orders:
         return [answer for row in asking.ask_all(card, words).answers for answer in row]
     asking.check_words(card, words)
-    searcher = pastaspur.Searcher(card.bytes)
+    searcher = pastaspur.Searcher(card.contents)
     try:
         return [asking.ask(searcher, order, word) for order in orders for word in words]
     except pastaspur.Refused as refused:

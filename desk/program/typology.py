@@ -68,11 +68,11 @@ def as_json(card: Card, typology: Typology) -> dict[str, object]:
 
 
 def as_text(card: Card, typology: Typology) -> str:
-    names, count = card.names, len(typology.languages)
-    of = sum(len(language.rankings) for language in typology.languages)
-    parts = [f"{count} language{'s' * (count != 1)} from {of} ranking{'s' * (of != 1)} of {', '.join(names.machines)}"]
+    names, of = card.names, sum(len(language.rankings) for language in typology.languages)
+    languages, rankings = output.counted(len(typology.languages), "language"), output.counted(of, "ranking")
+    parts = [f"{languages} from {rankings} of {', '.join(names.machines)}"]
     for number, language in enumerate(typology.languages, 1):
-        share = f"{len(language.rankings)} of {of} rankings, the smallest {names.digits(language.rankings[0])}"
+        share = f"{len(language.rankings)} of {rankings}, the smallest {names.digits(language.rankings[0])}"
         smallest = names.ranking(language.rankings[0])
         rows = []
         for word, answer in zip(typology.words, language.answers):
@@ -80,10 +80,10 @@ def as_text(card: Card, typology: Typology) -> str:
                 names.form(answer.candidate), ",".join(map(str, card.counts(answer.counts))), names.candidate(answer.candidate)
             ]
             rows.append(["  " + names.word(word), "->", *shown])
-        picked = [conditions.in_words(names, each) for each in language.conditions]
+        picked = "; ".join(conditions.in_words(names, each) for each in language.conditions)
         parts.append(
             f"{output.painted(f'language {number}', output.BOLD)}: {share}: {smallest}\n{output.table(rows)}\n"
-            f"  exactly when {'; '.join(picked) or 'under every ranking'}"
+            f"  {f'exactly when {picked}' if picked else 'under every ranking'}"
         )
     return "\n\n".join(parts)
 

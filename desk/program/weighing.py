@@ -42,7 +42,7 @@ def run(card: Card, text: str, word_text: str, json: bool) -> int:
     """Shows the answer by weights and the smallest ranking that gives the same; status 1 where the word has no candidate."""
     names, weights, word = card.names, read_weights(card, text), card.names.read_word(word_text)
     try:
-        best = pastaspur.optimize_weights(card.bytes, weights, word)
+        best = pastaspur.optimize_weights(card.contents, weights, word)
     except pastaspur.Refused as refused:
         if refused.number != asking.NO_CANDIDATE:
             raise BadInput(f"weights {text!r}, word {names.word(word)}: {refused}") from refused

@@ -93,6 +93,14 @@ class Browser:
             self.mouse("mouseMoved", tuple(a + (b - a) * step / 10 for a, b in zip(start, end)))
         self.mouse("mouseReleased", end)
 
+    def swipe(self, start: tuple[float, float], end: tuple[float, float]) -> None:
+        """Drags with a finger."""
+        touch = lambda kind, *places: self.call("Input.dispatchTouchEvent", type=kind, touchPoints=[{"x": x, "y": y} for x, y in places])
+        touch("touchStart", start)
+        for step in range(1, 11):
+            touch("touchMove", tuple(a + (b - a) * step / 10 for a, b in zip(start, end)))
+        touch("touchEnd")
+
     def mouse(self, kind: str, place: tuple[float, float]) -> None:
         self.call("Input.dispatchMouseEvent", type=kind, x=place[0], y=place[1], button="left", buttons=1, clickCount=1)
 

@@ -4,6 +4,7 @@ import io
 import json
 import os
 import pathlib
+import shutil
 import subprocess
 import sys
 import tempfile
@@ -12,6 +13,8 @@ import unittest
 from program import command_line
 
 from . import DESK
+
+needs_dot = unittest.skipUnless(shutil.which("dot"), "no dot is installed")
 
 COMMAND = [sys.executable, "-B", str(DESK / "desk")]
 

@@ -6,7 +6,7 @@ import subprocess
 import pastaspur
 
 from . import DEMO
-from .running import COMMAND, DeskCase, desk, desk_process
+from .running import COMMAND, DeskCase, desk, desk_process, needs_dot
 
 CARD_A = bytes.fromhex("01 02 06 00 17 00 01 01 01 00 00 00 00 02 00 00 00 00 00 00 00 06 00 00 00 00 00 00 00")
 
@@ -135,9 +135,12 @@ class Arguments(DeskCase):
         missing = "nowhere/file"
         self.bad("join", DEMO / "syllable_two", "0", "3", "-o", missing, says="nowhere/file: cannot be written: No such file or directory")
         self.bad("unused", DEMO / "tag", "-o", missing, says="cannot be written")
-        self.bad("page", DEMO / "tag", "-o", missing, says="cannot be written")
+        self.bad("page", DEMO / "tag", "--no-pictures", "-o", missing, says="cannot be written")
+        self.bad("page", DEMO / "tag", "--no-pictures", "-o", self.folder, says="cannot be written: Is a directory")
+
+    @needs_dot
+    def test_no_folder_for_pictures(self) -> None:
         self.bad("draw", DEMO / "tag", "-o", "nowhere", says="nowhere: no such folder")
-        self.bad("page", DEMO / "tag", "-o", self.folder, says="cannot be written: Is a directory")
 
     def test_unknown_commands_and_options(self) -> None:
         self.bad("shw", DEMO / "tag", says="invalid choice: 'shw'")

@@ -6,7 +6,7 @@ import pastaspur
 from program import asking, cards, typology
 
 from . import CARDS, DEMO
-from .running import DeskCase
+from .running import DeskCase, needs_dot
 
 
 class Show(DeskCase):
@@ -213,7 +213,7 @@ class Unused(DeskCase):
         """What walking the card says, against the engine's evaluation on the card without the arc."""
         for folder in CARDS:
             card = cards.load(folder)
-            searcher = pastaspur.Searcher(card.bytes)
+            searcher = pastaspur.Searcher(card.contents)
             for ranking, word in card.lines[:6]:
                 try:
                     candidate = searcher.optimize(ranking, word).candidate
@@ -231,6 +231,7 @@ class Unused(DeskCase):
                         self.assertEqual(complete, arc not in travelled)
 
 
+@needs_dot
 class Draw(DeskCase):
     def test_a_picture_of_each_machine(self) -> None:
         files = self.json("draw", DEMO / "tag_ending")["files"]

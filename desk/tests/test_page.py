@@ -2,13 +2,12 @@
 import json
 import pathlib
 import re
-import sys
 import time
 import unittest
 
 from . import CARDS, DEMO
 from .browser import CHROMIUM, Browser
-from .running import DeskCase
+from .running import DeskCase, needs_dot
 
 WINNER = "document.querySelector('tr.best th.row').lastChild.textContent"
 COLUMNS = "[...document.querySelectorAll('.word-tableau:first-child thead th')].slice(1).map(cell => cell.textContent).join(' ')"
@@ -16,6 +15,7 @@ CELLS = "[...document.querySelectorAll('.word-tableau:first-child tbody tr')].ma
 
 
 class Made(DeskCase):
+    @needs_dot
     def test_every_demo_card_has_a_page_that_needs_nothing_else(self) -> None:
         for folder in CARDS:
             self.assertEqual(self.text("page", folder), f"{folder.name}.html\n")
@@ -26,10 +26,15 @@ class Made(DeskCase):
             self.assertEqual(page.count("<svg "), len(data["machines"]))
             self.assertEqual(sorted(ranking for each in data["languages"] for ranking in each["rankings"]), list(range(len(data["rankings"]))))
 
+    @needs_dot
     def test_under_a_second(self) -> None:
-        start = time.perf_counter()
-        self.text("page", DEMO / "syllables")
-        self.assertLess(time.perf_counter() - start, 1)
+        """A classroom page, at the quickest of three: other programs may be running."""
+        times = []
+        for _ in range(3):
+            start = time.perf_counter()
+            self.text("page", DEMO / "syllables")
+            times.append(time.perf_counter() - start)
+        self.assertLess(min(times), 1)
 
     def test_without_pictures_and_with_words(self) -> None:
         self.text("page", DEMO / "tag", "--no-pictures", "-o", "own.html", "g a", "")
@@ -39,6 +44,7 @@ class Made(DeskCase):
         self.assertIn('"word":"/∅/"', page)
 
 
+@needs_dot
 @unittest.skipUnless(CHROMIUM, "no chromium is installed")
 class InBrowser(DeskCase):
     @classmethod
@@ -72,15 +78,30 @@ class InBrowser(DeskCase):
         browser = self.page("tag")
         browser.value("document.querySelector('.chip[data-machine=\"1\"] [data-step=lower]').click()")
         self.assertEqual(browser.value(COLUMNS), "NoCoda PARSE DEP")
+        browser.value("document.querySelector('.chip[data-machine=\"0\"] [data-step=higher]').click()")
+        self.assertEqual(browser.value(COLUMNS), "NoCoda PARSE DEP")
         browser.value("document.querySelectorAll('.typology button')[2].click()")
         self.assertEqual((browser.value(WINNER), browser.value(COLUMNS)), ("tag.", "DEP PARSE NoCoda"))
-        self.assertEqual(browser.value("document.activeElement.getAttribute('aria-pressed')"), "true")
+        pressed = "[...document.querySelectorAll('.typology button')].map(button => button.getAttribute('aria-pressed')).join(' ')"
+        self.assertEqual(browser.value(pressed), "false false true")
+        self.assertIn("this ranking makes language 3", browser.value("document.getElementById('count').textContent"))
+
+    def places(self) -> tuple[tuple[float, float], tuple[float, float]]:
+        """The middle of the first constraint, and the far edge of the last."""
+        box = "document.querySelector('.chip[data-machine=\"{}\"]').getBoundingClientRect()"
+        start, end = (self.browser.value(f"(({box.format(machine)}).toJSON())") for machine in (0, 2))
+        return (start["x"] + start["width"] / 2, start["y"] + start["height"] / 2), (end["right"] - 4, end["y"] + end["height"] / 2)
 
     def test_dragged(self) -> None:
         browser = self.page("tag")
-        place = "(() => {{ const box = document.querySelector('.chip[data-machine=\"{}\"]').getBoundingClientRect(); return [box.x + box.width {} , box.y + box.height / 2]; }})()"
-        start, end = browser.value(place.format(0, "/ 2")), browser.value(place.format(2, "- 4"))
-        browser.drag(tuple(start), tuple(end))
+        browser.drag(*self.places())
+        self.assertEqual((browser.value(WINNER), browser.value(COLUMNS)), ("tag.", "DEP PARSE NoCoda"))
+        self.assertEqual(browser.value("document.querySelectorAll('.held').length"), 0)
+
+    def test_dragged_by_a_finger(self) -> None:
+        browser = self.page("tag")
+        browser.size(390, 780, phone=True)
+        browser.swipe(*self.places())
         self.assertEqual((browser.value(WINNER), browser.value(COLUMNS)), ("tag.", "DEP PARSE NoCoda"))
         self.assertEqual(browser.value("document.querySelectorAll('.held').length"), 0)
 
@@ -92,13 +113,13 @@ class InBrowser(DeskCase):
         """All 24 rankings of the syllable card: hand and columns are those of `desk tableau`."""
         browser = self.page("syllables")
         for number, ranking in enumerate(browser.value("data.rankings")):
-            browser.value(f"order = [...'{ranking}'].map(Number); show()")
+            browser.value(f"order = [...'{ranking}'].map(Number); show(0)")
             view = browser.value(f"data.words[0].rows[data.words[0].views[data.words[0].view[{number}]][0]].form")
             self.assertEqual(browser.value(WINNER), view)
         self.assertEqual(len(browser.value("[...new Set(data.words[0].view.map(at => data.words[0].views[at][0]))]")), 6)
 
     def test_a_word_without_candidate(self) -> None:
-        self.assertIn("No candidate is complete", self.page("alqalamu").value("document.body.textContent"))
+        self.assertIn("no candidate is complete", self.page("alqalamu").value("document.body.textContent"))
 
     def test_a_phone(self) -> None:
         """Nothing but the tables' own frames is wider than the screen."""
@@ -112,7 +133,3 @@ class InBrowser(DeskCase):
         self.addCleanup(browser.media, "")
         self.assertEqual(browser.value("getComputedStyle(document.querySelector('.step')).display"), "none")
         self.assertEqual(browser.value("getComputedStyle(document.querySelector('.bar')).position"), "static")
-
-
-if not CHROMIUM:
-    print("skipped: the page in a browser: no chromium is installed", file=sys.stderr)

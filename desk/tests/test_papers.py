@@ -118,6 +118,6 @@ class DemoLines(DeskCase):
     def test_every_answer_is_the_board_s(self) -> None:
         for folder in CARDS:
             card = cards.load(folder)
-            searcher = pastaspur.Searcher(card.bytes)
+            searcher = pastaspur.Searcher(card.contents)
             answers = [typology.answer_line(card, asking.ask(searcher, *line)) for line in card.lines]
             self.assertEqual(answers, (folder / "stdout").read_text().splitlines()[:-2], folder.name)

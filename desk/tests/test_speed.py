@@ -49,7 +49,7 @@ class Speed(DeskCase):
     def test_threads_answer_as_one_asks(self) -> None:
         card = cards.load(self.card)
         asked = asking.ask_all(card, [bytes([2, 1]), bytes([2, 2])])
-        searcher = pastaspur.Searcher(card.bytes)
+        searcher = pastaspur.Searcher(card.contents)
         self.assertEqual(asked.answers, [tuple(asking.ask(searcher, order, word) for word in asked.words) for order in asking.rankings(6)])
 
     def test_stopped_by_the_keyboard(self) -> None:

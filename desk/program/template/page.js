@@ -5,7 +5,8 @@ const numberOf = new Map(data.rankings.map((digits, number) => [digits, number])
 const languageOf = new Map();
 data.languages.forEach((language, at) => language.rankings.forEach((ranking) => languageOf.set(ranking, at)));
 const MOST_STARS = 9;
-let order = [...(numberOf.has(location.hash.slice(1)) ? location.hash.slice(1) : data.rankings[0])].map(Number);
+const asked = location.hash.slice(1);
+let order = [...(numberOf.has(asked) ? asked : data.rankings[0])].map(Number);
 
 function element(tag, attributes = {}, ...children) {
   const made = document.createElement(tag);
@@ -13,6 +14,8 @@ function element(tag, attributes = {}, ...children) {
   made.append(...children);
   return made;
 }
+
+// The tableaux
 
 function marks(count, fatal, least) {
   const words = `${count || "no"} mark${count === 1 ? "" : "s"}${fatal ? ", which decides" : ""}`;
@@ -25,10 +28,9 @@ function marks(count, fatal, least) {
 }
 
 function tableau(word, ranking) {
-  const section = element("section", { class: "word-tableau" });
   if (!word.rows) {
-    section.append(element("h3", {}, word.word), element("p", {}, "No candidate is complete: no ranking gives this word a form."));
-    return section;
+    const none = element("p", {}, `${word.word}: no candidate is complete, so no ranking gives this word a form.`);
+    return element("section", { class: "word-tableau" }, none);
   }
   const [best, decided] = word.views[word.view[ranking]];
   const head = element("tr", {}, element("th", { class: "word", scope: "col" }, word.word));
@@ -37,7 +39,7 @@ function tableau(word, ranking) {
   word.rows.forEach((row, at) => {
     const line = element("tr", at === best ? { class: "best" } : {});
     const name = element("th", { class: "row", scope: "row" }, row.form);
-    if (at === best) name.prepend(element("span", { class: "hand", role: "img", "aria-label": "best" }, "☞"));
+    if (at === best) name.prepend(element("span", { class: "hand", role: "img", "aria-label": "best: " }, "☞"));
     line.append(name);
     let out = false;
     for (const machine of order) {
@@ -48,123 +50,121 @@ function tableau(word, ranking) {
     line.append(element("td", { class: "pairs" }, row.pairs));
     body.append(line);
   });
-  const table = element("table", { class: "tableau" }, element("thead", {}, head), body);
-  section.append(element("div", { class: "scroll" }, table), element("p", {}));
-  return section;
+  const table = element("table", { class: "tableau", "aria-label": `Tableau of ${word.word}` }, element("thead", {}, head), body);
+  return element("section", { class: "word-tableau scroll" }, table);
 }
 
-function chip(machine, place) {
-  const name = data.machines[machine];
+// The ranking: a chip for each machine, with its name to hold and an arrow to each side
+
+const chips = data.machines.map((name, machine) => {
   const step = (sign, by, words) => {
-    const button = element("button", { type: "button", class: "step", "aria-label": `Rank ${name} ${words}` }, sign);
-    button.disabled = place + by < 0 || place + by >= order.length;
-    button.addEventListener("click", () => move(machine, place + by, by < 0 ? "higher" : "lower"));
-    button.dataset.step = by < 0 ? "higher" : "lower";
+    const button = element("button", { type: "button", class: "step", "aria-label": `Rank ${name} ${words}`, "data-step": words }, sign);
+    button.addEventListener("click", () => move(machine, order.indexOf(machine) + by));
     return button;
   };
-  const label = `${name}, ${place + 1} of ${order.length}`;
-  const grip = element("button", { type: "button", class: "name", "aria-label": label, "aria-describedby": "hint" }, name);
+  const grip = element("button", { type: "button", class: "name", "aria-describedby": "hint" }, name);
   grip.addEventListener("keydown", (event) => {
-    const to = { ArrowLeft: place - 1, ArrowUp: place - 1, ArrowRight: place + 1, ArrowDown: place + 1, Home: 0, End: order.length - 1 }[event.key];
-    if (to === undefined) return;
-    event.preventDefault();
-    move(machine, to, "name");
-  });
-  grip.addEventListener("pointerdown", (event) => hold(event, machine));
-  const made = element("span", { class: "chip", "data-machine": machine }, step("‹", -1, "higher"), grip, step("›", 1, "lower"));
-  return element("li", {}, made);
-}
-
-// Moves a machine to a place and sets the focus on the part of it that was used.
-function move(machine, to, used) {
-  const place = Math.max(0, Math.min(order.length - 1, to));
-  if (order[place] !== machine) {
-    order = order.filter((other) => other !== machine);
-    order.splice(place, 0, machine);
-    show();
-    say(machine, place);
-  }
-  const made = document.querySelector(`.chip[data-machine="${machine}"]`);
-  const target = used === "name" ? made.querySelector(".name") : made.querySelector(`[data-step="${used}"]`);
-  (target.disabled ? made.querySelector(".name") : target).focus();
-}
-
-function say(machine, place) {
-  const ranking = numberOf.get(order.join(""));
-  const forms = data.words.map((word) => (word.rows ? `${word.word} ${word.rows[word.views[word.view[ranking]][0]].form}` : ""));
-  const best = forms.filter(Boolean).slice(0, 3).join(", ");
-  document.getElementById("said").textContent = `${data.machines[machine]} is now ${place + 1} of ${order.length}. Best: ${best}.`;
-}
-
-// While a constraint is held, it goes where the pointer is. The list is drawn anew under the pointer, so the page listens, not the chip.
-function hold(event, machine) {
-  if (event.button !== 0) return;
-  event.preventDefault();
-  const held = (on) => document.querySelector(`.chip[data-machine="${machine}"]`).classList.toggle("held", on);
-  const follow = (moved) => {
-    const chips = [...document.querySelectorAll(".chip")];
-    const over = chips.findIndex((other) => {
-      const box = other.getBoundingClientRect();
-      return moved.clientX >= box.left && moved.clientX <= box.right && moved.clientY >= box.top - 8 && moved.clientY <= box.bottom + 8;
-    });
     const place = order.indexOf(machine);
+    const places = { ArrowLeft: place - 1, ArrowUp: place - 1, ArrowRight: place + 1, ArrowDown: place + 1, Home: 0, End: order.length - 1 };
+    if (!(event.key in places)) return;
+    event.preventDefault();
+    move(machine, places[event.key]);
+  });
+  const chip = element("span", { class: "chip", "data-machine": machine }, step("‹", -1, "higher"), grip, step("›", 1, "lower"));
+  grip.addEventListener("pointerdown", (event) => hold(event, machine, chip));
+  return element("li", {}, chip);
+});
+
+// Puts the chips in order around one of them, which stays in its place in the document and so keeps the focus and the pointer.
+function arrange(around) {
+  const list = document.getElementById("ranking");
+  const place = order.indexOf(around);
+  if (!chips[around].isConnected) list.append(chips[around]);
+  order.forEach((machine, at) => {
+    if (at < place) list.insertBefore(chips[machine], chips[around]);
+    if (at > place) list.append(chips[machine]);
+    const [higher, grip, lower] = chips[machine].firstChild.children;
+    higher.setAttribute("aria-disabled", String(at === 0));
+    lower.setAttribute("aria-disabled", String(at === order.length - 1));
+    grip.setAttribute("aria-label", `${data.machines[machine]}, ${at + 1} of ${order.length}`);
+  });
+}
+
+function move(machine, to) {
+  const place = Math.max(0, Math.min(order.length - 1, to));
+  if (order[place] === machine) return;
+  order = order.filter((other) => other !== machine);
+  order.splice(place, 0, machine);
+  show(machine);
+  const ranking = numberOf.get(order.join(""));
+  const forms = data.words.filter((word) => word.rows).map((word) => `${word.word} ${word.rows[word.views[word.view[ranking]][0]].form}`);
+  document.getElementById("said").textContent =
+    `${data.machines[machine]} is now ${place + 1} of ${order.length}. Best: ${forms.slice(0, 3).join(", ")}.`;
+}
+
+// While a chip is held it goes where the pointer is.
+function hold(event, machine, chip) {
+  if (event.button !== 0) return;
+  const grip = event.currentTarget;
+  grip.setPointerCapture(event.pointerId);
+  chip.classList.add("held");
+  const follow = (moved) => {
+    const boxes = order.map((other) => chips[other].firstChild.getBoundingClientRect());
+    const inside = (box) => moved.clientX >= box.left && moved.clientX <= box.right && moved.clientY >= box.top - 8 && moved.clientY <= box.bottom + 8;
+    const place = order.indexOf(machine);
+    const over = boxes.findIndex(inside);
     if (over < 0 || over === place) return;
-    const box = chips[over].getBoundingClientRect();
-    const own = chips[place].getBoundingClientRect();
-    // Past the edge that the held one would keep: a wide neighbour does not jump back and forth.
+    // On one line it moves once it would then lie under the pointer: beside a wide neighbour it does not go back and forth.
+    const [box, own] = [boxes[over], boxes[place]];
     const sameLine = Math.abs(box.top - own.top) < box.height / 2;
     if (sameLine && over > place && moved.clientX < box.right - own.width) return;
     if (sameLine && over < place && moved.clientX > box.left + own.width) return;
-    move(machine, over, "name");
-    held(true);
+    move(machine, over);
   };
   const leave = () => {
-    removeEventListener("pointermove", follow);
-    removeEventListener("pointerup", leave);
-    removeEventListener("pointercancel", leave);
-    held(false);
+    chip.classList.remove("held");
+    for (const kind of ["pointerup", "pointercancel"]) grip.removeEventListener(kind, leave);
+    grip.removeEventListener("pointermove", follow);
   };
-  addEventListener("pointermove", follow);
-  addEventListener("pointerup", leave);
-  addEventListener("pointercancel", leave);
-  document.querySelector(`.chip[data-machine="${machine}"] .name`).focus();
-  held(true);
+  grip.addEventListener("pointermove", follow);
+  for (const kind of ["pointerup", "pointercancel"]) grip.addEventListener(kind, leave);
 }
 
-function typology(ranking) {
-  const head = element("tr", {}, element("th", { scope: "col", class: "choose" }, "language"));
-  for (const word of data.words) head.append(element("th", { scope: "col", class: "word" }, word.word));
-  head.append(element("th", { scope: "col" }, "rankings"), element("th", { scope: "col" }, "exactly when"));
-  const body = element("tbody");
-  data.languages.forEach((language, at) => {
-    const smallest = data.rankings[language.rankings[0]];
-    const chosen = at === languageOf.get(ranking);
-    const names = [...smallest].map((digit) => data.machines[digit]).join(" ≫ ");
-    const button = element("button", { type: "button", "aria-label": `Language ${at + 1}: rank ${names}`, "aria-pressed": String(chosen) }, String(at + 1));
-    button.addEventListener("click", () => {
-      order = [...smallest].map(Number);
-      show();
-      document.querySelectorAll(".typology button")[at].focus();
-    });
-    const line = element("tr", chosen ? { class: "chosen" } : {}, element("td", { class: "choose" }, button));
-    for (const form of language.forms) line.append(element("td", { class: "row" }, form === null ? "none" : form));
-    const when = language.conditions.map((text) => text.replace(">>", "≫")).join("; ") || "always";
-    line.append(element("td", { class: "number" }, String(language.rankings.length)), element("td", {}, when));
-    body.append(line);
+// The typology: a row for each language, whose button sets its smallest ranking
+
+const languages = data.languages.map((language, at) => {
+  const smallest = data.rankings[language.rankings[0]];
+  const names = [...smallest].map((digit) => data.machines[digit]).join(" ≫ ");
+  const button = element("button", { type: "button", "aria-label": `Language ${at + 1}: rank ${names}` }, String(at + 1));
+  button.addEventListener("click", () => {
+    order = [...smallest].map(Number);
+    show(order[0]);
   });
-  return element("div", { class: "scroll" }, element("table", { class: "typology" }, element("thead", {}, head), body));
-}
+  const forms = language.forms.map((form) => element("td", { class: "row" }, form === null ? "none" : form));
+  const when = language.conditions.map((text) => text.replace(">>", "≫")).join("; ") || "always";
+  const rankings = element("td", { class: "number" }, String(language.rankings.length));
+  return element("tr", {}, element("td", { class: "choose" }, button), ...forms, rankings, element("td", { class: "when" }, when));
+});
 
-function show() {
+function show(around) {
   const digits = order.join("");
   const ranking = numberOf.get(digits);
-  document.getElementById("ranking").replaceChildren(...order.map(chip));
+  const chosen = languageOf.get(ranking);
+  arrange(around);
   document.getElementById("tableaux").replaceChildren(...data.words.map((word) => tableau(word, ranking)));
-  document.getElementById("typology").replaceChildren(typology(ranking));
+  languages.forEach((line, at) => {
+    line.classList.toggle("chosen", at === chosen);
+    line.querySelector("button").setAttribute("aria-pressed", String(at === chosen));
+  });
+  const counted = (count, what) => `${count} ${what}${count === 1 ? "" : "s"}`;
+  document.getElementById("count").textContent =
+    `${counted(languages.length, "language")} from ${counted(data.rankings.length, "ranking")}; this ranking makes language ${chosen + 1}.`;
   history.replaceState(null, "", `#${digits}`);
 }
 
-const languages = data.languages.length;
-document.getElementById("count").textContent =
-  `${languages} language${languages === 1 ? "" : "s"} from ${data.rankings.length} ranking${data.rankings.length === 1 ? "" : "s"}.`;
-show();
+const words = data.words.map((word) => element("th", { scope: "col", class: "word" }, word.word));
+const column = (name) => element("th", { scope: "col" }, name);
+const head = element("tr", {}, column("language"), ...words, column("rankings"), column("exactly when"));
+const table = element("table", { class: "typology", "aria-label": "Typology" }, element("thead", {}, head), element("tbody", {}, ...languages));
+document.getElementById("typology").append(table);
+show(order[0]);
