@@ -25,19 +25,7 @@ from .calls import (
 from .library import NotBuilt
 from .live import LiveTableau
 from .refusals import REFUSALS, Refused
-from .results import (
-    Best,
-    Comparison,
-    Condition,
-    Evaluation,
-    Judged,
-    LiveRow,
-    Order,
-    Place,
-    Profile,
-    Verdict,
-    Weighed,
-)
+from .results import Best, Comparison, Condition, Evaluation, Judged, LiveRow, Order, Place, Profile, Verdict, Weighed
 
 __all__ = [
     "REFUSALS",

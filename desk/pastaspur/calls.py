@@ -5,6 +5,7 @@ the engine left in it, also where it refused.
 """
 import ctypes
 from collections.abc import Callable, Sequence
+from typing import Any
 
 from .library import (
     ANSWER_BYTES,
@@ -35,8 +36,8 @@ def lend(memory: bytearray) -> ctypes.Array[ctypes.c_uint8]:
     return (ctypes.c_uint8 * len(memory)).from_buffer(memory)
 
 
-def numbers(kind: type, values: Sequence[int]) -> ctypes.Array:
-    """Numbers as an array of C."""
+def numbers(kind: Any, values: Sequence[int]) -> ctypes.Array:
+    """Numbers as an array of one of C's kinds."""
     return (kind * len(values))(*values)
 
 
@@ -86,9 +87,7 @@ def optimize(
     return _search(library.pastaspur_optimize, card, ranking, (word, len(word)), work_numbers, answer)
 
 
-def cull(
-    card: bytes, ranking: bytes, word: bytes, *, work_numbers: int = WORK_NUMBERS, answer: bytearray | None = None
-) -> Best:
+def cull(card: bytes, ranking: bytes, word: bytes, *, work_numbers: int = WORK_NUMBERS, answer: bytearray | None = None) -> Best:
     """The same by Ellison's cull."""
     return _search(library.pastaspur_cull, card, ranking, (word, len(word)), work_numbers, answer)
 
@@ -110,12 +109,7 @@ def cull_sets(
 
 
 def optimize_weights(
-    card: bytes,
-    weights: Sequence[int],
-    word: bytes,
-    *,
-    work_numbers: int = WEIGHTS_WORK_NUMBERS,
-    answer: bytearray | None = None,
+    card: bytes, weights: Sequence[int], word: bytes, *, work_numbers: int = WEIGHTS_WORK_NUMBERS, answer: bytearray | None = None
 ) -> Weighed:
     """The best candidate by weights in thousandths, one for each machine in card order: refusals 1 to 6, 26, 8, 9, 10, 12."""
     memory = bytearray(ANSWER_BYTES) if answer is None else answer

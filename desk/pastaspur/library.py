@@ -1,6 +1,7 @@
 """The shared object: where it is, and each call's types as include/pastaspur.h has them."""
 import ctypes
 import pathlib
+from collections.abc import Callable
 
 PATH = pathlib.Path(__file__).resolve().parent.parent / "libpastaspur.so"
 
@@ -60,7 +61,7 @@ CALLS: dict[str, tuple[type, ...]] = {
 class Library:
     """The shared object's calls. It is loaded at the first one, so that what needs none works where it is not built."""
 
-    def __getattr__(self, name: str) -> object:
+    def __getattr__(self, name: str) -> Callable[..., int]:
         if not PATH.is_file():
             raise NotBuilt(f"{PATH.name} is not built: run desk/build")
         try:

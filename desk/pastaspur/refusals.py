@@ -3,8 +3,14 @@
 REFUSALS: dict[int, tuple[str, str]] = {
     1: ("counts", "the card has under 2 bytes, its machine count is not 1 to 6 or its symbol count not 1 to 63"),
     2: ("layout", "the card's table of offsets and lengths is not as laid down"),
-    3: ("machine size", "a machine's part has under 2 bytes, its state count is not 1 to 32 or its length not what its counts say"),
-    4: ("machine contents", "a state byte over 16, an arc's state too high, marks over 15, a kind over 2, an empty set or a symbol that is not there"),
+    3: (
+        "machine size",
+        "a machine's part has under 2 bytes, its state count is not 1 to 32 or its length not what its counts say",
+    ),
+    4: (
+        "machine contents",
+        "a state byte over 16, an arc's state too high, marks over 15, a kind over 2, an empty set or a symbol that is not there",
+    ),
     5: ("clash", "two arcs of a state take one pair"),
     6: ("too many states", "the product of the machines' state counts is over 128"),
     7: ("ranking", "not a ranking: each machine's number once, the highest first"),

@@ -1,7 +1,9 @@
 """Asking the engine for words under all rankings of a card: every answer is asked, none is inferred from another."""
+import contextlib
 import dataclasses
 import itertools
 import os
+import signal
 import sys
 import threading
 from collections.abc import Callable, Iterator, Sequence
@@ -51,7 +53,7 @@ class Asked:
 
     def contenders(self, word: int) -> list[pastaspur.Best]:
         """The answers that some ranking gives a word, in the order of the smallest rankings that give them."""
-        return list(dict.fromkeys(answers[word] for answers in self.answers if answers[word] is not None))
+        return list(dict.fromkeys(best for answers in self.answers if (best := answers[word]) is not None))
 
 
 class Bar:
@@ -86,6 +88,16 @@ def check_words(card: Card, words: Sequence[bytes]) -> None:
             raise BadInput(f"word {card.names.word(word)}: {refused}") from refused
 
 
+@contextlib.contextmanager
+def stopped_by_keyboard(stop: threading.Event) -> Iterator[None]:
+    """Sets the event at Ctrl-C, where it would else break in anywhere, also among the locks of the threads' pool."""
+    before = signal.signal(signal.SIGINT, lambda *_: stop.set())
+    try:
+        yield
+    finally:
+        signal.signal(signal.SIGINT, before)
+
+
 def ask_all(card: Card, words: Sequence[bytes], progress: Callable[[int], None] = lambda done: None) -> Asked:
     """Every word under every ranking. The threads ask at once: a call of the engine leaves Python to the others."""
     check_words(card, words)
@@ -105,17 +117,14 @@ def ask_all(card: Card, words: Sequence[bytes], progress: Callable[[int], None] 
             answers[number] = tuple(found)
 
     threads = thread_count(len(orders) * len(words))
-    with futures.ThreadPoolExecutor(threads) as pool:
+    with stopped_by_keyboard(stop), futures.ThreadPoolExecutor(threads) as pool:
         working = [pool.submit(work) for _ in range(threads)]
-        try:
-            while futures.wait(working, timeout=0.05).not_done:
-                progress(len(answers))
-        except KeyboardInterrupt:
-            stop.set()
-            futures.wait(working)
-            raise Stopped(len(answers), len(orders), len(set(answers.values()))) from None
+        while futures.wait(working, timeout=0.05).not_done:
+            progress(len(answers))
         for each in working:
             each.result()
+    if stop.is_set():
+        raise Stopped(len(answers), len(orders), len(set(answers.values())))
     return Asked(words, orders, [answers[number] for number in range(len(orders))])
 
 

@@ -1,10 +1,11 @@
 """The desk's commands: what they take, and how they end."""
 import argparse
+import io
 import os
 import pathlib
 import sys
 from collections.abc import Sequence
-from typing import NoReturn
+from typing import Any, NoReturn
 
 import pastaspur
 
@@ -48,7 +49,7 @@ def parser() -> Parser:
         made.add_argument("--json", action="store_true", help="for other programs")
         return made
 
-    def several(made: Parser, name: str, **more: str) -> None:
+    def several(made: Parser, name: str, **more: Any) -> None:
         made.add_argument(name, **more)
         made.set_defaults(several=name)
 
@@ -60,10 +61,10 @@ def parser() -> Parser:
     made = command("rank", "the smallest ranking that makes candidates the best")
     several(made, "wanted", metavar="WORD=CANDIDATE", nargs="+")
     made = command("judge", "whether a tableau is right; the card's own tableaux where none is given")
-    made.add_argument("ranking", metavar="RANKING", nargs="?")
-    made.add_argument("word", metavar="WORD", nargs="?")
-    several(made, "rows", metavar="ROW", nargs="*", help="'> IN:OUT .. = COUNT ..', > before the claimed one; or the tableau's file")
-    command("weigh", "the best by weights, '3,2.5,1' or 'NoCoda=3 DEP=2.5 PARSE=1', and the ranking that agrees", "weights", "word")
+    row = "a ROW is '> IN:OUT .. = COUNT ..', > before the claimed one; or ROW is the tableau's file"
+    several(made, "asked", metavar="RANKING WORD ROW", nargs="*", help=row)
+    by = "'3,2.5,1' or 'NoCoda=3 DEP=2.5 PARSE=1'"
+    command("weigh", f"the best by weights, {by}, and the ranking that agrees", "weights", "word")
     command("sets", "the best over all words perhaps heard, 't|d a g' or 1|4,2,3", "ranking", "sets")
     made = command("join", "two machines as one: writes the new card", "first", "second", words=own)
     made.add_argument("-o", metavar="FILE", type=pathlib.Path, required=True)
@@ -106,7 +107,7 @@ def run(asked: argparse.Namespace) -> int:
         case "rank":
             return ranking.run(card, asked.wanted, asked.json)
         case "judge":
-            return judging.run(card, asked.ranking, asked.word, asked.rows, asked.json)
+            return judging.run(card, asked.asked, asked.json)
         case "weigh":
             return weighing.run(card, asked.weights, asked.word, asked.json)
         case "sets":
@@ -127,7 +128,8 @@ def complain(text: str) -> None:
 
 def main(arguments: Sequence[str]) -> int:
     """The status of a command: bad input is one line on standard error."""
-    sys.stdout.reconfigure(encoding="utf-8")
+    if isinstance(sys.stdout, io.TextIOWrapper):
+        sys.stdout.reconfigure(encoding="utf-8")
     asked = read(arguments)
     try:
         return run(asked)

@@ -61,5 +61,7 @@ def without_what_follows(machines: int, conditions: list[pastaspur.Condition]) -
 
 def in_words(names: Names, condition: pastaspur.Condition) -> str:
     """A condition in names: one of those before the sign is ranked above all of those after it."""
-    above, below = ([name for machine, name in enumerate(names.machines) if bits >> machine & 1] for bits in (condition.fewer, condition.more))
+    above, below = (
+        [name for machine, name in enumerate(names.machines) if bits >> machine & 1] for bits in (condition.fewer, condition.more)
+    )
     return f"{' or '.join(above) or 'nothing'} >> {', '.join(below)}"

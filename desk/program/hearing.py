@@ -29,5 +29,6 @@ def run(card: Card, ranking_text: str, sets_text: str, json: bool) -> int:
     words = output.counted(math.prod(each.bit_count() for each in sets), "word")
     print(f"{words} perhaps heard, {names.ranking(ranking)}")
     counts = ", ".join(f"{name} {count}" for name, count in zip(names.machines, best.counts))
-    print(f"{names.word(word)} -> {output.painted(names.form(best.candidate), output.BOLD)}  ({names.candidate(best.candidate)})  {counts}")
+    form = output.painted(names.form(best.candidate), output.BOLD)
+    print(f"{names.word(word)} -> {form}  ({names.candidate(best.candidate)})  {counts}")
     return 0

@@ -3,7 +3,7 @@ import pathlib
 
 import pastaspur
 
-from . import asking, output
+from . import output
 from .bad_input import BadInput
 from .cards import Card, make_cards, read_bytes
 from .notation import number_of
@@ -80,30 +80,31 @@ def verdict(card: Card, ranking: bytes, word: bytes, tableau: bytes) -> tuple[st
     if judged.verdict == pastaspur.Verdict.ANOTHER_ROW:
         candidate = rows_of(tableau)[judged.row][1]
         return f"another row {judged.row}", f"{names.form(candidate)}  ({names.candidate(candidate)})"
-    best = asking.ask(pastaspur.Searcher(card.contents), ranking, word)
+    best = pastaspur.optimize(card.contents, ranking, word)
     return "not in the table", f"the best is {names.form(best.candidate)}  ({names.candidate(best.candidate)})"
 
 
-def run(card: Card, ranking: str | None, word: str | None, rows: list[str], json: bool) -> int:
-    """Judges rows, a tableau's file, or the tableaux of the card's folder; status 1 where one is not right."""
+def run(card: Card, texts: list[str], json: bool) -> int:
+    """Judges rows or a tableau's file under a ranking, or the card's own tableaux; status 1 where one is not right."""
     names = card.names
-    if ranking is None:
+    if not texts:
         asked = [(sent.ranking, sent.word, sent.tableau) for sent in card.tableaux]
         if not asked:
             raise BadInput(f"{card.title} has no tableaux of its own: give a ranking, a word and rows")
-    elif word is None:
-        raise BadInput("a ranking and a word go together, with the rows that are judged")
+    elif len(texts) < 3:
+        raise BadInput("what is judged is a ranking, a word, and rows or a tableau's file")
     else:
+        ranking, word, *rows = texts
         files = len(rows) == 1 and ":" not in rows[0] and "=" not in rows[0]
         sent = read_bytes(pathlib.Path(rows[0])) if files else laid_out(card, rows)
         asked = [(names.read_ranking(ranking), names.read_word(word), sent)]
-    said = [(order, asked, *verdict(card, order, asked, sent)) for order, asked, sent in asked]
+    said = [(order, spelled, *verdict(card, order, spelled, sent)) for order, spelled, sent in asked]
     if json:
         fields = [
-            {"ranking": names.digits(order), "word": names.commas(asked), "verdict": short} for order, asked, short, _ in said
+            {"ranking": names.digits(order), "word": names.commas(spelled), "verdict": short} for order, spelled, short, _ in said
         ]
         output.show_json(fields)
     else:
-        for order, asked, short, more in said:
-            print(f"{names.word(asked)}  {names.ranking(order)}: {output.painted(short, output.BOLD)}: {more}")
+        for order, spelled, short, more in said:
+            print(f"{names.word(spelled)}  {names.ranking(order)}: {output.painted(short, output.BOLD)}: {more}")
     return 0 if all(short == "right" for _, _, short, _ in said) else 1

@@ -52,9 +52,9 @@ class Names:
         return f"/{self.spelled(word)}/"
 
     def spelled(self, symbols: bytes) -> str:
-        """Symbols as a form: close together where each is one letter."""
-        names = [self.symbols[symbol] for symbol in symbols]
-        return ("" if all(len(name) == 1 for name in names) else " ").join(names) or NOTHING
+        """Symbols as a form: close together where each of the card's is one sign and no number."""
+        close = all(len(name) == 1 and not name.isdigit() for name in self.symbols[1:])
+        return ("" if close else " ").join(self.symbols[symbol] for symbol in symbols) or NOTHING
 
     def candidate(self, candidate: bytes) -> str:
         return " ".join(f"{self.symbols[i]}:{self.symbols[o]}" for i, o in zip(candidate[::2], candidate[1::2]))

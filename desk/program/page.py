@@ -27,8 +27,9 @@ def word_data(card: Card, asked: asking.Asked, at: int) -> dict[str, object]:
     numbers = {candidate: number for number, candidate in enumerate(rows)}
     views: dict[tuple[int, str], int] = {}
     view = []
-    for ranking, answers in zip(asked.rankings, asked.answers):
-        best = answers[at]
+    # A word that has a candidate has a best one under every ranking.
+    bests = [best for answers in asked.answers if (best := answers[at]) is not None]
+    for ranking, best in zip(asked.rankings, bests, strict=True):
         machines = (tableau.decided(card, ranking, counts, best.counts) for counts in rows.values())
         decided = "".join("-" if machine is None else str(machine) for machine in machines)
         view.append(views.setdefault((numbers[best.candidate], decided), len(views)))
@@ -64,9 +65,13 @@ def page_data(card: Card, asked: asking.Asked) -> dict[str, object]:
 def figures(card: Card) -> str:
     """The machines drawn."""
     parts = []
-    for name, machine, svg in zip(card.names.machines, card.machines, drawing.pictures(card)):
+    for number, (machine, svg) in enumerate(zip(card.machines, drawing.pictures(card))):
+        name = card.names.machines[number]
+        name = f"machine {number}" if name == str(number) else name
         size = f"{output.counted(len(machine.endings), 'state')}, {output.counted(len(machine.arcs), 'arc')}"
-        parts.append(f"<figure><div class=scroll tabindex=0>{svg}</div><figcaption><b>{html.escape(name)}</b> {size}</figcaption></figure>")
+        parts.append(
+            f"<figure><div class=scroll tabindex=0>{svg}</div><figcaption><b>{html.escape(name)}</b> {size}</figcaption></figure>"
+        )
     return "\n".join(parts)
 
 

@@ -21,12 +21,16 @@ def as_text(card: Card) -> str:
     parts = [
         f"{card.title}: {output.counted(card.k, 'machine')}, {output.counted(card.symbols, 'symbol')}, {len(card.contents)} bytes; "
         f"{product} of at most 128 joint states",
-        "symbols: " + "  ".join(f"{name} {number}" for number, name in enumerate(names.symbols) if number) + "  (0 is the empty one)",
+        "symbols: "
+        + "  ".join(f"{name} {number}" for number, name in enumerate(names.symbols) if number)
+        + "  (0 is the empty one)",
     ]
     for number, machine in enumerate(card.machines):
         states = card.states[number]
         head = f"machine {number}, {names.machines[number]}" if names.machines[number] != str(number) else f"machine {number}"
-        lines = [f"{output.painted(head, output.BOLD)}: {output.counted(len(states), 'state')}, {output.counted(len(machine.arcs), 'arc')}"]
+        lines = [
+            f"{output.painted(head, output.BOLD)}: {output.counted(len(states), 'state')}, {output.counted(len(machine.arcs), 'arc')}"
+        ]
         rows = [
             ["  state", name, "start" if state == 0 else "", ending(marks)]
             for state, (name, marks) in enumerate(zip(states, machine.endings))

@@ -65,11 +65,10 @@ def make(card: Card, ranking: bytes, word: bytes, named: list[bytes]) -> Tableau
         if refused.number != asking.NO_CANDIDATE:
             raise BadInput(f"ranking {card.names.digits(ranking)}: {refused}") from refused
     asked = asking.ask_all(card, [word])
-    contenders = asked.contenders(0)
-    if not contenders:
-        return Tableau(ranking, word, [])
     best = asked.answers[asked.rankings.index(ranking)][0]
-    rows = candidates(card, contenders, word, named)
+    if best is None:
+        return Tableau(ranking, word, [])
+    rows = candidates(card, asked.contenders(0), word, named)
     ordered = [best.candidate, *(candidate for candidate in rows if candidate != best.candidate)]
     return Tableau(
         ranking,

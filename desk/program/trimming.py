@@ -46,15 +46,17 @@ def run(card: Card, words: list[bytes], rankings: list[str], file: pathlib.Path 
     unused = {number: unused_arcs(machine, found) for number, machine in enumerate(card.machines)}
     same = None
     if file is not None:
-        trimmed = pastaspur.pack(card.symbols, [machine.without(set(unused[n])).part() for n, machine in enumerate(card.machines)])
+        trimmed = pastaspur.pack(
+            card.symbols, [machine.without(set(unused[n])).part() for n, machine in enumerate(card.machines)]
+        )
         searcher = pastaspur.Searcher(trimmed)
         lines = [(order, word) for order in orders or asking.rankings(card.k) for word in words]
         same = sum(asking.ask(searcher, *line) == answer for line, answer in zip(lines, asked, strict=True) if answer is not None)
         output.write_whole(file, trimmed)
     answered = sum(answer is not None for answer in asked)
     if json:
-        arcs = [{"machine": number, "arc": arc} for number, arcs in unused.items() for arc in arcs]
-        output.show_json({"answers": answered, "unused": arcs, "card": None if file is None else str(file)})
+        listed = [{"machine": number, "arc": arc} for number, arcs in unused.items() for arc in arcs]
+        output.show_json({"answers": answered, "unused": listed, "card": None if file is None else str(file)})
         return 0
     count, of = sum(map(len, unused.values())), sum(len(machine.arcs) for machine in card.machines)
     print(f"{count} of {of} arcs are travelled by none of {answered} answers")

@@ -76,9 +76,15 @@ def as_text(card: Card, typology: Typology) -> str:
         smallest = names.ranking(language.rankings[0])
         rows = []
         for word, answer in zip(typology.words, language.answers):
-            shown = ["(no candidate)", "", ""] if answer is None else [
-                names.form(answer.candidate), ",".join(map(str, card.counts(answer.counts))), names.candidate(answer.candidate)
-            ]
+            shown = (
+                ["(no candidate)", "", ""]
+                if answer is None
+                else [
+                    names.form(answer.candidate),
+                    ",".join(map(str, card.counts(answer.counts))),
+                    names.candidate(answer.candidate),
+                ]
+            )
             rows.append(["  " + names.word(word), "->", *shown])
         picked = "; ".join(conditions.in_words(names, each) for each in language.conditions)
         parts.append(

@@ -46,10 +46,13 @@ def run(card: Card, text: str, word_text: str, json: bool) -> int:
     except pastaspur.Refused as refused:
         if refused.number != asking.NO_CANDIDATE:
             raise BadInput(f"weights {text!r}, word {names.word(word)}: {refused}") from refused
-        print(f"{names.word(word)}: no complete candidate") if not json else output.show_json({"answer": f"refused {refused.number}"})
+        if json:
+            output.show_json({"answer": f"refused {refused.number}"})
+        else:
+            print(f"{names.word(word)}: no complete candidate")
         return 1
     asked = asking.ask_all(card, [word])
-    agree = [order for order, (answer,) in zip(asked.rankings, asked.answers) if answer.candidate == best.candidate]
+    agree = [order for order, (answer,) in zip(asked.rankings, asked.answers) if answer and answer.candidate == best.candidate]
     if json:
         smallest = names.digits(agree[0]) if agree else None
         output.show_json({"answer": names.line(best), "sum": best.sum, "rankings": len(agree), "smallest": smallest})
@@ -59,10 +62,14 @@ def run(card: Card, text: str, word_text: str, json: bool) -> int:
         count = best.counts[machine]
         rows.append([name, decimal(weights[machine]), str(count), decimal(weights[machine] * count)])
     rows.append(["sum", "", "", decimal(best.sum)])
-    print(f"{names.word(word)} -> {output.painted(names.form(best.candidate), output.BOLD)}  ({names.candidate(best.candidate)})\n")
+    print(
+        f"{names.word(word)} -> {output.painted(names.form(best.candidate), output.BOLD)}  ({names.candidate(best.candidate)})\n"
+    )
     print(output.table(rows))
     if agree:
-        print(f"\nagrees with {len(agree)} of {len(asked.rankings)} rankings, the smallest {names.digits(agree[0])}: {names.ranking(agree[0])}")
+        print(
+            f"\nagrees with {len(agree)} of {len(asked.rankings)} rankings, the smallest {names.digits(agree[0])}: {names.ranking(agree[0])}"
+        )
     else:
         print(f"\nno ranking agrees: none of the {len(asked.rankings)} makes this the best")
     return 0

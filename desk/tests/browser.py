@@ -21,8 +21,8 @@ class Browser:
         from_us, self.to = os.pipe()
         self.back, from_it = os.pipe()
         # The browser reads from file 3 and writes to file 4.
-        command = f"exec {CHROMIUM} --headless --no-sandbox --disable-gpu --hide-scrollbars --disable-dev-shm-usage --remote-debugging-pipe "
-        command += f"--user-data-dir={self.profile.name} about:blank 3<&{from_us} 4>&{from_it}"
+        options = "--headless --no-sandbox --disable-gpu --hide-scrollbars --disable-dev-shm-usage --remote-debugging-pipe"
+        command = f"exec {CHROMIUM} {options} --user-data-dir={self.profile.name} about:blank 3<&{from_us} 4>&{from_it}"
         quiet = subprocess.DEVNULL
         self.process = subprocess.Popen(["bash", "-c", command], pass_fds=(from_us, from_it), stdout=quiet, stderr=quiet)
         os.close(from_us)
@@ -95,7 +95,9 @@ class Browser:
 
     def swipe(self, start: tuple[float, float], end: tuple[float, float]) -> None:
         """Drags with a finger."""
-        touch = lambda kind, *places: self.call("Input.dispatchTouchEvent", type=kind, touchPoints=[{"x": x, "y": y} for x, y in places])
+        touch = lambda kind, *places: self.call(
+            "Input.dispatchTouchEvent", type=kind, touchPoints=[{"x": x, "y": y} for x, y in places]
+        )
         touch("touchStart", start)
         for step in range(1, 11):
             touch("touchMove", tuple(a + (b - a) * step / 10 for a, b in zip(start, end)))

@@ -70,11 +70,18 @@ def main() -> None:
     with tempfile.TemporaryDirectory() as folder, Browser() as browser:
         here = pathlib.Path(folder)
         for name, lines in commands().items():
-            shown = "\n".join(f'<span class=asked>$ {html.escape(line)}</span>\n{painted(on_a_terminal(line, folder))}' for line in lines)
+            shown = "\n".join(
+                f"<span class=asked>$ {html.escape(line)}</span>\n{painted(on_a_terminal(line, folder))}" for line in lines
+            )
             if name not in ("page", "draw"):
                 picture(browser, here, name, TERMINAL % shown.rstrip("\n"))
         svg = (here / "0-NoCoda.svg").read_text(encoding="utf-8")
-        picture(browser, here, "draw", f"<!DOCTYPE html><meta charset=utf-8><body style='margin:12px;display:inline-block;background:#fdfcf9'>{svg}")
+        picture(
+            browser,
+            here,
+            "draw",
+            f"<!DOCTYPE html><meta charset=utf-8><body style='margin:12px;display:inline-block;background:#fdfcf9'>{svg}",
+        )
         on_a_terminal("desk/desk page demo/tag", folder)
         browser.size(900, 900)
         browser.open(here / "tag.html", "#012")
@@ -91,7 +98,9 @@ def picture(browser: Browser, here: pathlib.Path, name: str, page: str) -> None:
     file.write_text(page, encoding="utf-8")
     browser.size(1600, 900)
     browser.open(file)
-    box = browser.value("(() => { const box = document.body.getBoundingClientRect(); return [box.right + box.left, box.bottom + box.top]; })()")
+    box = browser.value(
+        "(() => { const box = document.body.getBoundingClientRect(); return [box.right + box.left, box.bottom + box.top]; })()"
+    )
     browser.picture(PICTURES / f"{name}.png", *box)
 
 

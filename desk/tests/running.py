@@ -37,7 +37,9 @@ def desk(*arguments: object) -> tuple[int, str, str]:
 def desk_process(*arguments: object, environment: dict[str, str] | None = None) -> subprocess.CompletedProcess[str]:
     """The desk in a process of its own."""
     command = [*COMMAND, *map(str, arguments)]
-    return subprocess.run(command, capture_output=True, text=True, encoding="utf-8", env={**os.environ, **(environment or {})}, check=False)
+    return subprocess.run(
+        command, capture_output=True, text=True, encoding="utf-8", env={**os.environ, **(environment or {})}, check=False
+    )
 
 
 class DeskCase(unittest.TestCase):

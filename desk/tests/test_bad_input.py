@@ -46,7 +46,9 @@ class Cards(DeskCase):
         self.show(changed(CARD_A, 28, 128), 4, "arc 0, byte 21: its out set has the symbol 63")
         clash = bytes([1, 2, 6, 0, 43, 0, 1, 2, 1]) + CARD_A[9:] * 2
         self.show(clash, 5, "machine 0, state 0, arcs 0 and 1 (byte 9 and byte 29): both take 1:1")
-        self.show(changed(changed(card_b, 208, 6), 216, 6), 5, "machine 2, state 0, arcs 0 and 1 (byte 184 and byte 204): both take 1:1")
+        self.show(
+            changed(changed(card_b, 208, 6), 216, 6), 5, "machine 2, state 0, arcs 0 and 1 (byte 184 and byte 204): both take 1:1"
+        )
         wide = lambda states: bytes([states, 0]) + bytes([1] * states)
         self.show(bytes([2, 1, 10, 0, 7, 0, 17, 0, 34, 0]) + wide(5) + wide(32), 6, "the machines have 5 * 32 states")
 
@@ -72,7 +74,7 @@ class Cards(DeskCase):
         (self.folder / "card.txt").write_text(text.replace("any : consonant    1", "any : consonant    2"))
         self.bad("typology", self.folder, says="says another card than card.bin beside it")
         (self.folder / "card.bin").rename(self.folder / "other.bin")
-        self.assertIn("/123/", self.text("typology", self.folder / "other.bin", "1,2,3"))
+        self.assertIn("/1 2 3/", self.text("typology", self.folder / "other.bin", "1,2,3"))
         self.bad("typology", self.folder / "other.bin", says="name some words")
 
 
@@ -108,7 +110,7 @@ class Arguments(DeskCase):
 
     def test_rows(self) -> None:
         asked = ("judge", DEMO / "tag", "012", "t a g")
-        self.bad(*asked, says="one row has > before it")
+        self.bad(*asked, says="a ranking, a word, and rows")
         self.bad(*asked, "t:t a:a 0:. g:0 = 0 0 1", says="one row has > before it")
         self.bad(*asked, "> t:t a:a 0:. g:0 = 0 0", says="with 3 counts")
         self.bad(*asked, "> t:t a:a 0:. g:0", says="a row is written")
@@ -116,7 +118,7 @@ class Arguments(DeskCase):
         self.bad(*asked, *["> t:t a:a 0:. g:0 = 0 0 1", *["t:t a:a 0:. g:0 = 0 0 1"] * 32], says="33 rows, more than 32")
         self.bad(*asked, "nowhere.bin", says="nowhere.bin: cannot be read: No such file or directory")
         self.bad("judge", DEMO / "contenders", says="has no tableaux of its own")
-        self.bad("judge", DEMO / "tag", "012", says="a ranking and a word go together")
+        self.bad("judge", DEMO / "tag", "012", says="a ranking, a word, and rows")
 
     def test_weights(self) -> None:
         self.bad("weigh", DEMO / "tag", "1,1", "t a g", says="refused 26 (weights)")
@@ -133,7 +135,15 @@ class Arguments(DeskCase):
 
     def test_files_that_cannot_be_written(self) -> None:
         missing = "nowhere/file"
-        self.bad("join", DEMO / "syllable_two", "0", "3", "-o", missing, says="nowhere/file: cannot be written: No such file or directory")
+        self.bad(
+            "join",
+            DEMO / "syllable_two",
+            "0",
+            "3",
+            "-o",
+            missing,
+            says="nowhere/file: cannot be written: No such file or directory",
+        )
         self.bad("unused", DEMO / "tag", "-o", missing, says="cannot be written")
         self.bad("page", DEMO / "tag", "--no-pictures", "-o", missing, says="cannot be written")
         self.bad("page", DEMO / "tag", "--no-pictures", "-o", self.folder, says="cannot be written: Is a directory")

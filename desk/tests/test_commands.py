@@ -1,4 +1,5 @@
 """The commands, each by what it shows and by its JSON."""
+import json
 import pathlib
 
 import pastaspur
@@ -34,7 +35,9 @@ class Show(DeskCase):
             for machine in said["machines"]:
                 states = bytes(0 if state["ending"] is None else state["ending"] + 1 for state in machine["states"])
                 arcs = b"".join(
-                    bytes([arc["from"], arc["to"], arc["marks"], arc["kind"]]) + bits(arc["in"]).to_bytes(8, "little") + bits(arc["out"]).to_bytes(8, "little")
+                    bytes([arc["from"], arc["to"], arc["marks"], arc["kind"]])
+                    + bits(arc["in"]).to_bytes(8, "little")
+                    + bits(arc["out"]).to_bytes(8, "little")
                     for arc in machine["arcs"]
                 )
                 parts.append(bytes([len(states), len(machine["arcs"])]) + states + arcs)
@@ -57,7 +60,9 @@ class Tableau(DeskCase):
         self.assertIn("g:0 0:.  (ties with the answer)", self.text("tableau", DEMO / "tag", "012", "t a g", "t:t a:a g:0 0:."))
 
     def test_the_empty_word(self) -> None:
-        self.assertEqual([row["candidate"] for row in self.json("tableau", DEMO / "affix", "012", "")["rows"]], ["0:1 0:2", "0:2"])
+        self.assertEqual(
+            [row["candidate"] for row in self.json("tableau", DEMO / "affix", "012", "")["rows"]], ["0:1 0:2", "0:2"]
+        )
 
     def test_no_candidate(self) -> None:
         said = self.json("tableau", DEMO / "alqalamu", "ONS FILL", "l q a", status=1)
@@ -86,7 +91,8 @@ class Typology(DeskCase):
                 for ranking in asking.rankings(card.k):
                     place = {machine: at for at, machine in enumerate(ranking)}
                     tops = [
-                        min((m for m in range(card.k) if (each.fewer | each.more) >> m & 1), key=place.get) for each in language.conditions
+                        min((m for m in range(card.k) if (each.fewer | each.more) >> m & 1), key=place.get)
+                        for each in language.conditions
                     ]
                     fits = all(each.fewer >> top & 1 for each, top in zip(language.conditions, tops))
                     self.assertEqual(fits, ranking in language.rankings)
@@ -131,14 +137,23 @@ class Judge(DeskCase):
                 lines = [line.split(" ", 3) for line in verdicts.read_text().splitlines()]
                 right = all(verdict == "right" for _, _, _, verdict in lines)
                 said = self.json("judge", folder, status=0 if right else 1)
-                self.assertEqual([tuple(each.values()) for each in said], [(ranking, word, verdict) for _, ranking, word, verdict in lines])
+                self.assertEqual(
+                    [tuple(each.values()) for each in said], [(ranking, word, verdict) for _, ranking, word, verdict in lines]
+                )
 
     def test_rows_and_a_file(self) -> None:
         rows = ["> t:t a:a 0:. g:0 = 0 0 1", "t:t a:a g:g 0:. = 1 0 0"]
         self.assertIn(": right: ", self.text("judge", DEMO / "tag", "012", "t a g", *rows))
+        self.assertEqual(
+            self.json("judge", DEMO / "tag", "012", "t a g", *rows),
+            json.loads(self.text("judge", DEMO / "tag", "--json", "012", "t a g", *rows)),
+        )
         self.assertIn(": another row 1: tag.", self.text("judge", DEMO / "tag", "120", "t a g", *rows, status=1))
         file = DEMO / "tag" / "tableaux" / "4.bin"
-        self.assertIn("row 4, t:t a:a g:g 0:. 0:e 0:e 0:., has 1,2,0, not 1,1,0", self.text("judge", DEMO / "tag", "012", "t a g", file, status=1))
+        self.assertIn(
+            "row 4, t:t a:a g:g 0:. 0:e 0:e 0:., has 1,2,0, not 1,1,0",
+            self.text("judge", DEMO / "tag", "012", "t a g", file, status=1),
+        )
 
     def test_refused_rows(self) -> None:
         said = self.text("judge", DEMO / "tag", "012", "t a g", "> t:t a:a = 0 0 0", status=1)
@@ -158,7 +173,8 @@ class Weigh(DeskCase):
             {"answer": "1,0,0 1:1 2:2 3:3 0:5", "sum": 1000, "rankings": 2, "smallest": "120"},
         )
         self.assertEqual(
-            self.text("weigh", DEMO / "tag", "1,1,1.5", "t a g"), self.text("weigh", DEMO / "tag", "PARSE=1.5 DEP=1 NoCoda=1", "t a g")
+            self.text("weigh", DEMO / "tag", "1,1,1.5", "t a g"),
+            self.text("weigh", DEMO / "tag", "PARSE=1.5 DEP=1 NoCoda=1", "t a g"),
         )
 
     def test_no_ranking_agrees(self) -> None:
@@ -173,8 +189,12 @@ class Weigh(DeskCase):
 
 class Sets(DeskCase):
     def test_a_doubtful_sound(self) -> None:
-        self.assertEqual(self.json("sets", DEMO / "devoicing", "012", "t|d a g|k"), {"word": "3,7,5", "answer": "0,0,0 3:3 7:7 5:5"})
-        self.assertEqual(self.json("sets", DEMO / "devoicing", "012", "3|4,7,6"), self.json("sets", DEMO / "devoicing", "012", "t|d a g"))
+        self.assertEqual(
+            self.json("sets", DEMO / "devoicing", "012", "t|d a g|k"), {"word": "3,7,5", "answer": "0,0,0 3:3 7:7 5:5"}
+        )
+        self.assertEqual(
+            self.json("sets", DEMO / "devoicing", "012", "3|4,7,6"), self.json("sets", DEMO / "devoicing", "012", "t|d a g")
+        )
         self.assertIn("4 words perhaps heard", self.text("sets", DEMO / "devoicing", "012", "t|d a g|k"))
 
     def test_none(self) -> None:

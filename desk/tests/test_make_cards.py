@@ -137,11 +137,15 @@ class Demo(unittest.TestCase):
         machine = "machine m{}\n  states {}\n  final s0\n"
         states = lambda count: " ".join(f"s{n}" for n in range(count))
         self.assert_mistake("symbols a\n" + "".join(machine.format(n, "s0") for n in range(7)), 20, "7 machines, more than 6")
-        self.assert_mistake("symbols a\n" + machine.format(0, states(5)) + machine.format(1, states(32)), 5, "make 160, more than 128")
+        self.assert_mistake(
+            "symbols a\n" + machine.format(0, states(5)) + machine.format(1, states(32)), 5, "make 160, more than 128"
+        )
         joined = machine.format(0, states(7)) + machine.format(1, states(5)) + "join j = m0 m1\n"
         self.assert_mistake("symbols a\n" + joined, 8, "35 states, more than 32")
         marked = "machine {}\n  states s0\n  final s0=1\n"
-        self.assert_mistake("symbols a\n" + marked.format("x") + marked.format("y") + "join j = x y\n", 8, "both 'x' and 'y' have marks")
+        self.assert_mistake(
+            "symbols a\n" + marked.format("x") + marked.format("y") + "join j = x y\n", 8, "both 'x' and 'y' have marks"
+        )
         self.assert_mistake("# nothing\n", 1, "a card has symbols")
         self.assert_mistake("symbols a\n", 1, "a card has a machine")
         rows = "".join(f"  a:a = {n}\n" for n in range(33))
@@ -166,7 +170,9 @@ class Demo(unittest.TestCase):
         stdout = self.here / "own" / "stdout"
         self.assertEqual(self.run_it("check"), (2, "", f"{stdout}: cannot be read: No such file or directory\n"))
         stdout.write_text("0 1:1\n")
-        self.assertEqual(self.run_it("show", "own"), (2, "", f"{stdout}: 1 lines, where card.txt asks for 4 and two below them\n"))
+        self.assertEqual(
+            self.run_it("show", "own"), (2, "", f"{stdout}: 1 lines, where card.txt asks for 4 and two below them\n")
+        )
         for wrong in ("", "0,0 1:9", "0,0 1:", "0 1:1", "bad line"):
             stdout.write_text("refused 10\n" + wrong + "\n" + "refused 10\n" * 2 + "answered\ntotal\n")
             self.assertEqual(self.run_it("unused", "own"), (2, "", f"{stdout}:2: no answer on this card\n"))

@@ -1,6 +1,5 @@
 """The page: what it holds, and in a headless browser how it is ranked anew."""
 import json
-import pathlib
 import re
 import time
 import unittest
@@ -11,7 +10,11 @@ from .running import DeskCase, needs_dot
 
 WINNER = "document.querySelector('tr.best th.row').lastChild.textContent"
 COLUMNS = "[...document.querySelectorAll('.word-tableau:first-child thead th')].slice(1).map(cell => cell.textContent).join(' ')"
-CELLS = "[...document.querySelectorAll('.word-tableau:first-child tbody tr')].map(row => [...row.querySelectorAll('td:not(.pairs)')].map(cell => cell.firstChild.textContent + (cell.className === 'shaded' ? '#' : '')).join(' '))"
+# The cells of each row, # behind those that are shaded.
+CELLS = """
+[...document.querySelectorAll('.word-tableau:first-child tbody tr')].map(row =>
+  [...row.querySelectorAll('td:not(.pairs)')].map(cell => cell.firstChild.textContent + (cell.className === 'shaded' ? '#' : '')).join(' '))
+"""
 
 
 class Made(DeskCase):
@@ -20,11 +23,13 @@ class Made(DeskCase):
         for folder in CARDS:
             self.assertEqual(self.text("page", folder), f"{folder.name}.html\n")
             page = (self.folder / f"{folder.name}.html").read_text(encoding="utf-8")
-            self.assertIsNone(re.search(r'\b(src|href|action)=|url\(|@import|fetch\(|XMLHttpRequest', page), folder.name)
+            self.assertIsNone(re.search(r"\b(src|href|action)=|url\(|@import|fetch\(|XMLHttpRequest", page), folder.name)
             self.assertNotIn("@@", page)
             data = json.loads(re.search(r'id="data">(.*?)</script>', page)[1])
             self.assertEqual(page.count("<svg "), len(data["machines"]))
-            self.assertEqual(sorted(ranking for each in data["languages"] for ranking in each["rankings"]), list(range(len(data["rankings"]))))
+            self.assertEqual(
+                sorted(ranking for each in data["languages"] for ranking in each["rankings"]), list(range(len(data["rankings"])))
+            )
 
     @needs_dot
     def test_under_a_second(self) -> None:
@@ -82,7 +87,9 @@ class InBrowser(DeskCase):
         self.assertEqual(browser.value(COLUMNS), "NoCoda PARSE DEP")
         browser.value("document.querySelectorAll('.typology button')[2].click()")
         self.assertEqual((browser.value(WINNER), browser.value(COLUMNS)), ("tag.", "DEP PARSE NoCoda"))
-        pressed = "[...document.querySelectorAll('.typology button')].map(button => button.getAttribute('aria-pressed')).join(' ')"
+        pressed = (
+            "[...document.querySelectorAll('.typology button')].map(button => button.getAttribute('aria-pressed')).join(' ')"
+        )
         self.assertEqual(browser.value(pressed), "false false true")
         self.assertIn("this ranking makes language 3", browser.value("document.getElementById('count').textContent"))
 
@@ -90,7 +97,10 @@ class InBrowser(DeskCase):
         """The middle of the first constraint, and the far edge of the last."""
         box = "document.querySelector('.chip[data-machine=\"{}\"]').getBoundingClientRect()"
         start, end = (self.browser.value(f"(({box.format(machine)}).toJSON())") for machine in (0, 2))
-        return (start["x"] + start["width"] / 2, start["y"] + start["height"] / 2), (end["right"] - 4, end["y"] + end["height"] / 2)
+        return (start["x"] + start["width"] / 2, start["y"] + start["height"] / 2), (
+            end["right"] - 4,
+            end["y"] + end["height"] / 2,
+        )
 
     def test_dragged(self) -> None:
         browser = self.page("tag")

@@ -19,7 +19,14 @@ def six_machines() -> bytes:
     """The five machines of `syllables_five`, and one of `tag`'s kind: hiatus, a mark for each vowel straight after a vowel."""
     card = cards.load(DEMO / "syllables_five")
     any_in, dot_or_consonant, vowel = 0b111, 0b1010, 0b100
-    arcs = ((0, 0, 0, 0b1), (0, 0, 0, dot_or_consonant), (0, 1, 0, vowel), (1, 1, 0, 0b1), (1, 0, 0, dot_or_consonant), (1, 1, 1, vowel))
+    arcs = (
+        (0, 0, 0, 0b1),
+        (0, 0, 0, dot_or_consonant),
+        (0, 1, 0, vowel),
+        (1, 1, 0, 0b1),
+        (1, 0, 0, dot_or_consonant),
+        (1, 1, 1, vowel),
+    )
     part = bytes([2, len(arcs), 1, 1])
     for start, end, marks, outputs in arcs:
         part += bytes([start, end, marks, 0]) + any_in.to_bytes(8, "little") + outputs.to_bytes(8, "little")
@@ -28,7 +35,11 @@ def six_machines() -> bytes:
 
 def words() -> list[str]:
     """Twenty-four words of two to ten segments, all different."""
-    made = [f"{number:0{length}b}".replace("0", "2").replace("1", "1") for length in range(2, 11) for number in (0b10, 0b01, 0b11 << length - 2)]
+    made = [
+        f"{number:0{length}b}".replace("0", "2").replace("1", "1")
+        for length in range(2, 11)
+        for number in (0b10, 0b01, 0b11 << length - 2)
+    ]
     return [",".join(word) for word in made[:WORDS]]
 
 
@@ -50,14 +61,17 @@ class Speed(DeskCase):
         card = cards.load(self.card)
         asked = asking.ask_all(card, [bytes([2, 1]), bytes([2, 2])])
         searcher = pastaspur.Searcher(card.contents)
-        self.assertEqual(asked.answers, [tuple(asking.ask(searcher, order, word) for word in asked.words) for order in asking.rankings(6)])
+        self.assertEqual(
+            asked.answers, [tuple(asking.ask(searcher, order, word) for word in asked.words) for order in asking.rankings(6)]
+        )
 
     def test_stopped_by_the_keyboard(self) -> None:
         """Ctrl-C on a terminal, when the bar has moved: how far it came, status 130, no output."""
         ours, theirs = pty.openpty()
         self.addCleanup(os.close, ours)
         long = [",".join("12"[bit == "1"] for bit in f"{number:024b}") for number in range(1000, 1060)]
-        running = subprocess.Popen([*COMMAND, "typology", str(self.card), *long], stdout=subprocess.PIPE, stderr=theirs, start_new_session=True)
+        running = subprocess.Popen([*COMMAND, "typology", str(self.card), *long], stdout=subprocess.PIPE, stderr=theirs)
+        self.addCleanup(running.kill)
         os.close(theirs)
         said = b""
         while b" of 720 rankings" not in said:
