@@ -95,8 +95,8 @@ def run(card: Card, texts: list[str], json: bool) -> int:
         raise BadInput("what is judged is a ranking, a word, and rows or a tableau's file")
     else:
         ranking, word, *rows = texts
-        files = len(rows) == 1 and ":" not in rows[0] and "=" not in rows[0]
-        sent = read_bytes(pathlib.Path(rows[0])) if files else laid_out(card, rows)
+        file = len(rows) == 1 and (pathlib.Path(rows[0]).is_file() or not any(sign in rows[0] for sign in ":="))
+        sent = read_bytes(pathlib.Path(rows[0])) if file else laid_out(card, rows)
         asked = [(names.read_ranking(ranking), names.read_word(word), sent)]
     said = [(order, spelled, *verdict(card, order, spelled, sent)) for order, spelled, sent in asked]
     if json:

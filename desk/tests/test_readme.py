@@ -6,9 +6,6 @@ import re
 import shlex
 import shutil
 import textwrap
-import unittest
-
-from pastaspur.library import CALLS
 
 from . import DESK, REPOSITORY
 from .running import DeskCase, desk
@@ -50,9 +47,3 @@ class Readme(DeskCase):
         self.assertEqual(sorted(file for _, file in named), sorted(f"pictures/{file}" for file in os.listdir(DESK / "pictures")))
         for _, file in named:
             self.assertLess((DESK / file).stat().st_size, 60000)
-
-
-class Package(unittest.TestCase):
-    def test_every_call_of_the_header_is_bound(self) -> None:
-        header = (REPOSITORY / "include" / "pastaspur.h").read_text(encoding="utf-8")
-        self.assertEqual(set(re.findall(r"^uint32_t pastaspur_(\w+)\(", header, re.MULTILINE)), set(CALLS))
