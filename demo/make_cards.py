@@ -38,8 +38,8 @@ KINDS = ["any", "same", "different"]
 # What the engine takes at most (refusals 1, 3, 4, 6, 8, 19 and 22).
 MACHINES, SYMBOLS, STATES, ARCS, MARKS, PRODUCT, WORD, ROWS, LINES = 6, 63, 32, 255, 15, 128, 24, 32, 1000
 
-# What parts the words of card.txt: none of them is in a name.
-RESERVED = ",:=/>#"
+# What stands between names, or for a name: the first are in no name, the others are none by themselves.
+BETWEEN, RESERVED = ",:=", ("0", "-", "/", ">", "->")
 
 
 class Mistake(Exception):
@@ -105,7 +105,7 @@ def new_names(names, what, most):
     expect(names, f"no {what} is named")
     expect(len(names) <= most, f"{len(names)} {what}s, more than {most}")
     for at, name in enumerate(names):
-        expect(not any(sign in name for sign in RESERVED) and name not in ("0", "-"), f"{name!r} cannot name a {what}")
+        expect(not any(sign in name for sign in BETWEEN) and name not in RESERVED, f"{name!r} cannot name a {what}")
         expect(name not in names[:at], f"the {what} {name!r} is named twice")
     return names
 

@@ -26,7 +26,7 @@ class Parser(argparse.ArgumentParser):
     """A parser whose complaint is one line."""
 
     def error(self, message: str) -> NoReturn:
-        self.exit(2, f"{self.prog}: {message}\n")
+        self.exit(2, one_line(f"{self.prog}: {message}"))
 
 
 def parser() -> Parser:
@@ -122,14 +122,19 @@ def run(asked: argparse.Namespace) -> int:
             return page.run(card, own, asked.o, not asked.no_pictures, asked.json)
 
 
+def one_line(text: str) -> str:
+    """A complaint as one line, whatever was typed."""
+    return text.replace("\n", "\\n") + "\n"
+
+
 def complain(text: str) -> None:
-    print(f"desk: {text}", file=sys.stderr)
+    sys.stderr.write(one_line(f"desk: {text}"))
 
 
 def main(arguments: Sequence[str]) -> int:
     """The status of a command: bad input is one line on standard error."""
     if isinstance(sys.stdout, io.TextIOWrapper):
-        sys.stdout.reconfigure(encoding="utf-8")
+        sys.stdout.reconfigure(encoding="utf-8", errors="backslashreplace")
     asked = read(arguments)
     try:
         return run(asked)

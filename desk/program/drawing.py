@@ -1,4 +1,5 @@
 """`desk draw`: the machines as pictures, drawn by Graphviz's dot."""
+import html
 import pathlib
 import re
 import shutil
@@ -16,8 +17,8 @@ LISTED = 8
 
 
 def escaped(text: str) -> str:
-    """A text inside one of dot's labels of markup."""
-    return text.replace("&", "&amp;").replace("<", "&lt;").replace(">", "&gt;").replace('"', "&quot;")
+    """A text in one of dot's labels of markup, in which dot reads a single backslash as the start of a sign of its own."""
+    return html.escape(text).replace("\\", "\\\\")
 
 
 def set_label(card: Card, bits: int) -> str:
@@ -77,7 +78,7 @@ def titled(svg: str, name: str) -> str:
     """A picture with the machine's name for those who do not see it, and none of dot's own titles and names."""
     svg = re.sub(r"<title>.*?</title>\n?|<!--.*?-->\n?", "", svg, flags=re.DOTALL)
     svg = re.sub(r' id="[^"]*"', "", svg)
-    return svg.replace("<svg ", f'<svg role="img" aria-label="{escaped(name)}: the machine" ', 1)
+    return svg.replace("<svg ", f'<svg role="img" aria-label="{html.escape(name)}: the machine" ', 1)
 
 
 def file_name(card: Card, number: int) -> str:

@@ -4,6 +4,8 @@ import re
 import time
 import unittest
 
+from program import cards, tableau
+
 from . import CARDS, DEMO
 from .browser import CHROMIUM, Browser
 from .running import DeskCase, needs_dot
@@ -120,13 +122,48 @@ class InBrowser(DeskCase):
         self.assertEqual(self.page("tag", "#022").value(WINNER), "ta.")
 
     def test_every_ranking_shows_the_engine_s_answer(self) -> None:
-        """All 24 rankings of the syllable card: hand and columns are those of `desk tableau`."""
-        browser = self.page("syllables")
-        for number, ranking in enumerate(browser.value("data.rankings")):
+        """All 24 rankings of the syllable card: hand, marks, and what is shaded, by the engine's answer and comparisons."""
+        browser, card = self.page("syllables"), cards.load(DEMO / "syllables")
+        word = card.words()[0]
+        for ranking in browser.value("data.rankings"):
             browser.value(f"order = [...'{ranking}'].map(Number); show(0)")
-            view = browser.value(f"data.words[0].rows[data.words[0].views[data.words[0].view[{number}]][0]].form")
-            self.assertEqual(browser.value(WINNER), view)
-        self.assertEqual(len(browser.value("[...new Set(data.words[0].view.map(at => data.words[0].views[at][0]))]")), 6)
+            made = tableau.make(card, card.names.read_ranking(ranking), word, card.candidates(word))
+            best = made.rows[0]
+            expected = {}
+            for row in made.rows:
+                cells, out = [], False
+                for machine in made.ranking:
+                    fatal = row.decided == machine
+                    cells.append(tableau.marks(row.counts[machine], fatal, best.counts[machine]) + "#" * out)
+                    out = out or fatal
+                expected[card.names.candidate(row.candidate)] = " ".join(cells)
+            pairs = browser.value(
+                "[...document.querySelectorAll('.word-tableau:first-child td.pairs')].map(cell => cell.textContent)"
+            )
+            self.assertEqual(dict(zip(pairs, browser.value(CELLS))), expected)
+            self.assertEqual(browser.value(WINNER), card.names.form(best.candidate))
+
+    def test_one_machine_and_odd_names(self) -> None:
+        """Names are shown as they are, whatever they would mean in HTML or to dot."""
+        text = """
+            symbols <b> & "
+            machine </script>
+              states <i> \\N
+              final <i>
+              arc <i> -> \\N  <b>,& : "
+              arc \\N -> <i>  <b> : &  1
+            line </script> / <b> <b>
+            line </script> / "
+        """
+        (self.folder / "card.txt").write_text(text)
+        (self.folder / "card.bin").write_bytes(cards.make_cards.Card(self.folder / "card.txt").card_bin())
+        self.text("page", self.folder, "-o", "odd.html")
+        self.browser.open(self.folder / "odd.html")
+        self.assertEqual(self.browser.value(COLUMNS), "</script>")
+        self.assertEqual(self.browser.value(WINNER), '" &')
+        drawn = self.browser.value("[...document.querySelectorAll('svg text')].map(text => text.textContent).join('|')")
+        for name in ("<i>", "\\N", '<b>,& : "'):
+            self.assertIn(name, drawn.replace("\xa0", " "))
 
     def test_a_word_without_candidate(self) -> None:
         self.assertIn("no candidate is complete", self.page("alqalamu").value("document.body.textContent"))
