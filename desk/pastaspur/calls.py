@@ -4,6 +4,7 @@ What a call is lent is made for it. `work_numbers` and `answer` or `target` lend
 the engine left in it, also where it refused.
 """
 import ctypes
+import functools
 from collections.abc import Callable, Sequence
 from typing import Any
 
@@ -41,8 +42,9 @@ def numbers(kind: Any, values: Sequence[int]) -> ctypes.Array:
     return (kind * len(values))(*values)
 
 
+@functools.lru_cache(maxsize=4096)
 def counts_of(profile: Profile) -> ctypes.Array[ctypes.c_uint16]:
-    """The six counts of a profile, 0 where it has fewer."""
+    """The six counts of a profile, 0 where it has fewer. The calls only read them, so one copy is lent again."""
     return Counts(*profile)
 
 

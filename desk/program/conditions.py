@@ -41,11 +41,12 @@ def few(machines: int, conditions: Iterable[pastaspur.Condition]) -> list[pastas
 
     (W, L) is fitted exactly when (W, {l}) is for each l of L, so each is taken apart first.
     """
+    apart = ((each.fewer, 1 << machine) for each in conditions for machine in range(machines) if each.more >> machine & 1)
     kept: list[pastaspur.Condition] = []
-    for each in conditions:
-        for new in (pastaspur.Condition(each.fewer, 1 << machine) for machine in range(machines) if each.more >> machine & 1):
-            if not follows(machines, kept, new):
-                kept = without_what_follows(machines, [*kept, new])
+    for bits in dict.fromkeys(apart):
+        new = pastaspur.Condition(*bits)
+        if not follows(machines, kept, new):
+            kept = without_what_follows(machines, [*kept, new])
     return kept
 
 

@@ -29,24 +29,22 @@ def make(card: Card, asked: asking.Asked) -> Typology:
     found: dict[tuple[asking.Answer, ...], list[bytes]] = {}
     for ranking, answers in zip(asked.rankings, asked.answers):
         found.setdefault(answers, []).append(ranking)
-    contenders = [asked.contenders(word) for word in range(len(asked.words))]
-    languages = [Language(answers, orders, picked_out(card, answers, contenders)) for answers, orders in found.items()]
+    of_words = [needed(card, asked.contenders(word)) for word in range(len(asked.words))]
+    languages = [Language(answers, orders, picked_out(card, answers, of_words)) for answers, orders in found.items()]
     return Typology(list(asked.words), languages)
 
 
+def needed(card: Card, contenders: list[pastaspur.Best]) -> dict[asking.Answer, list[pastaspur.Condition]]:
+    """For each answer to a word the conditions under which it is the best, against everything that some ranking makes the best."""
+    profiles = [best.counts for best in contenders]
+    return {None: []} | {best: conditions.against(card.k, best.counts, profiles) for best in contenders}
+
+
 def picked_out(
-    card: Card, answers: tuple[asking.Answer, ...], contenders: list[list[pastaspur.Best]]
+    card: Card, answers: tuple[asking.Answer, ...], of_words: list[dict[asking.Answer, list[pastaspur.Condition]]]
 ) -> list[pastaspur.Condition]:
-    """The conditions under which these answers are the best: for each word, against everything that some ranking makes the best."""
-    return conditions.few(
-        card.k,
-        (
-            pastaspur.condition(card.k, best.counts, other.counts)
-            for best, others in zip(answers, contenders)
-            if best is not None
-            for other in others
-        ),
-    )
+    """The conditions under which these answers are the best together."""
+    return conditions.few(card.k, (each for answer, of_word in zip(answers, of_words) for each in of_word[answer]))
 
 
 def answer_line(card: Card, answer: asking.Answer) -> str:
