@@ -25,6 +25,7 @@ TERMINAL = """<!DOCTYPE html><meta charset=utf-8><style>
 body { margin: 0; display: inline-block; background: #fdfcf9; }
 pre { margin: 0; padding: 14px 20px; font: 14px/1.45 'DejaVu Sans Mono', monospace; color: #222; }
 .asked { color: #1f4e79; }
+.hand { display: inline-block; width: 1ch; font: 16px/1 serif; text-indent: -0.3ch; }
 </style><pre>%s</pre>"""
 
 
@@ -62,7 +63,8 @@ def painted(text: str) -> str:
             shown.append(f'<span style="{PAINTS[part]}">')
         else:
             shown.append(f"{html.escape(part)}</span>")
-    return "".join(shown)
+    # The hand is in few fonts of one width.
+    return "".join(shown).replace("☞", '<span class=hand>☞</span>')
 
 
 def main() -> None:
