@@ -4,9 +4,9 @@ import pathlib
 
 import pastaspur
 
-from program import asking, cards, typology
+from program import asking, cards, trimming, typology
 
-from . import CARDS, DEMO
+from . import CARDS, DEMO, DESK, REPOSITORY
 from .running import DeskCase, needs_dot
 
 
@@ -222,6 +222,12 @@ class Unused(DeskCase):
         self.assertIn("6 of 6 answers asked again are the same", said)
         trimmed = self.json("show", self.folder / "trimmed.bin")
         self.assertEqual([len(machine["arcs"]) for machine in trimmed["machines"]], [6, 3, 5])
+
+    def test_the_promise_is_there(self) -> None:
+        crate, name = trimming.PROMISE.split("/")
+        file, theorem = name.split(".")
+        self.assertRegex((REPOSITORY / "crates" / crate / "specs" / f"{file}.antt").read_text(), rf"(?m)^ *(pub )?{theorem} :")
+        self.assertIn(f"`{trimming.PROMISE}`", (DESK / "README.md").read_text())
 
     def test_under_one_ranking(self) -> None:
         all_of_them = self.json("unused", DEMO / "tag")["unused"]
