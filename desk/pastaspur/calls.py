@@ -37,15 +37,31 @@ def lend(memory: bytearray) -> ctypes.Array[ctypes.c_uint8]:
     return (ctypes.c_uint8 * len(memory)).from_buffer(memory)
 
 
+def same(made: Sequence[int], values: Sequence[int]) -> None:
+    """C would cut a number that is too large for its place; here it is an error."""
+    if list(made) != list(values):
+        raise OverflowError(f"{values!r}: a number that does not fit its place")
+
+
 def numbers(kind: Any, values: Sequence[int]) -> ctypes.Array:
     """Numbers as an array of one of C's kinds."""
-    return (kind * len(values))(*values)
+    made = (kind * len(values))(*values)
+    same(made, values)
+    return made
+
+
+def byte(value: int) -> int:
+    """A number of one byte."""
+    same([value & 0xFF], [value])
+    return value
 
 
 @functools.lru_cache(maxsize=4096)
 def counts_of(profile: Profile) -> ctypes.Array[ctypes.c_uint16]:
     """The six counts of a profile, 0 where it has fewer. The calls only read them, so one copy is lent again."""
-    return Counts(*profile)
+    counts = Counts(*profile)
+    same(counts[: len(profile)], profile)
+    return counts
 
 
 class Searcher:
@@ -143,7 +159,7 @@ def evaluate(card: bytes, candidate: bytes) -> Evaluation:
 def read_part(card: bytes, machine: int) -> Place:
     """Where a machine's part is: refusals 1 to 6, 17."""
     result = TwoSizes()
-    accept(library.pastaspur_read_part(card, len(card), machine, result))
+    accept(library.pastaspur_read_part(card, len(card), byte(machine), result))
     return Place(*result)
 
 
@@ -156,7 +172,7 @@ def pack_joined(symbols: int, lengths: Sequence[int], parts: bytes, *, target: b
     """The card of parts that are joined, with their lengths: refusals 1, 17, 3 to 6, 18."""
     memory = bytearray(CARD_BYTES) if target is None else target
     result = OneSize()
-    asked = (symbols, numbers(ctypes.c_uint16, lengths), len(lengths), parts, len(parts))
+    asked = (byte(symbols), numbers(ctypes.c_uint16, lengths), len(lengths), parts, len(parts))
     accept(library.pastaspur_pack(*asked, lend(memory), len(memory), result))
     return bytes(memory[: result[0]])
 
@@ -165,14 +181,14 @@ def join(card: bytes, first: int, second: int, *, target: bytearray | None = Non
     """The card with two of its machines joined: refusals 1 to 6, 27, 28, 18."""
     memory = bytearray(CARD_BYTES) if target is None else target
     result = OneSize()
-    accept(library.pastaspur_join(card, len(card), first, second, lend(memory), len(memory), result))
+    accept(library.pastaspur_join(card, len(card), byte(first), byte(second), lend(memory), len(memory), result))
     return bytes(memory[: result[0]])
 
 
 def compare(machines: int, ranking: bytes, first: Profile, second: Profile) -> Comparison:
     """How the first profile stands to the second under a ranking, and the machine that decided: refusals 1, 7."""
     result = TwoBytes()
-    accept(library.pastaspur_compare(machines, ranking, len(ranking), counts_of(first), counts_of(second), result))
+    accept(library.pastaspur_compare(byte(machines), ranking, len(ranking), counts_of(first), counts_of(second), result))
     order, machine = result
     return Comparison(Order(order), None if order == Order.EQUAL else machine)
 
@@ -180,7 +196,7 @@ def compare(machines: int, ranking: bytes, first: Profile, second: Profile) -> C
 def condition(machines: int, first: Profile, second: Profile) -> Condition:
     """The condition under which the first profile is not worse than the second: refusal 1."""
     result = TwoBytes()
-    accept(library.pastaspur_condition(machines, counts_of(first), counts_of(second), result))
+    accept(library.pastaspur_condition(byte(machines), counts_of(first), counts_of(second), result))
     return Condition(*result)
 
 
@@ -192,5 +208,5 @@ def find_ranking(machines: int, conditions: Sequence[Condition]) -> bytes:
 def find_ranking_bytes(machines: int, conditions: bytes) -> bytes:
     """The same for a list of byte pairs, W before L."""
     result = RankingBytes()
-    accept(library.pastaspur_find_ranking(machines, conditions, len(conditions), result))
+    accept(library.pastaspur_find_ranking(byte(machines), conditions, len(conditions), result))
     return bytes(result[:machines])

@@ -1,8 +1,8 @@
 """The live tableau: candidates proposed and withdrawn, and the one that leads."""
 import ctypes
 
-from .calls import accept
-from .library import LIVE_ROWS, Counts, EvaluationNumbers, OneSize, Row, library
+from .calls import accept, byte, counts_of, same
+from .library import LIVE_ROWS, EvaluationNumbers, OneSize, Row, library
 from .results import LiveRow, Profile
 
 
@@ -10,7 +10,7 @@ class LiveTableau:
     """A table under a ranking. Its list of rows is lent to each call, with the row count that the last accepted call answered."""
 
     def __init__(self, machines: int, ranking: bytes, rows: int = LIVE_ROWS) -> None:
-        self.machines = machines
+        self.machines = byte(machines)
         self.ranking = ranking
         self.count = 0
         self.list = (Row * rows)()
@@ -21,13 +21,15 @@ class LiveTableau:
     def add(self, id: int, counts: Profile) -> int:
         """Adds a row behind the others, and answers the new row count: refusals 1, 7, 23, 24."""
         result = OneSize()
-        accept(library.pastaspur_add_row(*self._table(), ctypes.byref(Row(id, Counts(*counts))), result))
+        same([id & 0xFFFF], [id])
+        accept(library.pastaspur_add_row(*self._table(), ctypes.byref(Row(id, counts_of(tuple(counts)))), result))
         self.count = result[0]
         return self.count
 
     def remove(self, id: int) -> int:
         """Takes out the row with an id, and answers the new row count: refusals 1, 7, 23, 24."""
         result = OneSize()
+        same([id & 0xFFFF], [id])
         accept(library.pastaspur_remove_row(*self._table(), id, result))
         self.count = result[0]
         return self.count

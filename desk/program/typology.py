@@ -37,7 +37,10 @@ def make(card: Card, asked: asking.Asked) -> Typology:
 def needed(card: Card, contenders: list[pastaspur.Best]) -> dict[asking.Answer, list[pastaspur.Condition]]:
     """For each answer to a word the conditions under which it is the best, against everything that some ranking makes the best."""
     profiles = [best.counts for best in contenders]
-    return {None: []} | {best: conditions.against(card.k, best.counts, profiles) for best in contenders}
+    of_answers: dict[asking.Answer, list[pastaspur.Condition]] = {None: []}
+    for best in contenders:
+        of_answers[best] = conditions.against(card.k, best.counts, profiles)
+    return of_answers
 
 
 def picked_out(

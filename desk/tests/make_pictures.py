@@ -64,7 +64,7 @@ def painted(text: str) -> str:
         else:
             shown.append(f"{html.escape(part)}</span>")
     # The hand is in few fonts of one width.
-    return "".join(shown).replace("☞", '<span class=hand>☞</span>')
+    return "".join(shown).replace("☞", "<span class=hand>☞</span>")
 
 
 def main() -> None:
