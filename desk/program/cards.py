@@ -1,6 +1,7 @@
 """A card with its names: card.bin, and the card.txt beside it where there is one."""
 import dataclasses
 import pathlib
+import re
 import sys
 
 import pastaspur
@@ -15,6 +16,8 @@ import make_cards  # noqa: E402
 
 # More than any accepted card has: of a longer file the engine sees that much, and refuses it.
 FILE_BYTES = 30831
+# The longest word.
+WORD = 24
 
 
 def read_bytes(path: pathlib.Path, most: int = -1) -> bytes:
@@ -108,22 +111,33 @@ def load(path: pathlib.Path) -> Card:
     except pastaspur.Refused as refused:
         raise BadInput(f"{file}: {refused}; `desk show` says where") from refused
     title = file.resolve().parent.name if file.name == "card.bin" else file.stem
-    text = file.with_name("card.txt")
+    text, lines = file.with_name("card.txt"), file.with_name("stdin")
     if not text.is_file():
-        return numbered(title, card, machines)
+        own = file.name == "card.bin" and lines.is_file()
+        return numbered(title, card, machines, read_lines(read_bytes(lines), card) if own else [])
     said = read_names(text)
     if said.card_bin() == card:
         return named(title, card, machines, said)
     if file.name == "card.bin":
         raise BadInput(f"{text} says another card than {file.name} beside it: python3 demo/make_cards.py makes it anew")
-    return numbered(title, card, machines)
+    return numbered(title, card, machines, [])
 
 
-def numbered(title: str, card: bytes, machines: list[Machine]) -> Card:
+def read_lines(text: bytes, card: bytes) -> list[tuple[bytes, bytes]]:
+    """The rankings and words of the board's lines; those that are none on this card are passed over."""
+    lines = []
+    for ranking, word in re.findall(rb"^(\d{1,9}) ((?:\d{1,3}(?:,\d{1,3})*)?)$", text, re.MULTILINE):
+        order, symbols = [int(digit) for digit in ranking.decode()], [int(symbol) for symbol in word.split(b",") if symbol]
+        if sorted(order) == list(range(card[0])) and all(1 <= symbol <= card[1] for symbol in symbols) and len(symbols) <= WORD:
+            lines.append((bytes(order), bytes(symbols)))
+    return lines
+
+
+def numbered(title: str, card: bytes, machines: list[Machine], lines: list[tuple[bytes, bytes]]) -> Card:
     """A card without names: numbers stand for them."""
     numbers = lambda count: [str(number) for number in range(count)]
     states = [numbers(len(machine.endings)) for machine in machines]
-    return Card(title, card, machines, Names(numbers(card[1] + 1), numbers(len(machines))), states, {}, [], [])
+    return Card(title, card, machines, Names(numbers(card[1] + 1), numbers(len(machines))), states, {}, lines, [])
 
 
 def named(title: str, card: bytes, machines: list[Machine], said: make_cards.Card) -> Card:

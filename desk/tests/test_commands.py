@@ -26,6 +26,17 @@ class Show(DeskCase):
         self.assertIn("0 -> 1  0,1,2 : 1", said)
         self.assertEqual(said, self.text("show", self.folder))
 
+    def test_the_lines_of_a_card_without_names(self) -> None:
+        """Its words are those of the board's lines beside it; lines that are none on this card are passed over."""
+        (self.folder / "card.bin").write_bytes((DEMO / "card_b" / "card.bin").read_bytes())
+        (self.folder / "stdin").write_bytes(
+            b"012 2\n021 1,2\n012 \n011 1\n012 3\nbad\n0123 1\n012 " + b",".join([b"1"] * 25) + b"\n021 2"
+        )
+        self.assertEqual(
+            cards.load(self.folder).lines, [(b"\0\1\2", b"\2"), (b"\0\2\1", b"\1\2"), (b"\0\1\2", b""), (b"\0\2\1", b"\2")]
+        )
+        self.assertEqual(self.json("typology", self.folder)["words"], ["2", "1,2", ""])
+
     def test_json_has_the_card_whole(self) -> None:
         """The card packs again from what is said of it."""
         for folder in CARDS:
