@@ -19,9 +19,9 @@ ghost use Rattle.cull.specs.Culling.{LentTables, CullPre, PositionPre, P
 use basics::index;
 use candidate::Evaluation;
 use candidate::refused;
+use refusals::Checked;
 use tables::Joint;
 use tables::JointEnding;
-use refusals::Checked;
 
 // The marks of the constraint at a place of the ranking, of those that a number stands for.
 fn marks_at(marks: u32, place: usize) -> u16

@@ -27,9 +27,9 @@ use machine::Position;
 use machine::Step;
 use machine::sets;
 use ranking::Profile;
-use steps::NO_STEP;
 use refusals::Checked;
 use refusals::Refusal;
+use steps::NO_STEP;
 
 // A position in a machine whose insertions are looked up.
 struct Tabled {

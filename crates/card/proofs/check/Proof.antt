@@ -11,7 +11,7 @@ use borrow.Author.Needs.{needs}
 use Rattle.card.proofs.check.Statement.{statement}
 use Rattle.card.proofs.check.Tie as tie
 
--- what each stage that passed says of the card
+-- what each check that passed says of the card
 head-passed : (c : tie.After-enum-told) → counted (c .before .before .before .before .args .card .now) ≡ true
 head-passed c = was-true (c .enum-told .given .1) 1 (counted (c .before .before .before .before .args .card .now)) (lit< tt) (c .before .before .check-head .ensures)
 

@@ -17,7 +17,7 @@ use borrow.Author.Needs.{needs}
 use Rattle.card.proofs.check_packing.Statement.{statement}
 use Rattle.card.proofs.check_packing.Tie as tie
 
--- what each stage that passed says of the input
+-- what each check that passed says of the input
 counts-passed : (c : tie.After-enum-told) → soundCounts (length (c .before .before .before .before .before .args .lengths .now)) (c .before .before .before .before .before .args .symbols) ≡ true
 counts-passed c =
     let a = c .before .before .before .before .before .args in

@@ -1,4 +1,4 @@
--- Each stage that passed leaves the number to those after it; the one that refused has the number, and so has the last.
+-- Each check that passed leaves the number to those after it; the one that refused has the number, and so has the last.
 use mathlib.Core.Path.{_≡_, _∙_, sym}
 use mathlib.Core.Bool.{true}
 use mathlib.Core.List.{List, [], _∷_}
@@ -12,7 +12,7 @@ use Rattle.machine.proofs.Clashes.{sound-leaves}
 use Rattle.machine.proofs.check.Statement.{statement}
 use Rattle.machine.proofs.check.Tie as tie
 
--- the numbers of the stages from each on
+-- the numbers of the checks from each on
 from-5 : List ℕ → List ℕ
 from-5 l = refuse 5 (noClash l) ∷ []
 
@@ -22,7 +22,7 @@ from-arcs S l = refuse 4 (soundArcs S l) ∷ from-5 l
 from-4 : ℕ → List ℕ → List ℕ
 from-4 S l = refuse 4 (soundStates l) ∷ from-arcs S l
 
--- what is left where a stage passed
+-- what is left where a check passed
 is-shaped : (c : tie.After-enum-told) → shaped (c .before .before .before .before .args .part .now) ≡ true
 is-shaped c = was-true (c .enum-told .given .1) 3 _ (lit< tt) (c .before .before .check-length .ensures)
 

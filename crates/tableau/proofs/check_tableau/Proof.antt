@@ -1,4 +1,4 @@
-use mathlib.Core.Path.{_≡_, refl, sym, ap, _∙_}
+use mathlib.Core.Path.{_≡_, sym, ap, _∙_}
 use mathlib.Core.Bool.{true}
 use mathlib.Core.List.{[], _∷_}
 use Prim.Native.Nat.{ℕ}
@@ -28,7 +28,7 @@ returns c =
     let a = c .before .before .before .before .before .before .before .args in
     goes-up (c .enum-told2 .given .1) (refuse 19 (soundTableau (machineCount (a .card .now)) (a .tableau .now))) (refuse 20 (everyRow (isForWord (a .card .now) (a .word .now)) (a .tableau .now)) ∷ refuse 21 (everyRow (countsAreProfile (a .card .now)) (a .tableau .now)) ∷ []) (layout-test (c .before .before))
 
--- what each stage that passed says
+-- what each check that passed says
 sound : (c : tie.After-enum-told) → let a = c .before .before .before .before .before .before .before .args in soundTableau (machineCount (a .card .now)) (a .tableau .now) ≡ true
 sound c = let a = c .before .before .before .before .before .before .before .args in was-true (c .enum-told .given .1) 19 (soundTableau (machineCount (a .card .now)) (a .tableau .now)) (lit< tt) (layout-test (c .before .before))
 
