@@ -138,10 +138,7 @@ pub extern "C" fn pastaspur_judge(
     ensures { λ _. ⌜ now (result .exit) ≡ judgedNumbers (judging (now (card .entry)) (now (ranking .entry)) (now (word .entry)) (length (now (work .entry))) (now (tableau .entry))) ⌝ }
     ensures { λ _. ⌜ Judges (now (card .entry)) (now (ranking .entry)) (now (word .entry)) (now (work .entry)) (now (work .exit)) (now (tableau .entry)) (judging (now (card .entry)) (now (ranking .entry)) (now (word .entry)) (length (now (work .entry))) (now (tableau .entry))) ⌝ }
 {
-    give_judged(
-        tableau::judge(card, ranking, word, work, tableau),
-        result,
-    )
+    give_judged(tableau::judge(card, ranking, word, work, tableau), result)
 }
 
 // Evaluates a candidate on a card: 1 to 6, 13, 14.
