@@ -1,31 +1,12 @@
 // Tries the check of a card, reading a part and packing: the document's cards, each row of the refusal table with a neighbour that passes,
 // every truncation of card B and every flip of a bit of card A. The refusal's number is written for each; 0 is accepted.
 ghost use Prim.Native.Nat.{_<_};
-
-// Card A of the document.
-const CARD_A: [u8; 29] = *b"\x01\x02\
-    \x06\x00\x17\x00\
-    \x01\x01\x01\
-    \x00\x00\x00\x00\x02\x00\x00\x00\x00\x00\x00\x00\x06\x00\x00\x00\x00\x00\x00\x00";
-
-// Card B of the document.
-const CARD_B: [u8; 264] = *b"\x03\x02\
-    \x0e\x00\x7c\x00\x8a\x00\x2b\x00\xb5\x00\x53\x00\
-    \x02\x06\x01\x01\
-    \x00\x00\x00\x00\x07\x00\x00\x00\x00\x00\x00\x00\x01\x00\x00\x00\x00\x00\x00\x00\
-    \x00\x01\x00\x00\x07\x00\x00\x00\x00\x00\x00\x00\x02\x00\x00\x00\x00\x00\x00\x00\
-    \x00\x00\x01\x00\x07\x00\x00\x00\x00\x00\x00\x00\x04\x00\x00\x00\x00\x00\x00\x00\
-    \x01\x01\x00\x00\x07\x00\x00\x00\x00\x00\x00\x00\x01\x00\x00\x00\x00\x00\x00\x00\
-    \x01\x01\x00\x00\x07\x00\x00\x00\x00\x00\x00\x00\x02\x00\x00\x00\x00\x00\x00\x00\
-    \x01\x00\x00\x00\x07\x00\x00\x00\x00\x00\x00\x00\x04\x00\x00\x00\x00\x00\x00\x00\
-    \x01\x02\x01\
-    \x00\x00\x00\x00\x06\x00\x00\x00\x00\x00\x00\x00\x07\x00\x00\x00\x00\x00\x00\x00\
-    \x00\x00\x01\x00\x01\x00\x00\x00\x00\x00\x00\x00\x06\x00\x00\x00\x00\x00\x00\x00\
-    \x01\x04\x01\
-    \x00\x00\x00\x00\x02\x00\x00\x00\x00\x00\x00\x00\x02\x00\x00\x00\x00\x00\x00\x00\
-    \x00\x00\x00\x00\x04\x00\x00\x00\x00\x00\x00\x00\x04\x00\x00\x00\x00\x00\x00\x00\
-    \x00\x00\x00\x00\x01\x00\x00\x00\x00\x00\x00\x00\x06\x00\x00\x00\x00\x00\x00\x00\
-    \x00\x00\x01\x00\x06\x00\x00\x00\x00\x00\x00\x00\x01\x00\x00\x00\x00\x00\x00\x00";
+use test_support::cards::CARD_A;
+use test_support::cards::CARD_B;
+use test_support::writing::write;
+use test_support::writing::write_bytes;
+use test_support::writing::write_spaced_byte;
+use test_support::writing::write_spaced_size;
 
 // Card A with a 30th byte.
 const A_AND_A_BYTE: [u8; 30] = *b"\x01\x02\
@@ -135,36 +116,11 @@ const EDITS: [u8; 66] = *b"\x00\x00\x00\x02\x00\x07\x01\x00\x01\x01\x01\x3f\x01\
     \x06\x00\x06\x02\x07\x00\x07\x02\
     \x08\x00\x08\x10\x08\x11\x09\x01\x0a\x01\x0b\x0f\x0b\x10\x0c\x01\x0c\x02\x0c\x03\x0d\x07\x0d\x00\x0d\x0a\x14\x80\x15\x01\x15\x00\x15\x0e\x1c\x80";
 
-fn write(text: &[u8]) {
-    io::write_all(1, text);
-}
-
-fn write_number(number: u64) {
-    io::print_decimal(1, number);
-}
-
-fn write_byte(byte: u8) {
-    write(b" ");
-    write_number(byte as u64);
-}
-
-fn write_size(size: usize) {
-    write(b" ");
-    write_number(size as u64);
-}
-
-fn write_bytes(bytes: &[u8]) {
-    for i in 0..bytes.len() {
-        write_byte(bytes[i]);
-    }
-    write(b"\n");
-}
-
 // A line with a card's refusal.
 fn tried(name: &[u8], card: &[u8]) {
     write(name);
     write(b":");
-    write_byte(card::check(card).number());
+    write_spaced_byte(card::check(card).number());
     write(b"\n");
 }
 
@@ -175,9 +131,9 @@ fn edited(at: u8, byte: u8) {
     let mut card = CARD_A;
     card[at as usize] = byte;
     write(b"A, byte");
-    write_byte(at);
+    write_spaced_byte(at);
     write(b" is");
-    write_byte(byte);
+    write_spaced_byte(byte);
     tried(b"", &card);
 }
 
@@ -190,9 +146,9 @@ fn edits() {
 // The refusals of the first n bytes, for every n.
 fn truncated(card: &[u8]) {
     for n in 0..card.len() {
-        write_byte(card::check(&card[..n]).number());
+        write_spaced_byte(card::check(&card[..n]).number());
     }
-    write_byte(card::check(card).number());
+    write_spaced_byte(card::check(card).number());
     write(b"\n");
 }
 
@@ -202,7 +158,7 @@ fn flipped(at: usize, bits: u8)
 {
     let mut card = CARD_A;
     card[at] = card[at] ^ bits;
-    write_byte(card::check(&card).number());
+    write_spaced_byte(card::check(&card).number());
 }
 
 // The refusals of card A with one bit flipped: a line for each byte, from bit 0.
@@ -225,11 +181,11 @@ fn part(name: &[u8], card: &[u8], machine: u8) {
     let place = card::read_part(card, machine);
     write(name);
     write(b", machine");
-    write_byte(machine);
+    write_spaced_byte(machine);
     write(b":");
-    write_byte(place.number);
-    write_size(place.offset);
-    write_size(place.length);
+    write_spaced_byte(place.number);
+    write_spaced_size(place.offset);
+    write_spaced_size(place.length);
     write(b"\n");
 }
 
@@ -247,10 +203,11 @@ fn packed(name: &[u8], symbols: u8, lengths: &[u16], parts: &[u8], target: &mut 
     let answer = card::pack(symbols, lengths, parts, target);
     write(name);
     write(b":");
-    write_byte(answer.number);
-    write_size(answer.length);
+    write_spaced_byte(answer.number);
+    write_spaced_size(answer.length);
     write(b"\n");
-    write_bytes(target);
+    write_bytes(target, b" ");
+    write(b"\n");
 }
 
 // Packing into the front of a target of 9s.
@@ -405,12 +362,12 @@ fn two_arcs(kind: u8, inputs: u8, outputs: u8, other: u8, other_inputs: u8, othe
     card[33] = other_inputs;
     card[41] = other_outputs;
     write(b"kinds");
-    write_byte(kind);
-    write_byte(inputs);
-    write_byte(outputs);
-    write_byte(other);
-    write_byte(other_inputs);
-    write_byte(other_outputs);
+    write_spaced_byte(kind);
+    write_spaced_byte(inputs);
+    write_spaced_byte(outputs);
+    write_spaced_byte(other);
+    write_spaced_byte(other_inputs);
+    write_spaced_byte(other_outputs);
     tried(b"", &card);
 }
 
@@ -439,7 +396,7 @@ fn kind_of_no_pair(kind: u8, inputs: u8, outputs: u8) {
     card[13] = inputs;
     card[21] = outputs;
     write(b"no pair of kind");
-    write_byte(kind);
+    write_spaced_byte(kind);
     tried(b"", &card);
 }
 

@@ -1,16 +1,16 @@
 // The calls. Each writes its line but for the end: the call's name, the refusal's number, and the rest of what it answers. A lent slice is written in
 // short, as it is after the call.
-use crate::writing::write;
-use crate::writing::write_byte;
 use crate::writing::write_evaluation;
 use crate::writing::write_finding;
-use crate::writing::write_number;
 use crate::writing::write_order;
-use crate::writing::write_size;
 use crate::writing::write_slice;
 use ranking::Comparison;
 use ranking::Derived;
 use ranking::Profile;
+use test_support::writing::write;
+use test_support::writing::write_spaced_byte;
+use test_support::writing::write_spaced_number;
+use test_support::writing::write_spaced_size;
 
 // What there is to lend.
 const WORK_NUMBERS: usize = 25600;
@@ -140,7 +140,7 @@ fn optimize_weights(
     let weighing = weights::optimize(card, weights, word, work, answer);
     write(b"optimize weights");
     write_evaluation(weighing.evaluation);
-    write_number(weighing.sum);
+    write_spaced_number(weighing.sum);
     write_slice(answer);
 }
 
@@ -179,9 +179,9 @@ pub fn lend_and_weigh(
 fn judge(card: &[u8], ranking: &[u8], word: &[u8], work: &mut [u16], tableau: &[u8]) {
     let judged = tableau::judge(card, ranking, word, work, tableau);
     write(b"judge");
-    write_byte(judged.number);
-    write_byte(judged.verdict);
-    write_byte(judged.row);
+    write_spaced_byte(judged.number);
+    write_spaced_byte(judged.verdict);
+    write_spaced_byte(judged.row);
 }
 
 // With so many numbers of work. Answers whether there is as much to lend.
@@ -208,16 +208,16 @@ pub fn evaluate(card: &[u8], candidate: &[u8]) {
 pub fn read_part(card: &[u8], machine: u8) {
     let place = card::read_part(card, machine);
     write(b"part");
-    write_byte(place.number);
-    write_size(place.offset);
-    write_size(place.length);
+    write_spaced_byte(place.number);
+    write_spaced_size(place.offset);
+    write_spaced_size(place.length);
 }
 
 fn pack(symbols: u8, lengths: &[u16], parts: &[u8], target: &mut [u8]) {
     let packed = card::pack(symbols, lengths, parts, target);
     write(b"pack");
-    write_byte(packed.number);
-    write_size(packed.length);
+    write_spaced_byte(packed.number);
+    write_spaced_size(packed.length);
     write_slice(target);
 }
 
@@ -244,8 +244,8 @@ pub fn lend_and_pack(
 fn join(card: &[u8], first: u8, second: u8, target: &mut [u8]) {
     let joined = join::join(card, first, second, target);
     write(b"join");
-    write_byte(joined.number);
-    write_size(joined.length);
+    write_spaced_byte(joined.number);
+    write_spaced_size(joined.length);
     write_slice(target);
 }
 
@@ -263,13 +263,13 @@ pub fn compare(machines: u8, ranking: &[u8], first: Profile, second: Profile) {
     write(b"compare");
     match ranking::harmony::compare(machines, ranking, first, second) {
         Comparison::Ordered(order) => {
-            write_byte(0);
+            write_spaced_byte(0);
             write_order(order);
         }
         Comparison::Refused(refusal) => {
-            write_byte(refusal.number());
-            write_byte(0);
-            write_byte(0);
+            write_spaced_byte(refusal.number());
+            write_spaced_byte(0);
+            write_spaced_byte(0);
         }
     }
 }
@@ -278,14 +278,14 @@ pub fn derive(machines: u8, first: Profile, second: Profile) {
     write(b"condition");
     match ranking::conditions::derive(machines, first, second) {
         Derived::Condition(condition) => {
-            write_byte(0);
-            write_byte(condition.fewer);
-            write_byte(condition.more);
+            write_spaced_byte(0);
+            write_spaced_byte(condition.fewer);
+            write_spaced_byte(condition.more);
         }
         Derived::Refused(refusal) => {
-            write_byte(refusal.number());
-            write_byte(0);
-            write_byte(0);
+            write_spaced_byte(refusal.number());
+            write_spaced_byte(0);
+            write_spaced_byte(0);
         }
     }
 }

@@ -47,9 +47,9 @@ use fields::profile_at;
 use fields::sets_at;
 use fields::size_at;
 use fields::weights_at;
+use test_support::slices::read_file;
 use writing::end_line;
 use writing::write_bad_case;
-ghost use Rattle.io.specs.Counts.{Counts};
 
 // One byte more than the file may have.
 const FILE_BYTES: usize = 409601;
@@ -273,22 +273,9 @@ fn cases(file: &[u8]) {
     }
 }
 
-// Reads the file, and answers its length: 0 where there is none, or it cannot be read.
-fn read_file(bytes: &mut [u8]) -> usize
-    ensures { λ r. ⌜ Counts r (now (bytes .exit)) ⌝ }
-{
-    let file = os::open_read(b"cases");
-    if file < 0 {
-        return 0;
-    }
-    let n = io::read_full(file, bytes);
-    libc::close(file);
-    n
-}
-
 // Runs the file, read into a buffer that is longer than it: one that fills the buffer is too long.
 fn run(file: &mut [u8]) {
-    let n = read_file(file);
+    let n = read_file(b"cases", file);
     if n == file.len() {
         write_bad_case();
         return;

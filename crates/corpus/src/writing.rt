@@ -3,14 +3,16 @@ use candidate::Evaluation;
 use ranking::Finding;
 use ranking::Order;
 use ranking::Profile;
+use test_support::writing::write;
+use test_support::writing::write_byte;
+use test_support::writing::write_count;
+use test_support::writing::write_spaced_byte;
+use test_support::writing::write_spaced_count;
+use test_support::writing::write_spaced_number;
 ghost use Prim.Native.Nat.{_≤_};
 
 // What sums over slices are taken modulo.
 const PRIME: u64 = 1000000007;
-
-pub fn write(text: &[u8]) {
-    io::write_all(1, text);
-}
 
 pub fn end_line() {
     write(b"\n");
@@ -21,35 +23,18 @@ pub fn write_bad_case() {
     write(b"bad case\n");
 }
 
-pub fn write_number(number: u64) {
-    write(b" ");
-    io::print_decimal(1, number);
-}
-
-pub fn write_byte(byte: u8) {
-    write_number(byte as u64);
-}
-
-pub fn write_size(size: usize) {
-    write_number(size as u64);
-}
-
-fn write_count(count: u16) {
-    write_number(count as u64);
-}
-
 fn write_next_count(count: u16) {
     write(b",");
-    io::print_decimal(1, count as u64);
+    write_count(count);
 }
 
 fn write_next_machine(machine: u8) {
     write(b",");
-    io::print_decimal(1, machine as u64);
+    write_byte(machine);
 }
 
 fn write_profile(profile: Profile) {
-    write_count(profile.counts[0]);
+    write_spaced_count(profile.counts[0]);
     write_next_count(profile.counts[1]);
     write_next_count(profile.counts[2]);
     write_next_count(profile.counts[3]);
@@ -59,16 +44,16 @@ fn write_profile(profile: Profile) {
 
 // Number, profile, pair count, word length.
 pub fn write_evaluation(evaluation: Evaluation) {
-    write_byte(evaluation.number);
+    write_spaced_byte(evaluation.number);
     write_profile(evaluation.profile);
-    write_count(evaluation.pairs);
-    write_count(evaluation.word_length);
+    write_spaced_count(evaluation.pairs);
+    write_spaced_count(evaluation.word_length);
 }
 
 // Number and ranking.
 pub fn write_finding(finding: Finding) {
-    write_byte(finding.number);
-    write_byte(finding.ranking[0]);
+    write_spaced_byte(finding.number);
+    write_spaced_byte(finding.ranking[0]);
     write_next_machine(finding.ranking[1]);
     write_next_machine(finding.ranking[2]);
     write_next_machine(finding.ranking[3]);
@@ -78,8 +63,8 @@ pub fn write_finding(finding: Finding) {
 
 // An order's number, and the machine that decided.
 fn write_decided(order: u8, machine: u8) {
-    write_byte(order);
-    write_byte(machine);
+    write_spaced_byte(order);
+    write_spaced_byte(machine);
 }
 
 // Better is 1, equal 2, worse 3; the machine is 0 with equal.
@@ -104,5 +89,5 @@ pub fn write_slice(bytes: &[u8]) {
     for at in 0..bytes.len() {
         sum = (sum + weighed(bytes[at], at)) % PRIME;
     }
-    write_number(sum);
+    write_spaced_number(sum);
 }

@@ -1,41 +1,17 @@
 // Tries the cull's call, and after it the first engine on the same input with slices of its own. A line for each case: the cull's number, profile, pair
 // count and word length, its first pairs, what it kept where it refused, and whether the first engine gives the same result and the same answer slice. Then
 // words by the dozen, a dot for each on which they agree, and the worst accepted cards, from the files.
-ghost use Rattle.io.specs.Counts.{Counts};
-use candidate::Evaluation;
-use ranking::Profile;
-
-// Card A: one final state, one arc, in {1}, out {1,2}.
-const CARD_A: [u8; 29] = *b"\x01\x02\
-    \x06\x00\x17\x00\
-    \x01\x01\x01\
-    \x00\x00\x00\x00\x02\x00\x00\x00\x00\x00\x00\x00\x06\x00\x00\x00\x00\x00\x00\x00";
-
-// Card A with another arc, in {0}, out {1,2}: a loop of free insertions, and no marks throughout.
-const CARD_A_INSERTS: [u8; 49] = *b"\x01\x02\
-    \x06\x00\x2b\x00\
-    \x01\x02\x01\
-    \x00\x00\x00\x00\x02\x00\x00\x00\x00\x00\x00\x00\x06\x00\x00\x00\x00\x00\x00\x00\
-    \x00\x00\x00\x00\x01\x00\x00\x00\x00\x00\x00\x00\x06\x00\x00\x00\x00\x00\x00\x00";
-
-// Card B: onset, insertion, deletion.
-const CARD_B: [u8; 264] = *b"\x03\x02\
-    \x0e\x00\x7c\x00\x8a\x00\x2b\x00\xb5\x00\x53\x00\
-    \x02\x06\x01\x01\
-    \x00\x00\x00\x00\x07\x00\x00\x00\x00\x00\x00\x00\x01\x00\x00\x00\x00\x00\x00\x00\
-    \x00\x01\x00\x00\x07\x00\x00\x00\x00\x00\x00\x00\x02\x00\x00\x00\x00\x00\x00\x00\
-    \x00\x00\x01\x00\x07\x00\x00\x00\x00\x00\x00\x00\x04\x00\x00\x00\x00\x00\x00\x00\
-    \x01\x01\x00\x00\x07\x00\x00\x00\x00\x00\x00\x00\x01\x00\x00\x00\x00\x00\x00\x00\
-    \x01\x01\x00\x00\x07\x00\x00\x00\x00\x00\x00\x00\x02\x00\x00\x00\x00\x00\x00\x00\
-    \x01\x00\x00\x00\x07\x00\x00\x00\x00\x00\x00\x00\x04\x00\x00\x00\x00\x00\x00\x00\
-    \x01\x02\x01\
-    \x00\x00\x00\x00\x06\x00\x00\x00\x00\x00\x00\x00\x07\x00\x00\x00\x00\x00\x00\x00\
-    \x00\x00\x01\x00\x01\x00\x00\x00\x00\x00\x00\x00\x06\x00\x00\x00\x00\x00\x00\x00\
-    \x01\x04\x01\
-    \x00\x00\x00\x00\x02\x00\x00\x00\x00\x00\x00\x00\x02\x00\x00\x00\x00\x00\x00\x00\
-    \x00\x00\x00\x00\x04\x00\x00\x00\x00\x00\x00\x00\x04\x00\x00\x00\x00\x00\x00\x00\
-    \x00\x00\x00\x00\x01\x00\x00\x00\x00\x00\x00\x00\x06\x00\x00\x00\x00\x00\x00\x00\
-    \x00\x00\x01\x00\x06\x00\x00\x00\x00\x00\x00\x00\x01\x00\x00\x00\x00\x00\x00\x00";
+use test_support::cards::CARD_A;
+use test_support::cards::CARD_A_INSERTS;
+use test_support::cards::CARD_B;
+use test_support::slices::nines;
+use test_support::slices::read_file;
+use test_support::slices::same_bytes;
+use test_support::slices::same_results;
+use test_support::slices::sevens;
+use test_support::writing::write;
+use test_support::writing::write_evaluation;
+use test_support::writing::write_pairs;
 
 // Card A twice, and a machine with a mark for 1:1 and none for 1:2.
 const CARD_LAST: [u8; 103] = *b"\x03\x02\
@@ -55,61 +31,8 @@ const CARD_160: [u8; 51] = *b"\x02\x02\
     \x20\x00\x00\x00\x00\x00\x00\x00\x00\x00\x00\x00\x00\x00\x00\x00\x00\x00\
     \x00\x00\x00\x00\x00\x00\x00\x00\x00\x00\x00\x00\x00\x00\x00\x00";
 
-fn write(text: &[u8]) {
-    io::write_all(1, text);
-}
-
-fn write_number(number: u64) {
-    io::print_decimal(1, number);
-}
-
-fn write_count(count: u16) {
-    write(b" ");
-    write_number(count as u64);
-}
-
-fn write_pair(input: u8, output: u8) {
-    write(b" ");
-    write_number(input as u64);
-    write(b":");
-    write_number(output as u64);
-}
-
-fn byte_at(bytes: &[u8], at: usize) -> u8 {
-    if at < bytes.len() {
-        return bytes[at];
-    }
-    0
-}
-
-fn write_pair_at(answer: &[u8], pairs: u16, at: u8) {
-    if (at as u16) < pairs {
-        let place = at as usize * 2;
-        write_pair(byte_at(answer, place), byte_at(answer, place + 1));
-    }
-}
-
-// At most four pairs.
-fn write_pairs(answer: &[u8], pairs: u16) {
-    write_pair_at(answer, pairs, 0);
-    write_pair_at(answer, pairs, 1);
-    write_pair_at(answer, pairs, 2);
-    write_pair_at(answer, pairs, 3);
-}
-
-fn write_evaluation(evaluation: Evaluation) {
-    let profile = evaluation.profile;
-    write_number(evaluation.number as u64);
-    write(b":");
-    write_count(profile.counts[0]);
-    write_count(profile.counts[1]);
-    write_count(profile.counts[2]);
-    write_count(profile.counts[3]);
-    write_count(profile.counts[4]);
-    write_count(profile.counts[5]);
-    write(b";");
-    write_count(evaluation.pairs);
-    write_count(evaluation.word_length);
+fn four_at_most(pairs: u16) -> u16 {
+    if pairs > 4 { 4 } else { pairs }
 }
 
 fn write_same(same: bool) {
@@ -120,65 +43,19 @@ fn write_same(same: bool) {
     }
 }
 
-fn same_counts(a: Profile, b: Profile) -> bool {
-    (a.counts[0] == b.counts[0])
-        & (a.counts[1] == b.counts[1])
-        & (a.counts[2] == b.counts[2])
-        & (a.counts[3] == b.counts[3])
-        & (a.counts[4] == b.counts[4])
-        & (a.counts[5] == b.counts[5])
-}
-
-fn same_results(a: Evaluation, b: Evaluation) -> bool {
-    (a.number == b.number)
-        & (a.pairs == b.pairs)
-        & (a.word_length == b.word_length)
-        & same_counts(a.profile, b.profile)
-}
-
-fn same_bytes(a: &[u8], b: &[u8]) -> bool {
-    let mut same = a.len() == b.len();
-    for at in 0..a.len() {
-        if at < b.len() {
-            same = same & (a[at] == b[at]);
-        }
-    }
-    same
-}
-
-// Whether all bytes are still 9.
-fn all_nines(bytes: &[u8]) -> bool {
-    for at in 0..bytes.len() {
-        if bytes[at] != 9 {
-            return false;
-        }
-    }
-    true
-}
-
-// Whether all numbers are still 7.
-fn all_sevens(numbers: &[u16]) -> bool {
-    for at in 0..numbers.len() {
-        if numbers[at] != 7 {
-            return false;
-        }
-    }
-    true
-}
-
 // What a refusal kept of the slices. The work slice is left open past 9.
 fn write_kept(number: u8, work: &[u16], answer: &[u8]) {
     if number == 0 {
         return;
     }
     write(b"; kept");
-    if all_nines(answer) {
+    if nines(answer) == answer.len() {
         write(b" answer");
     }
     if number > 9 {
         return;
     }
-    if all_sevens(work) {
+    if sevens(work) == work.len() {
         write(b" work");
     }
 }
@@ -196,7 +73,7 @@ fn on_both(
     let ours = cull::cull(card, ranking, word, work, answer);
     write_evaluation(ours);
     write(b";");
-    write_pairs(answer, ours.pairs);
+    write_pairs(answer, four_at_most(ours.pairs));
     write_kept(ours.number, work, answer);
     let theirs = optimizer::optimize(card, ranking, word, their_work, their_answer);
     write_same(same_results(theirs, ours) & same_bytes(their_answer, answer));
@@ -401,19 +278,6 @@ fn lend_all(card: &[u8], ranking: &[u8], word: &[u8]) {
         &mut their_work,
         &mut their_answer,
     );
-}
-
-// Reads a file, and answers its length: 0 where there is none, or it cannot be read.
-fn read_file(name: &[u8], bytes: &mut [u8]) -> usize
-    ensures { λ r. ⌜ Counts r (now (bytes .exit)) ⌝ }
-{
-    let file = os::open_read(name);
-    if file < 0 {
-        return 0;
-    }
-    let n = io::read_full(file, bytes);
-    libc::close(file);
-    n
 }
 
 // The card of a file, on words of symbols that it has: all the same one, and 24 of them from the first on.

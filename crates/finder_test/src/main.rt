@@ -1,41 +1,39 @@
 // Tries the finder: a line for each case, with the refusal's number if there is one, and the six places.
 use ranking::Finding;
-
-fn number(n: u8) {
-    io::print_decimal(1, n as u64);
-}
+use test_support::writing::write;
+use test_support::writing::write_byte;
 
 fn machine_count(machines: u8) {
-    io::write_all(1, b"K ");
-    number(machines);
+    write(b"K ");
+    write_byte(machines);
 }
 
 fn pair(fewer: u8, more: u8) {
-    io::write_all(1, b" W ");
-    number(fewer);
-    io::write_all(1, b" L ");
-    number(more);
+    write(b" W ");
+    write_byte(fewer);
+    write(b" L ");
+    write_byte(more);
 }
 
 fn answer(finding: Finding) {
     if finding.number == 0 {
-        io::write_all(1, b"accepted ");
+        write(b"accepted ");
     } else {
-        io::write_all(1, b"refused ");
-        number(finding.number);
-        io::write_all(1, b" ");
+        write(b"refused ");
+        write_byte(finding.number);
+        write(b" ");
     }
-    number(finding.ranking[0]);
-    number(finding.ranking[1]);
-    number(finding.ranking[2]);
-    number(finding.ranking[3]);
-    number(finding.ranking[4]);
-    number(finding.ranking[5]);
-    io::write_all(1, b"\n");
+    write_byte(finding.ranking[0]);
+    write_byte(finding.ranking[1]);
+    write_byte(finding.ranking[2]);
+    write_byte(finding.ranking[3]);
+    write_byte(finding.ranking[4]);
+    write_byte(finding.ranking[5]);
+    write(b"\n");
 }
 
 fn listed(case: &[u8], machines: u8, conditions: &[u8]) {
-    io::write_all(1, case);
+    write(case);
     answer(ranking::finder::find(machines, conditions));
 }
 

@@ -16,41 +16,25 @@ use samples::ONLY_0_0;
 use samples::SECOND;
 use samples::STATES_32;
 use samples::STATES_33;
-
-fn write(text: &[u8]) {
-    io::write_all(1, text);
-}
-
-fn write_number(number: u64) {
-    io::print_decimal(1, number);
-}
-
-fn write_byte(byte: u8) {
-    write(b" ");
-    write_number(byte as u64);
-}
-
-fn write_count(count: u16) {
-    write_number(count as u64);
-}
-
-// How many bytes are 9.
-fn nines(bytes: &[u8; 400]) -> u64 {
-    let mut count: u64 = 0;
-    let mut at = 0;
-    while at < 400 {
-        if bytes[at] == 9 {
-            count += 1;
-        }
-        at += 1;
-    }
-    count
-}
+use test_support::slices::nines;
+use test_support::slices::same_bytes;
+use test_support::writing::write;
+use test_support::writing::write_bytes;
+use test_support::writing::write_count;
+use test_support::writing::write_pairs;
+use test_support::writing::write_spaced_byte;
+use test_support::writing::write_spaced_count;
+use test_support::writing::write_spaced_size;
 
 fn write_answer(joined: Packed) {
-    write_byte(joined.number);
-    write(b" ");
-    write_number(joined.length as u64);
+    write_spaced_byte(joined.number);
+    write_spaced_size(joined.length);
+}
+
+fn write_line(joined: Packed, target: &[u8; 400]) {
+    write_answer(joined);
+    write_spaced_size(nines(target));
+    write(b"\n");
 }
 
 // The call with the first `room` bytes of a target of 9s.
@@ -60,18 +44,7 @@ fn join(card: &[u8], first: u8, second: u8, room: usize) {
         return;
     }
     let joined = join::join(card, first, second, &mut target[0..room]);
-    write_answer(joined);
-    write(b" ");
-    write_number(nines(&target));
-    write(b"\n");
-}
-
-// A line of bytes.
-fn write_bytes(bytes: &[u8]) {
-    for i in 0..bytes.len() {
-        write_byte(bytes[i]);
-    }
-    write(b"\n");
+    write_line(joined, &target);
 }
 
 // The new card's bytes.
@@ -82,7 +55,8 @@ fn show(card: &[u8], first: u8, second: u8) {
     write_answer(joined);
     write(b":");
     if length <= 400 {
-        write_bytes(&target[0..length]);
+        write_bytes(&target[0..length], b" ");
+        write(b"\n");
     }
 }
 
@@ -153,8 +127,8 @@ fn many_arcs(card: &[u8], room: usize) {
     }
     let joined = join::join(card, 0, 1, &mut target[0..room]);
     write_answer(joined);
-    write_byte(target[6]);
-    write_byte(target[7]);
+    write_spaced_byte(target[6]);
+    write_spaced_byte(target[7]);
     write(b"\n");
 }
 
@@ -217,34 +191,6 @@ fn endings() {
     show(&card, 0, 1);
 }
 
-fn write_pair(input: u8, output: u8) {
-    write_byte(input);
-    write(b":");
-    write_number(output as u64);
-}
-
-fn write_pairs(answer: &[u8; 20], pairs: u16) {
-    let mut left = pairs;
-    let mut at = 0;
-    while left > 0 {
-        if at + 1 < 20 {
-            write_pair(answer[at], answer[at + 1]);
-            at += 2;
-        }
-        left -= 1;
-    }
-}
-
-// Whether two answer slices are the same.
-fn same_bytes(first: &[u8; 20], second: &[u8; 20]) -> bool {
-    for i in 0..20 {
-        if first[i] != second[i] {
-            return false;
-        }
-    }
-    true
-}
-
 // Whether four counts are three others and that of the machine without marks, which is 0.
 fn same_counts(old: Profile, new: Profile, unmarked: u8) -> bool {
     let four = old.counts;
@@ -266,7 +212,7 @@ fn same_result(old: Evaluation, new: Evaluation, unmarked: u8) -> bool {
         & (old.word_length == new.word_length)
 }
 
-fn answered(card: &[u8], ranking: &[u8], word: &[u8], answer: &mut [u8; 20]) -> Evaluation {
+fn answered(card: &[u8], ranking: &[u8], word: &[u8], answer: &mut [u8]) -> Evaluation {
     let mut work = [0u16; 128];
     optimizer::optimize(card, ranking, word, &mut work, answer)
 }
@@ -274,7 +220,7 @@ fn answered(card: &[u8], ranking: &[u8], word: &[u8], answer: &mut [u8; 20]) -> 
 // A line's number and three counts.
 fn write_result(result: Evaluation) {
     let counts = result.profile.counts;
-    write_byte(result.number);
+    write_spaced_byte(result.number);
     write(b":");
     write_count(counts[0]);
     write(b",");
@@ -376,10 +322,8 @@ fn evaluated(candidate: &[u8]) {
     let new = candidate::evaluate(&target, candidate);
     if same_result(old, new, 1) {
         write_result(new);
-        write(b" ");
-        write_count(new.pairs);
-        write(b" ");
-        write_count(new.word_length);
+        write_spaced_count(new.pairs);
+        write_spaced_count(new.word_length);
         write(b"\n");
     } else {
         write(b" not the same\n");

@@ -1,6 +1,13 @@
 // Tries arcs for same and different: an arc of each kind on each sort of pair; and a card with an arc per symbol against one with two arcs by kind,
 // on every word of at most three symbols, by both engines.
 use candidate::Evaluation;
+use test_support::slices::same_bytes;
+use test_support::slices::same_results;
+use test_support::writing::write;
+use test_support::writing::write_count;
+use test_support::writing::write_pair;
+use test_support::writing::write_pairs;
+use test_support::writing::write_spaced_byte;
 
 // Three symbols. The first machine counts each 2 that stands behind a 2, the second each pair with in unlike out: an arc for each symbol kept, one
 // for what else it may become, and one for insertions.
@@ -42,41 +49,6 @@ const ONE_ARC: [u8; 29] = *b"\x01\x02\
     \x01\x01\x01\
     \x00\x00\x01\x00\x07\x00\x00\x00\x00\x00\x00\x00\x07\x00\x00\x00\x00\x00\x00\x00";
 
-fn write(text: &[u8]) {
-    io::write_all(1, text);
-}
-
-fn write_number(number: u64) {
-    io::print_decimal(1, number);
-}
-
-fn write_byte(byte: u8) {
-    write(b" ");
-    write_number(byte as u64);
-}
-
-fn write_count(count: u16) {
-    write_number(count as u64);
-}
-
-fn write_pair(input: u8, output: u8) {
-    write_byte(input);
-    write(b":");
-    write_number(output as u64);
-}
-
-fn write_pairs(answer: &[u8; 20], pairs: u16) {
-    let mut left = pairs;
-    let mut at = 0;
-    while left > 0 {
-        if at + 1 < 20 {
-            write_pair(answer[at], answer[at + 1]);
-            at += 2;
-        }
-        left -= 1;
-    }
-}
-
 // The arc with a kind and sets on a candidate of one pair: the number and the count.
 fn evaluated(kind: u8, inputs: u8, outputs: u8, input: u8, output: u8) {
     let mut card = ONE_ARC;
@@ -86,11 +58,11 @@ fn evaluated(kind: u8, inputs: u8, outputs: u8, input: u8, output: u8) {
     let evaluation = candidate::evaluate(&card, &[input, output]);
     let profile = evaluation.profile;
     write(b"kind");
-    write_byte(kind);
+    write_spaced_byte(kind);
     write(b" on");
     write_pair(input, output);
     write(b" is");
-    write_byte(evaluation.number);
+    write_spaced_byte(evaluation.number);
     write(b":");
     write_count(profile.counts[0]);
     write(b"\n");
@@ -119,46 +91,26 @@ fn no_pairs() {
     evaluated(2, 2, 2, 1, 1);
 }
 
-// Whether two answer slices are the same.
-fn same_bytes(first: &[u8; 20], second: &[u8; 20]) -> bool {
-    for i in 0..20 {
-        if first[i] != second[i] {
-            return false;
-        }
-    }
-    true
-}
-
-fn same_result(first: Evaluation, second: Evaluation) -> bool {
-    let counts = first.profile;
-    let others = second.profile;
-    (first.number == second.number)
-        & (counts.counts[0] == others.counts[0])
-        & (counts.counts[1] == others.counts[1])
-        & (first.pairs == second.pairs)
-        & (first.word_length == second.word_length)
-}
-
-fn answered(card: &[u8], ranking: &[u8], word: &[u8], answer: &mut [u8; 20]) -> Evaluation {
+fn answered(card: &[u8], ranking: &[u8], word: &[u8], answer: &mut [u8]) -> Evaluation {
     let mut work = [0u16; 64];
     optimizer::optimize(card, ranking, word, &mut work, answer)
 }
 
-fn culled(card: &[u8], ranking: &[u8], word: &[u8], answer: &mut [u8; 20]) -> Evaluation {
+fn culled(card: &[u8], ranking: &[u8], word: &[u8], answer: &mut [u8]) -> Evaluation {
     let mut work = [7u16; 64];
     cull::cull(card, ranking, word, &mut work, answer)
 }
 
 // Whether the cull gives the same answer for a word, with either card.
-fn cull_agrees(ranking: &[u8], word: &[u8], result: Evaluation, answer: &[u8; 20]) -> bool {
+fn cull_agrees(ranking: &[u8], word: &[u8], result: Evaluation, answer: &[u8]) -> bool {
     let many = MANY_ARCS;
     let two = TWO_ARCS;
     let mut first = [9u8; 20];
     let mut second = [9u8; 20];
     let by_symbol = culled(&many, ranking, word, &mut first);
     let by_kind = culled(&two, ranking, word, &mut second);
-    same_result(by_symbol, result)
-        & same_result(by_kind, result)
+    same_results(by_symbol, result)
+        & same_results(by_kind, result)
         & same_bytes(&first, answer)
         & same_bytes(&second, answer)
 }
@@ -172,11 +124,11 @@ fn compared(ranking: &[u8], word: &[u8]) {
     let by_symbol = answered(&many, ranking, word, &mut first);
     let by_kind = answered(&two, ranking, word, &mut second);
     let profile = by_kind.profile;
-    if same_result(by_symbol, by_kind)
+    if same_results(by_symbol, by_kind)
         & same_bytes(&first, &second)
         & cull_agrees(ranking, word, by_kind, &second)
     {
-        write_byte(by_kind.number);
+        write_spaced_byte(by_kind.number);
         write(b":");
         write_count(profile.counts[0]);
         write(b",");

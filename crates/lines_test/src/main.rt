@@ -1,34 +1,19 @@
 // What the crate lines makes of lines: parsing, the lines that are printed, lines that come in pieces.
 use candidate::Evaluation;
-use libc::STDOUT_FILENO;
 use lines::Next;
 use lines::Parsed;
 use ranking::Profile;
+use test_support::writing::write;
+use test_support::writing::write_bytes;
 ghost use mathlib.Core.Path.{_≡_};
 ghost use Prim.Native.Nat.{_<_, _≤_};
 ghost use lib.ListN.{length};
-
-fn print(text: &[u8]) {
-    io::write_all(STDOUT_FILENO, text);
-}
-
-fn print_number(n: u8) {
-    io::print_decimal(STDOUT_FILENO, n as u64);
-}
-
-// Prints numbers, with a text before each.
-fn print_numbers(numbers: &[u8], before: &[u8]) {
-    for i in 0..numbers.len() {
-        print(before);
-        print_number(numbers[i]);
-    }
-}
 
 fn print_bad_line() {
     let mut out = [0u8; 9];
     let n = lines::write_bad_line(&mut out);
     if n <= 9 {
-        print(&out[..n]);
+        write(&out[..n]);
     }
 }
 
@@ -45,9 +30,9 @@ fn show(line: &[u8]) {
         print_bad_line();
         return;
     };
-    print_numbers(&ranking[..machines], b"");
-    print_numbers(&word[..symbols], b" ");
-    print(b"\n");
+    write_bytes(&ranking[..machines], b"");
+    write_bytes(&word[..symbols], b" ");
+    write(b"\n");
 }
 
 // Lines that have the form, with leading zeros, the largest symbol and the longest ranking.
@@ -135,7 +120,7 @@ fn show_answer(evaluation: Evaluation, machines: u8, answer: &[u8])
     let mut out = [0u8; 100];
     let n = lines::write_answer(evaluation, machines, answer, &mut out);
     if n <= 100 {
-        print(&out[..n]);
+        write(&out[..n]);
     }
 }
 
@@ -169,7 +154,7 @@ fn show_closing(answered: u32, refused: u32, totals: &[u32])
     let mut out = [0u8; 120];
     let n = lines::write_closing(answered, refused, totals, &mut out);
     if n <= 120 {
-        print(&out[..n]);
+        write(&out[..n]);
     }
 }
 

@@ -1,414 +1,23 @@
 // Tries the optimizer's call: rows 7 to 10 and 12 of the refusal table with their neighbours that pass, the empty word, the examples, the most pairs. A line for each case: the number,
 // profile, pair count and word length, the pairs, how many bytes of the answer slice still hold 9, and how many numbers of the work slice still hold 7.
 use candidate::Evaluation;
-
-// Card A: one final state, one arc, in {1}, out {1,2}.
-const CARD_A: [u8; 29] = [
-    1,
-    2,
-    6,
-    0,
-    23,
-    0,
-    1,
-    1,
-    1,
-    0,
-    0,
-    0,
-    0,
-    2,
-    0,
-    0,
-    0,
-    0,
-    0,
-    0,
-    0,
-    6,
-    0,
-    0,
-    0,
-    0,
-    0,
-    0,
-    0,
-];
-
-// Card A with another arc, in {0}, out {1,2}.
-const CARD_A_INSERTS: [u8; 49] = [
-    1,
-    2,
-    6,
-    0,
-    43,
-    0,
-    1,
-    2,
-    1,
-    0,
-    0,
-    0,
-    0,
-    2,
-    0,
-    0,
-    0,
-    0,
-    0,
-    0,
-    0,
-    6,
-    0,
-    0,
-    0,
-    0,
-    0,
-    0,
-    0,
-    0,
-    0,
-    0,
-    0,
-    1,
-    0,
-    0,
-    0,
-    0,
-    0,
-    0,
-    0,
-    6,
-    0,
-    0,
-    0,
-    0,
-    0,
-    0,
-    0,
-];
-
-// Card B: onset, insertion, deletion.
-const CARD_B: [u8; 264] = [
-    3,
-    2,
-    14,
-    0,
-    124,
-    0,
-    138,
-    0,
-    43,
-    0,
-    181,
-    0,
-    83,
-    0,
-    2,
-    6,
-    1,
-    1,
-    0,
-    0,
-    0,
-    0,
-    7,
-    0,
-    0,
-    0,
-    0,
-    0,
-    0,
-    0,
-    1,
-    0,
-    0,
-    0,
-    0,
-    0,
-    0,
-    0,
-    0,
-    1,
-    0,
-    0,
-    7,
-    0,
-    0,
-    0,
-    0,
-    0,
-    0,
-    0,
-    2,
-    0,
-    0,
-    0,
-    0,
-    0,
-    0,
-    0,
-    0,
-    0,
-    1,
-    0,
-    7,
-    0,
-    0,
-    0,
-    0,
-    0,
-    0,
-    0,
-    4,
-    0,
-    0,
-    0,
-    0,
-    0,
-    0,
-    0,
-    1,
-    1,
-    0,
-    0,
-    7,
-    0,
-    0,
-    0,
-    0,
-    0,
-    0,
-    0,
-    1,
-    0,
-    0,
-    0,
-    0,
-    0,
-    0,
-    0,
-    1,
-    1,
-    0,
-    0,
-    7,
-    0,
-    0,
-    0,
-    0,
-    0,
-    0,
-    0,
-    2,
-    0,
-    0,
-    0,
-    0,
-    0,
-    0,
-    0,
-    1,
-    0,
-    0,
-    0,
-    7,
-    0,
-    0,
-    0,
-    0,
-    0,
-    0,
-    0,
-    4,
-    0,
-    0,
-    0,
-    0,
-    0,
-    0,
-    0,
-    1,
-    2,
-    1,
-    0,
-    0,
-    0,
-    0,
-    6,
-    0,
-    0,
-    0,
-    0,
-    0,
-    0,
-    0,
-    7,
-    0,
-    0,
-    0,
-    0,
-    0,
-    0,
-    0,
-    0,
-    0,
-    1,
-    0,
-    1,
-    0,
-    0,
-    0,
-    0,
-    0,
-    0,
-    0,
-    6,
-    0,
-    0,
-    0,
-    0,
-    0,
-    0,
-    0,
-    1,
-    4,
-    1,
-    0,
-    0,
-    0,
-    0,
-    2,
-    0,
-    0,
-    0,
-    0,
-    0,
-    0,
-    0,
-    2,
-    0,
-    0,
-    0,
-    0,
-    0,
-    0,
-    0,
-    0,
-    0,
-    0,
-    0,
-    4,
-    0,
-    0,
-    0,
-    0,
-    0,
-    0,
-    0,
-    4,
-    0,
-    0,
-    0,
-    0,
-    0,
-    0,
-    0,
-    0,
-    0,
-    0,
-    0,
-    1,
-    0,
-    0,
-    0,
-    0,
-    0,
-    0,
-    0,
-    6,
-    0,
-    0,
-    0,
-    0,
-    0,
-    0,
-    0,
-    0,
-    0,
-    1,
-    0,
-    6,
-    0,
-    0,
-    0,
-    0,
-    0,
-    0,
-    0,
-    1,
-    0,
-    0,
-    0,
-    0,
-    0,
-    0,
-    0,
-];
+use test_support::cards::CARD_A;
+use test_support::cards::CARD_A_INSERTS;
+use test_support::cards::CARD_B;
+use test_support::slices::nines;
+use test_support::slices::sevens;
+use test_support::writing::write;
+use test_support::writing::write_evaluation;
+use test_support::writing::write_pairs;
+use test_support::writing::write_size;
+use test_support::writing::write_spaced_size;
 
 // An affix without sounds: from the start state, which is not final, to the final one by 0:1 with 3 marks or by 0:2 with 1.
-const CARD_AFFIX: [u8; 50] = [
-    1,
-    2,
-    6,
-    0,
-    44,
-    0,
-    2,
-    2,
-    0,
-    1,
-    0,
-    1,
-    3,
-    0,
-    1,
-    0,
-    0,
-    0,
-    0,
-    0,
-    0,
-    0,
-    2,
-    0,
-    0,
-    0,
-    0,
-    0,
-    0,
-    0,
-    0,
-    1,
-    1,
-    0,
-    1,
-    0,
-    0,
-    0,
-    0,
-    0,
-    0,
-    0,
-    4,
-    0,
-    0,
-    0,
-    0,
-    0,
-    0,
-    0,
-];
+const CARD_AFFIX: [u8; 50] = *b"\x01\x02\
+    \x06\x00\x2c\x00\
+    \x02\x02\x00\x01\
+    \x00\x01\x03\x00\x01\x00\x00\x00\x00\x00\x00\x00\x02\x00\x00\x00\x00\x00\x00\x00\
+    \x00\x01\x01\x00\x01\x00\x00\x00\x00\x00\x00\x00\x04\x00\x00\x00\x00\x00\x00\x00";
 
 // Two symbols; 1:1 and 1:2 lead from state 0, which is not final, to a state each, at no cost.
 const CARD_D: [u8; 51] = *b"\x01\x02\
@@ -464,82 +73,20 @@ const CARD_CHAIN: [u8; 870] = *b"\x02\x03\
     \x02\x03\x0f\x00\x01\x00\x00\x00\x00\x00\x00\x00\x0c\x00\x00\x00\x00\x00\x00\x00\
     \x03\x00\x0f\x00\x0e\x00\x00\x00\x00\x00\x00\x00\x0e\x00\x00\x00\x00\x00\x00\x00";
 
-fn write(text: &[u8]) {
-    io::write_all(1, text);
-}
-
-fn write_number(number: u64) {
-    io::print_decimal(1, number);
-}
-
-fn write_count(count: u16) {
-    write(b" ");
-    write_number(count as u64);
-}
-
-fn write_pair(input: u8, output: u8) {
-    write(b" ");
-    write_number(input as u64);
-    write(b":");
-    write_number(output as u64);
-}
-
-fn write_pairs(answer: &[u8; 60], pairs: u16) {
-    let mut left = pairs;
-    let mut at = 0;
-    while left > 0 {
-        if at + 1 < 60 {
-            write_pair(answer[at], answer[at + 1]);
-            at += 2;
-        }
-        left -= 1;
-    }
-}
-
-fn write_evaluation(evaluation: Evaluation) {
-    let profile = evaluation.profile;
-    write_number(evaluation.number as u64);
-    write(b":");
-    write_count(profile.counts[0]);
-    write_count(profile.counts[1]);
-    write_count(profile.counts[2]);
-    write_count(profile.counts[3]);
-    write_count(profile.counts[4]);
-    write_count(profile.counts[5]);
+// The 7s are counted where the call keeps them; a work slice that was used is left open.
+fn write_answer(evaluation: Evaluation, answer: &[u8; 60], work: &[u16; 400]) {
+    write_evaluation(evaluation);
     write(b";");
-    write_count(evaluation.pairs);
-    write_count(evaluation.word_length);
-    write(b";");
-}
-
-// How many bytes are 9.
-fn nines(bytes: &[u8; 60]) -> u64 {
-    let mut count: u64 = 0;
-    let mut at = 0;
-    while at < 60 {
-        if bytes[at] == 9 {
-            count += 1;
-        }
-        at += 1;
+    write_pairs(answer, evaluation.pairs);
+    write(b"; ");
+    write_size(nines(answer));
+    if (1 <= evaluation.number) & (evaluation.number <= 9) {
+        write_spaced_size(sevens(work));
     }
-    count
+    write(b"\n");
 }
 
-// How many numbers are 7.
-fn sevens(numbers: &[u16; 400]) -> u64 {
-    let mut count: u64 = 0;
-    let mut at = 0;
-    while at < 400 {
-        if numbers[at] == 7 {
-            count += 1;
-        }
-        at += 1;
-    }
-    count
-}
-
-// The call on a card, with the first `room` numbers of a work slice of 7s and the first `bytes` bytes of an answer slice of 9s. The 7s are counted where
-// the call keeps them; a work slice that was used is left open.
+// The call on a card, with the first `room` numbers of a work slice of 7s and the first `bytes` bytes of an answer slice of 9s.
 fn try_on(card: &[u8], ranking: &[u8], word: &[u8], room: usize, bytes: usize) {
     let mut work = [7u16; 400];
     let mut answer = [9u8; 60];
@@ -556,15 +103,7 @@ fn try_on(card: &[u8], ranking: &[u8], word: &[u8], room: usize, bytes: usize) {
         &mut work[0..room],
         &mut answer[0..bytes],
     );
-    write_evaluation(evaluation);
-    write_pairs(&answer, evaluation.pairs);
-    write(b"; ");
-    write_number(nines(&answer));
-    if (1 <= evaluation.number) & (evaluation.number <= 9) {
-        write(b" ");
-        write_number(sevens(&work));
-    }
-    write(b"\n");
+    write_answer(evaluation, &answer, &work);
 }
 
 fn on_a(ranking: &[u8], word: &[u8], room: usize, bytes: usize) {
@@ -718,7 +257,7 @@ fn on_chain(bytes: usize) {
     );
     write(b"chain ");
     write_evaluation(evaluation);
-    write(b"\n");
+    write(b";\n");
 }
 
 // The most pairs that a best candidate has, and the largest counts: every node is passed.

@@ -4,18 +4,11 @@ use ranking::Derived;
 use ranking::Order;
 use ranking::Profile;
 use ranking::Refusal;
-
-fn write(text: &[u8]) {
-    io::write_all(1, text);
-}
-
-fn write_number(number: u64) {
-    io::print_decimal(1, number);
-}
-
-fn write_count(count: u16) {
-    write_number(count as u64);
-}
+use test_support::writing::write;
+use test_support::writing::write_byte;
+use test_support::writing::write_bytes;
+use test_support::writing::write_count;
+use test_support::writing::write_spaced_byte;
 
 fn write_counts(profile: Profile) {
     write_count(profile.counts[0]);
@@ -31,30 +24,19 @@ fn write_counts(profile: Profile) {
     write_count(profile.counts[5]);
 }
 
-fn write_machine(machine: u8) {
-    write(b" ");
-    write_number(machine as u64);
-}
-
-fn write_ranking(ranking: &[u8]) {
-    for place in 0..ranking.len() {
-        write_machine(ranking[place]);
-    }
-}
-
 fn write_refusal(refusal: Refusal) {
     write(b"refused ");
-    write_number(refusal.number() as u64);
+    write_byte(refusal.number());
 }
 
 fn write_better(machine: u8) {
     write(b"better by");
-    write_machine(machine);
+    write_spaced_byte(machine);
 }
 
 fn write_worse(machine: u8) {
     write(b"worse by");
-    write_machine(machine);
+    write_spaced_byte(machine);
 }
 
 fn write_order(order: Order) {
@@ -81,9 +63,9 @@ fn compare_case(machines: u8, length: usize, list: &[u8], first: Profile, second
     }
     let ranking = &list[0..length];
     write(b"K ");
-    write_number(machines as u64);
+    write_byte(machines);
     write(b", ranking");
-    write_ranking(ranking);
+    write_bytes(ranking, b" ");
     write(b", ");
     write_counts(first);
     write(b" against ");
@@ -95,7 +77,7 @@ fn compare_case(machines: u8, length: usize, list: &[u8], first: Profile, second
 // Writes a case of deriving a condition, and its answer.
 fn derive_case(machines: u8, first: Profile, second: Profile) {
     write(b"K ");
-    write_number(machines as u64);
+    write_byte(machines);
     write(b", ");
     write_counts(first);
     write(b" against ");
@@ -104,9 +86,9 @@ fn derive_case(machines: u8, first: Profile, second: Profile) {
     match ranking::conditions::derive(machines, first, second) {
         Derived::Condition(condition) => {
             write(b"W ");
-            write_number(condition.fewer as u64);
+            write_byte(condition.fewer);
             write(b" L ");
-            write_number(condition.more as u64);
+            write_byte(condition.more);
         }
         Derived::Refused(refusal) => write_refusal(refusal),
     }

@@ -2,6 +2,15 @@
 // slices longer than needed. A line for each case and engine: the number, profile, pair count and word length, the pairs, how many bytes of the answer slice still hold 9, and, where the
 // call keeps the work slice, how many of its numbers still hold 7.
 use candidate::Evaluation;
+use test_support::cards::CARD_A;
+use test_support::slices::nines;
+use test_support::slices::sevens;
+use test_support::writing::write;
+use test_support::writing::write_byte;
+use test_support::writing::write_pairs;
+use test_support::writing::write_size;
+use test_support::writing::write_spaced_count;
+use test_support::writing::write_spaced_size;
 
 // Two symbols, one final state; 1:1 and 1:2 have 2 marks, 2:1 and 2:2 have one.
 const CARD_LATER: [u8; 49] = *b"\x01\x02\
@@ -34,80 +43,17 @@ const CARD_ALL: [u8; 49] = *b"\x01\x3f\
     \x00\x00\x01\x00\xfe\xff\xff\xff\xff\xff\xff\xff\xfe\xff\xff\xff\xff\xff\xff\x7f\
     \x00\x00\x00\x00\x00\x00\x00\x00\x00\x00\x00\x80\x00\x00\x00\x00\x00\x00\x00\x80";
 
-// Card A of the examples: two symbols, one final state, in {1}, out {1,2}.
-const CARD_A: [u8; 29] = *b"\x01\x02\
-    \x06\x00\x17\x00\
-    \x01\x01\x01\
-    \x00\x00\x00\x00\x02\x00\x00\x00\x00\x00\x00\x00\x06\x00\x00\x00\x00\x00\x00\x00";
-
-fn write(text: &[u8]) {
-    io::write_all(1, text);
-}
-
-fn write_number(number: u64) {
-    io::print_decimal(1, number);
-}
-
-fn write_count(count: u16) {
-    write(b" ");
-    write_number(count as u64);
-}
-
-fn write_pair(input: u8, output: u8) {
-    write(b" ");
-    write_number(input as u64);
-    write(b":");
-    write_number(output as u64);
-}
-
-fn write_pairs(answer: &[u8; 60], pairs: u16) {
-    let mut left = pairs;
-    let mut at = 0;
-    while left > 0 {
-        if at + 1 < 60 {
-            write_pair(answer[at], answer[at + 1]);
-            at += 2;
-        }
-        left -= 1;
-    }
-}
-
+// Number, the first two counts, pair count and word length.
 fn write_evaluation(evaluation: Evaluation) {
     let profile = evaluation.profile;
-    write_number(evaluation.number as u64);
+    write_byte(evaluation.number);
     write(b":");
-    write_count(profile.counts[0]);
-    write_count(profile.counts[1]);
+    write_spaced_count(profile.counts[0]);
+    write_spaced_count(profile.counts[1]);
     write(b";");
-    write_count(evaluation.pairs);
-    write_count(evaluation.word_length);
+    write_spaced_count(evaluation.pairs);
+    write_spaced_count(evaluation.word_length);
     write(b";");
-}
-
-// How many bytes are 9.
-fn nines(bytes: &[u8; 60]) -> u64 {
-    let mut count: u64 = 0;
-    let mut at = 0;
-    while at < 60 {
-        if bytes[at] == 9 {
-            count += 1;
-        }
-        at += 1;
-    }
-    count
-}
-
-// How many numbers are 7.
-fn sevens(numbers: &[u16; 400]) -> u64 {
-    let mut count: u64 = 0;
-    let mut at = 0;
-    while at < 400 {
-        if numbers[at] == 7 {
-            count += 1;
-        }
-        at += 1;
-    }
-    count
 }
 
 // Whether the work slice is kept: the numbers of the checks before the search.
@@ -119,10 +65,9 @@ fn write_answer(evaluation: Evaluation, answer: &[u8; 60], work: &[u16; 400]) {
     write_evaluation(evaluation);
     write_pairs(answer, evaluation.pairs);
     write(b"; ");
-    write_number(nines(answer));
+    write_size(nines(answer));
     if keeps_work(evaluation.number) {
-        write(b" ");
-        write_number(sevens(work));
+        write_spaced_size(sevens(work));
     }
     write(b"\n");
 }

@@ -4,8 +4,6 @@
 mod samples; // samples.rt: the card and the tableaux
 
 use samples::CARD;
-use samples::CARD_B;
-use samples::FREE;
 use samples::MISSING;
 use samples::ONE;
 use samples::TAG;
@@ -13,35 +11,27 @@ use samples::TIES;
 use samples::WRAPPED;
 use samples::WRAPPED_END;
 use tableau::Judged;
-
-fn write(text: &[u8]) {
-    io::write_all(1, text);
-}
-
-fn write_number(number: u64) {
-    io::print_decimal(1, number);
-}
-
-// How many numbers are 7.
-fn sevens(numbers: &[u16; 160]) -> u64 {
-    let mut count: u64 = 0;
-    let mut at = 0;
-    while at < 160 {
-        if numbers[at] == 7 {
-            count += 1;
-        }
-        at += 1;
-    }
-    count
-}
+use test_support::cards::CARD_A_INSERTS;
+use test_support::cards::CARD_B;
+use test_support::slices::sevens;
+use test_support::writing::write;
+use test_support::writing::write_size;
+use test_support::writing::write_spaced_byte;
 
 fn write_judged(judged: Judged) {
-    write(b": ");
-    write_number(judged.number as u64);
-    write(b" ");
-    write_number(judged.verdict as u64);
-    write(b" ");
-    write_number(judged.row as u64);
+    write(b":");
+    write_spaced_byte(judged.number);
+    write_spaced_byte(judged.verdict);
+    write_spaced_byte(judged.row);
+}
+
+fn write_answer(judged: Judged, work: &[u16; 160]) {
+    write_judged(judged);
+    if (1 <= judged.number) & (judged.number <= 9) {
+        write(b"; ");
+        write_size(sevens(work));
+    }
+    write(b"\n");
 }
 
 // The call on the card, with the first `room` numbers of a work slice of 7s.
@@ -52,12 +42,7 @@ fn judge(ranking: &[u8], word: &[u8], room: usize, tableau: &[u8]) {
         return;
     }
     let judged = tableau::judge(&card, ranking, word, &mut work[0..room], tableau);
-    write_judged(judged);
-    if (1 <= judged.number) & (judged.number <= 9) {
-        write(b"; ");
-        write_number(sevens(&work));
-    }
-    write(b"\n");
+    write_answer(judged, &work);
 }
 
 // Under NoCoda >> DEP >> PARSE.
@@ -332,7 +317,7 @@ fn fill_outputs(tableau: &mut [u8; 6418]) {
 }
 
 fn judge_long(tableau: [u8; 6418], length: usize) {
-    let card = FREE;
+    let card = CARD_A_INSERTS;
     let mut work = [7u16; 16];
     if length <= 6418 {
         write_judged(tableau::judge(&card, b"\x00", b"\x01", &mut work, &tableau[0..length]));

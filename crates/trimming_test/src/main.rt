@@ -3,33 +3,11 @@
 // Then how many arcs are travelled, and how many change an answer.
 ghost use Prim.Native.Nat.{_+_, _<_, _≤_};
 use candidate::Evaluation;
-
-// Card B of the document.
-const CARD: [u8; 264] = *b"\x03\x02\
-    \x0e\x00\x7c\x00\x8a\x00\x2b\x00\xb5\x00\x53\x00\
-    \x02\x06\x01\x01\
-    \x00\x00\x00\x00\x07\x00\x00\x00\x00\x00\x00\x00\x01\x00\x00\x00\x00\x00\x00\x00\
-    \x00\x01\x00\x00\x07\x00\x00\x00\x00\x00\x00\x00\x02\x00\x00\x00\x00\x00\x00\x00\
-    \x00\x00\x01\x00\x07\x00\x00\x00\x00\x00\x00\x00\x04\x00\x00\x00\x00\x00\x00\x00\
-    \x01\x01\x00\x00\x07\x00\x00\x00\x00\x00\x00\x00\x01\x00\x00\x00\x00\x00\x00\x00\
-    \x01\x01\x00\x00\x07\x00\x00\x00\x00\x00\x00\x00\x02\x00\x00\x00\x00\x00\x00\x00\
-    \x01\x00\x00\x00\x07\x00\x00\x00\x00\x00\x00\x00\x04\x00\x00\x00\x00\x00\x00\x00\
-    \x01\x02\x01\
-    \x00\x00\x00\x00\x06\x00\x00\x00\x00\x00\x00\x00\x07\x00\x00\x00\x00\x00\x00\x00\
-    \x00\x00\x01\x00\x01\x00\x00\x00\x00\x00\x00\x00\x06\x00\x00\x00\x00\x00\x00\x00\
-    \x01\x04\x01\
-    \x00\x00\x00\x00\x02\x00\x00\x00\x00\x00\x00\x00\x02\x00\x00\x00\x00\x00\x00\x00\
-    \x00\x00\x00\x00\x04\x00\x00\x00\x00\x00\x00\x00\x04\x00\x00\x00\x00\x00\x00\x00\
-    \x00\x00\x00\x00\x01\x00\x00\x00\x00\x00\x00\x00\x06\x00\x00\x00\x00\x00\x00\x00\
-    \x00\x00\x01\x00\x06\x00\x00\x00\x00\x00\x00\x00\x01\x00\x00\x00\x00\x00\x00\x00";
-
-fn write(text: &[u8]) {
-    io::write_all(1, text);
-}
-
-fn write_number(number: u64) {
-    io::print_decimal(1, number);
-}
+use test_support::cards::CARD_B;
+use test_support::slices::same_bytes;
+use test_support::slices::same_results;
+use test_support::writing::write;
+use test_support::writing::write_number;
 
 // Where byte k of the parts stood in the card, if the 20 bytes from a place on are left out.
 fn kept(k: usize, at: usize) -> usize
@@ -44,7 +22,7 @@ fn kept(k: usize, at: usize) -> usize
 
 // The card's parts, joined, without the 20 bytes from a place on.
 fn cut(at: usize, parts: &mut [u8; 230]) {
-    let card = CARD;
+    let card = CARD_B;
     for k in 0..230 {
         parts[k] = card[kept(k, at)];
     }
@@ -108,28 +86,6 @@ fn travels(arcs: &[u8], arc: usize, answer: &[u8; 60], pairs: u16) -> bool {
     false
 }
 
-fn same_bytes(first: &[u8; 60], second: &[u8; 60]) -> bool {
-    let mut at = 0;
-    while at < 60 {
-        if first[at] != second[at] {
-            return false;
-        }
-        at += 1;
-    }
-    true
-}
-
-// The same number, profile and pair count.
-fn same_result(first: Evaluation, second: Evaluation) -> bool {
-    let a = first.profile;
-    let b = second.profile;
-    (first.number == second.number)
-        & (first.pairs == second.pairs)
-        & (a.counts[0] == b.counts[0])
-        & (a.counts[1] == b.counts[1])
-        & (a.counts[2] == b.counts[2])
-}
-
 fn flag(is: bool, value: u8) -> u8 {
     if is {
         return value;
@@ -139,7 +95,7 @@ fn flag(is: bool, value: u8) -> u8 {
 
 // Whether two answers are the same.
 fn same(first: Evaluation, second: Evaluation, answer: &[u8; 60], other: &[u8; 60]) -> bool {
-    same_result(first, second) & same_bytes(answer, other)
+    same_results(first, second) & same_bytes(answer, other)
 }
 
 fn optimized(card: &[u8], ranking: &[u8], word: &[u8], answer: &mut [u8; 60]) -> Evaluation {
@@ -164,7 +120,7 @@ fn sets_culled(card: &[u8], ranking: &[u8], sets: &[u64], answer: &mut [u8; 60])
 
 // Tries a word on the card and on the trimmed one: 1 if its answer travels the arc, 2 if the optimizer's answer changes, 4 if the cull's does.
 fn try_word(arcs: &[u8], arc: usize, trimmed: &[u8; 244], ranking: &[u8], word: &[u8]) -> u8 {
-    let card = CARD;
+    let card = CARD_B;
     let mut answer = [0u8; 60];
     let mut second = [0u8; 60];
     let mut third = [0u8; 60];
@@ -178,7 +134,7 @@ fn try_word(arcs: &[u8], arc: usize, trimmed: &[u8; 244], ranking: &[u8], word: 
 
 // The same for a word heard only in part.
 fn try_sets(arcs: &[u8], arc: usize, trimmed: &[u8; 244], ranking: &[u8], sets: &[u64]) -> u8 {
-    let card = CARD;
+    let card = CARD_B;
     let mut answer = [0u8; 60];
     let mut second = [0u8; 60];
     let mut third = [0u8; 60];
@@ -245,7 +201,7 @@ fn pack(lengths: &[u16; 3], parts: &[u8; 230], target: &mut [u8; 244]) -> u8 {
 fn try_arc(machine: usize, part: usize, arcs: usize, end: usize, arc: usize) -> u8
     requires { ⌜ (machine < 3) × (14 ≤ part) × (part + 2 ≤ arcs) × (arcs + arc + 20 ≤ end) × (end ≤ 264) ⌝ }
 {
-    let card = CARD;
+    let card = CARD_B;
     let mut parts = [0u8; 230];
     cut(arcs + arc, &mut parts);
     parts[part - 13] = ((end - arcs) / 20 - 1) as u8;

@@ -2,32 +2,15 @@
 // long enough and one short, no candidate, ties, the largest sums, and words where a ranking gives the same best and where none does. A line for each
 // case: the number, profile, pair count, word length and sum in thousandths, the pairs, how many bytes of the answer slice still hold 9, and how many
 // numbers of the work slice still hold 7 where the call keeps them.
-use candidate::Evaluation;
-
-// Card A: one final state, one arc, in {1}, out {1,2}.
-const CARD_A: [u8; 29] = *b"\x01\x02\
-    \x06\x00\x17\x00\
-    \x01\x01\x01\
-    \x00\x00\x00\x00\x02\x00\x00\x00\x00\x00\x00\x00\x06\x00\x00\x00\x00\x00\x00\x00";
-
-// Card B: onset, insertion, deletion.
-const CARD_B: [u8; 264] = *b"\x03\x02\
-    \x0e\x00\x7c\x00\x8a\x00\x2b\x00\xb5\x00\x53\x00\
-    \x02\x06\x01\x01\
-    \x00\x00\x00\x00\x07\x00\x00\x00\x00\x00\x00\x00\x01\x00\x00\x00\x00\x00\x00\x00\
-    \x00\x01\x00\x00\x07\x00\x00\x00\x00\x00\x00\x00\x02\x00\x00\x00\x00\x00\x00\x00\
-    \x00\x00\x01\x00\x07\x00\x00\x00\x00\x00\x00\x00\x04\x00\x00\x00\x00\x00\x00\x00\
-    \x01\x01\x00\x00\x07\x00\x00\x00\x00\x00\x00\x00\x01\x00\x00\x00\x00\x00\x00\x00\
-    \x01\x01\x00\x00\x07\x00\x00\x00\x00\x00\x00\x00\x02\x00\x00\x00\x00\x00\x00\x00\
-    \x01\x00\x00\x00\x07\x00\x00\x00\x00\x00\x00\x00\x04\x00\x00\x00\x00\x00\x00\x00\
-    \x01\x02\x01\
-    \x00\x00\x00\x00\x06\x00\x00\x00\x00\x00\x00\x00\x07\x00\x00\x00\x00\x00\x00\x00\
-    \x00\x00\x01\x00\x01\x00\x00\x00\x00\x00\x00\x00\x06\x00\x00\x00\x00\x00\x00\x00\
-    \x01\x04\x01\
-    \x00\x00\x00\x00\x02\x00\x00\x00\x00\x00\x00\x00\x02\x00\x00\x00\x00\x00\x00\x00\
-    \x00\x00\x00\x00\x04\x00\x00\x00\x00\x00\x00\x00\x04\x00\x00\x00\x00\x00\x00\x00\
-    \x00\x00\x00\x00\x01\x00\x00\x00\x00\x00\x00\x00\x06\x00\x00\x00\x00\x00\x00\x00\
-    \x00\x00\x01\x00\x06\x00\x00\x00\x00\x00\x00\x00\x01\x00\x00\x00\x00\x00\x00\x00";
+use test_support::cards::CARD_A;
+use test_support::cards::CARD_B;
+use test_support::slices::nines;
+use test_support::writing::write;
+use test_support::writing::write_evaluation;
+use test_support::writing::write_pairs;
+use test_support::writing::write_size;
+use test_support::writing::write_spaced_number;
+use weights::Weighing;
 
 // The sound 1 dropped, kept or weakened to 2: effort has 0, 3 and 1 marks, faithfulness 3, 0 and 1.
 const CARD_WEAKENING: [u8; 136] = *b"\x02\x02\
@@ -107,67 +90,6 @@ const CARD_WIDE: [u8; 37] = *b"\x02\x01\
     \x0c\x00\x01\x01\x01\x01\x01\x01\x01\x01\x01\x01\x01\x01\
     \x0b\x00\x01\x01\x01\x01\x01\x01\x01\x01\x01\x01\x01";
 
-fn write(text: &[u8]) {
-    io::write_all(1, text);
-}
-
-fn write_number(number: u64) {
-    io::print_decimal(1, number);
-}
-
-fn write_count(count: u16) {
-    write(b" ");
-    write_number(count as u64);
-}
-
-fn write_pair(input: u8, output: u8) {
-    write(b" ");
-    write_number(input as u64);
-    write(b":");
-    write_number(output as u64);
-}
-
-fn write_pairs(answer: &[u8; 60], pairs: u16) {
-    let mut left = pairs;
-    let mut at = 0;
-    while left > 0 {
-        if at + 1 < 60 {
-            write_pair(answer[at], answer[at + 1]);
-            at += 2;
-        }
-        left -= 1;
-    }
-}
-
-fn write_evaluation(evaluation: Evaluation) {
-    let profile = evaluation.profile;
-    write_number(evaluation.number as u64);
-    write(b":");
-    write_count(profile.counts[0]);
-    write_count(profile.counts[1]);
-    write_count(profile.counts[2]);
-    write_count(profile.counts[3]);
-    write_count(profile.counts[4]);
-    write_count(profile.counts[5]);
-    write(b";");
-    write_count(evaluation.pairs);
-    write_count(evaluation.word_length);
-    write(b";");
-}
-
-// How many bytes are 9.
-fn nines(bytes: &[u8; 60]) -> u64 {
-    let mut count: u64 = 0;
-    let mut at = 0;
-    while at < 60 {
-        if bytes[at] == 9 {
-            count += 1;
-        }
-        at += 1;
-    }
-    count
-}
-
 // How many numbers are 7.
 fn sevens(numbers: &[u64; 60]) -> u64 {
     let mut count: u64 = 0;
@@ -179,6 +101,22 @@ fn sevens(numbers: &[u64; 60]) -> u64 {
         at += 1;
     }
     count
+}
+
+fn write_answer(weighing: Weighing, answer: &[u8; 60], work: &[u64; 60]) {
+    let evaluation = weighing.evaluation;
+    let number = evaluation.number;
+    write_evaluation(evaluation);
+    write(b";");
+    write_spaced_number(weighing.sum);
+    write(b";");
+    write_pairs(answer, evaluation.pairs);
+    write(b"; ");
+    write_size(nines(answer));
+    if ((1 <= number) & (number <= 9)) | (number == 26) {
+        write_spaced_number(sevens(work));
+    }
+    write(b"\n");
 }
 
 // The call on a card, with the first `room` numbers of a work slice of 7s and the first `bytes` bytes of an answer slice of 9s.
@@ -198,29 +136,17 @@ fn try_on(card: &[u8], weights: &[u32], word: &[u8], room: usize, bytes: usize) 
         &mut work[0..room],
         &mut answer[0..bytes],
     );
-    let evaluation = weighing.evaluation;
-    let number = evaluation.number;
-    write_evaluation(evaluation);
-    write(b" ");
-    write_number(weighing.sum);
-    write(b";");
-    write_pairs(&answer, evaluation.pairs);
-    write(b"; ");
-    write_number(nines(&answer));
-    if ((1 <= number) & (number <= 9)) | (number == 26) {
-        write(b" ");
-        write_number(sevens(&work));
-    }
-    write(b"\n");
+    write_answer(weighing, &answer, &work);
 }
 
 // The call with a ranking, to compare with.
 fn rank_on(card: &[u8], ranking: &[u8], word: &[u8]) {
     let mut work = [7u16; 60];
     let mut answer = [9u8; 60];
-    let evaluation = optimizer::optimize(card, ranking, word, &mut work[0..60], &mut answer[0..60]);
+    let evaluation = optimizer::optimize(card, ranking, word, &mut work, &mut answer);
     write(b"ranked ");
     write_evaluation(evaluation);
+    write(b";");
     write_pairs(&answer, evaluation.pairs);
     write(b"\n");
 }
@@ -289,8 +215,8 @@ fn on_chain(weight: u32, room: usize, bytes: usize) {
     );
     write(b"chain ");
     write_evaluation(weighing.evaluation);
-    write(b" ");
-    write_number(weighing.sum);
+    write(b";");
+    write_spaced_number(weighing.sum);
     write(b"\n");
 }
 

@@ -19,14 +19,14 @@ word-bound c =
 array-share-prefix-ranking : tie.Need-array-share-prefix-ranking
 array-share-prefix-ranking c = omega (arith, ranking-bound (c .before), c .before .before .before .before .before .parse .kept .1 .0)
 
-slice-aggregate-print-numbers : tie.Need-slice-aggregate-print-numbers
-slice-aggregate-print-numbers c = sym (length-take-le _ _ (omega (arith, ranking-bound (c .before .before), c .before .before .before .before .before .before .parse .kept .1 .0)))
+slice-aggregate-write-bytes : tie.Need-slice-aggregate-write-bytes
+slice-aggregate-write-bytes c = sym (length-take-le _ _ (omega (arith, ranking-bound (c .before .before), c .before .before .before .before .before .before .parse .kept .1 .0)))
 
 array-share-prefix-word : tie.Need-array-share-prefix-word
 array-share-prefix-word c = omega (arith, word-bound (c .before .before .before .before), c .before .before .before .before .before .before .before .before .parse .kept .1 .1 .0)
 
-slice-aggregate-print-numbers-3 : tie.Need-slice-aggregate-print-numbers-3
-slice-aggregate-print-numbers-3 c = sym (length-take-le _ _ (omega (arith, word-bound (c .before .before .before .before .before), c .before .before .before .before .before .before .before .before .before .parse .kept .1 .1 .0)))
+slice-aggregate-write-bytes-3 : tie.Need-slice-aggregate-write-bytes-3
+slice-aggregate-write-bytes-3 c = sym (length-take-le _ _ (omega (arith, word-bound (c .before .before .before .before .before), c .before .before .before .before .before .before .before .before .before .parse .kept .1 .1 .0)))
 
 pub show-spec : {M : Type 1} → statement M
 show-spec =
@@ -40,11 +40,11 @@ show-spec =
     (λ c κs. search needs)
     (λ c. search needs)
     array-share-prefix-ranking
-    slice-aggregate-print-numbers
+    slice-aggregate-write-bytes
     (λ c. search needs)
     (λ c κs. search needs)
     array-share-prefix-word
-    slice-aggregate-print-numbers-3
+    slice-aggregate-write-bytes-3
     (λ c. search needs)
     (λ c κs. search needs)
     (λ c. search needs)

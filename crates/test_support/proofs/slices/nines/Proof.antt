@@ -1,26 +1,27 @@
 use Prim.Native.Nat.{_≤_, _-_}
+use mathlib.Core.Path.{_≡_}
 use mathlib.Core.Logic.{⊎-elim}
 use borrow.Author.Needs.{needs}
 use native.Mathlib.Omega.{arith}
-use Rattle.optimizer_test.proofs.sevens.Statement.{statement}
-use Rattle.optimizer_test.proofs.sevens.Tie as tie
+use lib.ListN.{length}
+use Rattle.test_support.proofs.slices.nines.Statement.{statement}
+use Rattle.test_support.proofs.slices.nines.Tie as tie
 
 abbrev Inv-loop : tie.InvT-loop
-Inv-loop numbers count₀ at₀ count at = (at ≤ 400) × (count ≤ at)
+Inv-loop bytes count₀ at₀ at-end count at = (at-end ≡ length bytes) × (at ≤ at-end) × (count ≤ at)
 
 abbrev μ-loop : tie.MeasureT-loop
-μ-loop numbers count₀ at₀ count at = 400 - at
+μ-loop bytes count₀ at₀ at-end count at = at-end - at
 
 loop-again : tie.Need-loop-again Inv-loop μ-loop
 loop-again c = ⊎-elim (λ w. omega arith) (λ w. omega arith) (c .if1 .came)
 
-pub sevens-spec : {M : Type 1} → statement M
-sevens-spec =
+pub nines-spec : {M : Type 1} → statement M
+nines-spec =
     tie.close
     (tie.spec
     Inv-loop
     μ-loop
-    (λ c. search needs)
     (λ c. search needs)
     (λ c. search needs)
     (λ c. search needs)
