@@ -2,77 +2,62 @@
 // and a 33rd, an id that stands twice, equal profiles, removals at every place. A line for each call: what it is, the number, the row count; behind the bar the first records, each as its id, its first two counts
 // and its last one, which is kept and not looked at.
 ghost use mathlib.Core.Path.{_≡_};
+ghost use mathlib.Core.List.{_++_};
+ghost use Prim.Native.Nat.{_≤_};
+ghost use lib.ListN.{take, drop};
 ghost use Rattle.live.specs.Calls.{adding, addedList, removing, removedList, leading};
 use live::Counted;
 use live::Lead;
 use live::Row;
 use ranking::Profile;
+use test_support::writing::write;
+use test_support::writing::write_number;
 
-// A list of 34 records, and what the last call on it answered.
-pub struct Long {
+// A list of 34 records, and what the last call on it answered. A call is lent the first so many of them: 34, or 3.
+pub struct Board {
     pub rows: [Row; 34],
     pub answer: Counted,
 }
 
-// A list of 3 records, and what the last call on it answered.
-pub struct Short {
-    pub rows: [Row; 3],
-    pub answer: Counted,
-}
-
-// The calls on a list of each length.
-fn add_long(board: Long, machines: u8, ranking: &[u8], count: usize, row: Row) -> Long
-    ensures { λ r. ⌜ (r .answer ≡ adding machines (now (ranking .entry)) count (board .rows) row) × (r .rows ≡ addedList machines (now (ranking .entry)) count (board .rows) row) ⌝ }
+// The calls on the first records of a list.
+fn add_to(
+    board: Board,
+    records: usize,
+    machines: u8,
+    ranking: &[u8],
+    count: usize,
+    row: Row,
+) -> Board
+    requires { ⌜ records ≤ 34 ⌝ }
+    ensures { λ r. ⌜ (r .answer ≡ adding machines (now (ranking .entry)) count (take records (board .rows)) row) × (r .rows ≡ addedList machines (now (ranking .entry)) count (take records (board .rows)) row ++ drop records (board .rows)) ⌝ }
 {
     let mut rows = board.rows;
-    let answer = live::add(machines, ranking, count, &mut rows, row);
-    Long { rows, answer }
+    let answer = live::add(machines, ranking, count, &mut rows[..records], row);
+    Board { rows, answer }
 }
 
-fn remove_long(board: Long, machines: u8, ranking: &[u8], count: usize, id: u16) -> Long
-    ensures { λ r. ⌜ (r .answer ≡ removing machines (now (ranking .entry)) count (board .rows) id) × (r .rows ≡ removedList machines (now (ranking .entry)) count (board .rows) id) ⌝ }
+fn remove_from(
+    board: Board,
+    records: usize,
+    machines: u8,
+    ranking: &[u8],
+    count: usize,
+    id: u16,
+) -> Board
+    requires { ⌜ records ≤ 34 ⌝ }
+    ensures { λ r. ⌜ (r .answer ≡ removing machines (now (ranking .entry)) count (take records (board .rows)) id) × (r .rows ≡ removedList machines (now (ranking .entry)) count (take records (board .rows)) id ++ drop records (board .rows)) ⌝ }
 {
     let mut rows = board.rows;
-    let answer = live::remove(machines, ranking, count, &mut rows, id);
-    Long { rows, answer }
+    let answer = live::remove(machines, ranking, count, &mut rows[..records], id);
+    Board { rows, answer }
 }
 
-fn leader_long(board: Long, machines: u8, ranking: &[u8], count: usize) -> Lead
-    ensures { λ r. ⌜ r ≡ leading machines (now (ranking .entry)) count (board .rows) ⌝ }
+fn leader_of(board: Board, records: usize, machines: u8, ranking: &[u8], count: usize) -> Lead
+    requires { ⌜ records ≤ 34 ⌝ }
+    ensures { λ r. ⌜ r ≡ leading machines (now (ranking .entry)) count (take records (board .rows)) ⌝ }
 {
     let rows = board.rows;
-    live::leader(machines, ranking, count, &rows)
-}
-
-fn add_short(board: Short, machines: u8, ranking: &[u8], count: usize, row: Row) -> Short
-    ensures { λ r. ⌜ (r .answer ≡ adding machines (now (ranking .entry)) count (board .rows) row) × (r .rows ≡ addedList machines (now (ranking .entry)) count (board .rows) row) ⌝ }
-{
-    let mut rows = board.rows;
-    let answer = live::add(machines, ranking, count, &mut rows, row);
-    Short { rows, answer }
-}
-
-fn remove_short(board: Short, machines: u8, ranking: &[u8], count: usize, id: u16) -> Short
-    ensures { λ r. ⌜ (r .answer ≡ removing machines (now (ranking .entry)) count (board .rows) id) × (r .rows ≡ removedList machines (now (ranking .entry)) count (board .rows) id) ⌝ }
-{
-    let mut rows = board.rows;
-    let answer = live::remove(machines, ranking, count, &mut rows, id);
-    Short { rows, answer }
-}
-
-fn leader_short(board: Short, machines: u8, ranking: &[u8], count: usize) -> Lead
-    ensures { λ r. ⌜ r ≡ leading machines (now (ranking .entry)) count (board .rows) ⌝ }
-{
-    let rows = board.rows;
-    live::leader(machines, ranking, count, &rows)
-}
-
-fn write(text: &[u8]) {
-    io::write_all(1, text);
-}
-
-fn write_number(number: u64) {
-    io::print_decimal(1, number);
+    live::leader(machines, ranking, count, &rows[..records])
 }
 
 // A row with two counts, and one behind them that is not looked at.
@@ -89,8 +74,8 @@ fn unused() -> Row {
     row(7, 7, 7, 7)
 }
 
-fn new_long() -> Long {
-    Long {
+fn new() -> Board {
+    Board {
         rows: [unused(); 34],
         answer: Counted {
             number: 0,
@@ -99,17 +84,7 @@ fn new_long() -> Long {
     }
 }
 
-fn new_short() -> Short {
-    Short {
-        rows: [unused(); 3],
-        answer: Counted {
-            number: 0,
-            count: 0,
-        },
-    }
-}
-
-fn long_at(board: Long, at: usize) -> Row {
+fn row_at(board: Board, at: usize) -> Row {
     let rows = board.rows;
     if at >= 34 {
         return unused();
@@ -117,23 +92,15 @@ fn long_at(board: Long, at: usize) -> Row {
     rows[at]
 }
 
-fn short_at(board: Short, at: usize) -> Row {
-    let rows = board.rows;
-    if at >= 3 {
-        return unused();
-    }
-    rows[at]
-}
-
 // A list whose first three records are these.
-fn three(first: Row, second: Row, third: Row) -> Long {
-    let board = new_long();
+fn three(first: Row, second: Row, third: Row) -> Board {
+    let board = new();
     let mut rows = board.rows;
     let answer = board.answer;
     rows[0] = first;
     rows[1] = second;
     rows[2] = third;
-    Long { rows, answer }
+    Board { rows, answer }
 }
 
 fn write_row(row: Row) {
@@ -156,24 +123,25 @@ fn write_answer(answer: Counted) {
     write(b" |");
 }
 
-// The answer and the first five records.
-fn show_long(board: Long) {
+// The answer and the first three records.
+fn show_three(board: Board) {
     let answer = board.answer;
     write_answer(answer);
-    write_row(long_at(board, 0));
-    write_row(long_at(board, 1));
-    write_row(long_at(board, 2));
-    write_row(long_at(board, 3));
-    write_row(long_at(board, 4));
+    write_row(row_at(board, 0));
+    write_row(row_at(board, 1));
+    write_row(row_at(board, 2));
+}
+
+// The line of a call on a list of 34, with five records, and on one of 3.
+fn show(board: Board) {
+    show_three(board);
+    write_row(row_at(board, 3));
+    write_row(row_at(board, 4));
     write(b"\n");
 }
 
-fn show_short(board: Short) {
-    let answer = board.answer;
-    write_answer(answer);
-    write_row(short_at(board, 0));
-    write_row(short_at(board, 1));
-    write_row(short_at(board, 2));
+fn show_short(board: Board) {
+    show_three(board);
     write(b"\n");
 }
 
@@ -190,32 +158,32 @@ fn show_lead(lead: Lead) {
     write(b"\n");
 }
 
-fn add(board: Long, count: usize, row: Row) -> Long {
-    let next = add_long(board, 2, b"\x01\x00", count, row);
+fn add(board: Board, count: usize, row: Row) -> Board {
+    let next = add_to(board, 34, 2, b"\x01\x00", count, row);
     write(b"add ");
     write_number(row.id as u64);
-    show_long(next);
+    show(next);
     next
 }
 
-fn remove(board: Long, count: usize, id: u16) -> Long {
-    let next = remove_long(board, 2, b"\x01\x00", count, id);
+fn remove(board: Board, count: usize, id: u16) -> Board {
+    let next = remove_from(board, 34, 2, b"\x01\x00", count, id);
     write(b"remove ");
     write_number(id as u64);
-    show_long(next);
+    show(next);
     next
 }
 
-fn lead(board: Long, count: usize) {
+fn lead(board: Board, count: usize) {
     write(b"leader of ");
     write_number(count as u64);
-    show_lead(leader_long(board, 2, b"\x01\x00", count));
+    show_lead(leader_of(board, 34, 2, b"\x01\x00", count));
 }
 
 // An empty table, the lowest and the highest id, an id that is present, and an id added again.
 fn ids() {
     write(b"- ids\n");
-    let empty = new_long();
+    let empty = new();
     lead(empty, 0);
     let none = remove(empty, 0, 0);
     let one = add(none, 0, row(0, 1, 1, 5));
@@ -251,10 +219,10 @@ fn removals() {
 }
 
 // A table of 32 rows.
-fn full() -> Long {
-    let mut board = new_long();
+fn full() -> Board {
+    let mut board = new();
     for i in 0..32usize {
-        board = add_long(board, 2, b"\x01\x00", i, row(i as u16, 40, 40, 0));
+        board = add_to(board, 34, 2, b"\x01\x00", i, row(i as u16, 40, 40, 0));
     }
     board
 }
@@ -263,7 +231,7 @@ fn full() -> Long {
 fn many() {
     write(b"- many\n");
     let board = full();
-    show_long(board);
+    show(board);
     add(board, 32, row(99, 0, 0, 0));
     add(board, 31, row(99, 0, 0, 0));
     lead(board, 32);
@@ -275,11 +243,11 @@ fn many() {
 fn call(machines: u8, ranking: &[u8], count: usize, id: u16) {
     let board = three(row(1, 1, 0, 0), row(2, 2, 0, 0), row(3, 3, 0, 0));
     write(b"add");
-    show_long(add_long(board, machines, ranking, count, row(id, 0, 0, 0)));
+    show(add_to(board, 34, machines, ranking, count, row(id, 0, 0, 0)));
     write(b"remove");
-    show_long(remove_long(board, machines, ranking, count, id));
+    show(remove_from(board, 34, machines, ranking, count, id));
     write(b"leader");
-    show_lead(leader_long(board, machines, ranking, count));
+    show_lead(leader_of(board, 34, machines, ranking, count));
 }
 
 // 1 before 7 before 23 before 24.
@@ -297,17 +265,17 @@ fn order() {
 // A list shorter than 32.
 fn few_records() {
     write(b"- a list of three\n");
-    let one = add_short(new_short(), 2, b"\x01\x00", 0, row(1, 1, 1, 0));
+    let one = add_to(new(), 3, 2, b"\x01\x00", 0, row(1, 1, 1, 0));
     show_short(one);
-    let two = add_short(one, 2, b"\x01\x00", 1, row(2, 0, 1, 0));
+    let two = add_to(one, 3, 2, b"\x01\x00", 1, row(2, 0, 1, 0));
     show_short(two);
-    let full = add_short(two, 2, b"\x01\x00", 2, row(3, 0, 1, 0));
+    let full = add_to(two, 3, 2, b"\x01\x00", 2, row(3, 0, 1, 0));
     show_short(full);
-    show_short(add_short(full, 2, b"\x01\x00", 3, row(4, 0, 0, 0)));
-    show_lead(leader_short(full, 2, b"\x01\x00", 3));
-    show_lead(leader_short(full, 2, b"\x01\x00", 4));
-    show_short(remove_short(full, 2, b"\x01\x00", 3, 2));
-    show_short(remove_short(full, 2, b"\x01\x00", 4, 2));
+    show_short(add_to(full, 3, 2, b"\x01\x00", 3, row(4, 0, 0, 0)));
+    show_lead(leader_of(full, 3, 2, b"\x01\x00", 3));
+    show_lead(leader_of(full, 3, 2, b"\x01\x00", 4));
+    show_short(remove_from(full, 3, 2, b"\x01\x00", 3, 2));
+    show_short(remove_from(full, 3, 2, b"\x01\x00", 4, 2));
 }
 
 fn main() {
