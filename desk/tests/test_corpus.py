@@ -1,4 +1,4 @@
-"""The binding against the corpus of crate `corpus`: each call and each refusal of the file, with the lines that crate has to print."""
+"""The binding against the corpus of crate `test_corpus`: each call and each refusal of the file, with the lines that crate has to print."""
 import struct
 import unittest
 from collections import Counter
@@ -8,12 +8,12 @@ import pastaspur
 
 from . import REPOSITORY
 
-CORPUS = REPOSITORY / "crates" / "corpus"
+CORPUS = REPOSITORY / "crates" / "test_corpus"
 PRIME = 1000000007
 
 
 class Fields:
-    """The fields of the file's cases, one after another, as crates/corpus/src/fields.rt has them."""
+    """The fields of the file's cases, one after another, as crates/test_corpus/src/fields.rt has them."""
 
     def __init__(self, file: bytes) -> None:
         self.file, self.at = file, 0
