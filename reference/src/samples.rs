@@ -158,10 +158,7 @@ pub fn chain_behind() -> Vec<u8> {
 fn turned(machine: &Machine) -> Machine {
     let last = machine.endings.len() - 1;
     let turn = |arc: &Arc| Arc { from: last - arc.from, to: last - arc.to, ..arc.clone() };
-    Machine {
-        endings: machine.endings.iter().rev().copied().collect(),
-        arcs: machine.arcs.iter().map(turn).collect(),
-    }
+    Machine { endings: machine.endings.iter().rev().copied().collect(), arcs: machine.arcs.iter().map(turn).collect() }
 }
 
 /// That chain with the states numbered from the last one: an insertion leads from each joint state to the one before it, from
