@@ -7,13 +7,13 @@ use Prim.Native.Nat.{ℕ}
 use Rattle.basics.specs.Search.{allOf}
 use Rattle.basics.proofs.Bools.{left, right}
 use Rattle.machine.specs.declared.Pair.{Pair}
-use Rattle.machine.specs.Machine.{Machine, startState, stepOf, stepAmong, endingOf}
+use Rattle.machine.specs.Machine.{Machine, startState, stepOf, stepAmong}
 use Rattle.machine.specs.Part.{machineOf}
 use Rattle.machine.specs.OldStates.{OldMachine, oldMachineOf, oldEndingOf, oldStates, ends-as-before}
 use Rattle.card.specs.Layout.{partsOf}
 use Rattle.card.specs.Card.{machinesOf}
 use Rattle.card.specs.OldStates.{oldMachinesOf}
-use Rattle.candidate.specs.Candidates.{addMarks, marksFrom, marksOf, isSome, isComplete, countOf, profileOf}
+use Rattle.candidate.specs.Candidates.{addMarks, marksFrom, isSome, isComplete, countOf, profileOf}
 
 -- a machine takes every pair in turn and ends in a final state: the marks of the arcs taken, added
 unfoldable pub oldMarksFrom : OldMachine → ℕ → List Pair → Option ℕ

@@ -1,6 +1,6 @@
 -- Parts from before ending marks, whose state bytes are 0 and 1, as they were read then. Assumes nothing.
 use mathlib.Core.Path.{_≡_, refl, sym, _∙_, ap}
-use mathlib.Core.Bool.{Bool, true, false, _&&_}
+use mathlib.Core.Bool.{Bool, true, false}
 use mathlib.Core.List.{List, [], _∷_, map}
 use mathlib.Core.Option.{Option, some, none}
 use Prim.Native.Nat.{ℕ, zero, suc}
@@ -13,7 +13,7 @@ use Rattle.refusals.specs.Refusals.{refuse, firstOf}
 use Rattle.basics.proofs.Bools.{both, left, right}
 use Rattle.machine.specs.declared.Arc.{Arc}
 use Rattle.machine.specs.Machine.{endingOf}
-use Rattle.machine.specs.Part.{stateBytes, arcsOf, endingByte, machineOf, shaped, soundStates, soundArcs, noClash, partRefusal}
+use Rattle.machine.specs.Part.{stateBytes, arcsOf, endingByte, machineOf, shaped, soundArcs, noClash, partRefusal}
 
 -- for each state whether it is final; and the arcs
 pub record OldMachine : Type 0 where

@@ -1,6 +1,7 @@
 // The board's work from its first byte to its last: the card from `card.bin`, lines from standard input, and for each a line on
-// standard output, then the lesson's totals. What a line says, what is printed for it and how lines are taken from pieces is proved
-// in the crate lines; no contract can speak of what is read and written.
+// standard output, then the lesson's totals. What a line says and how lines are taken from pieces is proved in the crate lines; what
+// is printed for them, what is kept between two pieces and what is printed at the end, here. No contract can speak of what is read and
+// written.
 use libc::STDIN_FILENO;
 use libc::STDOUT_FILENO;
 use lines::Next;

@@ -1,11 +1,11 @@
 use mathlib.Core.Path.{_≡_, sym, ap, _∙_}
 use mathlib.Core.List.{List}
-use Prim.Native.Nat.{ℕ, _≤_, _<_, _-_, _+_}
+use Prim.Native.Nat.{ℕ, _≤_, _<_, _-_}
 use borrow.Author.Needs.{needs}
 use native.Mathlib.Omega.{arith}
 use Rattle.machine.specs.Part.{machineOf}
 use Rattle.card.specs.Layout.{machineCount, symbolCount}
-use Rattle.card.specs.Accepted.{Accepted, accepted}
+use Rattle.card.specs.Accepted.{accepted}
 use Rattle.basics.proofs.Bools.{clash}
 use Rattle.refusals.proofs.Refusals.{passes-with, refuses-with}
 use Rattle.candidate.specs.Candidates.{pairsOf, marksOf}

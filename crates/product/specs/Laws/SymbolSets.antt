@@ -1,5 +1,5 @@
 -- What accepted sets are known to be, and that sets of one symbol each pass the test of sets exactly where the word passes that of symbols.
-use mathlib.Core.Path.{_≡_, refl, sym, _∙_}
+use mathlib.Core.Path.{_≡_, refl}
 use mathlib.Core.Bool.{true, not, _&&_, and-false}
 use mathlib.Core.List.{List, [], _∷_}
 use Prim.Native.Nat.{ℕ, zero, suc, _+_, _^_, _<_, _≤_}
@@ -11,17 +11,16 @@ use lib.Pow.{pow-pos, pow-lt, pow-mono}
 use borrow.Author.Tests.{leb-true, le-leb, lt-leb, ltb-true, lt-ltb, le-ltb, ne-eqb, not-true}
 use Rattle.basics.specs.Search.{allOf}
 use Rattle.basics.specs.Sets.{member}
-use Rattle.refusals.specs.Refusals.{refuse, firstOf}
-use Rattle.basics.proofs.Bools.{both, left, right, clash}
+use Rattle.refusals.specs.Refusals.{refuse}
+use Rattle.basics.proofs.Bools.{left, right, clash}
 use Rattle.basics.proofs.Search.{all-at, each-at}
 use Rattle.basics.proofs.Sets.{member-beyond, member-one}
 use Rattle.refusals.proofs.Refusals.{passed, none-first}
 use Rattle.machine.specs.Symbols.{emptySymbol}
 use Rattle.machine.specs.Part.{soundSet}
 use Rattle.product.specs.Sets.{singletons}
-use Rattle.product.specs.Optimizing.{soundWord}
 use Rattle.product.specs.OptimizingSets.{symbolSet, setsRefusal}
-use Rattle.product.specs.Laws.Sets.{member-within, as-many}
+use Rattle.product.specs.Laws.Sets.{member-within}
 use Rattle.product.specs.Laws.BestOfSets.{are64Bits}
 
 -- ---- one set
