@@ -338,7 +338,7 @@ fn joins() -> Vec<Call> {
 
 /// Calls by chance until there are as many of each kind and number as wanted.
 pub fn corpus() -> Corpus {
-    let generator = Generator::default();
+    let generator = Generator::of_the_corpus();
     let mut random = Random::new(SEED);
     let mut corpus = Corpus { cases: vec![], lines: String::new(), count: 0 };
     let mut add = |call: &Call, outcome: &Outcome| {
