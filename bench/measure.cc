@@ -36,14 +36,16 @@ uint64_t weights_work[PASTASPUR_WEIGHTS_WORK_NUMBERS];
 // The verified engine by those weights.
 uint32_t OptimizeWeights(const uint8_t *card, size_t card_len, const uint8_t *ranking, size_t ranking_len,
                          const uint8_t *word, size_t word_len, uint16_t *, size_t, uint8_t *answer, size_t answer_len,
-                         uint16_t result[8]) {
+                         pastaspur_evaluation *result) {
   uint32_t weights[6];
-  uint64_t numbers[9];
+  pastaspur_weighing weighing;
   WeightsOf(ranking, ranking_len, weights);
   const uint32_t number =
       pastaspur_optimize_weights(card, card_len, weights, ranking_len, word, word_len, weights_work,
-                                 PASTASPUR_WEIGHTS_WORK_NUMBERS, answer, answer_len, numbers);
-  std::copy(numbers, numbers + 8, result);
+                                 PASTASPUR_WEIGHTS_WORK_NUMBERS, answer, answer_len, &weighing);
+  std::copy(weighing.counts, weighing.counts + 6, result->counts);
+  result->pairs = weighing.pairs;
+  result->word_length = weighing.word_length;
   return number;
 }
 
@@ -68,26 +70,27 @@ uint16_t work[PASTASPUR_WORK_NUMBERS];
 
 struct Answer {
   uint32_t number;
-  uint16_t result[8];
+  pastaspur_evaluation result;
   uint8_t pairs[PASTASPUR_ANSWER_BYTES];
 
-  size_t length() const { return 2 * result[6]; }
+  size_t length() const { return 2 * result.pairs; }
 };
 
 void Ask(const Engine &engine, const Case &c, Answer *answer) {
   answer->number = engine.optimize(c.card.start, c.card.length, c.ranking.start, c.ranking.length, c.word.start,
                                    c.word.length, work, PASTASPUR_WORK_NUMBERS, answer->pairs, sizeof answer->pairs,
-                                   answer->result);
+                                   &answer->result);
 }
 
 void Ask(const Engine &engine, const HeardCase &c, Answer *answer) {
   answer->number = engine.optimize_sets(c.card.start, c.card.length, c.ranking.start, c.ranking.length, c.sets.data(),
                                         c.sets.size(), work, PASTASPUR_WORK_NUMBERS, answer->pairs, sizeof answer->pairs,
-                                        answer->result);
+                                        &answer->result);
 }
 
 bool SameResult(const Answer &a, const Answer &b) {
-  return a.number == b.number && std::equal(a.result, a.result + 8, b.result);
+  return a.number == b.number && std::equal(a.result.counts, a.result.counts + 6, b.result.counts) &&
+         a.result.pairs == b.result.pairs && a.result.word_length == b.result.word_length;
 }
 
 bool IsSpelled(const std::vector<uint8_t> &spelled, const Case &c) {
@@ -104,7 +107,7 @@ template <class AnyCase>
 bool IsCandidate(const Answer &answer, const AnyCase &c) {
   Answer evaluated;
   evaluated.number =
-      pastaspur_evaluate(c.card.start, c.card.length, answer.pairs, answer.length(), evaluated.result);
+      pastaspur_evaluate(c.card.start, c.card.length, answer.pairs, answer.length(), &evaluated.result);
   std::vector<uint8_t> spelled;
   for (size_t i = 0; i < answer.length(); i += 2) {
     if (answer.pairs[i] != 0) spelled.push_back(answer.pairs[i]);
@@ -113,7 +116,7 @@ bool IsCandidate(const Answer &answer, const AnyCase &c) {
 }
 
 bool SmallCounts(const Answer &answer) {
-  return std::all_of(answer.result, answer.result + 6, [](uint16_t count) { return count <= 15; });
+  return std::all_of(answer.result.counts, answer.result.counts + 6, [](uint16_t count) { return count <= 15; });
 }
 
 // The sum of an answer's counts by the weights of the case.
@@ -121,7 +124,7 @@ uint64_t Sum(const Answer &answer, const Case &c) {
   uint32_t weights[6];
   WeightsOf(c.ranking.start, c.ranking.length, weights);
   uint64_t sum = 0;
-  for (size_t machine = 0; machine < c.ranking.length; machine++) sum += uint64_t{weights[machine]} * answer.result[machine];
+  for (size_t machine = 0; machine < c.ranking.length; machine++) sum += uint64_t{weights[machine]} * answer.result.counts[machine];
   return sum;
 }
 
@@ -143,8 +146,8 @@ bool Agree(const std::vector<Engine> &engines, const AnyCase &c) {
     }
     if (!agrees) {
       std::fprintf(stderr, "%s does not agree: number %u, counts and pairs", engine.name, answer.number);
-      for (const uint16_t number : answer.result) std::fprintf(stderr, " %u", number);
-      std::fprintf(stderr, "\n");
+      for (const uint16_t count : answer.result.counts) std::fprintf(stderr, " %u", count);
+      std::fprintf(stderr, " %u\n", answer.result.pairs);
       return false;
     }
   }
@@ -226,7 +229,7 @@ std::string Sizes(const std::vector<Case> &cases) {
     symbols.Add(card[1]);
     joint_states.Add(product);
     length.Add(c.word.length);
-    pairs.Add(answer.result[6]);
+    pairs.Add(answer.result.pairs);
   }
   std::string cells;
   for (const Span &span : {machines, symbols, joint_states, length, arcs, pairs}) cells += " " + span.Text() + " |";

@@ -38,8 +38,8 @@ fst::VectorFst<Arc> BestPath(const fst::Fst<Arc> &graph) {
 // Gives profile, pair count, word length and pairs of a path.
 template <class In, class Out>
 uint32_t Give(const fst::VectorFst<Arc> &path, const uint8_t *ranking, size_t machines, size_t length, uint8_t *answer,
-              size_t room, uint16_t result[8], In in, Out out) {
-  std::fill(result, result + 8, 0);
+              size_t room, pastaspur_evaluation *result, In in, Out out) {
+  *result = {};
   if (path.Start() == fst::kNoStateId) return 10;
   Weight cost = Weight::One();
   size_t pairs = 0;
@@ -51,9 +51,9 @@ uint32_t Give(const fst::VectorFst<Arc> &path, const uint8_t *ranking, size_t ma
     answer[2 * pairs + 1] = out(arc);
     state = arc.nextstate;
   }
-  for (size_t place = 0; place < machines; place++) result[ranking[place]] = cost.Count(place);
-  result[6] = cost.Count(6);
-  result[7] = length;
+  for (size_t place = 0; place < machines; place++) result->counts[ranking[place]] = cost.Count(place);
+  result->pairs = cost.Count(6);
+  result->word_length = length;
   return 0;
 }
 
@@ -110,14 +110,14 @@ fst::VectorFst<Arc> MachineAcceptor(const uint8_t *part, int place, uint64_t use
 }  // namespace
 
 uint32_t openfst_optimize(const uint8_t *card, size_t, const uint8_t *ranking, size_t ranking_len, const uint8_t *word,
-                          size_t word_len, uint16_t *, size_t, uint8_t *answer, size_t answer_len, uint16_t result[8]) {
+                          size_t word_len, uint16_t *, size_t, uint8_t *answer, size_t answer_len, pastaspur_evaluation *result) {
   static const auto candidates = std::make_shared<CandidatesImpl>();
   candidates->Read(card, ranking, word, word_len);
   return Give(BestPath(Candidates(candidates)), ranking, ranking_len, word_len, answer, answer_len, result, In, Out);
 }
 
 uint32_t openfst_whole(const uint8_t *card, size_t, const uint8_t *ranking, size_t ranking_len, const uint8_t *word,
-                       size_t word_len, uint16_t *, size_t, uint8_t *answer, size_t answer_len, uint16_t result[8]) {
+                       size_t word_len, uint16_t *, size_t, uint8_t *answer, size_t answer_len, pastaspur_evaluation *result) {
   static const auto candidates = std::make_shared<CandidatesImpl>();
   candidates->Read(card, ranking, word, word_len);
   const fst::VectorFst<Arc> whole{Candidates(candidates)};
@@ -125,7 +125,7 @@ uint32_t openfst_whole(const uint8_t *card, size_t, const uint8_t *ranking, size
 }
 
 uint32_t openfst_composed(const uint8_t *card, size_t, const uint8_t *ranking, size_t ranking_len, const uint8_t *word,
-                          size_t word_len, uint16_t *, size_t, uint8_t *answer, size_t answer_len, uint16_t result[8]) {
+                          size_t word_len, uint16_t *, size_t, uint8_t *answer, size_t answer_len, pastaspur_evaluation *result) {
   uint64_t used = 1;
   for (size_t i = 0; i < word_len; i++) used |= uint64_t{1} << word[i];
   std::unique_ptr<fst::Fst<Arc>> all(new fst::VectorFst<Arc>(WordAcceptor(word, word_len, card[1])));

@@ -1,6 +1,8 @@
 // The rows of the table and the second implementation's optimizer, from Rust: src/lib.rs.
 #pragma once
 
+#include "pastaspur.h"
+
 #include <stddef.h>
 #include <stdint.h>
 
@@ -27,7 +29,7 @@ struct Case row_case(size_t row, size_t number);
 
 uint32_t reference_optimize(const uint8_t *card, size_t card_len, const uint8_t *ranking, size_t ranking_len,
                             const uint8_t *word, size_t word_len, uint16_t *work, size_t work_len, uint8_t *answer,
-                            size_t answer_len, uint16_t result[8]);
+                            size_t answer_len, pastaspur_evaluation *result);
 
 #ifdef __cplusplus
 }

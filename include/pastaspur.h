@@ -1,51 +1,28 @@
-/* Pastaspur, the grammar engine of a pronouncing board: its calls for C and for whatever can call C.
+/* Pastaspur, a verified optimizer for Optimality Theory: its calls for C, C++ and whatever can call C.
  *
- * Link target/staticlib/libengine.a, which `rt staticlib engine` proves and writes. Of other libraries it needs memset alone.
+ * Build and link:  rt staticlib pastaspur
+ *                  cc -Iinclude program.c -Ltarget/staticlib -lpastaspur
+ * Of other libraries it needs memset alone. examples/c has two programs.
  *
  * Every call
- * - answers a refusal's number, 0 where it accepts its input. The first refusal met is the call's refusal (the table below).
- * - writes its whole result, of fixed length, through its last pointer. On a refusal every number of the result is 0.
- * - ends, and neither reads nor writes outside what it was lent, for every content of every slice.
+ * - answers a refusal's number (enum pastaspur_refusal), 0 where it accepts its input: the first refusal met, in the order that its
+ *   comment gives;
+ * - writes its whole result, of fixed size, through its last pointer. On a refusal every byte of the result is 0;
+ * - ends, and neither reads nor writes outside what it was lent, whatever the slices hold and however long they are;
+ * - takes no memory but its stack and what it is lent, keeps nothing between calls, and may run in several threads at once.
+ *   bench/README.md has the bytes of stack that each call was measured to take.
  *
- * A slice is a pointer and a length in elements (not in bytes), and may be empty. The caller owes what a reference of Rattle owes:
- * a pointer is not null, is aligned for its elements and leads to as many as the length says; it is not null for an empty slice
- * either. What a call may write (work, answer, target, rows, result) overlaps nothing else that the call is lent.
+ * A slice is a pointer and a length. The length counts elements, not bytes, and may be 0. The caller owes: a pointer is not null, not
+ * for an empty slice either; it is aligned for its elements and leads to as many as the length says; what a call may write (work,
+ * answer, target, rows, result) overlaps nothing else that the call is lent.
  *
- * Stack: no call recurses, and none takes memory but its stack and what it is lent. The bytes of stack that a call takes, the
- * most over the rows of the benchmark, measured on x86-64 (bench/stack.c): pastaspur_cull 140,648, pastaspur_cull_sets 140,440,
- * pastaspur_judge 107,288, pastaspur_optimize 107,224, pastaspur_optimize_sets 107,016, pastaspur_evaluate 744, pastaspur_pack
- * 728, pastaspur_read_part 712, pastaspur_leader 120, pastaspur_add_row 64, each of the others under 64. No proof speaks of the
- * stack.
+ * A card holds K constraint machines over the symbols 1 to S: byte K, byte S, K pairs of 16-bit offset and length, and the machines'
+ * parts one after another, each a byte Q (states), a byte A (arcs), Q state bytes and A arcs of 20 bytes. Numbers are little-endian.
+ * docs/FORMAT.md has the card, the tableau and the refusals in full.
  *
- * Refusals (11 is not used)
- *    1  card under 2 bytes; machine count K not 1 to 6, symbol count S not 1 to 63
- *    2  card under 2 + 4K bytes; offsets or end not as laid down
- *    3  a machine's part under 2 bytes; its state count not 1 to 32, or its length not what its counts say
- *    4  a state byte over 16; an arc's state too high; marks over 15; kind over 2; an empty set; a bit over S
- *    5  two arcs of a state take one pair
- *    6  product of the state counts, P, over 128
- *    7  not a ranking: each of 0 to K - 1 once, the highest first
- *    8  word length n over 24 (n sets, for a call with sets), a symbol 0 or over S
- *    9  work slice under 8 * (n + 1) * P numbers, with weights under 2 * (n + 1) * P
- *   10  no complete candidate
- *   12  answer slice under 2 bytes for each pair of the best candidate
- *   13  candidate odd in length, over 3,199 pairs, a symbol over S, or the pair 0:0
- *   14  candidate not complete
- *   15  condition list odd in length, over 64 pairs, W and L meet, a bit K or above
- *   16  no ranking fits
- *   17  sum of the lengths is not the length of the joined parts, or machine number not below K
- *   18  target too short
- *   19  tableau under 2 bytes; row count R not 1 to 32; offsets or end not as laid down; a row under 12 bytes; an unused count
- *       not 0; claimed row not below R
- *   20  a row's candidate meets 13 or 14, or spells another word
- *   21  a row's counts are not its profile
- *   23  a live tableau's row count above 32 or above the list's length; on an add, one that equals either
- *   24  an added id that is present, or a removed one that is not
- *   25  a set is empty, holds the empty symbol (bit 0), or has a bit over S
- *   26  not K weights, or one above 4,000,000,000
- *   27  not two different machines of the card, or both have marks
- *   28  the joined machine has more than 32 states or 255 arcs
- */
+ * A word is a list of symbols, a byte each. A candidate is a list of pairs, two bytes each, in before out; 0 is the empty symbol: 0:1
+ * inserts 1, 2:0 deletes 2. A ranking is K bytes, each of 0 to K - 1 once, the highest ranked machine first. A profile is six counts of
+ * marks, one for each machine in card order, the unused ones 0. */
 #ifndef PASTASPUR_H
 #define PASTASPUR_H
 
@@ -56,136 +33,225 @@
 extern "C" {
 #endif
 
-/* What is enough for every accepted card and word: numbers of work, with weights 64-bit numbers of work, bytes of answer. */
-#define PASTASPUR_WORK_NUMBERS 25600
-#define PASTASPUR_WEIGHTS_WORK_NUMBERS 6400
-#define PASTASPUR_ANSWER_BYTES 6398
+/* Lengths that are enough for every accepted card and word. P is the product of the machines' state counts, at most 128; n is the
+ * word's length, at most 24. */
+#define PASTASPUR_WORK_NUMBERS 25600        /* 16-bit numbers of work: 8 * (n + 1) * P */
+#define PASTASPUR_WEIGHTS_WORK_NUMBERS 6400 /* 64-bit numbers of work with weights: 2 * (n + 1) * P */
+#define PASTASPUR_ANSWER_BYTES 6398         /* bytes of answer: 2 for each of at most 3,199 pairs */
+#define PASTASPUR_CARD_BYTES 30830          /* bytes of a card */
 
-/* Answers the best candidate for a word under a ranking: refusals 1 to 10, 12.
- * result: the candidate's six counts in card order (unused places 0), none above 48,000; its pair count, at most 3,199; the
- * word's length.
- * answer: its pairs, in before out, fill the front; the other bytes, and on a refusal all of them, keep their values.
- * work: kept on refusals 1 to 9; otherwise its contents are left open. */
+#define PASTASPUR_MACHINES 6                         /* counts of a profile */
+#define PASTASPUR_LARGEST_COUNT 48000                /* of a best candidate, for one machine */
+#define PASTASPUR_LARGEST_WEIGHT UINT32_C(4000000000) /* in thousandths */
+#define PASTASPUR_LIVE_ROWS 32                       /* of a live tableau */
+
+/* Why a call is refused. Every call answers one of these as a uint32_t; 11 is not used, 22 is the program's alone. */
+enum pastaspur_refusal {
+    PASTASPUR_ACCEPTED = 0,
+    PASTASPUR_REFUSED_COUNTS = 1,        /* card under 2 bytes; K not 1 to 6, S not 1 to 63 */
+    PASTASPUR_REFUSED_LAYOUT = 2,        /* card under 2 + 4K bytes; offsets or end not as laid down */
+    PASTASPUR_REFUSED_PART_LENGTH = 3,   /* a part under 2 bytes; Q not 1 to 32, or its length not 2 + Q + 20A */
+    PASTASPUR_REFUSED_FIELD = 4,         /* state byte over 16; arc state not below Q; marks over 15; kind over 2; set empty, bit over S */
+    PASTASPUR_REFUSED_CLASH = 5,         /* two arcs of a state take one pair */
+    PASTASPUR_REFUSED_PRODUCT = 6,       /* P over 128 */
+    PASTASPUR_REFUSED_RANKING = 7,       /* not a ranking */
+    PASTASPUR_REFUSED_WORD = 8,          /* over 24 symbols or sets; a symbol 0 or over S */
+    PASTASPUR_REFUSED_WORK = 9,          /* work slice too short */
+    PASTASPUR_REFUSED_NO_CANDIDATE = 10, /* no complete candidate */
+    PASTASPUR_REFUSED_ANSWER = 12,       /* answer slice under 2 bytes for each pair of the best */
+    PASTASPUR_REFUSED_CANDIDATE = 13,    /* candidate odd in length, over 3,199 pairs, a symbol over S, or the pair 0:0 */
+    PASTASPUR_REFUSED_NOT_COMPLETE = 14, /* candidate not complete */
+    PASTASPUR_REFUSED_CONDITIONS = 15,   /* condition list odd in length, over 64 pairs; W and L meet; a bit K or above */
+    PASTASPUR_REFUSED_NO_RANKING = 16,   /* no ranking fits */
+    PASTASPUR_REFUSED_PARTS = 17,        /* lengths do not add up to the joined parts; machine number not below K */
+    PASTASPUR_REFUSED_TARGET = 18,       /* target too short */
+    PASTASPUR_REFUSED_TABLEAU = 19,      /* tableau's layout broken, an unused count not 0, claimed row not below R */
+    PASTASPUR_REFUSED_ROW_CANDIDATE = 20, /* a row's candidate meets 13 or 14, or spells another word */
+    PASTASPUR_REFUSED_ROW_COUNTS = 21,   /* a row's counts are not its profile */
+    PASTASPUR_REFUSED_LINE = 22,         /* the program's: a line past the thousandth */
+    PASTASPUR_REFUSED_ROW_COUNT = 23,    /* row count above 32 or above the list's length; on an add, equal to one of them */
+    PASTASPUR_REFUSED_PRESENCE = 24,     /* added id present, or removed id not */
+    PASTASPUR_REFUSED_SETS = 25,         /* a set empty, with the empty symbol (bit 0), or with a bit over S */
+    PASTASPUR_REFUSED_WEIGHTS = 26,      /* not K weights, or one above PASTASPUR_LARGEST_WEIGHT */
+    PASTASPUR_REFUSED_MACHINES = 27,     /* not two different machines of the card, or both have marks */
+    PASTASPUR_REFUSED_JOINED_SIZE = 28   /* joined machine with more than 32 states or 255 arcs */
+};
+
+/* What a candidate comes to. */
+typedef struct {
+    uint16_t counts[PASTASPUR_MACHINES]; /* marks, in card order; unused places 0 */
+    uint16_t pairs;                      /* pair count */
+    uint16_t word_length;                /* symbols of the word; with sets their number */
+} pastaspur_evaluation;
+
+/* What the best candidate by weights comes to. */
+typedef struct {
+    uint64_t counts[PASTASPUR_MACHINES]; /* marks, in card order; unused places 0 */
+    uint64_t pairs;                      /* pair count */
+    uint64_t word_length;                /* symbols of the word */
+    uint64_t sum;                        /* of weight times count, in thousandths */
+} pastaspur_weighing;
+
+/* Where a machine's part stands in its card, in bytes. */
+typedef struct {
+    size_t offset;
+    size_t length;
+} pastaspur_part;
+
+/* How the first of two profiles stands to the second; 0 on a refusal. */
+enum pastaspur_order { PASTASPUR_BETTER = 1, PASTASPUR_EQUAL = 2, PASTASPUR_WORSE = 3 };
+
+typedef struct {
+    uint8_t order;   /* an enum pastaspur_order */
+    uint8_t machine; /* the machine that decided, by its number in the card; 0 where the profiles are equal */
+} pastaspur_comparison;
+
+/* A ranking condition: bit i of a byte is machine i. */
+typedef struct {
+    uint8_t fewer; /* W: the machines where the first profile has fewer marks */
+    uint8_t more;  /* L: where it has more */
+} pastaspur_ranking_condition;
+
+/* What is said of a tableau; 0 on a refusal. */
+enum pastaspur_verdict { PASTASPUR_RIGHT = 1, PASTASPUR_ANOTHER_ROW = 2, PASTASPUR_NOT_IN_TABLE = 3 };
+
+typedef struct {
+    uint8_t verdict; /* an enum pastaspur_verdict */
+    uint8_t row;     /* for another row the first one that wins, from 0; else 0 */
+} pastaspur_judgement;
+
+/* A row of a live tableau. */
+typedef struct {
+    uint16_t id;
+    uint16_t counts[PASTASPUR_MACHINES]; /* in card order */
+} pastaspur_row;
+
+/* Who leads a live tableau. */
+typedef struct {
+    uint16_t any;      /* 1 if there is a leader; 0 in an empty table */
+    pastaspur_row row; /* the leader; zeros where there is none */
+} pastaspur_lead;
+
+/* The results and rows have the layout of the arrays of numbers that the library writes and reads: no padding. */
+#ifdef __cplusplus
+#define PASTASPUR_SIZE(type, bytes) static_assert(sizeof(type) == (bytes), #type " has another size than the library's")
+#else
+#define PASTASPUR_SIZE(type, bytes) _Static_assert(sizeof(type) == (bytes), #type " has another size than the library's")
+#endif
+PASTASPUR_SIZE(pastaspur_evaluation, 8 * 2);
+PASTASPUR_SIZE(pastaspur_weighing, 9 * 8);
+PASTASPUR_SIZE(pastaspur_part, 2 * sizeof(size_t));
+PASTASPUR_SIZE(pastaspur_comparison, 2);
+PASTASPUR_SIZE(pastaspur_ranking_condition, 2);
+PASTASPUR_SIZE(pastaspur_judgement, 2);
+PASTASPUR_SIZE(pastaspur_row, 7 * 2);
+PASTASPUR_SIZE(pastaspur_lead, 8 * 2);
+#undef PASTASPUR_SIZE
+
+/* Answers the best candidate for a word under a ranking: refusals 1 to 10, 12. The best has the best profile, then the fewest pairs,
+ * then the smallest byte string, of all complete candidates, however long.
+ * result: the best candidate's counts (none above 48,000), its pair count (at most 3,199), the word's length.
+ * answer: its pairs fill the front; the other bytes, and on a refusal all of them, keep their values.
+ * work: at least 8 * (n + 1) * P numbers, else 9. Kept on refusals 1 to 9; otherwise its contents are left open. */
 uint32_t pastaspur_optimize(const uint8_t *card, size_t card_len, const uint8_t *ranking, size_t ranking_len,
                             const uint8_t *word, size_t word_len, uint16_t *work, size_t work_len,
-                            uint8_t *answer, size_t answer_len, uint16_t result[8]);
+                            uint8_t *answer, size_t answer_len, pastaspur_evaluation *result);
 
 /* The same by another method, Ellison's cull: for every input the same number, result and answer. What is left in work may differ. */
 uint32_t pastaspur_cull(const uint8_t *card, size_t card_len, const uint8_t *ranking, size_t ranking_len,
                         const uint8_t *word, size_t word_len, uint16_t *work, size_t work_len,
-                        uint8_t *answer, size_t answer_len, uint16_t result[8]);
+                        uint8_t *answer, size_t answer_len, pastaspur_evaluation *result);
 
 /* Answers the best candidate over all words with one symbol from each set, for words heard only in part: refusals 1 to 8, 25, 9, 10,
- * 12. Of 8 there is the length limit; 25 stands in the place of its symbol test. Bit n of a set is symbol n. Sets of one symbol each
- * give what pastaspur_optimize gives for the word.
- * result, answer: as pastaspur_optimize's; the word's length is the number of sets.
- * work: kept on refusals 1 to 9 and 25; otherwise its contents are left open. */
+ * 12. Bit n of a set is symbol n. Of 8 there is the length limit alone; 25 stands in the place of its symbol test. So sets of one symbol
+ * each give what pastaspur_optimize gives for the word, but that a symbol 0 or over S is 25 here and 8 there.
+ * result, answer, work: as pastaspur_optimize has them, n being the number of sets; work is kept on 25 too. */
 uint32_t pastaspur_optimize_sets(const uint8_t *card, size_t card_len, const uint8_t *ranking, size_t ranking_len,
                                  const uint64_t *sets, size_t sets_len, uint16_t *work, size_t work_len,
-                                 uint8_t *answer, size_t answer_len, uint16_t result[8]);
+                                 uint8_t *answer, size_t answer_len, pastaspur_evaluation *result);
 
 /* The same by Ellison's cull: for every input the same number, result and answer. */
 uint32_t pastaspur_cull_sets(const uint8_t *card, size_t card_len, const uint8_t *ranking, size_t ranking_len,
                              const uint64_t *sets, size_t sets_len, uint16_t *work, size_t work_len,
-                             uint8_t *answer, size_t answer_len, uint16_t result[8]);
-
-/* The largest weight, in thousandths. */
-#define PASTASPUR_LARGEST_WEIGHT 4000000000
+                             uint8_t *answer, size_t answer_len, pastaspur_evaluation *result);
 
 /* Answers the best candidate for a word by weights, one for each machine in card order, in whole thousandths: refusals 1 to 6, 26,
  * 8, 9, 10, 12. The best has the smallest sum of weight times count, then the fewest pairs, then the smallest byte string.
- * result: the candidate's six counts in card order (unused places 0), its pair count, the word's length, its sum in thousandths.
+ * result: the best candidate's counts, its pair count, the word's length, its sum.
  * answer: as pastaspur_optimize has it.
- * work: at least 2 * (n + 1) * P numbers, else 9; kept on refusals 1 to 6, 26, 8 and 9; otherwise its contents are left open. */
+ * work: at least 2 * (n + 1) * P numbers, else 9. Kept on refusals 1 to 6, 26, 8 and 9; otherwise its contents are left open. */
 uint32_t pastaspur_optimize_weights(const uint8_t *card, size_t card_len, const uint32_t *weights, size_t weights_len,
-                                    const uint8_t *word, size_t word_len, uint64_t *work, size_t work_len, uint8_t *answer,
-                                    size_t answer_len, uint64_t result[9]);
+                                    const uint8_t *word, size_t word_len, uint64_t *work, size_t work_len,
+                                    uint8_t *answer, size_t answer_len, pastaspur_weighing *result);
 
-/* What pastaspur_judge says of a tableau; 0 on a refusal. */
-#define PASTASPUR_RIGHT 1
-#define PASTASPUR_ANOTHER_ROW 2
-#define PASTASPUR_NOT_IN_TABLE 3
+/* Evaluates a candidate: refusals 1 to 6, 13, 14.
+ * result: its counts, its pair count, the length of the word that it spells. */
+uint32_t pastaspur_evaluate(const uint8_t *card, size_t card_len, const uint8_t *candidate, size_t candidate_len,
+                            pastaspur_evaluation *result);
 
 /* Says whether a tableau is right for a card, a ranking and a word: refusals 1 to 9, 19, 20, 21.
- * A tableau: byte R, rows; byte with the claimed winner's row, from 0; R pairs of 16-bit offset and length, the first offset 2 + 4R,
- * each next one where the row before it ends, the last row to the end; each row six 16-bit counts in card order, unused ones 0,
- * then its candidate. Numbers are little-endian.
- * result: the verdict, right exactly when the claimed row wins (no complete candidate for the word has a better profile); for
- * another row the first row that wins, else 0.
- * work: kept on refusals 1 to 9; otherwise its contents are left open. */
-uint32_t pastaspur_judge(const uint8_t *card, size_t card_len, const uint8_t *ranking, size_t ranking_len, const uint8_t *word,
-                         size_t word_len, uint16_t *work, size_t work_len, const uint8_t *tableau, size_t tableau_len,
-                         uint8_t result[2]);
+ * tableau: byte R, rows; byte with the claimed winner's row, from 0; R pairs of 16-bit offset and length; the rows, each six 16-bit
+ * counts and its candidate.
+ * result: right exactly when the claimed row wins, that is, when no complete candidate for the word has a better profile.
+ * work: as pastaspur_optimize has it. */
+uint32_t pastaspur_judge(const uint8_t *card, size_t card_len, const uint8_t *ranking, size_t ranking_len,
+                         const uint8_t *word, size_t word_len, uint16_t *work, size_t work_len,
+                         const uint8_t *tableau, size_t tableau_len, pastaspur_judgement *result);
 
-/* Evaluates a candidate, pairs of bytes in and out: refusals 1 to 6, 13, 14.
- * result: six counts in card order (unused places 0), the pair count, the length of the word spelled. */
-uint32_t pastaspur_evaluate(const uint8_t *card, size_t card_len, const uint8_t *candidate, size_t candidate_len,
-                            uint16_t result[8]);
-
-/* Reads a machine's part: refusals 1 to 6, 17.
- * result: the part's offset in the card, its length. */
-uint32_t pastaspur_read_part(const uint8_t *card, size_t card_len, uint8_t machine, size_t result[2]);
+/* Reads where a machine's part stands in the card: refusals 1 to 6, 17. */
+uint32_t pastaspur_read_part(const uint8_t *card, size_t card_len, uint8_t machine, pastaspur_part *result);
 
 /* Packs parts, joined, into a card of as many machines as there are lengths: refusals 1, 17, 3 to 6, 18.
- * result: the card's length.
+ * symbols: S. lengths: of the parts, in bytes.
+ * result: the card's length in bytes.
  * target: the card fills the front; the other bytes, and on a refusal all of them, keep their values. */
 uint32_t pastaspur_pack(uint8_t symbols, const uint16_t *lengths, size_t lengths_len, const uint8_t *parts, size_t parts_len,
-                        uint8_t *target, size_t target_len, size_t result[1]);
+                        uint8_t *target, size_t target_len, size_t *result);
 
-/* Joins two machines of a card, in either order, by Ellison's product: refusals 1 to 6, 27, 28, 18. State a * Qb + b stands for a of the
- * lower numbered and b of the other, which has Qb states; an arc for each two that take a common pair, by the first, then the second.
+/* Joins two machines of a card, in either order, by Ellison's product: refusals 1 to 6, 27, 28, 18. One of the two must have no marks.
  * The joined machine stands in the lower place, and those after the other one move down one number. A candidate is complete on the new
  * card exactly when it is on the old, and its counts there are the old ones with the two added.
- * result: the new card's length.
+ * result: the new card's length in bytes.
  * target: the new card fills the front; the other bytes, and on a refusal all of them, keep their values. */
 uint32_t pastaspur_join(const uint8_t *card, size_t card_len, uint8_t first, uint8_t second, uint8_t *target, size_t target_len,
-                        size_t result[1]);
+                        size_t *result);
 
-/* How the first profile stands to the second, as pastaspur_compare answers it; 0 on a refusal. */
-#define PASTASPUR_BETTER 1
-#define PASTASPUR_EQUAL 2
-#define PASTASPUR_WORSE 3
+/* Compares two profiles of as many machines under a ranking: refusals 1 (for machines), 7. Counts from place K on are not looked at.
+ * result: how the first stands to the second, and the highest ranked machine where they differ. */
+uint32_t pastaspur_compare(uint8_t machines, const uint8_t *ranking, size_t ranking_len,
+                           const uint16_t first[PASTASPUR_MACHINES], const uint16_t second[PASTASPUR_MACHINES],
+                           pastaspur_comparison *result);
 
-/* A row of a live tableau: its id, and its six counts in card order. */
-typedef struct {
-    uint16_t id;
-    uint16_t counts[6];
-} pastaspur_row;
+/* Derives the ranking condition from two profiles of as many machines: refusal 1. Counts from place K on are not looked at. */
+uint32_t pastaspur_condition(uint8_t machines, const uint16_t first[PASTASPUR_MACHINES],
+                             const uint16_t second[PASTASPUR_MACHINES], pastaspur_ranking_condition *result);
 
-/* The rows of a live tableau are the first `count` records of a list, in order of arrival; a table starts with count 0. Each call
- * takes the machine count, the ranking, the row count that the last accepted add or removal answered, and the list. Counts of a
- * profile from K on are kept and answered, and not looked at in comparing; records from `count` on are not looked at. */
+/* Finds the smallest ranking, as a byte string, that fits every condition of a list: refusals 1, 15, 16. A ranking fits a condition if
+ * L is empty or the highest ranked machine in either is in W.
+ * conditions: two bytes each, W before L; the length counts bytes.
+ * result: the ranking; places from K on 0. */
+uint32_t pastaspur_find_ranking(uint8_t machines, const uint8_t *conditions, size_t conditions_len,
+                                uint8_t result[PASTASPUR_MACHINES]);
 
-/* Adds a row, an id and six counts, behind the others: refusals 1, 7, 23, 24.
+/* The rows of a live tableau are the first `count` records of a list, in order of arrival; a table starts with count 0. Each call takes
+ * the machine count, the ranking, the row count that the last accepted add or removal answered, and the list. A row's counts from place
+ * K on are kept and answered, and not looked at in comparing; records from `count` on are not looked at. */
+
+/* Adds a row behind the others: refusals 1, 7, 23, 24.
  * result: the new row count.
  * rows: record `count` is the row; the others, and on a refusal all of them, keep their values. */
 uint32_t pastaspur_add_row(uint8_t machines, const uint8_t *ranking, size_t ranking_len, size_t count, pastaspur_row *rows,
-                           size_t rows_len, const uint16_t row[7], size_t result[1]);
+                           size_t rows_len, const pastaspur_row *row, size_t *result);
 
 /* Takes out the first row that has the id: refusals 1, 7, 23, 24.
  * result: the new row count.
  * rows: the later rows have moved up, and the freed last record is zeros; the others, and on a refusal all, keep their values. */
 uint32_t pastaspur_remove_row(uint8_t machines, const uint8_t *ranking, size_t ranking_len, size_t count, pastaspur_row *rows,
-                              size_t rows_len, uint16_t id, size_t result[1]);
+                              size_t rows_len, uint16_t id, size_t *result);
 
-/* Answers the row with the best profile under the ranking, the earliest arrival among equals: refusals 1, 7, 23.
- * result: 1 if there is a leader, its id, its six counts; zeros in an empty table. */
+/* Answers the row with the best profile under the ranking, the earliest arrival among equals: refusals 1, 7, 23. */
 uint32_t pastaspur_leader(uint8_t machines, const uint8_t *ranking, size_t ranking_len, size_t count, const pastaspur_row *rows,
-                          size_t rows_len, uint16_t result[8]);
-
-/* Compares two profiles of that many machines under a ranking: refusals 1, 7. Counts from K on are not looked at.
- * result: how the first stands to the second; the machine that decided, by its number in the card: the highest ranked one where
- * they differ, 0 where they are equal. */
-uint32_t pastaspur_compare(uint8_t machines, const uint8_t *ranking, size_t ranking_len, const uint16_t first[6],
-                           const uint16_t second[6], uint8_t result[2]);
-
-/* Derives the ranking condition from two profiles of that many machines: refusal 1. Counts from K on are not looked at.
- * result: W, the machines where the first has fewer, and L, where it has more; bit i is machine i. */
-uint32_t pastaspur_condition(uint8_t machines, const uint16_t first[6], const uint16_t second[6], uint8_t result[2]);
-
-/* Finds the smallest ranking, as a byte string, that fits every condition of a list of byte pairs, W before L: refusals 1, 15, 16.
- * result: the ranking, places from K on 0. */
-uint32_t pastaspur_find_ranking(uint8_t machines, const uint8_t *conditions, size_t conditions_len, uint8_t result[6]);
+                          size_t rows_len, pastaspur_lead *result);
 
 #ifdef __cplusplus
 }

@@ -1,5 +1,5 @@
 //! Links the proved engine's static library, for the feature `engine` alone: from the directory that PASTASPUR_STATICLIB
-//! names, or from where `rt staticlib engine` writes it.
+//! names, or from where `rt staticlib pastaspur` writes it.
 
 use std::path::Path;
 
@@ -12,7 +12,7 @@ fn main() {
     let root = std::env::var("CARGO_MANIFEST_DIR").expect("cargo says where the package is");
     let usual = Path::new(&root).join("../target/staticlib");
     let directory = std::env::var_os("PASTASPUR_STATICLIB").map_or(usual, Into::into);
-    println!("cargo:rerun-if-changed={}", directory.join("libengine.a").display());
+    println!("cargo:rerun-if-changed={}", directory.join("libpastaspur.a").display());
     println!("cargo:rustc-link-search=native={}", directory.display());
-    println!("cargo:rustc-link-lib=static=engine");
+    println!("cargo:rustc-link-lib=static=pastaspur");
 }

@@ -159,6 +159,8 @@ pub fn rows() -> Vec<Row> {
         row("large", large()),
         row("worst chain", from_lines(&samples::chain(), chain)),
         row("worst chain, full machines", from_lines(&samples::chain_full(), chain_full)),
+        row("chain to the joint state behind", from_lines(&samples::chain_behind(), chain)),
+        row("chain to the joint state before", from_lines(&samples::chain_before(), chain)),
         row("worst card, all pairs taken", from_lines(&samples::full(), full)),
         row("faithfulness by kinds", kinds()),
     ]

@@ -54,6 +54,11 @@ impl Machine {
         self.arc(state, input, output).map(|arc| (arc.to, arc.marks))
     }
 
+    /// The steps of all states with a pair.
+    pub fn column(&self, input: u8, output: u8) -> Vec<Option<(usize, u16)>> {
+        (0..self.endings.len()).map(|state| self.step(state, input, output)).collect()
+    }
+
     /// The arcs that a complete candidate, as bytes, travels in turn.
     pub fn travelled(&self, pairs: &[u8]) -> Vec<&Arc> {
         let mut state = 0;

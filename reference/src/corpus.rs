@@ -5,7 +5,7 @@
 //! answer and target slices their length and the byte that they are filled with. A set of symbols has 64 bits, a weight 32.
 //!
 //! The live tableau's calls are not in it: the test program, itself proved safe, would have to go through a slice of rows
-//! by hand. The test program `live_test` makes them, and so does the comparison.
+//! by hand. The test program `test_live` makes them, and so does the comparison.
 
 use crate::call::{reference, Call, Outcome, KINDS};
 use crate::card::{read_card, Card};
@@ -338,7 +338,7 @@ fn joins() -> Vec<Call> {
 
 /// Calls by chance until there are as many of each kind and number as wanted.
 pub fn corpus() -> Corpus {
-    let generator = Generator::default();
+    let generator = Generator::of_the_corpus();
     let mut random = Random::new(SEED);
     let mut corpus = Corpus { cases: vec![], lines: String::new(), count: 0 };
     let mut add = |call: &Call, outcome: &Outcome| {

@@ -5,7 +5,7 @@ use crate::card::{read_card, share_a_pair, Arc, Card, Machine};
 use crate::join::{join, joined};
 use crate::live::Step;
 use crate::weights::{ties, HEAVIEST};
-use std::collections::BTreeMap;
+use std::collections::{BTreeMap, BTreeSet};
 use std::fmt;
 
 /// How often something was met.
@@ -30,6 +30,57 @@ const TRAITS: [&str; 10] = [
     "an arc of kind 1",
     "an arc of kind 2",
 ];
+
+/// What the outputs of an answered call can have, with one input of it: of its card; of the pairs of its best.
+const OUTPUTS: [&str; 6] = [
+    "outputs that no arc tells apart",
+    "outputs that only the last machine tells apart",
+    "an output that one machine takes from no state",
+    "a best that has the lesser of two that no arc tells apart",
+    "a best that has the greater of two that only the last machine tells apart",
+    "a best that has one that a machine takes from its last state alone",
+];
+
+/// Which of `OUTPUTS` a call with that word and these pairs of its best has.
+fn outputs(card: &Card, word: &[u8], pairs: &[u8]) -> [bool; 6] {
+    let last = card.machines.len() - 1;
+    let no_arc_has_one = |lesser: u8, greater: u8| {
+        let both_or_neither = |arc: &Arc| arc.outputs >> lesser & 1 == arc.outputs >> greater & 1;
+        card.machines.iter().flat_map(|machine| &machine.arcs).all(both_or_neither)
+    };
+    let mut met = [false; 6];
+    for input in BTreeSet::from_iter(word.iter().copied().chain([0])) {
+        let in_best = |output: u8| pairs.chunks(2).any(|pair| pair == [input, output]);
+        // of the outputs that each machine takes from some state
+        let mut lesser_ones: Vec<(u8, Vec<_>)> = Vec::new();
+        // 0:0 is no pair
+        for greater in (input == 0) as u8..=card.symbols {
+            let columns: Vec<_> = card.machines.iter().map(|machine| machine.column(input, greater)).collect();
+            let taking = columns.iter().filter(|column| column.iter().any(Option::is_some)).count();
+            met[2] |= last > 0 && taking == last;
+            if taking <= last {
+                continue;
+            }
+            let from_last_alone = |column: &Vec<Option<_>>| {
+                column.len() > 1 && column.iter().position(Option::is_some) == Some(column.len() - 1)
+            };
+            met[5] |= in_best(greater) && columns.iter().any(from_last_alone);
+            for (lesser, others) in &lesser_ones {
+                if others[..last] != columns[..last] {
+                    continue;
+                }
+                let no_arc = others[last] == columns[last] && no_arc_has_one(*lesser, greater);
+                let only_last = last > 0 && others[last] != columns[last];
+                met[0] |= no_arc;
+                met[1] |= only_last;
+                met[3] |= no_arc && in_best(*lesser);
+                met[4] |= only_last && in_best(greater);
+            }
+            lesser_ones.push((greater, columns));
+        }
+    }
+    met
+}
 
 /// What is met of weights: of answers; of refusals by 26.
 const WEIGHINGS: [&str; 9] = [
@@ -131,6 +182,8 @@ pub struct Coverage {
     pairs: Counts,
     /// How often an answer has each of `TRAITS`.
     traits: [u64; 10],
+    /// How often an answered call has each of `OUTPUTS`.
+    outputs: [u64; 6],
     /// What is answered for the empty word.
     empty_words: Counts,
     /// Lengths of slices, less what is needed.
@@ -211,6 +264,9 @@ impl Coverage {
                     let read = read_card(card).expect("an accepted card");
                     let pairs = &outcome.slice[..2 * outcome.result[6]];
                     for (times, met) in self.traits.iter_mut().zip(traits(&read, pairs, &outcome.result[..6])) {
+                        *times += met as u64;
+                    }
+                    for (times, met) in self.outputs.iter_mut().zip(outputs(&read, word, pairs)) {
                         *times += met as u64;
                     }
                 }
@@ -317,6 +373,9 @@ impl Coverage {
         for (name, &times) in TRAITS.iter().zip(&self.traits) {
             ask(format!("an answer with {name}"), &Counts::from([(0, times)]), 0, OFTEN);
         }
+        for (name, &times) in OUTPUTS.iter().zip(&self.outputs) {
+            ask(format!("a call with {name}"), &Counts::from([(0, times)]), 0, OFTEN);
+        }
         for (name, &times) in WEIGHINGS.iter().zip(&self.weighings) {
             ask(format!("weights {name}"), &Counts::from([(0, times)]), 0, OFTEN);
         }
@@ -385,6 +444,9 @@ impl fmt::Display for Coverage {
         writeln!(text, "  pairs of the best    {}", range(&self.pairs))?;
         for (name, times) in TRAITS.iter().zip(&self.traits) {
             writeln!(text, "  answers with {name:<25} {times}")?;
+        }
+        for (name, times) in OUTPUTS.iter().zip(&self.outputs) {
+            writeln!(text, "  calls with {name:<73} {times}")?;
         }
         writeln!(text, "  positions with sets  {}", range(&self.positions))?;
         writeln!(text, "  symbols in a set     {}", range(&self.set_sizes))?;

@@ -3,6 +3,7 @@
 mod calls;
 mod candidates;
 mod cards;
+mod columns;
 mod damage;
 mod joining;
 mod live;

@@ -147,6 +147,28 @@ pub fn chain() -> Vec<u8> {
     card(3, &counters(1, 1, 3, 15))
 }
 
+/// The chain with its machines in the other order. The code of a joint state has the first machine's state first, so an
+/// insertion leads from each joint state to the one behind it, from code 0 to 127, where a symbol leads back to 0.
+pub fn chain_behind() -> Vec<u8> {
+    let [first, second] = counters(1, 1, 3, 15);
+    card(3, &[second, first])
+}
+
+/// The machine with its states numbered from the last one; it starts in what was its last state.
+fn turned(machine: &Machine) -> Machine {
+    let last = machine.endings.len() - 1;
+    let turn = |arc: &Arc| Arc { from: last - arc.from, to: last - arc.to, ..arc.clone() };
+    Machine { endings: machine.endings.iter().rev().copied().collect(), arcs: machine.arcs.iter().map(turn).collect() }
+}
+
+/// That chain with the states numbered from the last one: an insertion leads from each joint state to the one before it, from
+/// code 127 to 0, where a symbol leads back to 127. The start is the chain's end, so a candidate passes one node there, and
+/// all 128 at each later position.
+pub fn chain_before() -> Vec<u8> {
+    let [first, second] = counters(1, 1, 3, 15);
+    card(3, &[turned(&second), turned(&first)])
+}
+
 /// The chain with ending marks: for 24 symbols both counts are 48,000, the most that there can be.
 pub fn chain_ending() -> Vec<u8> {
     let mut machines = counters(1, 1, 3, 15);

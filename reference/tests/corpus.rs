@@ -139,7 +139,7 @@ fn every_call_and_every_refusal() {
 
 #[test]
 fn the_files() {
-    let place = Path::new(env!("CARGO_MANIFEST_DIR")).join("../crates/corpus");
+    let place = Path::new(env!("CARGO_MANIFEST_DIR")).join("../crates/test_corpus");
     let corpus = corpus();
     assert!(read(place.join("data/cases")).unwrap() == corpus.cases);
     assert!(read(place.join("stdout")).unwrap() == corpus.lines.as_bytes());

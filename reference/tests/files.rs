@@ -27,13 +27,13 @@ fn the_cases() {
 fn the_demo() {
     let mut cards = 0;
     for place in std::fs::read_dir(repository().join("demo")).unwrap().map(|entry| entry.unwrap().path()) {
-        if place.join("card.bin").exists() {
+        if place.join("card.txt").exists() {
             let text = run(&read(place.join("card.bin")).unwrap(), &read(place.join("stdin")).unwrap());
             assert!(read(place.join("stdout")).unwrap() == text.as_bytes(), "{}", place.display());
             cards += 1;
         }
     }
-    assert_eq!(cards, 9);
+    assert!(cards >= 11);
 }
 
 /// The demo's tableaux are judged as they are said to be.

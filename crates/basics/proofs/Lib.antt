@@ -1,5 +1,4 @@
 pub mod Bools
-pub mod Refusals
 pub mod Search
 pub mod Below
 pub mod Occurrences

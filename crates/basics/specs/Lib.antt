@@ -1,4 +1,3 @@
 pub mod Search
 pub mod Products
 pub mod Sets
-pub mod Refusals

@@ -1,22 +1,14 @@
 -- What evaluation answers, by the checks that it passes. Assumes nothing.
-use mathlib.Core.Path.{_≡_, refl, sym, ap, _∙_}
-use mathlib.Core.Bool.{Bool, true, false}
-use mathlib.Core.List.{List, [], _∷_}
+use mathlib.Core.Path.{_≡_}
+use mathlib.Core.Bool.{true, false}
+use mathlib.Core.List.{List}
 use Prim.Native.Nat.{ℕ, zero, suc, _<_}
 use native.Mathlib.Omega.{arith}
-use lib.Dec.{lit<}
 use lib.ListN.{length}
 use Rattle.card.specs.Layout.{symbolCount}
 use Rattle.card.specs.Card.{cardRefusal, machinesOf}
-use Rattle.candidate.specs.declared.Refusal.{Refusal}
-use Rattle.candidate.specs.declared.Refusal.the-variants.{Candidate, NotComplete}
-use Rattle.candidate.specs.Refusals.{numberOf}
 use Rattle.candidate.specs.Candidates.{pairsOf, spelled, isComplete, profileOf}
 use Rattle.candidate.specs.Evaluating.{soundCandidate, profileWith, refused, evaluating}
-
-pub number-pos : (r : Refusal) → 0 < numberOf r
-number-pos Candidate = lit< tt
-number-pos NotComplete = lit< tt
 
 module _ (card bytes : List ℕ) where
   pub card-refused : (n : ℕ) → cardRefusal card ≡ n → 0 < n → evaluating card bytes ≡ refused n

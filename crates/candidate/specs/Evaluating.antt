@@ -6,7 +6,7 @@ use Prim.Native.Nat.{ℕ, _-_, _*_, _%_}
 use lib.ListN.{length, replicate}
 use lib.Dec.{eqb, leb}
 use Rattle.basics.specs.Search.{allOf}
-use Rattle.basics.specs.Refusals.{refuse, firstOf, unlessRefused}
+use Rattle.refusals.specs.Refusals.{refuse, firstOf, unlessRefused}
 use Rattle.machine.specs.declared.Pair.{Pair}
 use Rattle.machine.specs.Symbols.{isPair, withinSymbols}
 use Rattle.ranking.specs.declared.Profile.{Profile}

@@ -2,14 +2,13 @@
 use mathlib.Core.Path.{_≡_}
 use mathlib.Core.Bool.{true}
 use mathlib.Core.List.{List}
-use Rattle.basics.specs.Refusals.{refuse}
+use Rattle.refusals.specs.Refusals.{refuse, checkedNumber}
 use Rattle.machine.specs.declared.Pair.{Pair}
 use Rattle.machine.specs.Machine.{Machine}
 use Rattle.candidate.specs.declared.Scored.{Scored}
-use Rattle.candidate.specs.Refusals.{stageNumber}
 use Rattle.candidate.specs.Candidates.{isComplete, profileOf}
 use Rattle.candidate.specs.Evaluating.{profileWith}
 
 pub record Scores (ms : List Machine) (c : List Pair) (r : Scored) : Type 0 where
-  pub stage : stageNumber (r .stage) ≡ refuse 14 (isComplete ms c)
+  pub checked : checkedNumber (r .checked) ≡ refuse 14 (isComplete ms c)
   pub profile : isComplete ms c ≡ true → r .profile ≡ profileWith (profileOf ms c)

@@ -7,11 +7,10 @@ ghost use lib.Dec.{eqb};
 ghost use Rattle.basics.specs.Search.{allOf};
 ghost use Rattle.machine.specs.Symbols.{emptySymbol};
 ghost use Rattle.machine.specs.Part.{machineOf, partRefusal};
-ghost use Rattle.basics.specs.Refusals.{refuse};
+ghost use Rattle.refusals.specs.Refusals.{refuse, checkedNumber};
 ghost use Rattle.card.specs.Layout.{symbolCount};
 ghost use Rattle.card.specs.Card.{cardRefusal, machinesOf};
 ghost use Rattle.candidate.specs.Scoring.{Scores};
-ghost use Rattle.candidate.specs.Refusals.{stageNumber};
 ghost use Rattle.candidate.specs.Candidates.{pairAt, pairsOf, spelled, marksOf};
 ghost use Rattle.candidate.specs.Evaluating.{marked, soundPair, soundCandidate, refused, evaluating};
 use machine::Ending;
@@ -19,6 +18,8 @@ use machine::Pair;
 use machine::Position;
 use machine::Step;
 use ranking::Profile;
+use refusals::Checked;
+use refusals::Refusal;
 
 // What evaluation answers, and the optimizer of the best candidate: the refusal's number, 0 where there is none; the profile,
 // unused places 0; the pair count; the length of the word spelled.
@@ -27,33 +28,6 @@ pub struct Evaluation {
     pub profile: Profile,
     pub pairs: u16,
     pub word_length: u16,
-}
-
-// Why a candidate is refused.
-pub enum Refusal {
-    Candidate,
-    NotComplete,
-}
-
-// What a checking stage answers.
-pub enum Stage {
-    Passed,
-    Refused(Refusal),
-}
-
-impl Stage {
-    // Its number: 0 where it passed.
-    fn number(self) -> u8
-        ensures { λ r. ⌜ r ≡ stageNumber self ⌝ }
-    {
-        match self {
-            Stage::Passed => 0,
-            Stage::Refused(refusal) => match refusal {
-                Refusal::Candidate => 13,
-                Refusal::NotComplete => 14,
-            },
-        }
-    }
 }
 
 // What one machine says of a candidate: its marks, or that it does not take every pair or does not end.
@@ -118,23 +92,23 @@ fn inserts_at(candidate: &[u8], at: usize) -> bool
 }
 
 // Refusal 13: whether the bytes are at most 3,199 pairs of the card's symbols.
-pub fn check_candidate(candidate: &[u8], symbols: u8) -> Stage
-    ensures { λ r. ⌜ stageNumber r ≡ refuse 13 (soundCandidate symbols (now (candidate .entry))) ⌝ }
+pub fn check_candidate(candidate: &[u8], symbols: u8) -> Checked
+    ensures { λ r. ⌜ checkedNumber r ≡ refuse 13 (soundCandidate symbols (now (candidate .entry))) ⌝ }
 {
     if candidate.len() % 2 != 0 {
-        return Stage::Refused(Refusal::Candidate);
+        return Checked::Refused(Refusal::Candidate);
     }
     if candidate.len() > 6398 {
-        return Stage::Refused(Refusal::Candidate);
+        return Checked::Refused(Refusal::Candidate);
     }
     let mut at = 0;
     while at < candidate.len() {
         if !is_sound_at(candidate, at, symbols) {
-            return Stage::Refused(Refusal::Candidate);
+            return Checked::Refused(Refusal::Candidate);
         }
         at += 2;
     }
-    Stage::Passed
+    Checked::Passed
 }
 
 // The length of the word that a candidate spells.
@@ -155,7 +129,7 @@ fn spelled_length(candidate: &[u8]) -> u16
 
 // Each machine's marks, in card order, or that some machine does not complete the candidate.
 pub struct Scored {
-    pub stage: Stage,
+    pub checked: Checked,
     pub profile: Profile,
 }
 
@@ -170,14 +144,14 @@ pub fn score(card: &[u8], candidate: &[u8]) -> Scored
     for machine in 0..machines {
         let Marks::Complete(marks) = run(card::part(card, machine), candidate, symbols) else {
             return Scored {
-                stage: Stage::Refused(Refusal::NotComplete),
+                checked: Checked::Refused(Refusal::NotComplete),
                 profile: Profile::zero(),
             };
         };
         counts[machine] = marks;
     }
     Scored {
-        stage: Stage::Passed,
+        checked: Checked::Passed,
         profile: Profile { counts },
     }
 }
@@ -199,16 +173,16 @@ pub fn evaluate(card: &[u8], candidate: &[u8]) -> Evaluation
     ensures { λ r. ⌜ r ≡ evaluating (now (card .entry)) (now (candidate .entry)) ⌝ }
 {
     let answer = card::check(card);
-    let card::Stage::Passed = answer else {
+    let Checked::Passed = answer else {
         return refused(answer.number());
     };
     let answer = check_candidate(candidate, card::symbol_count(card));
-    let Stage::Passed = answer else {
+    let Checked::Passed = answer else {
         return refused(answer.number());
     };
     let scored = score(card, candidate);
-    let answer = scored.stage;
-    let Stage::Passed = answer else {
+    let answer = scored.checked;
+    let Checked::Passed = answer else {
         return refused(answer.number());
     };
     let profile = scored.profile;

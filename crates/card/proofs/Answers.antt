@@ -5,7 +5,7 @@ use Prim.Native.Nat.{ℕ, zero, suc, _+_, _*_, _<_}
 use native.Mathlib.Omega.{arith}
 use lib.ListN.{length, take, drop}
 use lib.Seq.{take-at, drop-at, drop-drop}
-use Rattle.basics.specs.Refusals.{firstOf}
+use Rattle.refusals.specs.Refusals.{firstOf}
 use Rattle.layout.specs.Layout.{offsetOf, lengthOf}
 use Rattle.card.specs.Reading.{readingRefusal, reading}
 use Rattle.card.specs.Packing.{table, packed, packingRefusal, packing, packedTarget}

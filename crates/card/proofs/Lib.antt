@@ -1,4 +1,3 @@
-pub mod Stages
 pub mod Lengths
 pub mod PartSteps
 pub mod Writing

@@ -9,8 +9,8 @@ use lib.Dec.{leb, lit<}
 use lib.ListN.{length, getD, take, drop, drop-of-length-le}
 use lib.Seq.{drop-cons, drop-drop}
 use Rattle.basics.specs.Products.{product}
-use Rattle.basics.specs.Refusals.{refuse, firstOf}
-use Rattle.basics.proofs.Refusals.{last-one}
+use Rattle.refusals.specs.Refusals.{refuse, firstOf}
+use Rattle.refusals.proofs.Refusals.{last-one}
 use Rattle.machine.specs.Part.{stateCount, partRefusal}
 use Rattle.card.specs.Card.{partsRefusal, fewStates}
 use Rattle.card.specs.Packing.{split}

@@ -7,8 +7,8 @@ use lib.Dec.{lit<}
 use lib.ListN.{length, drop, length-map, length-drop}
 use borrow.Author.Tests.{leb-true}
 use Rattle.basics.specs.Products.{product}
-use Rattle.basics.specs.Refusals.{refuse}
-use Rattle.basics.proofs.Refusals.{passed}
+use Rattle.refusals.specs.Refusals.{refuse}
+use Rattle.refusals.proofs.Refusals.{passed}
 use Rattle.machine.specs.Part.{stateCount, partRefusal}
 use Rattle.layout.specs.Layout.{Bytes, laidOut, partOf}
 use Rattle.card.specs.Layout.{machineCount, symbolCount, counted, partsOf}

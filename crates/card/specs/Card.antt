@@ -4,7 +4,7 @@ use mathlib.Core.List.{List, [], _∷_, map}
 use Prim.Native.Nat.{ℕ}
 use lib.Dec.{leb}
 use Rattle.basics.specs.Products.{product}
-use Rattle.basics.specs.Refusals.{refuse, firstOf}
+use Rattle.refusals.specs.Refusals.{refuse, firstOf}
 use Rattle.machine.specs.Machine.{Machine}
 use Rattle.machine.specs.Part.{machineOf, stateCount, partRefusal}
 use Rattle.layout.specs.Layout.{laidOut}

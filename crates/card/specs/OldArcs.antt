@@ -4,7 +4,7 @@ use mathlib.Core.Bool.{true}
 use mathlib.Core.List.{List, [], _∷_, map}
 use Prim.Native.Nat.{ℕ}
 use Rattle.basics.specs.Search.{allOf}
-use Rattle.basics.specs.Refusals.{refuse, firstOf}
+use Rattle.refusals.specs.Refusals.{refuse, firstOf}
 use Rattle.basics.proofs.Bools.{left, right}
 use Rattle.machine.specs.Part.{partRefusal}
 use Rattle.machine.specs.OldArcs.{refusalBySets, oldArcs, same-refusal}

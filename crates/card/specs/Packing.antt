@@ -3,7 +3,7 @@ use mathlib.Core.List.{List, [], _∷_, _++_}
 use Prim.Native.Nat.{ℕ, _+_, _*_, _/_, _%_}
 use lib.ListN.{length, take, drop}
 use lib.Dec.{eqb, leb}
-use Rattle.basics.specs.Refusals.{refuse, firstOf, unlessRefused}
+use Rattle.refusals.specs.Refusals.{refuse, firstOf, unlessRefused}
 use Rattle.card.specs.declared.Packed.{Packed}
 use Rattle.card.specs.Layout.{soundCounts}
 use Rattle.card.specs.Card.{partsRefusal, fewStates}

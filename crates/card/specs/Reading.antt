@@ -2,7 +2,7 @@
 use mathlib.Core.List.{List, [], _∷_}
 use Prim.Native.Nat.{ℕ}
 use lib.Dec.{ltb}
-use Rattle.basics.specs.Refusals.{refuse, firstOf, unlessRefused}
+use Rattle.refusals.specs.Refusals.{refuse, firstOf, unlessRefused}
 use Rattle.card.specs.declared.PartPlace.{PartPlace}
 use Rattle.layout.specs.Layout.{offsetOf, lengthOf}
 use Rattle.card.specs.Layout.{machineCount}

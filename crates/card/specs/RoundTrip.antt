@@ -12,7 +12,7 @@ use Rattle.layout.specs.Layout.{Bytes, offsetOf, lengthOf}
 use Rattle.card.specs.Layout.{machineCount, symbolCount, counted, partsOf}
 use Rattle.card.specs.Card.{machinesOf, cardRefusal}
 use Rattle.card.specs.Reading.{reading}
-use Rattle.card.specs.Packing.{split, places, packed, packingRefusal, packedTarget}
+use Rattle.card.specs.Packing.{split, places, packed, packingRefusal, packing, packedTarget}
 use Rattle.card.specs.Laws.Bytes.{bytes-cons, bytes-append}
 use Rattle.card.specs.Laws.Places.{places-bytes}
 use Rattle.card.specs.Laws.Parts.{split-lengths, split-joined}
@@ -25,7 +25,7 @@ use Rattle.card.specs.Accepted.{accepted}
 use Rattle.card.specs.Laws.Checked.{parts-small}
 
 -- For every accepted packing input, the packed card is accepted; its parts are the parts packed, and its machines the machines packed;
--- reading part i gives part i; the target's front is that card, and its other bytes stay.
+-- reading part i gives part i; packing answers the card's length, the target's front is that card, and its other bytes stay.
 pub record ReadsBack (S : ℕ) (lengths bytes target card : List ℕ) : Type 0 where
   pub accepts : cardRefusal card ≡ 0
   pub symbols : symbolCount card ≡ S
@@ -35,6 +35,7 @@ pub record ReadsBack (S : ℕ) (lengths bytes target card : List ℕ) : Type 0 w
   pub machines : machinesOf card ≡ map machineOf (split lengths bytes)
   pub reads : (i : ℕ) → i < length lengths → reading card i .number ≡ 0
   pub part : (i : ℕ) → i < length lengths → take (reading card i .length) (drop (reading card i .offset) card) ≡ getD (split lengths bytes) i []
+  pub size : packing S lengths bytes target .length ≡ length card
   pub front : take (length card) (packedTarget S lengths bytes target) ≡ card
   pub tail : drop (length card) (packedTarget S lengths bytes target) ≡ drop (length card) target
 
@@ -59,7 +60,7 @@ reading-accepted card i e h = rw (e, lt-ltb i (machineCount card) h)
 
 pub packed-reads-back : (S : ℕ) (lengths bytes target : List ℕ) → packingRefusal S lengths bytes (length target) ≡ 0
     → ReadsBack S lengths bytes target (packed S lengths bytes)
-unfolding machinesOf packedTarget
+unfolding machinesOf packing packedTarget
 packed-reads-back S lengths bytes target e =
     let card = packed S lengths bytes in
     let p = packable S lengths bytes (length target) e in
@@ -74,6 +75,7 @@ packed-reads-back S lengths bytes target e =
       machines = rw q;
       reads = λ i h. ap (λ r. r .number) (reading-accepted card i a (rw packed-machines h));
       part = λ i h. rw (reading-accepted card i a (rw packed-machines h)) (sym (part-at card i (rw packed-machines h) []) ∙ ap (λ (ps : List (List ℕ)). getD ps i []) q);
+      size = rw e;
       front = rw e (take-at card (drop (length card) target) (length card) refl);
       tail = rw e (drop-at card (drop (length card) target) (length card) refl);
     }

@@ -3,28 +3,17 @@ ghost use mathlib.Core.Path.{_≡_};
 ghost use mathlib.Core.Bool.{true};
 ghost use Prim.Native.Nat.{ℕ, _+_, _*_, _<_, _≤_};
 ghost use lib.ListN.{length, getD};
-ghost use Rattle.basics.specs.Refusals.{refuse};
-ghost use Rattle.card.specs.Refusals.{numberOf, stageNumber};
+ghost use Rattle.refusals.specs.Refusals.{refuse, checkedNumber};
 ghost use Rattle.layout.specs.Layout.{lengthOf, laidOut};
 ghost use Rattle.card.specs.Layout.{machineCount, soundCounts, counted};
-use crate::Refusal;
-use crate::Stage;
 use basics::index;
-
-// The answer of a stage that is one test.
-pub fn tested(ok: bool, refusal: Refusal) -> Stage
-    ensures { λ r. ⌜ stageNumber r ≡ refuse (numberOf refusal) ok ⌝ }
-{
-    if ok {
-        Stage::Passed
-    } else {
-        Stage::Refused(refusal)
-    }
-}
+use refusals::Checked;
+use refusals::Refusal;
+use refusals::tested;
 
 // Refusal 1: K is 1 to 6 and S is 1 to 63.
-pub fn check_counts(machines: usize, symbols: u8) -> Stage
-    ensures { λ r. ⌜ stageNumber r ≡ refuse 1 (soundCounts machines symbols) ⌝ }
+pub fn check_counts(machines: usize, symbols: u8) -> Checked
+    ensures { λ r. ⌜ checkedNumber r ≡ refuse 1 (soundCounts machines symbols) ⌝ }
 {
     tested(
         (1 <= machines) & (machines <= 6) & (1 <= symbols) & (symbols <= 63),
@@ -33,19 +22,19 @@ pub fn check_counts(machines: usize, symbols: u8) -> Stage
 }
 
 // Refusal 1 of a card: it has both counts, and they are in range.
-pub fn check_head(card: &[u8]) -> Stage
-    ensures { λ r. ⌜ stageNumber r ≡ refuse 1 (counted (now (card .entry))) ⌝ }
+pub fn check_head(card: &[u8]) -> Checked
+    ensures { λ r. ⌜ checkedNumber r ≡ refuse 1 (counted (now (card .entry))) ⌝ }
 {
     if card.len() < 2 {
-        return Stage::Refused(Refusal::Counts);
+        return Checked::Refused(Refusal::Counts);
     }
     check_counts(index(card[0]), card[1])
 }
 
 // Refusal 2: the parts follow one another to the card's end.
-pub fn check_layout(card: &[u8]) -> Stage
+pub fn check_layout(card: &[u8]) -> Checked
     requires { ⌜ counted (now card) ≡ true ⌝ }
-    ensures { λ r. ⌜ stageNumber r ≡ refuse 2 (laidOut (machineCount (now (card .entry))) (now (card .entry))) ⌝ }
+    ensures { λ r. ⌜ checkedNumber r ≡ refuse 2 (laidOut (machineCount (now (card .entry))) (now (card .entry))) ⌝ }
 {
     tested(layout::is_laid_out(card, card[0]), Refusal::Layout)
 }

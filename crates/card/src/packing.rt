@@ -1,4 +1,4 @@
-// Packing: the stages of its check, and the writing of a card.
+// Packing: the sum of the lengths, and the writing of a card.
 ghost use mathlib.Core.Path.{_≡_};
 ghost use mathlib.Core.List.{_++_};
 ghost use Prim.Native.Nat.{_+_, _*_, _/_, _%_, _<_, _≤_};

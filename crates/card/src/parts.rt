@@ -3,17 +3,16 @@ ghost use mathlib.Core.Path.{_≡_};
 ghost use mathlib.Core.Bool.{true};
 ghost use Prim.Native.Nat.{_+_, _<_, _≤_};
 ghost use lib.ListN.{length, drop};
-ghost use Rattle.machine.specs.Part.{partRefusal};
-ghost use Rattle.card.specs.Refusals.{stageNumber};
+ghost use Rattle.refusals.specs.Refusals.{checkedNumber};
 ghost use Rattle.layout.specs.Layout.{laidOut};
 ghost use Rattle.card.specs.Layout.{machineCount, symbolCount, counted, partsOf};
 ghost use Rattle.card.specs.Card.{machinesRefusal};
 ghost use Rattle.card.specs.Packing.{total, split};
-use crate::Refusal;
-use crate::Stage;
 use crate::head::read_lengths;
-use crate::head::tested;
 use basics::index;
+use refusals::Checked;
+use refusals::Refusal;
+use refusals::tested;
 
 // A part's length as a number to index with.
 pub fn wide(x: u16) -> usize
@@ -22,41 +21,30 @@ pub fn wide(x: u16) -> usize
     x as usize
 }
 
-// Refusals 3 to 5 of one part.
-fn check_part(part: &[u8], symbols: u8) -> Stage
-    requires { ⌜ symbols < 64 ⌝ }
-    ensures { λ r. ⌜ stageNumber r ≡ partRefusal symbols (now (part .entry)) ⌝ }
-{
-    match machine::check(part, symbols) {
-        machine::Stage::Passed => Stage::Passed,
-        machine::Stage::Refused(refusal) => Stage::Refused(Refusal::Part(refusal)),
-    }
-}
-
 // Refusals 3 to 5 of each part in turn, then 6. The parts lie in `bytes` from `start` on, one after another.
-pub fn check_parts(bytes: &[u8], start: usize, lengths: &[u16], symbols: u8) -> Stage
+pub fn check_parts(bytes: &[u8], start: usize, lengths: &[u16], symbols: u8) -> Checked
     requires { ⌜ (start + total (now lengths) ≤ length (now bytes)) × (length (now lengths) ≤ 6) × (symbols < 64) ⌝ }
-    ensures { λ r. ⌜ stageNumber r ≡ machinesRefusal symbols (split (now (lengths .entry)) (drop start (now (bytes .entry)))) ⌝ }
+    ensures { λ r. ⌜ checkedNumber r ≡ machinesRefusal symbols (split (now (lengths .entry)) (drop start (now (bytes .entry)))) ⌝ }
 {
     let mut offset = start;
     let mut states = 1;
     for i in 0..lengths.len() {
         let end = offset + wide(lengths[i]);
         let part = &bytes[offset..end];
-        let answer = check_part(part, symbols);
-        let Stage::Passed = answer else {
+        let answer = machine::check(part, symbols);
+        let Checked::Passed = answer else {
             return answer;
         };
         states *= machine::state_count(part);
         offset = end;
     }
-    tested(states <= 128, Refusal::States)
+    tested(states <= 128, Refusal::Product)
 }
 
 // Refusals 3 to 6 of a card whose counts and layout are right.
-pub fn check_card(card: &[u8]) -> Stage
+pub fn check_card(card: &[u8]) -> Checked
     requires { ⌜ (counted (now card) ≡ true) × (laidOut (machineCount (now card)) (now card) ≡ true) ⌝ }
-    ensures { λ r. ⌜ stageNumber r ≡ machinesRefusal (symbolCount (now (card .entry))) (partsOf (now (card .entry))) ⌝ }
+    ensures { λ r. ⌜ checkedNumber r ≡ machinesRefusal (symbolCount (now (card .entry))) (partsOf (now (card .entry))) ⌝ }
 {
     let lengths = read_lengths(card);
     let machines = index(card[0]);

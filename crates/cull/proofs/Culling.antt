@@ -2,7 +2,7 @@
 use mathlib.Core.Path.{_≡_, refl, sym, _∙_, subst}
 use mathlib.Core.Logic.{inr}
 use mathlib.Core.Bool.{Bool, true, not, _&&_}
-use mathlib.Core.Option.{Option, none, some}
+use mathlib.Core.Option.{Option, none}
 use mathlib.Core.List.{List}
 use Prim.Native.Nat.{ℕ, suc, _+_, _*_, _-_, _≤_, _<_}
 use native.Mathlib.Omega.{arith}
@@ -15,7 +15,7 @@ use Rattle.card.specs.Card.{machinesOf}
 use Rattle.labels.specs.Work.{stateOf}
 use Rattle.paths.specs.Labels.{Closed}
 use Rattle.paths.specs.Costs.{Labels}
-use Rattle.paths.specs.Ranked.{rankedCosts}
+use Rattle.paths.specs.Ranked.{countAt, rankedCosts}
 use Rattle.paths.specs.Positions.{Done, Entering, done-start}
 use Rattle.tables.specs.Places.{sixPlaces}
 use Rattle.tables.specs.JointTable.{HoldsJoint}
@@ -27,15 +27,16 @@ use Rattle.product.specs.Laws.Letters.{over-positioned}
 use Rattle.product.specs.Laws.Entering.{NotLeft, symbols-begun, symbols-entered}
 use Rattle.tables.specs.Engine.{engineGraph}
 use Rattle.positions.specs.Labelling.{PositionsDone}
-use Rattle.cull.specs.OneConstraint.{stageMarks}
+use Rattle.cull.specs.Cull.{FewestBelow}
 use Rattle.cull.specs.Stages.{cull-start}
-use Rattle.cull.specs.StageLabels.{countOf, stageLabel}
+use Rattle.cull.specs.StageLabels.{countOf, stageLabel, fewestIn}
 use Rattle.cull.specs.Relaxing.{Runs, RunsPre, RelaxPre, Relaxed, SettledBy}
-use Rattle.cull.specs.Culling.{pairsCounted, stageGraph, Culled, StagesDone, StageAt, CullPre, PositionPre, PositionEntered, PositionDone, EndPre, EndsTried, StagePre, Blanked}
+use Rattle.cull.specs.Culling.{pairsCounted, stageGraph, Culled, StageAt, CullPre, PositionPre, PositionEntered, PositionDone, EndPre, EndsTried, StagePre, StageDone, Blanked}
+use Rattle.cull.specs.Survivors.{counts-fewest}
 use Rattle.cull.proofs.StageWork.{stage-unlabelled, spaced}
 use Rattle.cull.proofs.Positions.{culled-kept, stage-over, symbol-ready, insertion-ready, symbol-entering, position-settled}
 use Rattle.cull.proofs.Ending.{ends-entered}
-use Rattle.cull.proofs.NextStage.{extended, extended-below, extended-at, fewest-next, stage-count-told, last-closed, last-attained}
+use Rattle.cull.proofs.NextStage.{stage-count-told, fewest-told, least-told, last-closed, last-attained}
 
 -- ---- taking the labels of the stage before
 
@@ -158,15 +159,21 @@ module _ {card ranking sets rs cs ps ins es xs : List ℕ} {P k : ℕ} (Q : Stag
   stage-begun {ys} B = record {
     size = B .size;
     done = record {
-      fewest = Q .before .fewest;
-      culled = culled-kept (λ i w h. B .counts i w (omega (arith, Q .given .stage))) (Q .before .culled);
-      done = let q : length sets + 1 ≡ suc (length sets) = omega arith in rw q (done-start (stageGraph card ranking sets (Q .before .fewest) k) (placeOf card) (over-positioned (stage-over (Q .given .setting) ranking (Q .before .fewest) k (Q .before .culled))) (stageLabel ys k) (λ u. unlabelled u (decLt u ((length sets + 1) * P))));
+      fewest = fewestIn xs;
+      culled = culled-kept (λ i w h. B .counts i w (omega (arith, Q .given .stage))) culled;
+      done = let q : length sets + 1 ≡ suc (length sets) = omega arith in rw q nothing;
     };
   }
     where
+      culled : Culled card ranking sets (fewestIn xs) xs k
+      culled = record { below = Q .before; told = λ i u m h e. stage-count-told xs i u m e }
+
       unlabelled : (u : ℕ) → Dec (u < (length sets + 1) * P) → stageLabel ys k u ≡ none
       unlabelled u (yes h) = stage-unlabelled ys k u (B .states u h)
       unlabelled u (no h) = stage-unlabelled ys k u (List·getD-eq-default ys 0 (omega (arith, B .size, Q .given .room)))
+
+      nothing : Done (stageGraph card ranking sets (fewestIn xs) k) (placeOf card) (stageLabel ys k) (suc (length sets))
+      nothing = done-start (stageGraph card ranking sets (fewestIn xs) k) (placeOf card) (over-positioned (stage-over (Q .given .setting) ranking (fewestIn xs) k culled)) (stageLabel ys k) (λ u. unlabelled u (decLt u ((length sets + 1) * P)))
 
   pub stage-start : {ys : List ℕ} → Blanked xs ys ((length sets + 1) * P) → PositionDone card ranking sets ys ys (length sets + 1) k
   stage-start B = record { size = refl; done = stage-begun B .done }
@@ -177,56 +184,45 @@ module _ {card ranking sets rs cs ps ins es xs : List ℕ} {P k : ℕ} (Q : Stag
 pub position-passed : {card ranking sets xs ys zs : List ℕ} {i j k : ℕ} → PositionDone card ranking sets xs ys i k → PositionDone card ranking sets ys zs j k → PositionDone card ranking sets xs zs j k
 position-passed A B = record { size = B .size ∙ A .size; done = B .done }
 
-pub positions-end : {card ranking sets xs ys : List ℕ} {i k : ℕ} → PositionDone card ranking sets xs ys i k → i ≤ 0 → PositionDone card ranking sets xs ys 0 k
-positions-end {i = i} D h = let q : i ≡ 0 = omega arith in rw q at D
+-- all positions are done: so is the stage
+pub stage-end : {card ranking sets xs ys : List ℕ} {i k : ℕ} → PositionDone card ranking sets xs ys i k → i ≤ 0 → StageDone card ranking sets xs ys k
+stage-end {card} {ranking} {sets} {xs} {ys} {i} {k} D h = record {
+  size = D .size;
+  before = fewest-told (engineGraph (machinesOf card) ranking sets) (pairsCounted card ranking sets) (A .fewest) k (A .culled .below) ys (A .culled .told) closed (A .done .attained);
+  labels = least-told (engineGraph (machinesOf card) ranking sets) (pairsCounted card ranking sets) (A .fewest) k (A .culled .below) ys (A .culled .told) closed (A .done .attained);
+}
+  where
+    A : StageAt card ranking sets ys k i
+    A = D .done
+
+    closed : Closed (stageGraph card ranking sets (A .fewest) k) (stageLabel ys k)
+    closed u = A .done .closed u (omega arith)
 
 -- ---- the stages
 
 -- after the first k stages
 pub record StagesGone (card ranking sets xs ys : List ℕ) (k : ℕ) : Type 0 where
   pub size : length ys ≡ length xs
-  pub before : StagesDone card ranking sets ys k
-  pub last : (j : ℕ) → k ≡ suc j → StageAt card ranking sets ys j 0
+  pub before : FewestBelow (engineGraph (machinesOf card) ranking sets) (countAt 6) (fewestIn ys) k
+  pub last : (j : ℕ) → k ≡ suc j → StageDone card ranking sets xs ys j
 
 pub stages-start : {card ranking sets xs : List ℕ} → StagesGone card ranking sets xs xs 0
-stages-start {card} {ranking} {sets} = record {
-  size = refl;
-  before = record { fewest = λ i u. none; culled = record { below = cull-start 6 (engineGraph (machinesOf card) ranking sets) (pairsCounted card ranking sets) (λ i u. none); told = λ i u m h e. absurd (omega arith) } };
-  last = λ j e. absurd (omega arith);
-}
+stages-start {card} {ranking} {sets} {xs} = record { size = refl; before = cull-start 6 (engineGraph (machinesOf card) ranking sets) (fewestIn xs); last = λ j e. absurd (omega arith) }
 
-module _ {card ranking sets xs : List ℕ} {k : ℕ} (A : StageAt card ranking sets xs k 0) where
-  closed : Closed (stageGraph card ranking sets (A .fewest) k) (stageLabel xs k)
-  closed u = A .done .closed u (omega arith)
-
-  told : (i u m : ℕ) → i < suc k → extended (A .fewest) k (λ v. stageMarks (stageLabel xs k v)) i u ≡ some m → countOf xs i u ≡ m
-  told i u m h e = go (ℕ-discrete i k)
-    where
-      go : Dec (i ≡ k) → countOf xs i u ≡ m
-      go (yes q) =
-          let z : extended (A .fewest) k (λ v. stageMarks (stageLabel xs k v)) k u ≡ some m = rw q at e in
-          rw q (stage-count-told xs k u m (sym (extended-at (A .fewest) k (λ v. stageMarks (stageLabel xs k v)) u) ∙ z))
-      go (no n) =
-          let l : i < k = omega arith in
-          A .culled .told i u m l (sym (extended-below (A .fewest) k (λ v. stageMarks (stageLabel xs k v)) i u l) ∙ e)
-
-  stage-gone : StagesDone card ranking sets xs (suc k)
-  stage-gone = record {
-    fewest = extended (A .fewest) k (λ v. stageMarks (stageLabel xs k v));
-    culled = record { below = fewest-next (engineGraph (machinesOf card) ranking sets) (pairsCounted card ranking sets) (A .fewest) k (A .culled .below) (stageLabel xs k) closed (A .done .attained); told = told };
-  }
-
-pub stages-next : {card ranking sets xs ys zs : List ℕ} {k : ℕ} → StagesGone card ranking sets xs ys k → PositionDone card ranking sets ys zs 0 k → StagesGone card ranking sets xs zs (k + 1)
-stages-next {card} {ranking} {sets} {xs} {ys} {zs} {k} A D = let q : k + 1 ≡ suc k = omega arith in rw q (record { size = D .size ∙ A .size; before = stage-gone (D .done); last = λ j e. let z : j ≡ k = omega arith in rw z (D .done) })
+pub stages-next : {card ranking sets xs ys zs : List ℕ} {k : ℕ} → StagesGone card ranking sets xs ys k → StageDone card ranking sets ys zs k → StagesGone card ranking sets xs zs (k + 1)
+stages-next {card} {ranking} {sets} {xs} {ys} {zs} {k} A D =
+    let q : k + 1 ≡ suc k = omega arith in
+    let E : StageDone card ranking sets xs zs k = record { size = D .size ∙ A .size; before = D .before; labels = D .labels } in
+    rw q (record { size = E .size; before = counts-fewest D; last = λ j e. let z : j ≡ k = omega arith in rw z E })
 
 pub stages-end : {card ranking sets xs ys : List ℕ} {k : ℕ} → StagesGone card ranking sets xs ys k → k ≡ 6 → PositionsDone card ranking sets xs ys 0
 stages-end {card} {ranking} {sets} {xs} {ys} A q =
-    let L = A .last 5 q in
+    let D = A .last 5 q in
     record {
       size = A .size;
       done = record {
-        attained = last-attained (engineGraph (machinesOf card) ranking sets) (pairsCounted card ranking sets) (L .fewest) (L .culled .below) ys (L .culled .told) (closed L) (L .done .attained);
-        closed = λ u h. last-closed (engineGraph (machinesOf card) ranking sets) (pairsCounted card ranking sets) (L .fewest) (L .culled .below) ys (L .culled .told) (closed L) (L .done .attained) u;
+        attained = last-attained (engineGraph (machinesOf card) ranking sets) ys (D .before) (D .labels);
+        closed = λ u h. last-closed (engineGraph (machinesOf card) ranking sets) ys (D .before) (D .labels) u;
         blank = λ u h. absurd (omega arith);
       };
     }

@@ -1,11 +1,10 @@
 -- The arcs and the endings that the tests on the counts keep are those of the stage's graph.
 use mathlib.Core.Path.{_≡_, refl, sym, _∙_, ap}
-use mathlib.Core.Bool.{true, false}
-use mathlib.Core.Option.{Option, none, some, Option·none-ne-some, map-eq-some-iff}
+use mathlib.Core.Bool.{false}
+use mathlib.Core.Option.{Option, none, some, map-eq-some-iff}
 use mathlib.Core.List.{List, [], _∷_}
 use Prim.Native.Nat.{ℕ, zero, suc, _+_, _<_}
 use native.Mathlib.Omega.{arith}
-use lib.Dec.{eqb}
 use borrow.Author.Tests.{ne-eqb}
 use Rattle.machine.specs.declared.Pair.{Pair}
 use Rattle.paths.specs.Bounds.{Sized}
@@ -17,7 +16,7 @@ use Rattle.product.specs.ProductGraph.{pairs}
 use Rattle.tables.specs.Endings.{withoutPairs, endingCost}
 use Rattle.tables.specs.Laws.Edges.{edgeFrom}
 use Rattle.cull.specs.Below.{Below}
-use Rattle.cull.specs.Cull.{exact, exact-is, keepsEdge, keepsEnding, left, FewestBelow, survivors, way-left}
+use Rattle.cull.specs.Cull.{exact, exact-is, left, FewestBelow, survivors, way-left}
 use Rattle.cull.specs.Left.{left-edge, left-ending}
 use Rattle.cull.specs.OneConstraint.{price, pricedEdge, seen-run}
 use Rattle.cull.specs.Stages.{left-sized, stage, stage-edge, stage-edge-gone, stage-no-edge, stage-ending, stage-ending-gone}

@@ -1,6 +1,6 @@
 -- The marks of one constraint, by its place, in a number of six marks.
 use mathlib.Core.Path.{_≡_, sym, _∙_, ap}
-use Prim.Native.Nat.{ℕ, _/_, _%_, _^_, _≤_, _<_}
+use Prim.Native.Nat.{ℕ, _/_, _%_}
 use native.Mathlib.Nat.{div-one}
 use Rattle.paths.specs.Ranked.{countAt}
 use Rattle.labels.specs.Marks.{nibbles, marksCost}

@@ -2,7 +2,7 @@
 use mathlib.Core.Path.{_≡_, refl, sym, _∙_, ap, subst}
 use mathlib.Core.Logic.{_⊎_, inl, inr, _≢_}
 use mathlib.Core.Bool.{Bool, true, false, _||_, false≢true}
-use mathlib.Core.Option.{Option, none, some}
+use mathlib.Core.Option.{Option, some}
 use mathlib.Core.List.{List}
 use Prim.Native.Nat.{ℕ, _+_, _*_, _≤_, _<_}
 use native.Mathlib.Omega.{arith}
@@ -11,17 +11,16 @@ use lib.ListN.{length, getD}
 use Rattle.machine.specs.declared.Pair.{Pair}
 use Rattle.paths.specs.Ranked.{Ranked, countAt, rankedCosts}
 use Rattle.paths.specs.Graph.{Graph, pathCost, run→cost}
-use Rattle.paths.specs.Labels.{Attained, Attains, held→run}
+use Rattle.paths.specs.Labels.{Attained, held→run}
 use Rattle.labels.specs.Marks.{marksCost}
 use Rattle.product.specs.ProductGraph.{pairs}
 use Rattle.tables.specs.declared.Joint.{Joint}
 use Rattle.tables.specs.declared.Joint.the-variants.{To, Nothing}
 use Rattle.tables.specs.JointNumbers.{joined}
-use Rattle.tables.specs.JointTable.{EntryOf, ReadAs}
-use Rattle.cull.specs.Below.{Below}
+use Rattle.tables.specs.JointTable.{ReadAs}
 use Rattle.cull.specs.StageLabels.{countOf, stageLabel, total}
 use Rattle.cull.specs.Relaxation.{Relaxes, Closes, Only, relaxes-nothing, relaxes-then, relaxes-some, relaxes-closes, relaxes-gone, relaxes-unlabelled, relaxes-edge}
-use Rattle.cull.specs.Relaxing.{Makes, countsOf, Lowered, ArcPre, ArcTried, unlabelled, dropped, lowered, EntryPre, StepTried, nothing, arc, EntryTried, LinkedEntry, Linked, Among, RelaxPre, Relaxed, SettledBy}
+use Rattle.cull.specs.Relaxing.{ArcPre, ArcTried, unlabelled, dropped, lowered, EntryPre, StepTried, nothing, arc, EntryTried, LinkedEntry, Linked, Among, RelaxPre, Relaxed, SettledBy}
 
 -- ---- one step
 

@@ -19,9 +19,10 @@ use Rattle.tables.specs.Places.{sixPlaces}
 use Rattle.product.specs.Setting.{placeOf, Setting}
 use Rattle.tables.specs.Engine.{engineGraph}
 use Rattle.positions.specs.Engine.{Looked, Lent}
-use Rattle.cull.specs.Cull.{FewestBelow}
+use Rattle.cull.specs.Cull.{left, FewestBelow}
+use Rattle.cull.specs.OneConstraint.{LeastPrices}
 use Rattle.cull.specs.Stages.{stage}
-use Rattle.cull.specs.StageLabels.{countOf, stageLabel}
+use Rattle.cull.specs.StageLabels.{countOf, stageLabel, fewestIn}
 use Rattle.cull.specs.Relaxing.{Runs}
 
 abbrev pub pairsCounted : (card ranking sets : List ℕ) → Sized (engineGraph (machinesOf card) ranking sets) (letterCount 6)
@@ -36,10 +37,9 @@ pub record Culled (card ranking sets : List ℕ) (fewest : ℕ → ℕ → Optio
   pub below : FewestBelow (engineGraph (machinesOf card) ranking sets) (countAt 6) fewest k
   pub told : (i u m : ℕ) → i < k → fewest i u ≡ some m → countOf xs i u ≡ m
 
--- between the stages
-pub record StagesDone (card ranking sets xs : List ℕ) (k : ℕ) : Type 0 where
-  pub fewest : ℕ → ℕ → Option ℕ
-  pub culled : Culled card ranking sets fewest xs k
+-- what the first k stages left, told by the counts in the slice
+abbrev pub leftBy : (card ranking sets xs : List ℕ) (k : ℕ) → Graph (rankedCosts 6) pairs
+leftBy card ranking sets xs k = left (engineGraph (machinesOf card) ranking sets) (countAt 6) (fewestIn xs) k
 
 -- in the stage k: the positions from i on are done
 pub record StageAt (card ranking sets xs : List ℕ) (k i : ℕ) : Type 0 where
@@ -85,10 +85,16 @@ pub record EndPre (card ranking sets rs cs ps xs : List ℕ) (P k : ℕ) : Type 
   pub room : length xs ≡ (length sets + 1) * P * 8
   pub stage : k < 6
 
--- before the stage k
+-- before the stage k: the counts below k are the fewest marks of the stages below k
 pub record StagePre (card ranking sets rs cs ps ins es xs : List ℕ) (P k : ℕ) : Type 0 where
   pub given : CullPre card ranking sets rs cs ps ins es xs P k
-  pub before : StagesDone card ranking sets xs k
+  pub before : FewestBelow (engineGraph (machinesOf card) ranking sets) (countAt 6) (fewestIn xs) k
+
+-- after the stage k: they still are, and the labels are the least in what those stages left
+pub record StageDone (card ranking sets xs ys : List ℕ) (k : ℕ) : Type 0 where
+  pub size : length ys ≡ length xs
+  pub before : FewestBelow (engineGraph (machinesOf card) ranking sets) (countAt 6) (fewestIn ys) k
+  pub labels : LeastPrices 6 k (leftBy card ranking sets ys k) (stageLabel ys k)
 
 -- ys is xs with no label at the first n nodes, whose counts stay
 pub record Blanked (xs ys : List ℕ) (n : ℕ) : Type 0 where

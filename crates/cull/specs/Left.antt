@@ -8,7 +8,7 @@ use native.Mathlib.Omega.{arith}
 use Rattle.paths.specs.Costs.{Costs}
 use Rattle.paths.specs.Graph.{Alphabet, Edge, Graph}
 use Rattle.cull.specs.Below.{Below, below-none, below-next}
-use Rattle.cull.specs.Cull.{keep, keep-is, keepsEdge, keepsEnding, left}
+use Rattle.cull.specs.Cull.{keep, keep-is, keepsEdge, keepsEnding, cull, left}
 use Rattle.cull.specs.Subgraph.{Subgraph}
 
 -- one stage more keeps what the test k passes
@@ -40,6 +40,11 @@ gone {A} k test o o′ f x h i l d = go o′ refl
 module _ {costs : Costs} {alphabet : Alphabet} (G : Graph costs alphabet) (marks : ℕ → costs .Cost → ℕ) (fewest : ℕ → ℕ → Option ℕ) where
   open Costs costs using (Cost)
   open Alphabet alphabet using (Letter)
+
+  -- what is left depends on the labels of those stages alone
+  pub left-same : (f : ℕ → ℕ → Option ℕ) (k : ℕ) → ((i : ℕ) → i < k → fewest i ≡ f i) → left G marks fewest k ≡ left G marks f k
+  left-same f zero e = refl
+  left-same f (suc k) e = λ j. cull (left-same f k (λ i l. e i (omega arith)) j) (marks k) (e k (omega arith) j)
 
   pub left-edge : (k u : ℕ) (p : Letter) (e : Edge Cost) → (left G marks fewest k .edge u p ≡ some e) ↔ ((G .edge u p ≡ some e) × Below (λ i. keepsEdge (marks i) (fewest i) u e ≡ true) k)
   left-edge zero u p e = (λ h. (h, below-none (λ i. keepsEdge (marks i) (fewest i) u e ≡ true)), λ h. h .0)

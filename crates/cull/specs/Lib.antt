@@ -1,7 +1,9 @@
 -- Ellison's cull, labelled towards the end, in the order in which to read it. The theorems:
 -- 1. Cull, `survivors`: after k stages the ways left from a node are exactly those that no way from there beats on the first k constraints.
--- 2. Stages, `cull-next`: closed and attained labels of a stage, by the marks of its constraint alone and the letters, carry the cull on.
+-- 2. Stages, `cull-next`: the least labels of a stage, by the marks of its constraint alone and the letters, carry the cull on.
 -- 3. CullLabels, `cull-closed` and `cull-attained`: the labels of the stages put together are labels for the whole cost.
+-- 4. Survivors, `counts-fewest`, `ways-left` and `candidates-left`: the work slice after a stage, by the promise of the function that runs it.
+-- 5. TwoEngines, `two-engines`: the two engines give the same result and the same answer slice.
 pub mod Below
 pub mod Subgraph
 pub mod LeastLabels

@@ -1,7 +1,7 @@
 -- A ranked graph as the stage of one constraint sees it: of each cost the marks of the constraint k and the number of letters, and no more.
-use mathlib.Core.Path.{_≡_, refl, sym, _∙_, ap, subst}
+use mathlib.Core.Path.{_≡_, refl, sym, _∙_, ap}
 use mathlib.Core.Logic.{inl, inr}
-use mathlib.Core.Option.{Option, none, some, Option·none-ne-some, Option·map, map-eq-some-iff}
+use mathlib.Core.Option.{Option, none, some, Option·map, map-eq-some-iff}
 use mathlib.Core.List.{List}
 use Prim.Native.Nat.{ℕ, suc, _≤_, _<_}
 use native.Mathlib.Omega.{arith}
@@ -46,6 +46,28 @@ first-upto (inl (inl h)) = inl h
 first-upto (inl (inr h)) = inr (h .0)
 first-upto (inr e) = inr (ap (λ (x : Ranked 1). x .0) e)
 
+module _ (K k : ℕ) {alphabet : Alphabet} (G : Graph (rankedCosts K) alphabet) where
+  open Alphabet alphabet using (Letter)
+
+  -- a label tells the fewest marks of the constraint k on the ways from its node to an end, and the fewest letters of those ways
+  pub record LeastPrices (L : Labels (rankedCosts 1)) : Type 0 where
+    pub least : (u : ℕ) (ps : List Letter) (c : Ranked K) → pathCost G u ps ≡ some c → AtMost (Less 1) (L u) (price K k c)
+    pub attained : (u : ℕ) (x : Ranked 1) → L u ≡ some x → (ps : List Letter) × (c : Ranked K) × (pathCost G u ps ≡ some c) × (price K k c ≡ x)
+
+  pub least-fewest : {L : Labels (rankedCosts 1)} → LeastPrices L → (fewest : ℕ → Option ℕ) → ((u : ℕ) → fewest u ≡ stageMarks (L u)) → Fewest G (countAt K k) fewest
+  least-fewest {L} M fewest told = record { least = least; attained = attained }
+    where
+      least : (u : ℕ) (ps : List Letter) (c : Ranked K) → pathCost G u ps ≡ some c → AtMost _<_ (fewest u) (countAt K k c)
+      least u ps c h =
+          let m = M .least u ps c h in
+          record { val = m .val .0; is = told u ∙ ap stageMarks (m .is); upto = first-upto (m .upto) }
+
+      attained : (u m : ℕ) → fewest u ≡ some m → Way G (countAt K k) u m
+      attained u m h =
+          let x = map-eq-some-iff (λ x. x .0) (L u) .0 (sym (told u) ∙ h) in
+          let w = M .attained u (x .0) (x .1) in
+          record { letters = w .0; cost = w .1; is = w .2; has = ap (λ (y : Ranked 1). y .0) (w .3) ∙ x .2 }
+
 module _ (K k : ℕ) {alphabet : Alphabet} (G : Graph (rankedCosts K) alphabet) (Z : Sized G (letterCount K)) where
   open Alphabet alphabet using (Letter)
 
@@ -78,22 +100,13 @@ module _ (K k : ℕ) {alphabet : Alphabet} (G : Graph (rankedCosts K) alphabet) 
       let s : Run G (e .0 .target) ps (y .0) = rw t (y .1) in
       (add K (e .0 .cost) (y .0), Run.step (e .0) (y .0) (e .1) s refl, price-add K k (e .0 .cost) (y .0) ∙ (λ i. add 1 (e .2 i .cost) (y .2 i)) ∙ sym q)
 
-  -- ---- closed and attained labels tell the fewest marks
+  -- ---- closed and attained labels are the least
 
-  pub labels-fewest : (L : Labels (rankedCosts 1)) → Closed byConstraint L → Attained byConstraint L → (fewest : ℕ → Option ℕ) → ((u : ℕ) → fewest u ≡ stageMarks (L u)) → Fewest G (countAt K k) fewest
-  labels-fewest L C A fewest told = record { least = least; attained = attained }
-    where
-      least : (u : ℕ) (ps : List Letter) (c : Ranked K) → pathCost G u ps ≡ some c → AtMost _<_ (fewest u) (countAt K k c)
-      least u ps c h =
-          let m = run-lower-bound byConstraint C (run-seen (cost→run G u ps c h)) in
-          record { val = m .val .0; is = told u ∙ ap stageMarks (m .is); upto = first-upto (m .upto) }
-
-      attained : (u m : ℕ) → fewest u ≡ some m → Way G (countAt K k) u m
-      attained u m h =
-          let x = map-eq-some-iff (λ x. x .0) (L u) .0 (sym (told u) ∙ h) in
-          let a = A u (x .0) (x .1) in
-          let r = seen-run (held→run byConstraint (a .held)) in
-          record { letters = a .letters; cost = r .0; is = run→cost G (r .1); has = ap (λ (y : Ranked 1). y .0) (r .2) ∙ x .2 }
+  pub labels-least : {L : Labels (rankedCosts 1)} → Closed byConstraint L → Attained byConstraint L → LeastPrices K k G L
+  labels-least C A = record {
+    least = λ u ps c h. run-lower-bound byConstraint C (run-seen (cost→run G u ps c h));
+    attained = λ u x h. let a = A u x h in let r = seen-run (held→run byConstraint (a .held)) in (a .letters, r .0, run→cost G (r .1), r .2);
+  }
 
   -- ---- what carries over
 

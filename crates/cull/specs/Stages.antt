@@ -7,14 +7,27 @@ use Prim.Native.Nat.{ℕ, suc, _<_}
 use Rattle.paths.specs.Costs.{Labels}
 use Rattle.paths.specs.Ranked.{Ranked, letterCount, countAt, rankedCosts}
 use Rattle.paths.specs.Graph.{Alphabet, Edge, Graph, Within}
-use Rattle.paths.specs.Labels.{Closed, Attained}
 use Rattle.paths.specs.Bounds.{Sized, BoundedCount}
 use Rattle.paths.specs.Positions.{Positioned}
 use Rattle.cull.specs.Below.{Below, below-none, below-next}
 use Rattle.cull.specs.Cull.{keepsEdge, keepsEnding, Fewest, left, FewestBelow}
 use Rattle.cull.specs.Subgraph.{sub-within, sub-positioned, sub-sized, sub-count}
 use Rattle.cull.specs.Left.{left-edge, left-ending, edge-gone, ending-gone, no-edge-left, no-ending-left, left-alike-edges, left-sub}
-use Rattle.cull.specs.OneConstraint.{price, pricedEdge, stageMarks, byConstraint, labels-fewest, seen-within, seen-positioned, seen-sized, seen-count}
+use Rattle.cull.specs.OneConstraint.{price, pricedEdge, stageMarks, byConstraint, LeastPrices, least-fewest, seen-within, seen-positioned, seen-sized, seen-count}
+
+-- ---- from stage to stage
+
+module _ (K : ℕ) {alphabet : Alphabet} (G : Graph (rankedCosts K) alphabet) (fewest : ℕ → ℕ → Option ℕ) where
+  pub cull-start : FewestBelow G (countAt K) fewest 0
+  cull-start = below-none (λ i. Fewest (left G (countAt K) fewest i) (countAt K i) (fewest i))
+
+  -- `fewest k` has the marks of the labels of the stage k, which are the least in what the stages before left
+  pub cull-next : {k : ℕ} {L : Labels (rankedCosts 1)} → LeastPrices K k (left G (countAt K) fewest k) L → ((u : ℕ) → fewest k u ≡ stageMarks (L u))
+      → FewestBelow G (countAt K) fewest k → FewestBelow G (countAt K) fewest (suc k)
+  cull-next {k} M told F =
+      below-next (λ i. Fewest (left G (countAt K) fewest i) (countAt K i) (fewest i)) k F (least-fewest K k (left G (countAt K) fewest k) M (fewest k) told)
+
+-- ---- the graph of a stage
 
 module _ (K : ℕ) {alphabet : Alphabet} (G : Graph (rankedCosts K) alphabet) (Z : Sized G (letterCount K)) (fewest : ℕ → ℕ → Option ℕ) where
   open Alphabet alphabet using (Letter)
@@ -25,17 +38,6 @@ module _ (K : ℕ) {alphabet : Alphabet} (G : Graph (rankedCosts K) alphabet) (Z
   -- what the stage of the constraint k labels: what the stages before it left, by the marks of k and the number of letters
   abbrev pub stage : ℕ → Graph (rankedCosts 1) alphabet
   stage k = byConstraint K k (left G (countAt K) fewest k) (left-sized k)
-
-  -- ---- from stage to stage
-
-  pub cull-start : FewestBelow G (countAt K) fewest 0
-  cull-start = below-none (λ i. Fewest (left G (countAt K) fewest i) (countAt K i) (fewest i))
-
-  -- the labels of the stage k are closed and attained, and `fewest k` has their marks
-  pub cull-next : (k : ℕ) (L : Labels (rankedCosts 1)) → Closed (stage k) L → Attained (stage k) L → ((u : ℕ) → fewest k u ≡ stageMarks (L u))
-      → FewestBelow G (countAt K) fewest k → FewestBelow G (countAt K) fewest (suc k)
-  cull-next k L C A told F =
-      below-next (λ i. Fewest (left G (countAt K) fewest i) (countAt K i) (fewest i)) k F (labels-fewest K k (left G (countAt K) fewest k) (left-sized k) L C A (fewest k) told)
 
   module _ (k : ℕ) where
     abbrev H : Graph (rankedCosts K) alphabet

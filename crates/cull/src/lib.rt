@@ -4,6 +4,7 @@ ghost use mathlib.Core.Path.{_≡_};
 ghost use Prim.Native.Nat.{_+_, _*_, _^_, _≤_, _<_};
 ghost use Rattle.paths.specs.Ranked.{countAt};
 ghost use Rattle.labels.specs.Marks.{marksCost};
+ghost use Rattle.machine.specs.Symbols.{firstSymbol};
 ghost use lib.ListN.{length};
 ghost use Rattle.labels.specs.Work.{HasNode, HasNodes};
 ghost use Rattle.tables.specs.Places.{sixPlaces};
@@ -14,10 +15,11 @@ ghost use Rattle.product.specs.Best.{best};
 ghost use Rattle.product.specs.Sets.{bestOfSets};
 ghost use Rattle.optimizer.specs.Searching.{SetsPre, SearchPre, Searched};
 ghost use Rattle.cull.specs.Relaxing.{countsOf, noCounts, LeftTold, NodePre, Compared, Written, Lowered, ArcPre, ArcTried, EntryPre, EntryTried, RunEnd, RowRuns, Runs, RunsPre, RowFound, RelaxPre, Relaxed, SettledBy};
-ghost use Rattle.cull.specs.Culling.{LentTables, CullPre, PositionPre, PositionEntered, PositionDone, EndPre, EndsTried, StagePre, Blanked};
+ghost use Rattle.cull.specs.Culling.{LentTables, CullPre, PositionPre, PositionEntered, PositionDone, EndPre, EndsTried, StagePre, StageDone, Blanked};
 use basics::index;
 use candidate::Evaluation;
 use candidate::refused;
+use refusals::Checked;
 use tables::Joint;
 use tables::JointEnding;
 
@@ -72,7 +74,7 @@ fn arc_left(work: &[u16], node: usize, target: usize, marks: u32, stage: usize) 
     true
 }
 
-// Whether they kept the node's ending, which has those marks.
+// Whether the stages before kept the node's ending, which has those marks: they are the node's fewest.
 fn ending_left(work: &[u16], node: usize, marks: u32, stage: usize) -> bool
     requires { ⌜ HasNode (now work) node × (marks < 16 ^ 6) × (stage < 6) ⌝ }
     ensures { λ r. ⌜ LeftTold (now (work .entry)) node marks stage noCounts r ⌝ }
@@ -271,11 +273,21 @@ fn settle(
     symbols: usize,
     stage: usize,
 )
-    requires { ⌜ RelaxPre (now work) (now insertions) stage base base size 1 symbols × Runs (now insertions) (now ends) size symbols ⌝ }
-    ensures { λ _. ⌜ SettledBy (now (work .entry)) (now (work .exit)) (now (insertions .entry)) stage base size 1 symbols ⌝ }
+    requires { ⌜ RelaxPre (now work) (now insertions) stage base base size firstSymbol symbols × Runs (now insertions) (now ends) size symbols ⌝ }
+    ensures { λ _. ⌜ SettledBy (now (work .entry)) (now (work .exit)) (now (insertions .entry)) stage base size firstSymbol symbols ⌝ }
 {
     loop {
-        if !relax(work, insertions, ends, base, base, size, 1, symbols, stage) {
+        if !relax(
+            work,
+            insertions,
+            ends,
+            base,
+            base,
+            size,
+            machine::Pair::FIRST,
+            symbols,
+            stage,
+        ) {
             return;
         }
     }
@@ -327,7 +339,7 @@ fn enter_symbol(
             position * size,
             (position + 1) * size,
             size,
-            0,
+            tables::DELETION,
             symbols,
             stage,
         );
@@ -507,7 +519,7 @@ fn label_stage(
     stage: usize,
 )
     requires { ⌜ StagePre (now card) (now ranking) (now sets) (now rows) (now counts) (now places) (now insertions) (now «insertion_ends») (now work) size stage × LentTables (now stretch) (now joint) (now «joint_ends») size ⌝ }
-    ensures { λ _. ⌜ PositionDone (now (card .entry)) (now (ranking .entry)) (now (sets .entry)) (now (work .entry)) (now (work .exit)) 0 stage ⌝ }
+    ensures { λ _. ⌜ StageDone (now (card .entry)) (now (ranking .entry)) (now (sets .entry)) (now (work .entry)) (now (work .exit)) stage ⌝ }
 {
     blank(work, (sets.len() + 1) * size);
     let mut left = sets.len() + 1;
@@ -533,7 +545,7 @@ fn label_stage(
     }
 }
 
-// Goes down the ranking.
+// Goes down the ranking, stage by stage.
 fn label_stages(
     work: &mut [u16],
     card: &[u8],
@@ -574,14 +586,14 @@ fn label_stages(
     }
 }
 
-// The place of each machine in the ranking: the order in which the constraints are gone down.
+// The machine at each place of the ranking: the order in which the constraints are gone down.
 fn places_of(ranking: &[u8]) -> [u8; 6]
     ensures { λ r. ⌜ r ≡ sixPlaces (now (ranking .entry)) ⌝ }
 {
     tables::six_places(ranking)
 }
 
-// The same, with tables for the joint steps of the insertions and of a symbol.
+// Labels all nodes, with room lent for tables of the joint steps of the insertions and of a symbol.
 fn label_with(
     work: &mut [u16],
     card: &[u8],
@@ -685,7 +697,7 @@ pub fn cull(
     ensures { λ r. ⌜ Optimizes (now (card .entry)) (now (ranking .entry)) (now (word .entry)) (now (work .entry)) (now (work .exit)) (now (answer .entry)) (now (answer .exit)) r ⌝ }
 {
     let checked = input::check_input(card, ranking, word, work.len());
-    let input::Stage::Passed = checked else {
+    let Checked::Passed = checked else {
         return refused(checked.number());
     };
     let size = input::joint_states(card);
@@ -693,7 +705,7 @@ pub fn cull(
     search(card, ranking, word, size, &mut work[..nodes * 8], answer)
 }
 
-// The same over all words with one symbol from each set: 1 to 8, 25, 9, 10, 12.
+// Answers the best candidate over all words with one symbol from each set, by Ellison's method: 1 to 8, 25, 9, 10, 12.
 pub fn cull_sets(
     card: &[u8],
     ranking: &[u8],
@@ -704,7 +716,7 @@ pub fn cull_sets(
     ensures { λ r. ⌜ OptimizesSets (now (card .entry)) (now (ranking .entry)) (now (sets .entry)) (now (work .entry)) (now (work .exit)) (now (answer .entry)) (now (answer .exit)) r ⌝ }
 {
     let checked = input::check_sets_input(card, ranking, sets, work.len());
-    let input::Stage::Passed = checked else {
+    let Checked::Passed = checked else {
         return refused(checked.number());
     };
     let size = input::joint_states(card);

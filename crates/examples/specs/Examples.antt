@@ -12,7 +12,7 @@ use Rattle.card.specs.Layout.{counted, partsOf}
 use Rattle.card.specs.Card.{cardRefusal, partsRefusal, machinesOf}
 use Rattle.ranking.specs.Rankings.{isRanking, arrangements}
 use Rattle.ranking.specs.Harmony.{harmony}
-use Rattle.ranking.specs.Conditions.{conditionOf, highest, fits}
+use Rattle.ranking.specs.Conditions.{derivedFrom, highest, fits}
 use Rattle.ranking.specs.Finder.{conditionsOf, disjoint, soundCondition, soundList, smallest, finding}
 use Rattle.candidate.specs.declared.Evaluation.{Evaluation}
 use Rattle.candidate.specs.Candidates.{pairsOf, bytesOf, spelled, marksFrom, isComplete, profileOf}
@@ -47,7 +47,7 @@ pub record TenExamples : Type 0 where
   -- B evaluates 0:1 2:0: 0,1,1; two pairs, word length 1
   pub seven : evaluating cardB (0 ∷ 1 ∷ 2 ∷ 0 ∷ []) ≡ accepted (0 ∷ 1 ∷ 1 ∷ 0 ∷ 0 ∷ 0 ∷ []) 2 1
   -- (0,0,1) against (0,1,0): W {1}, L {2}
-  pub eight : conditionOf 3 (0 ∷ 0 ∷ 1 ∷ []) (0 ∷ 1 ∷ 0 ∷ []) ≡ record { fewer = 2; more = 4 }
+  pub eight : derivedFrom 3 (record { counts = 0 ∷ 0 ∷ 1 ∷ 0 ∷ 0 ∷ 0 ∷ [] }) (record { counts = 0 ∷ 1 ∷ 0 ∷ 0 ∷ 0 ∷ 0 ∷ [] }) ≡ record { number = 0; condition = record { fewer = 2; more = 4 } }
   -- empty list, K = 3: 012
   pub nine : finding 3 [] ≡ record { number = 0; ranking = 0 ∷ 1 ∷ 2 ∷ 0 ∷ 0 ∷ 0 ∷ [] }
   -- ({2},{0}), K = 3: 120

@@ -1,5 +1,6 @@
--- The program on card B: for the line `021 2` it prints exactly `0,1,0 0:1 2:2`; and the whole output of a lesson of two lines.
+-- The program on card B: what it prints for a line, and its whole output for an input.
 use mathlib.Core.Path.{_≡_, refl}
+use mathlib.Core.List.{[]}
 use Rattle.basics.specs.Search.{allOf, pairwise, those, joined, everyBelow, someBelow, numbersBelow, occurrences}
 use Rattle.basics.specs.Sets.{setOf}
 use Rattle.basics.specs.Products.{product}
@@ -24,16 +25,18 @@ use Rattle.session.specs.Tally.{countsOf, shownMachines}
 use Rattle.session.specs.Output.{totalOf, totals, closing, lessonOutput, output}
 use Rattle.examples.specs.Cards.{cardB}
 
-pub example-printed : printed cardB (textOf "021 2") ≡ textOf "0,1,0 0:1 2:2\n"
-unfolding allOf pairwise those joined everyBelow someBelow numbersBelow occurrences setOf ofKind takes stepAmong endingOf takeOnePair clash arcAt arcsAt machineOf soundArc shaped partRefusal dueOffset laidOut partsIn counted partsOf cardRefusal partsRefusal product machinesOf isRanking harmony pairsOf bytesOf spelled marksFrom isComplete profileOf smaller winsTie preferred sameWord pairsOver listsBelow contendersAmong leastOf bestBelow bestOf bestIn best soundWord inputRefusal optimizerRefusal optimized optimizedAnswer before after segments digitsWithin decimal valueFrom isRankingText isSymbolText symbolsIn parsedLine nextCount withCommas pairText pairsText acceptedLine lineOf bestLine
-example-printed = refl
+pub record ProgramExamples : Type 0 where
+  -- the line `021 2`
+  pub line : printed cardB (textOf "021 2") ≡ textOf "0,1,0 0:1 2:2\n"
+  -- the empty word: a line with no pairs ends after the counts
+  pub empty-word : printed cardB (textOf "012 ") ≡ textOf "0,0,0\n"
+  -- these lines alone as the input, and no input: what is printed for each line, how many were answered and refused, the totals
+  pub lesson-of-line : output cardB (textOf "021 2") ≡ textOf "0,1,0 0:1 2:2\nanswered 1 refused 0\ntotal 0,1,0\n"
+  pub lesson-of-empty-word : output cardB (textOf "012 ") ≡ textOf "0,0,0\nanswered 1 refused 0\ntotal 0,0,0\n"
+  pub no-input : output cardB [] ≡ textOf "answered 0 refused 0\ntotal 0,0,0\n"
+  -- a lesson of two lines
+  pub lesson-of-two : output cardB (textOf "012 2\n021 2") ≡ textOf "0,0,1 2:0\n0,1,0 0:1 2:2\nanswered 2 refused 0\ntotal 0,1,1\n"
 
--- the empty word: a line with no pairs ends after the counts
-pub example-empty-word : printed cardB (textOf "012 ") ≡ textOf "0,0,0\n"
-unfolding allOf pairwise those joined everyBelow someBelow numbersBelow occurrences setOf ofKind takes stepAmong endingOf takeOnePair clash arcAt arcsAt machineOf soundArc shaped partRefusal dueOffset laidOut partsIn counted partsOf cardRefusal partsRefusal product machinesOf isRanking harmony pairsOf bytesOf spelled marksFrom isComplete profileOf smaller winsTie preferred sameWord pairsOver listsBelow contendersAmong leastOf bestBelow bestOf bestIn best soundWord inputRefusal optimizerRefusal optimized optimizedAnswer before after segments digitsWithin decimal valueFrom isRankingText isSymbolText symbolsIn parsedLine nextCount withCommas pairText pairsText acceptedLine lineOf bestLine
-example-empty-word = refl
-
--- a lesson of two lines: their lines, how many were answered and refused, the totals
-pub example-lesson : output cardB (textOf "012 2\n021 2") ≡ textOf "0,0,1 2:0\n0,1,0 0:1 2:2\nanswered 2 refused 0\ntotal 0,1,1\n"
+pub the-program-examples : ProgramExamples
 unfolding allOf pairwise those joined everyBelow someBelow numbersBelow occurrences setOf ofKind takes stepAmong endingOf takeOnePair clash arcAt arcsAt machineOf soundArc shaped partRefusal dueOffset laidOut partsIn counted partsOf cardRefusal partsRefusal product machinesOf isRanking harmony pairsOf bytesOf spelled marksFrom isComplete profileOf smaller winsTie preferred sameWord pairsOver listsBelow contendersAmong leastOf bestBelow bestOf bestIn best soundWord inputRefusal optimizerRefusal optimized optimizedAnswer before after segments digitsWithin decimal valueFrom isRankingText isSymbolText symbolsIn parsedLine linesOf nextCount withCommas pairText pairsText acceptedLine lineOf answeredLine totalLine closingLines bestLine countsOf shownMachines totalOf totals closing lessonOutput
-example-lesson = refl
+the-program-examples = record { line = refl; empty-word = refl; lesson-of-line = refl; lesson-of-empty-word = refl; no-input = refl; lesson-of-two = refl }

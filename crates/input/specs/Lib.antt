@@ -1,4 +1,3 @@
 -- definitions
-pub mod Refusals
 -- what accepted input promises
 pub mod AcceptedInput

@@ -3,58 +3,15 @@ ghost use mathlib.Core.Path.{_≡_};
 ghost use Prim.Native.Nat.{_*_, _≤_};
 ghost use lib.Dec.{leb};
 ghost use lib.ListN.{length};
-ghost use Rattle.basics.specs.Refusals.{refuse};
+ghost use Rattle.refusals.specs.Refusals.{refuse, checkedNumber};
 ghost use Rattle.ranking.specs.Rankings.{isRanking};
 ghost use Rattle.card.specs.Layout.{machineCount, symbolCount};
 ghost use Rattle.card.specs.Card.{cardRefusal, machinesOf};
 ghost use Rattle.product.specs.Nodes.{product, stateCounts, nodeCount};
 ghost use Rattle.product.specs.Optimizing.{soundWord, inputRefusal};
 ghost use Rattle.product.specs.OptimizingSets.{setsRefusal, setsInputRefusal};
-ghost use Rattle.input.specs.Refusals.{numberOf, stageNumber};
-
-// Why the input is refused.
-pub enum Refusal {
-    Card(card::Refusal),
-    Ranking(ranking::Refusal),
-    Word(product::Refusal),
-    // The work slice is too short.
-    Work,
-}
-
-impl Refusal {
-    // Its number in the refusal table.
-    pub fn number(self) -> u8
-        ensures { λ r. ⌜ r ≡ numberOf self ⌝ }
-    {
-        match self {
-            Refusal::Card(refusal) => refusal.number(),
-            Refusal::Ranking(refusal) => refusal.number(),
-            Refusal::Word(refusal) => match refusal {
-                product::Refusal::Word => 8,
-                product::Refusal::Set => 25,
-            },
-            Refusal::Work => 9,
-        }
-    }
-}
-
-// What a checking stage answers.
-pub enum Stage {
-    Passed,
-    Refused(Refusal),
-}
-
-impl Stage {
-    // Its number: 0 where it passed.
-    pub fn number(self) -> u8
-        ensures { λ r. ⌜ r ≡ stageNumber self ⌝ }
-    {
-        match self {
-            Stage::Passed => 0,
-            Stage::Refused(refusal) => refusal.number(),
-        }
-    }
-}
+use refusals::Checked;
+use refusals::Refusal;
 
 // P, the product of the state counts of an accepted card's machines.
 pub fn joint_states(card: &[u8]) -> usize
@@ -66,94 +23,75 @@ pub fn joint_states(card: &[u8]) -> usize
     tables::joint_states(&counts[..machines])
 }
 
-// Refusals 1 to 6.
-pub fn check_card(card: &[u8]) -> Stage
-    ensures { λ r. ⌜ stageNumber r ≡ cardRefusal (now (card .entry)) ⌝ }
-{
-    match card::check(card) {
-        card::Stage::Passed => Stage::Passed,
-        card::Stage::Refused(refusal) => Stage::Refused(Refusal::Card(refusal)),
-    }
-}
-
 // Refusal 7, for an accepted card.
-fn check_ranking(card: &[u8], ranking: &[u8]) -> Stage
+fn check_ranking(card: &[u8], ranking: &[u8]) -> Checked
     requires { ⌜ cardRefusal (now card) ≡ 0 ⌝ }
-    ensures { λ r. ⌜ stageNumber r ≡ refuse 7 (isRanking (machineCount (now (card .entry))) (now (ranking .entry))) ⌝ }
+    ensures { λ r. ⌜ checkedNumber r ≡ refuse 7 (isRanking (machineCount (now (card .entry))) (now (ranking .entry))) ⌝ }
 {
     let machines = card::machine_count(card) as u8;
-    match ranking::rankings::check_ranking(machines, ranking) {
-        ranking::Stage::Passed => Stage::Passed,
-        ranking::Stage::Refused(refusal) => Stage::Refused(Refusal::Ranking(refusal)),
-    }
+    ranking::rankings::check_ranking(machines, ranking)
 }
 
 // Refusal 8, for an accepted card.
-pub fn check_word(card: &[u8], word: &[u8]) -> Stage
+pub fn check_word(card: &[u8], word: &[u8]) -> Checked
     requires { ⌜ cardRefusal (now card) ≡ 0 ⌝ }
-    ensures { λ r. ⌜ stageNumber r ≡ refuse 8 (soundWord (symbolCount (now (card .entry))) (now (word .entry))) ⌝ }
+    ensures { λ r. ⌜ checkedNumber r ≡ refuse 8 (soundWord (symbolCount (now (card .entry))) (now (word .entry))) ⌝ }
 {
-    match product::check_word(word, card::symbol_count(card)) {
-        product::Stage::Passed => Stage::Passed,
-        product::Stage::Refused(refusal) => Stage::Refused(Refusal::Word(refusal)),
-    }
+    product::check_word(word, card::symbol_count(card))
 }
 
 // The length limit of 8 and refusal 25, for an accepted card.
-fn check_sets(card: &[u8], sets: &[u64]) -> Stage
+fn check_sets(card: &[u8], sets: &[u64]) -> Checked
     requires { ⌜ cardRefusal (now card) ≡ 0 ⌝ }
-    ensures { λ r. ⌜ stageNumber r ≡ setsRefusal (symbolCount (now (card .entry))) (now (sets .entry)) ⌝ }
+    ensures { λ r. ⌜ checkedNumber r ≡ setsRefusal (symbolCount (now (card .entry))) (now (sets .entry)) ⌝ }
 {
-    match product::check_sets(sets, card::symbol_count(card)) {
-        product::Stage::Passed => Stage::Passed,
-        product::Stage::Refused(refusal) => Stage::Refused(Refusal::Word(refusal)),
-    }
+    product::check_sets(sets, card::symbol_count(card))
 }
 
 // Refusal 9, for an accepted card and that many symbols or sets: whether a work slice of `room` numbers has eight for each node.
-fn check_work(card: &[u8], count: usize, room: usize) -> Stage
+fn check_work(card: &[u8], count: usize, room: usize) -> Checked
     requires { ⌜ (cardRefusal (now card) ≡ 0) × (count ≤ 24) ⌝ }
-    ensures { λ r. ⌜ stageNumber r ≡ refuse 9 (leb (8 * nodeCount (machinesOf (now (card .entry))) count) room) ⌝ }
+    ensures { λ r. ⌜ checkedNumber r ≡ refuse 9 (leb (8 * nodeCount (machinesOf (now (card .entry))) count) room) ⌝ }
 {
     if room < (count + 1) * joint_states(card) * 8 {
-        return Stage::Refused(Refusal::Work);
+        return Checked::Refused(Refusal::Work);
     }
-    Stage::Passed
+    Checked::Passed
 }
 
 // The first of refusals 1 to 9 that the input meets, for a work slice of `room` numbers.
-pub fn check_input(card: &[u8], ranking: &[u8], word: &[u8], room: usize) -> Stage
-    ensures { λ r. ⌜ stageNumber r ≡ inputRefusal (now (card .entry)) (now (ranking .entry)) (now (word .entry)) room ⌝ }
+pub fn check_input(card: &[u8], ranking: &[u8], word: &[u8], room: usize) -> Checked
+    ensures { λ r. ⌜ checkedNumber r ≡ inputRefusal (now (card .entry)) (now (ranking .entry)) (now (word .entry)) room ⌝ }
 {
-    let answer = check_card(card);
-    let Stage::Passed = answer else {
+    let answer = card::check(card);
+    let Checked::Passed = answer else {
         return answer;
     };
     let answer = check_ranking(card, ranking);
-    let Stage::Passed = answer else {
+    let Checked::Passed = answer else {
         return answer;
     };
     let answer = check_word(card, word);
-    let Stage::Passed = answer else {
+    let Checked::Passed = answer else {
         return answer;
     };
     check_work(card, word.len(), room)
 }
 
 // The first of refusals 1 to 8, 25 and 9 that the input meets with sets in the word's place, for a work slice of `room` numbers.
-pub fn check_sets_input(card: &[u8], ranking: &[u8], sets: &[u64], room: usize) -> Stage
-    ensures { λ r. ⌜ stageNumber r ≡ setsInputRefusal (now (card .entry)) (now (ranking .entry)) (now (sets .entry)) room ⌝ }
+pub fn check_sets_input(card: &[u8], ranking: &[u8], sets: &[u64], room: usize) -> Checked
+    ensures { λ r. ⌜ checkedNumber r ≡ setsInputRefusal (now (card .entry)) (now (ranking .entry)) (now (sets .entry)) room ⌝ }
 {
-    let answer = check_card(card);
-    let Stage::Passed = answer else {
+    let answer = card::check(card);
+    let Checked::Passed = answer else {
         return answer;
     };
     let answer = check_ranking(card, ranking);
-    let Stage::Passed = answer else {
+    let Checked::Passed = answer else {
         return answer;
     };
     let answer = check_sets(card, sets);
-    let Stage::Passed = answer else {
+    let Checked::Passed = answer else {
         return answer;
     };
     check_work(card, sets.len(), room)

@@ -1,4 +1,4 @@
--- The stages of joining and its answer, by their numbers. Assumes nothing.
+-- The checks of joining and its answer, by their numbers. Assumes nothing.
 use mathlib.Core.Path.{_≡_, refl, ap, ap₂, sym, _∙_}
 use mathlib.Core.Logic.{_⊎_, inl, inr}
 use mathlib.Core.Bool.{Bool, true, false, not, _&&_, _||_}
@@ -7,9 +7,9 @@ use Prim.Native.Nat.{ℕ, zero, suc, _<_, _≤_, min, max}
 use native.Mathlib.Omega.{arith}
 use lib.Dec.{eqb, ltb, leb, lit<}
 use lib.ListN.{length}
-use borrow.Author.Tests.{eqb-false, ne-eqb, lt-ltb, le-ltb, le-leb, lt-leb, leb-true, leb-false}
-use Rattle.basics.specs.Refusals.{refuse, firstOf}
-use Rattle.basics.proofs.Refusals.{passed, goes-up, goes-on}
+use borrow.Author.Tests.{eqb-false, ne-eqb, lt-ltb, le-ltb, le-leb, leb-true, leb-false}
+use Rattle.refusals.specs.Refusals.{refuse, firstOf}
+use Rattle.refusals.proofs.Refusals.{passed, first-up, first-on, last-one}
 use Rattle.basics.proofs.Bools.{either, left-fails, right-fails}
 use Rattle.card.specs.declared.Packed.{Packed}
 use Rattle.layout.specs.Layout.{partOf}
@@ -20,33 +20,10 @@ use Rattle.card.specs.Layout.{machineCount, symbolCount}
 use Rattle.card.specs.Accepted.{accepted}
 use Rattle.card.specs.Laws.Machines.{machine-at}
 use Rattle.card.specs.Card.{machinesOf, cardRefusal}
-use Rattle.card.proofs.Stages.{number-pos as card-number-pos}
-use Rattle.join.specs.declared.Refusal.{Refusal}
-use Rattle.join.specs.declared.Refusal.the-variants.{Card, Machines, Size, Target}
-use Rattle.join.specs.declared.Stage.{Stage}
-use Rattle.join.specs.declared.Stage.the-variants.{Passed, Refused}
-use Rattle.join.specs.Refusals.{numberOf, stageNumber}
 use Rattle.join.specs.JoinedMachine.{machineAt, joinedArcs, joinedMachine, markless}
 use Rattle.join.specs.JoinedCard.{fitsPart, joinable, joinFits, joining, machinesRefusal, joiningRefusal, joiningAnswer, joiningTarget}
 use Rattle.join.specs.Laws.Joinable.{TwoMachines, joinable-facts}
 use Rattle.join.specs.Writing.{placed}
-
-pub number-pos : (r : Refusal) → 0 < numberOf r
-number-pos (Card r) = card-number-pos r
-number-pos Machines = lit< tt
-number-pos Size = lit< tt
-number-pos Target = lit< tt
-
-module _ {s : Stage} (told : s ≡ Passed) where
-  pub passed-number : {n : ℕ} → stageNumber s ≡ n → n ≡ 0
-  passed-number e = sym e ∙ ap stageNumber told
-
-module _ {s : Stage} {r : Refusal} (told : s ≡ Refused r) where
-  pub refused-number : {n : ℕ} → stageNumber s ≡ n → 0 < n
-  refused-number {n} e = let q : n ≡ numberOf r = sym e ∙ ap stageNumber told in omega (arith, number-pos r)
-
-  pub refused-up : (n : ℕ) (ns : List ℕ) → stageNumber s ≡ n → stageNumber s ≡ firstOf (n ∷ ns)
-  refused-up n ns e = goes-up stageNumber told n ns e (number-pos r)
 
 -- ---- refusal 27
 
@@ -125,24 +102,24 @@ as-called card target a b first second r after ea eb h =
     (h .0 ∙ ap₂ (λ (x y : ℕ). joiningAnswer card x y (length target)) ea eb, h .1 ∙ ap₂ (λ (x y : ℕ). joiningTarget card x y target) ea eb)
 
 module _ (card : List ℕ) (a b : ℕ) (target : List ℕ) where
-  answers : (n : ℕ) → joiningRefusal card a b (length target) ≡ n → 0 < n → (record { number = n; length = 0 } ≡ joiningAnswer card a b (length target)) × (target ≡ joiningTarget card a b target)
+  pub refused-by : (n : ℕ) → joiningRefusal card a b (length target) ≡ n → 0 < n → (record { number = n; length = 0 } ≡ joiningAnswer card a b (length target)) × (target ≡ joiningTarget card a b target)
   unfolding joiningAnswer joiningTarget
-  answers zero e h = absurd (omega (arith, h))
-  answers (suc n) e h = (rw e, rw e)
+  refused-by zero e h = absurd (omega (arith, h))
+  refused-by (suc n) e h = (rw e, rw e)
 
   -- refused by 1 to 6, 27 or 28
   pub refused-early : (n : ℕ) → machinesRefusal card a b ≡ n → 0 < n → (record { number = n; length = 0 } ≡ joiningAnswer card a b (length target)) × (target ≡ joiningTarget card a b target)
   unfolding joiningRefusal
-  refused-early n e h = answers n (sym (goes-up (λ (k : ℕ). k) (sym e) (machinesRefusal card a b) (refuse 18 (leb (length (joining card a b)) (length target)) ∷ []) (sym e) (omega (arith, e, h)))) h
+  refused-early n e h = refused-by n (first-up (machinesRefusal card a b) (refuse 18 (leb (length (joining card a b)) (length target)) ∷ []) (omega (arith, e, h)) ∙ e) h
 
   module _ (ok : machinesRefusal card a b ≡ 0) where
     left-over : joiningRefusal card a b (length target) ≡ firstOf (refuse 18 (leb (length (joining card a b)) (length target)) ∷ [])
     unfolding joiningRefusal
-    left-over = goes-on (λ (k : ℕ). k) ok (machinesRefusal card a b) (refuse 18 (leb (length (joining card a b)) (length target)) ∷ []) refl refl
+    left-over = first-on (machinesRefusal card a b) (refuse 18 (leb (length (joining card a b)) (length target)) ∷ []) ok
 
-    -- refused by 18
-    pub too-short : length target < length (joining card a b) → (record { number = 18; length = 0 } ≡ joiningAnswer card a b (length target)) × (target ≡ joiningTarget card a b target)
-    too-short h = answers 18 (left-over ∙ ap (λ t. firstOf (refuse 18 t ∷ [])) (lt-leb (length (joining card a b)) (length target) h)) (lit< tt)
+    -- 18 decides
+    pub target-refusal : joiningRefusal card a b (length target) ≡ refuse 18 (leb (length (joining card a b)) (length target))
+    target-refusal = left-over ∙ last-one (refuse 18 (leb (length (joining card a b)) (length target)))
 
     -- accepted
     pub long-enough : length (joining card a b) ≤ length target → (after : List ℕ) → after ≡ placed 0 (joining card a b) target

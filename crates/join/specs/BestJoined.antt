@@ -149,6 +149,7 @@ pub record TwoCards (i j : ℕ) (card new : List ℕ) : Type 0 where
   pub order : i < j
   pub within : j < machineCount card
   pub second-accepted : cardRefusal new ≡ 0
+  pub symbols : symbolCount new ≡ symbolCount card
   pub machines : machinesOf new ≡ joinedMachines i j (machinesOf card)
 
 module _ {card new : List ℕ} {i j : ℕ} (two : TwoCards i j card new) where

@@ -8,7 +8,7 @@ use Prim.Native.Nat.{ℕ, zero, suc, _/_, _%_, _<_, min, max}
 use lib.Dec.{eqb, ltb, leb}
 use lib.ListN.{length, drop}
 use Rattle.basics.specs.Search.{joined}
-use Rattle.basics.specs.Refusals.{refuse, firstOf, unlessRefused}
+use Rattle.refusals.specs.Refusals.{refuse, firstOf, unlessRefused}
 use Rattle.machine.specs.declared.Arc.{Arc}
 use Rattle.machine.specs.Machine.{Machine, stateCountOf}
 use Rattle.machine.specs.Part.{machineOf}

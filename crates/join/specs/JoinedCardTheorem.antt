@@ -11,10 +11,10 @@ use lib.ListN.{length, getD, take, drop, length-map}
 use lib.Seq.{take-at}
 use borrow.Author.Tests.{eqb-true, leb-true, eq-eqb}
 use Rattle.basics.specs.Search.{allOf}
-use Rattle.basics.specs.Refusals.{refuse, firstOf}
+use Rattle.refusals.specs.Refusals.{refuse, firstOf}
 use Rattle.basics.proofs.Bools.{both, left, right}
 use Rattle.basics.proofs.Search.{all-at, map-at}
-use Rattle.basics.proofs.Refusals.{passed, none-first, last-one}
+use Rattle.refusals.proofs.Refusals.{passed, none-first, last-one}
 use Rattle.machine.specs.declared.Pair.{Pair}
 use Rattle.machine.specs.Symbols.{isPair}
 use Rattle.machine.specs.Machine.{Machine}
@@ -29,6 +29,7 @@ use Rattle.card.specs.OfParts.{cardOf, MadeOf, made-of}
 use Rattle.card.specs.Laws.Layout.{length-parts, part-at}
 use Rattle.card.specs.Laws.Bytes.{bytes-take, bytes-drop}
 use Rattle.candidate.specs.Candidates.{isComplete, profileOf}
+use Rattle.candidate.specs.Evaluating.{evaluating}
 use Rattle.product.specs.Best.{best}
 use Rattle.product.specs.Sets.{bestOfSets}
 use Rattle.product.specs.Nodes.{stateCountOf, stateCounts, product}
@@ -42,6 +43,7 @@ use Rattle.join.specs.JoinedCard.{MayJoin, fitsPart, joinedPart, joinedP
 use Rattle.join.specs.Writing.{CardJoins}
 use Rattle.join.specs.JoinTheorem.{Joins, JoinKeeps, join-keeps}
 use Rattle.join.specs.BestJoined.{Unmarked, TwoCards, joinedContender, card-joins, best-of-joined, best-of-sets-of-joined}
+use Rattle.join.specs.JoinedEvaluation.{SameEvaluation, same-evaluation}
 use Rattle.join.specs.Laws.Merged.{length-merged, each-merged, all-merged, map-merged}
 use Rattle.join.specs.Laws.Sound.{joined-sound}
 use Rattle.join.specs.Laws.Joinable.{may-join}
@@ -143,6 +145,8 @@ pub record CardJoined (i j : ℕ) (card new : List ℕ) : Type 0 where
   -- a candidate is complete on the new card exactly when it is on the old, and its profile there is the old one with the two counts added
   pub complete : (c : List Pair) → allOf isPair c ≡ true → isComplete (machinesOf new) c ≡ isComplete (machinesOf card) c
   pub profile : (c : List Pair) → allOf isPair c ≡ true → isComplete (machinesOf card) c ≡ true → profileOf (machinesOf new) c ≡ mergedCounts i j (profileOf (machinesOf card) c)
+  -- so evaluation answers the same, the two counts added
+  pub evaluation : (bytes : List ℕ) → SameEvaluation i j (evaluating card bytes) (evaluating new bytes)
   -- and the best candidate is the same, where the joined machine is ranked in the place of the one with marks: for a word, and for sets
   pub best-one : (u : ℕ) → Unmarked i j u (machinesOf card) → (ranking word : List ℕ) → isRanking (machineCount card) ranking ≡ true
       → best new (joinedRanking i j u ranking) word ≡ joinedContender i j (best card ranking word)
@@ -161,6 +165,7 @@ card-joined card ok i j may = record {
       subst Bytes (sym (part-at card k (omega (arith, old, h)) [])) (bytes-take (lengthOf card k) (drop (offsetOf card k) card) (bytes-drop (offsetOf card k) card b))));
   complete = λ c is. ap (λ (l : List Machine). isComplete l c) machines ∙ keeps .complete c is;
   profile = λ c is t. ap (λ (l : List Machine). profileOf l c) machines ∙ keeps .profile c is t;
+  evaluation = same-evaluation two;
   best-one = λ u n ranking word is. best-of-joined two n ranking word is;
   best-of-sets = λ u n ranking sets is bits. best-of-sets-of-joined two n ranking sets is bits;
 }
@@ -204,7 +209,7 @@ card-joined card ok i j may = record {
     machines = made .machines ∙ parts-machines S few (partsOf card) (a .all-parts) i j may
 
     two : TwoCards i j card (joinedCard i j card)
-    two = record { first-accepted = ok; order = may .order; within = in-card; second-accepted = made .accepts; machines = machines }
+    two = record { first-accepted = ok; order = may .order; within = in-card; second-accepted = made .accepts; symbols = made .symbols; machines = machines }
 
     keeps : JoinKeeps i j (machinesOf card)
     keeps = join-keeps (card-joins card ok i j (may .order) in-card)

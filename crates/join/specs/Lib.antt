@@ -1,6 +1,5 @@
 pub mod Merged
 pub mod JoinedMachine
-pub mod Refusals
 pub mod JoinedRanking
 pub mod JoinedCard
 pub mod CommonPairs
@@ -8,5 +7,6 @@ pub mod Writing
 pub mod Laws
 pub mod JoinTheorem
 pub mod BestJoined
+pub mod JoinedEvaluation
 pub mod JoinedCardTheorem
 pub mod SameAnswers

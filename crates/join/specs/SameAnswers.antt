@@ -102,12 +102,8 @@ as-demands d = record {
   numbers = d .numbers;
   none-exactly = d .none-exactly;
   otherwise-best = d .otherwise-best;
-  few-pairs = d .few-pairs;
-  small-counts = d .small-counts;
   room-exactly = d .room-exactly;
   best-exactly = d .best-exactly;
-  few-answered = d .few-answered;
-  small-answered = d .small-answered;
   answered = λ e.
       let a = d .answered e .1 in
       (d .answered e .0, record { is-best = a .is-best; fits = a .fits; bytes = a .bytes; profile = a .profile; pairs = a .pairs; word-length = a .word-length });
@@ -123,6 +119,7 @@ module _ {i j u : ℕ} {card new : List ℕ} (joins : CardJoins card i j) (joine
     order = joins .may .order;
     within = omega (arith, joins .may .within, accepted-machines card (joins .accepted) .count);
     second-accepted = joined .accepts;
+    symbols = joined .symbols;
     machines = joined .machines;
   }
 

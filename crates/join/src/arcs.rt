@@ -84,10 +84,10 @@ fn has_pair(kind: u8, inputs: u64, outputs: u64) -> bool
     }
     let all = inputs | outputs;
     if kind == 0 {
-        return all / 2 != 0;
+        return sets::without_empty(all) != 0;
     }
     if kind == 1 {
-        return (inputs & outputs) / 2 != 0;
+        return sets::without_empty(inputs & outputs) != 0;
     }
     sets::without_least(all) != 0
 }

@@ -2,12 +2,11 @@
 ghost use mathlib.Core.Path.{_≡_};
 ghost use Prim.Native.Nat.{_<_, min, max};
 ghost use lib.ListN.{length};
-ghost use Rattle.basics.specs.Refusals.{refuse};
+ghost use Rattle.refusals.specs.Refusals.{checkedNumber};
 ghost use Rattle.layout.specs.Layout.{partOf};
 ghost use Rattle.machine.specs.Part.{machineOf};
 ghost use Rattle.card.specs.Layout.{machineCount};
 ghost use Rattle.card.specs.Card.{cardRefusal};
-ghost use Rattle.join.specs.Refusals.{numberOf, stageNumber};
 ghost use Rattle.join.specs.JoinedMachine.{joinedMachine};
 ghost use Rattle.join.specs.JoinedCard.{fitsPart, joinable, machinesRefusal, joiningAnswer, joiningTarget};
 
@@ -17,71 +16,9 @@ mod part; // part.rt: the writing of the joined part
 
 use basics::index;
 use card::Packed;
-
-// Why joining is refused.
-enum Refusal {
-    // The card.
-    Card(card::Refusal),
-    // The two machines, or their marks.
-    Machines,
-    // The joined machine's states or arcs.
-    Size,
-    // The target's length.
-    Target,
-}
-
-impl Refusal {
-    // Its number in the refusal table.
-    fn number(self) -> u8
-        ensures { λ r. ⌜ r ≡ numberOf self ⌝ }
-    {
-        match self {
-            Refusal::Card(refusal) => refusal.number(),
-            Refusal::Machines => 27,
-            Refusal::Size => 28,
-            Refusal::Target => 18,
-        }
-    }
-}
-
-// What a checking stage answers.
-enum Stage {
-    Passed,
-    Refused(Refusal),
-}
-
-impl Stage {
-    // Its number: 0 where it passed.
-    fn number(self) -> u8
-        ensures { λ r. ⌜ r ≡ stageNumber self ⌝ }
-    {
-        match self {
-            Stage::Passed => 0,
-            Stage::Refused(refusal) => refusal.number(),
-        }
-    }
-}
-
-// The answer of a stage that is one test.
-fn tested(ok: bool, refusal: Refusal) -> Stage
-    ensures { λ r. ⌜ stageNumber r ≡ refuse (numberOf refusal) ok ⌝ }
-{
-    if ok {
-        Stage::Passed
-    } else {
-        Stage::Refused(refusal)
-    }
-}
-
-// Refusals 1 to 6.
-fn check_card(card: &[u8]) -> Stage
-    ensures { λ r. ⌜ stageNumber r ≡ cardRefusal (now (card .entry)) ⌝ }
-{
-    match card::check(card) {
-        card::Stage::Passed => Stage::Passed,
-        card::Stage::Refused(refusal) => Stage::Refused(Refusal::Card(refusal)),
-    }
-}
+use refusals::Checked;
+use refusals::Refusal;
+use refusals::tested;
 
 // Refusal 27: two different machines of the card, one of them without marks.
 fn is_joinable(card: &[u8], first: usize, second: usize) -> bool
@@ -127,20 +64,20 @@ fn other(first: usize, second: usize) -> usize
 }
 
 // The first of refusals 1 to 6, 27 and 28 that joining two machines meets.
-fn check_joining(card: &[u8], first: usize, second: usize) -> Stage
-    ensures { λ r. ⌜ stageNumber r ≡ machinesRefusal (now (card .entry)) first second ⌝ }
+fn check_joining(card: &[u8], first: usize, second: usize) -> Checked
+    ensures { λ r. ⌜ checkedNumber r ≡ machinesRefusal (now (card .entry)) first second ⌝ }
 {
-    let answer = check_card(card);
-    let Stage::Passed = answer else {
+    let answer = card::check(card);
+    let Checked::Passed = answer else {
         return answer;
     };
     let answer = tested(is_joinable(card, first, second), Refusal::Machines);
-    let Stage::Passed = answer else {
+    let Checked::Passed = answer else {
         return answer;
     };
     let lower = lower(first, second);
     let other = other(first, second);
-    tested(fits_part(card, lower, other), Refusal::Size)
+    tested(fits_part(card, lower, other), Refusal::JoinedSize)
 }
 
 // Joins two machines of a card, in either order. The new card fills the front of the target, whose other bytes stay, and its length is
@@ -151,7 +88,7 @@ pub fn join(card: &[u8], first: u8, second: u8, target: &mut [u8]) -> Packed
     let first = index(first);
     let second = index(second);
     let answer = check_joining(card, first, second);
-    let Stage::Passed = answer else {
+    let Checked::Passed = answer else {
         return Packed {
             number: answer.number(),
             length: 0,
@@ -160,12 +97,13 @@ pub fn join(card: &[u8], first: u8, second: u8, target: &mut [u8]) -> Packed
     let lower = lower(first, second);
     let other = other(first, second);
     let length = card_parts::new_card_length(card, lower, other);
-    if target.len() < length {
+    let answer = tested(length <= target.len(), Refusal::Target);
+    let Checked::Passed = answer else {
         return Packed {
-            number: Refusal::Target.number(),
+            number: answer.number(),
             length: 0,
         };
-    }
+    };
     card_parts::write_card(target, card, lower, other);
     Packed { number: 0, length }
 }

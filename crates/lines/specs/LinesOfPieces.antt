@@ -165,6 +165,22 @@ next-open (x ∷ xs) held h e = go (eqb x lineEnd) refl (next-open xs)
         rw (ended-miss x xs held d, held-miss x xs held d, before-miss lineEnd x xs d, ← held-more x held (before lineEnd xs))
         (i (kept (held ++ (x ∷ []))) (held-short (held ++ (x ∷ []))) (sym (after-miss lineEnd x xs d) ∙ e))
 
+-- bytes after bytes: the lines that end in the first and then those that end in the others, and what these leave
+pub ended-append : (xs ys held : List ℕ)
+    → (endedLines held (xs ++ ys) ≡ endedLines held xs ++ endedLines (heldAfter held xs) ys) × (heldAfter held (xs ++ ys) ≡ heldAfter (heldAfter held xs) ys)
+ended-append [] ys held = rw (none-ended held, none-after held) (refl, refl)
+ended-append (x ∷ xs) ys held = go (eqb x lineEnd) refl (ended-append xs ys)
+  where
+    go : (t : Bool) → eqb x lineEnd ≡ t
+        → ((m : List ℕ) → (endedLines m (xs ++ ys) ≡ endedLines m xs ++ endedLines (heldAfter m xs) ys) × (heldAfter m (xs ++ ys) ≡ heldAfter (heldAfter m xs) ys))
+        → (endedLines held (x ∷ (xs ++ ys)) ≡ endedLines held (x ∷ xs) ++ endedLines (heldAfter held (x ∷ xs)) ys) × (heldAfter held (x ∷ (xs ++ ys)) ≡ heldAfter (heldAfter held (x ∷ xs)) ys)
+    go true e i =
+        rw (ended-hit x (xs ++ ys) held e, held-hit x (xs ++ ys) held e, ended-hit x xs held e, held-hit x xs held e)
+        (ap (λ (r : List (List ℕ)). held ∷ r) (i [] .0), i [] .1)
+    go false e i =
+        rw (ended-miss x (xs ++ ys) held e, held-miss x (xs ++ ys) held e, ended-miss x xs held e, held-miss x xs held e)
+        (i (kept (held ++ (x ∷ []))))
+
 -- what is kept of a line is parsed as the line is
 pub kept-parsed : (l : List ℕ) → parsedLine (kept l) ≡ parsedLine l
 unfolding parsedLine

@@ -1,21 +1,21 @@
 -- What the numbers of the checks say, and how they make up the number of a call. Assumes nothing.
-use mathlib.Core.Path.{_≡_, refl, sym, ap, _∙_}
+use mathlib.Core.Path.{_≡_, refl, sym, _∙_}
 use mathlib.Core.Bool.{Bool, true}
 use mathlib.Core.List.{List, [], _∷_}
 use Prim.Native.Nat.{ℕ, zero, suc, _<_, _≤_}
 use native.Mathlib.Omega.{arith}
 use lib.Dec.{lit<, leb, ltb}
-use borrow.Author.Tests.{leb-true, ltb-true, eq-eqb, ne-eqb}
+use borrow.Author.Tests.{leb-true, ltb-true}
 use lib.ListN.{length}
-use Rattle.basics.specs.Refusals.{refuse, firstOf}
-use Rattle.basics.proofs.Bools.{right}
-use Rattle.basics.proofs.Refusals.{passed, none-first, last-one}
-use Rattle.ranking.specs.declared.Stage.{Stage}
-use Rattle.ranking.specs.Refusals.{isMachineCount, stageNumber}
-use Rattle.ranking.specs.Rankings.{isRanking}
+use Rattle.refusals.specs.Refusals.{refuse, firstOf, checkedNumber}
+use Rattle.basics.proofs.Bools.{left, right}
+use Rattle.refusals.proofs.Refusals.{passed, none-first, last-one, passed-number, refused-number}
+use Rattle.ranking.specs.Rankings.{isMachineCount, isRanking}
+use Rattle.refusals.specs.declared.Refusal.{Refusal}
+use Rattle.refusals.specs.declared.Checked.{Checked}
+use Rattle.refusals.specs.declared.Checked.the-variants.{Passed, Refused}
 use Rattle.ranking.specs.Lemmas.Rankings.{ranking-facts, machine-count}
-use Rattle.live.specs.Rows.{fits, hasRoom, counted, refusedCount}
-use Rattle.live.specs.Steps.{answeredWith}
+use Rattle.live.specs.Rows.{fits, hasRoom}
 
 -- the number of some checks is that of one more, or the last decides
 two-stay : (a b c : ℕ) → 0 < firstOf (a ∷ b ∷ []) → firstOf (a ∷ b ∷ c ∷ []) ≡ firstOf (a ∷ b ∷ [])
@@ -41,26 +41,24 @@ three-go zero (suc b) c d h = absurd (omega arith)
 three-go (suc a) b c d h = absurd (omega arith)
 
 -- the number of the checks 1, 7 and 23
-abbrev pub checked : ℕ → List ℕ → Bool → ℕ
-checked K ranking sound = firstOf (refuse 1 (isMachineCount K) ∷ refuse 7 (isRanking K ranking) ∷ refuse 23 sound ∷ [])
+abbrev pub firstThree : ℕ → List ℕ → Bool → ℕ
+firstThree K ranking sound = firstOf (refuse 1 (isMachineCount K) ∷ refuse 7 (isRanking K ranking) ∷ refuse 23 sound ∷ [])
 
--- a stage s of the checks 1 and 7 that answered t
-module _ {s t : Stage} (told : s ≡ t) (K : ℕ) (ranking : List ℕ) (is : stageNumber s ≡ firstOf (refuse 1 (isMachineCount K) ∷ refuse 7 (isRanking K ranking) ∷ [])) where
-  pub stage-passed : (sound : Bool) → stageNumber t ≡ 0 → checked K ranking sound ≡ refuse 23 sound
-  stage-passed sound z = two-go (refuse 1 (isMachineCount K)) (refuse 7 (isRanking K ranking)) (refuse 23 sound) (sym is ∙ ap stageNumber told ∙ z)
+-- the checks 1 and 7 passed, and 23 decides; or one of them refused
+module _ (K : ℕ) (ranking : List ℕ) {s : Checked} (is : checkedNumber s ≡ firstOf (refuse 1 (isMachineCount K) ∷ refuse 7 (isRanking K ranking) ∷ [])) where
+  pub two-passed : s ≡ Passed → (sound : Bool) → firstThree K ranking sound ≡ refuse 23 sound
+  two-passed told sound = two-go (refuse 1 (isMachineCount K)) (refuse 7 (isRanking K ranking)) (refuse 23 sound) (passed-number told is)
 
-  pub stage-refused : (sound : Bool) → 0 < stageNumber t → checked K ranking sound ≡ stageNumber t
-  stage-refused sound h =
-      let q : stageNumber s ≡ stageNumber t = ap stageNumber told in
-      two-stay (refuse 1 (isMachineCount K)) (refuse 7 (isRanking K ranking)) (refuse 23 sound) (omega (arith, is, q, h)) ∙ sym is ∙ q
+  pub two-refused : {r : Refusal} → s ≡ Refused r → (sound : Bool) → checkedNumber s ≡ firstThree K ranking sound
+  two-refused told sound = is ∙ sym (two-stay (refuse 1 (isMachineCount K)) (refuse 7 (isRanking K ranking)) (refuse 23 sound) (refused-number told is))
 
 -- what the number says where it is 0
-pub record Passed (K : ℕ) (ranking : List ℕ) (sound : Bool) : Type 0 where
+pub record ThreePassed (K : ℕ) (ranking : List ℕ) (sound : Bool) : Type 0 where
   pub counts : isMachineCount K ≡ true
   pub ranks : isRanking K ranking ≡ true
   pub rows : sound ≡ true
 
-pub all-passed : (K : ℕ) (ranking : List ℕ) (sound : Bool) → checked K ranking sound ≡ 0 → Passed K ranking sound
+pub all-passed : (K : ℕ) (ranking : List ℕ) (sound : Bool) → firstThree K ranking sound ≡ 0 → ThreePassed K ranking sound
 all-passed K ranking sound e =
     let a = none-first (refuse 1 (isMachineCount K)) (refuse 7 (isRanking K ranking) ∷ refuse 23 sound ∷ []) e in
     let b = none-first (refuse 7 (isRanking K ranking)) (refuse 23 sound ∷ []) (a .1) in
@@ -77,16 +75,12 @@ fits-within count length t = leb-true count length (right (leb count 32) (leb co
 pub room-within : (count length : ℕ) → hasRoom count length ≡ true → count < length
 room-within count length t = ltb-true count length (right (ltb count 32) (ltb count length) t)
 
+pub room-few : (count length : ℕ) → hasRoom count length ≡ true → count < 32
+room-few count length t = ltb-true count 32 (left (ltb count 32) (ltb count length) t)
+
 -- what the comparison asks of a ranking
 pub ranking-sound : (K : ℕ) (ranking : List ℕ) → isMachineCount K ≡ true → isRanking K ranking ≡ true → (isRanking (length ranking) ranking ≡ true) × (length ranking ≤ 6)
 ranking-sound K ranking counts ranks =
     let f = ranking-facts K ranking ranks in
     let e : length ranking ≡ K = f .places in
     (rw e ranks, omega (arith, e, machine-count K counts))
-
--- as many rows as before, or not
-pub answered-same : (after before : ℕ) → after ≡ before → answeredWith before after ≡ refusedCount 24
-answered-same after before e = rw (eq-eqb after before e, answeredWith)
-
-pub answered-other : (after before : ℕ) → (after ≡ before → ⊥) → answeredWith before after ≡ counted after
-answered-other after before n = rw (ne-eqb after before n, answeredWith)

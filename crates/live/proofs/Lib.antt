@@ -1,4 +1,5 @@
 pub mod RowKind
+pub mod CheckedKind
 pub mod Shared
 pub mod Tests
 pub mod Places

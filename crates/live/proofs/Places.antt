@@ -1,17 +1,24 @@
 -- Laws of the search for an id, of the removal and of the search for the best row, for the loops. Assumes nothing.
 use mathlib.Core.Path.{_≡_, refl, sym, ap, _∙_}
-use mathlib.Core.Bool.{Bool, true, false}
+use mathlib.Core.Bool.{Bool, true, false, not}
 use mathlib.Core.List.{List, [], _∷_, _++_}
 use Prim.Native.Nat.{ℕ, zero, suc, _+_, _-_, _<_, _≤_}
 use native.Mathlib.Numerals.{add-one}
 use native.Mathlib.Nat.{zero-add, sub-zero}
 use native.Mathlib.Omega.{arith}
+use lib.Dec.{eqb, lit<}
 use lib.ListN.{length, set, take, drop, length-set, length-take}
 use lib.Seq.{drop-cons}
+use borrow.Author.Tests.{eqb-true, eqb-false, not-true, not-false}
+use Rattle.refusals.specs.declared.Refusal.{Refusal}
+use Rattle.refusals.specs.declared.Checked.{Checked}
+use Rattle.refusals.specs.declared.Checked.the-variants.{Passed, Refused}
+use Rattle.refusals.specs.Refusals.{checkedNumber, refuse}
+use Rattle.refusals.proofs.Refusals.{was-true, was-false}
 use Rattle.live.specs.declared.Row.{Row}
 use Rattle.live.specs.Rows.{zeroRow, hasId, present, without, removed, led}
 use Rattle.live.specs.Laws.Rows.{without-none, without-here, present-here, present-later}
-use Rattle.live.specs.Steps.{rowAt, place, closingBy, puttingIn, countPut, takingOut, countTaken, betterOf, bestFrom, leaderDown}
+use Rattle.live.specs.Steps.{rowAt, place, closingBy, puttingIn, takingOut, betterOf, bestFrom, leaderDown}
 
 -- the rows from a place on, of the first count
 abbrev pub rest : ℕ → List Row → ℕ → List Row
@@ -185,25 +192,56 @@ there-first : (id count : ℕ) (l : List Row) → count ≤ length l → (place 
 there-first id count l h n = there id (take count l) (λ e. n (e ∙ first-long count l h))
 
 -- ---- taking out: the id is not there, or it is
-pub not-taken : (id count : ℕ) (l : List Row) → count ≤ length l → place id (take count l) ≡ count → (l ≡ takingOut id count l) × (count ≡ countTaken id count l)
-unfolding takingOut countTaken
-not-taken id count l h e = let p = absent-first id count l h e in (rw (p, takingOut), rw (p, countTaken))
+pub not-taken : (id count : ℕ) (l : List Row) → count ≤ length l → place id (take count l) ≡ count → l ≡ takingOut id count l
+unfolding takingOut
+not-taken id count l h e = rw (absent-first id count l h e, takingOut)
 
 pub taken : (id count : ℕ) (l : List Row) → count ≤ length l → (place id (take count l) ≡ count → ⊥)
-    → (closingBy (count - 1 - place id (take count l)) (place id (take count l)) l ≡ takingOut id count l) × (count - 1 ≡ countTaken id count l)
-unfolding takingOut countTaken
-taken id count l h n =
-    let p = there-first id count l h n in
-    (rw (p, takingOut) (closed-removed id count l h (found id count l h n)), rw (p, countTaken))
+    → closingBy (count - 1 - place id (take count l)) (place id (take count l)) l ≡ takingOut id count l
+unfolding takingOut
+taken id count l h n = rw (there-first id count l h n, takingOut) (closed-removed id count l h (found id count l h n))
 
 -- ---- putting in: the id is there, or it is not
-pub not-put : (count : ℕ) (l : List Row) (row : Row) → count ≤ length l → (place (row .id) (take count l) ≡ count → ⊥) → (l ≡ puttingIn count l row) × (count ≡ countPut (row .id) count l)
-unfolding puttingIn countPut
-not-put count l row h n = let p = there-first (row .id) count l h n in (rw (p, puttingIn), rw (p, countPut))
+pub not-put : (count : ℕ) (l : List Row) (row : Row) → count ≤ length l → (place (row .id) (take count l) ≡ count → ⊥) → l ≡ puttingIn count l row
+unfolding puttingIn
+not-put count l row h n = rw (there-first (row .id) count l h n, puttingIn)
 
-pub put : (count : ℕ) (l : List Row) (row : Row) → count ≤ length l → place (row .id) (take count l) ≡ count → (set l count row ≡ puttingIn count l row) × (count + 1 ≡ countPut (row .id) count l)
-unfolding puttingIn countPut
-put count l row h e = let p = absent-first (row .id) count l h e in (rw (p, puttingIn), rw (p, countPut))
+pub put : (count : ℕ) (l : List Row) (row : Row) → count ≤ length l → place (row .id) (take count l) ≡ count → set l count row ≡ puttingIn count l row
+unfolding puttingIn
+put count l row h e = rw (absent-first (row .id) count l h e, puttingIn)
+
+-- ---- refusal 24 by the place r that was found, of a check that refused or passed
+module _ (id count : ℕ) (l : List Row) (h : count ≤ length l) (r : ℕ) (is : r ≡ place id (take count l)) where
+  apart : eqb r count ≡ false → place id (take count l) ≡ count → ⊥
+  apart f e = eqb-false r count f (is ∙ e)
+
+  at-end : eqb r count ≡ true → place id (take count l) ≡ count
+  at-end t = sym is ∙ eqb-true r count t
+
+  module _ {a : Checked} where
+    -- of an add
+    pub absent-refused : {x : Refusal} → a ≡ Refused x → checkedNumber a ≡ refuse 24 (eqb r count) → (place id (take count l) ≡ count → ⊥) × (checkedNumber a ≡ refuse 24 (not (present id (take count l))))
+    absent-refused told e =
+        let f = was-false told 24 (eqb r count) e in
+        (apart f, e ∙ ap (refuse 24) (f ∙ sym (ap not (there-first id count l h (apart f)))))
+
+    pub absent-passed : a ≡ Passed → checkedNumber a ≡ refuse 24 (eqb r count) → (place id (take count l) ≡ count) × (checkedNumber a ≡ refuse 24 (not (present id (take count l))))
+    absent-passed told e =
+        let t = was-true told 24 (eqb r count) (lit< tt) e in
+        (at-end t, e ∙ ap (refuse 24) (t ∙ sym (ap not (absent-first id count l h (at-end t)))))
+
+    -- of a removal
+    pub present-refused : {x : Refusal} → a ≡ Refused x → checkedNumber a ≡ refuse 24 (not (eqb r count)) → (place id (take count l) ≡ count) × (checkedNumber a ≡ refuse 24 (present id (take count l)))
+    present-refused told e =
+        let f = was-false told 24 (not (eqb r count)) e in
+        let t = not-false (eqb r count) f in
+        (at-end t, e ∙ ap (refuse 24) (f ∙ sym (absent-first id count l h (at-end t))))
+
+    pub present-passed : a ≡ Passed → checkedNumber a ≡ refuse 24 (not (eqb r count)) → (place id (take count l) ≡ count → ⊥) × (checkedNumber a ≡ refuse 24 (present id (take count l)))
+    present-passed told e =
+        let t = was-true told 24 (not (eqb r count)) (lit< tt) e in
+        let f = not-true (eqb r count) t in
+        (apart f, e ∙ ap (refuse 24) (t ∙ sym (there-first id count l h (apart f))))
 
 -- ---- the search for the best row has come to a place
 pub record Led (ranking : List ℕ) (count : ℕ) (l : List Row) (best : Row) (i : ℕ) : Type 0 where

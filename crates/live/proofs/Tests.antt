@@ -3,7 +3,7 @@ use mathlib.Core.Path.{_≡_, refl}
 use mathlib.Core.Bool.{Bool, true, false, not}
 use Prim.Native.Nat.{ℕ, _<_}
 use native.Mathlib.Omega.{arith}
-use lib.Dec.{T as Holds, eqb, eqb→eq}
+use lib.Dec.{T as Holds, eqb}
 use borrow.Author.Tests.{eqb-false}
 
 pub is-true : (b : Bool) → Holds b → b ≡ true
@@ -14,13 +14,6 @@ pub is-false : (b : Bool) → Holds (not b) → b ≡ false
 is-false true h = absurd h
 is-false false h = refl
 
-pub not-not : (b : Bool) → Holds (not (not b)) → Holds b
-not-not true h = h
-not-not false h = h
-
--- a number held to be 0, or not
-pub zero-is : (n : ℕ) → Holds (not (not (eqb n 0))) → n ≡ 0
-zero-is n h = eqb→eq n 0 (not-not (eqb n 0) h)
-
+-- a number held not to be 0
 pub positive : (n : ℕ) → Holds (not (eqb n 0)) → 0 < n
 positive n h = let other = eqb-false n 0 (is-false (eqb n 0) h) in omega (arith, other)

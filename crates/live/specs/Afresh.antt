@@ -1,13 +1,12 @@
--- A list of adds and removals on one list of records, each call given the row count that the last accepted one answered; and the rows worked out
--- afresh from the calls alone.
+-- Adds and removals that were run on one list of records, as their contracts tell them; and the rows worked out afresh from the accepted calls alone.
+use mathlib.Core.Path.{_≡_}
 use mathlib.Core.Bool.{Bool, true, false, _||_}
-use mathlib.Core.List.{List, [], _∷_}
-use Prim.Native.Nat.{ℕ}
+use mathlib.Core.List.{List, [], _∷_, _++_}
+use Prim.Native.Nat.{ℕ, _<_}
 use lib.Dec.{eqb}
-use Rattle.basics.specs.Refusals.{unlessRefused}
 use Rattle.live.specs.declared.Row.{Row}
 use Rattle.live.specs.declared.Counted.{Counted}
-use Rattle.live.specs.Calls.{adding, addedList, removing, removedList}
+use Rattle.live.specs.Calls.{Adds, Removes}
 
 -- an add with its row, a removal with its id
 pub data Call : Type 0 where
@@ -23,29 +22,19 @@ pub record Table : Type 0 where
 abbrev pub started : List Row → Table
 started l = record { count = 0; list = l }
 
-module _ (K : ℕ) (ranking : List ℕ) where
-  -- what a call answers, and what it leaves in the list
-  abbrev pub answerTo : Table → Call → Counted
-  answerTo t (Add row) = adding K ranking (t .count) (t .list) row
-  answerTo t (Remove id) = removing K ranking (t .count) (t .list) id
+-- what a call's contract says of the list that it leaves, m, and of its answer
+abbrev pub Does : ℕ → List ℕ → Table → Call → List Row → Counted → Type 0
+Does K ranking t (Add row) m answer = Adds K ranking (t .count) (t .list) m row answer
+Does K ranking t (Remove id) m answer = Removes K ranking (t .count) (t .list) m id answer
 
-  abbrev pub listAfter : Table → Call → List Row
-  listAfter t (Add row) = addedList K ranking (t .count) (t .list) row
-  listAfter t (Remove id) = removedList K ranking (t .count) (t .list) id
-
-  -- a refused call leaves the row count as it was
-  abbrev pub next : Table → Call → Table
-  next t c = record { count = unlessRefused (answerTo t c .number) (answerTo t c .count) (λ n. t .count); list = listAfter t c }
-
-  -- the table after some calls
-  unfoldable pub after : Table → List Call → Table
-  after t [] = t
-  after t (c ∷ cs) = after (next t c) cs
-
-  -- those of the calls that are accepted
-  unfoldable pub accepted : Table → List Call → List Call
-  accepted t [] = []
-  accepted t (c ∷ cs) = unlessRefused (answerTo t c .number) (c ∷ accepted (next t c) cs) (λ n. accepted (next t c) cs)
+-- calls that were run, those of them that were accepted, and the table then: each call is given the row count that the last accepted one answered,
+-- 0 at first
+pub data Ran (K : ℕ) (ranking : List ℕ) (l : List Row) : List Call → List Call → Table → Type 0 where
+  begun : Ran K ranking l [] [] (started l)
+  accepts : {calls done : List Call} {t : Table} (c : Call) (m : List Row) (answer : Counted) → Ran K ranking l calls done t → Does K ranking t c m answer → answer .number ≡ 0
+      → Ran K ranking l (calls ++ (c ∷ [])) (done ++ (c ∷ [])) (record { count = answer .count; list = m })
+  refuses : {calls done : List Call} {t : Table} (c : Call) (m : List Row) (answer : Counted) → Ran K ranking l calls done t → Does K ranking t c m answer → 0 < answer .number
+      → Ran K ranking l (calls ++ (c ∷ [])) done (record { count = t .count; list = m })
 
 -- whether some call removes an id
 unfoldable pub removes : ℕ → List Call → Bool

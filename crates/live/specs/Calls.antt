@@ -4,9 +4,8 @@ use mathlib.Core.Bool.{not}
 use mathlib.Core.List.{List, [], _∷_}
 use Prim.Native.Nat.{ℕ, _+_, _-_}
 use lib.ListN.{length, take}
-use Rattle.basics.specs.Refusals.{refuse, firstOf, unlessRefused}
-use Rattle.ranking.specs.Refusals.{isMachineCount}
-use Rattle.ranking.specs.Rankings.{isRanking}
+use Rattle.refusals.specs.Refusals.{refuse, firstOf, unlessRefused}
+use Rattle.ranking.specs.Rankings.{isMachineCount, isRanking}
 use Rattle.live.specs.declared.Row.{Row}
 use Rattle.live.specs.declared.Counted.{Counted}
 use Rattle.live.specs.declared.Lead.{Lead}

@@ -9,18 +9,18 @@ use lib.Dec.{ltb, lit<}
 use lib.ListN.{length, set, take, drop, length-append, length-drop, length-set}
 use lib.Seq.{length-take-le, take-suc-set, take-at}
 use borrow.Author.Tests.{ltb-true, le-leb, not-true}
-use Rattle.basics.specs.Refusals.{refuse, firstOf, unlessRefused}
+use Rattle.refusals.specs.Refusals.{refuse, firstOf, unlessRefused}
 use Rattle.basics.specs.Search.{pairwise}
 use Rattle.basics.proofs.Bools.{both, left, right}
 use Rattle.basics.proofs.Search.{pairwise-those}
-use Rattle.basics.proofs.Refusals.{passed, passes-with, none-first, not-accepted}
-use Rattle.basics.proofs.Refusals as by-number
-use Rattle.ranking.specs.Refusals.{isMachineCount}
-use Rattle.ranking.specs.Rankings.{isRanking}
+use Rattle.refusals.proofs.Refusals.{passed, passes-with, none-first, not-accepted}
+use Rattle.refusals.proofs.Refusals as by-number
+use Rattle.ranking.specs.Rankings.{isMachineCount, isRanking}
 use Rattle.live.specs.declared.Row.{Row}
+use Rattle.live.specs.declared.Counted.{Counted}
 use Rattle.live.specs.Rows.{zeroRow, present, without, removed, fits, hasRoom, leaderOf, counted, refusedCount, unled, leadAnswer}
-use Rattle.live.specs.Calls.{addingRefusal, removingRefusal, leading}
-use Rattle.live.specs.Afresh.{Call, Add, Remove, Table, started, answerTo, next, after, accepted, afresh}
+use Rattle.live.specs.Calls.{Adds, Removes, adding, addedList, removing, removedList, addingRefusal, removingRefusal, leading}
+use Rattle.live.specs.Afresh.{Call, Add, Remove, Table, started, Does, Ran, begun, accepts, refuses, afresh}
 use Rattle.live.specs.Laws.Rows.{lacks, differ, length-without, without-those, differ-last}
 use Rattle.live.specs.Laws.Afresh.{afresh-add, afresh-remove}
 
@@ -65,31 +65,19 @@ last-two a b c d e =
     let r = none-first c (d ∷ []) (q .1) in
     (r .0, none-first d [] (r .1) .0)
 
--- the row count after a call with the number n that answers x where it is accepted
-count-more : (n x old : ℕ) → n ≡ 0 → unlessRefused (unlessRefused n (counted x) refusedCount .number) (unlessRefused n (counted x) refusedCount .count) (λ m. old) ≡ x
-count-more zero x old e = refl
-count-more (suc n) x old e = absurd (omega arith)
+-- an answer's number and row count, of a call with the number n that answers x where it is accepted
+answer-number : (n x : ℕ) (answer : Counted) → answer ≡ unlessRefused n (counted x) refusedCount → answer .number ≡ n
+answer-number zero x answer e = ap (λ (a : Counted). a .number) e
+answer-number (suc n) x answer e = ap (λ (a : Counted). a .number) e
 
-count-old : (n x old : ℕ) → 0 < n → unlessRefused (unlessRefused n (counted x) refusedCount .number) (unlessRefused n (counted x) refusedCount .count) (λ m. old) ≡ old
-count-old zero x old h = absurd (omega arith)
-count-old (suc n) x old h = refl
-
-answer-number : (n x : ℕ) → unlessRefused n (counted x) refusedCount .number ≡ n
-answer-number zero x = refl
-answer-number (suc n) x = refl
+answer-count : (n x : ℕ) (answer : Counted) → answer ≡ unlessRefused n (counted x) refusedCount → n ≡ 0 → answer .count ≡ x
+answer-count n x answer e z = ap (λ (a : Counted). a .count) (e ∙ by-number.accepted (counted x) refusedCount z)
 
 module _ (K : ℕ) (ranking : List ℕ) (l : List Row) where
-  -- the number of a call on a table
-  abbrev numberTo : Table → Call → ℕ
-  numberTo t (Add row) = addingRefusal K ranking (t .count) (t .list) (row .id)
-  numberTo t (Remove id) = removingRefusal K ranking (t .count) (t .list) id
-
-  number-is : (t : Table) (c : Call) → answerTo K ranking t c .number ≡ numberTo t c
-  number-is t (Add row) = answer-number (addingRefusal K ranking (t .count) (t .list) (row .id)) (t .count + 1)
-  number-is t (Remove id) = answer-number (removingRefusal K ranking (t .count) (t .list) id) (t .count - 1)
-
-  add-step : (t : Table) (row : Row) (done : List Call) → Kept l t done → numberTo t (Add row) ≡ 0 → Kept l (next K ranking t (Add row)) (done ++ (Add row ∷ []))
-  add-step t row done k e =
+  add-step : (t : Table) (row : Row) (m : List Row) (answer : Counted) (done : List Call) → Kept l t done → Adds K ranking (t .count) (t .list) m row answer → answer .number ≡ 0
+      → Kept l (record { count = answer .count; list = m }) (done ++ (Add row ∷ []))
+  add-step t row m answer done k a z =
+      let e : addingRefusal K ranking (t .count) (t .list) (row .id) ≡ 0 = sym (answer-number (addingRefusal K ranking (t .count) (t .list) (row .id)) (t .count + 1) answer (a .answers)) ∙ z in
       let two = last-two (refuse 1 (isMachineCount K)) (refuse 7 (isRanking K ranking)) (refuse 23 (hasRoom (t .count) (length (t .list)))) (refuse 24 (not (present (row .id) (take (t .count) (t .list))))) e in
       let room : hasRoom (t .count) (length (t .list)) ≡ true = passed 23 (hasRoom (t .count) (length (t .list))) (lit< tt) (two .0) in
       let absent : present (row .id) (take (t .count) (t .list)) ≡ false = not-true (present (row .id) (take (t .count) (t .list))) (passed 24 (not (present (row .id) (take (t .count) (t .list)))) (lit< tt) (two .1)) in
@@ -97,7 +85,7 @@ module _ (K : ℕ) (ranking : List ℕ) (l : List Row) where
       let inside : t .count < length (t .list) = ltb-true (t .count) (length (t .list)) (right (ltb (t .count) 32) (ltb (t .count) (length (t .list))) room) in
       let one : t .count + 1 ≡ suc (t .count) = omega arith in
       let same = length-set (t .list) (t .count) row in
-      carried (record { count = t .count + 1; list = set (t .list) (t .count) row }) (next K ranking t (Add row))
+      carried (record { count = t .count + 1; list = set (t .list) (t .count) row }) (record { count = answer .count; list = m })
       (record {
         rows = ap (λ (n : ℕ). take n (set (t .list) (t .count) row)) one ∙ take-suc-set (t .list) (t .count) row inside ∙ ap (λ (rows : List Row). rows ++ (row ∷ [])) (k .rows) ∙ sym (afresh-add done row);
         once = ap (λ (rows : List Row). pairwise differ rows) (afresh-add done row) ∙ differ-last (afresh done) row (k .once) (ap (λ (rows : List Row). present (row .id) rows) (sym (k .rows)) ∙ absent);
@@ -105,11 +93,13 @@ module _ (K : ℕ) (ranking : List ℕ) (l : List Row) where
         within = omega (arith, same, inside);
         few = omega (arith, small);
       })
-      (count-more (numberTo t (Add row)) (t .count + 1) (t .count) e)
-      (by-number.accepted (set (t .list) (t .count) row) (λ n. t .list) e)
+      (answer-count (addingRefusal K ranking (t .count) (t .list) (row .id)) (t .count + 1) answer (a .answers) e)
+      (a .leaves ∙ by-number.accepted (set (t .list) (t .count) row) (λ n. t .list) e)
 
-  remove-step : (t : Table) (id : ℕ) (done : List Call) → Kept l t done → numberTo t (Remove id) ≡ 0 → Kept l (next K ranking t (Remove id)) (done ++ (Remove id ∷ []))
-  remove-step t id done k e =
+  remove-step : (t : Table) (id : ℕ) (m : List Row) (answer : Counted) (done : List Call) → Kept l t done → Removes K ranking (t .count) (t .list) m id answer → answer .number ≡ 0
+      → Kept l (record { count = answer .count; list = m }) (done ++ (Remove id ∷ []))
+  remove-step t id m answer done k a z =
+      let e : removingRefusal K ranking (t .count) (t .list) id ≡ 0 = sym (answer-number (removingRefusal K ranking (t .count) (t .list) id) (t .count - 1) answer (a .answers)) ∙ z in
       let two = last-two (refuse 1 (isMachineCount K)) (refuse 7 (isRanking K ranking)) (refuse 23 (fits (t .count) (length (t .list)))) (refuse 24 (present id (take (t .count) (t .list)))) e in
       let there : present id (take (t .count) (t .list)) ≡ true = passed 24 (present id (take (t .count) (t .list))) (lit< tt) (two .1) in
       let fewer = length-without id (take (t .count) (t .list)) there in
@@ -118,7 +108,7 @@ module _ (K : ℕ) (ranking : List ℕ) (l : List Row) where
       let behind = length-drop (t .count) (t .list) in
       let joined = length-append (without id (take (t .count) (t .list))) (zeroRow ∷ drop (t .count) (t .list)) in
       let same : length (removed id (t .count) (t .list)) ≡ length (t .list) = omega (arith, joined, fewer, all, behind, k .within) in
-      carried (record { count = t .count - 1; list = removed id (t .count) (t .list) }) (next K ranking t (Remove id))
+      carried (record { count = t .count - 1; list = removed id (t .count) (t .list) }) (record { count = answer .count; list = m })
       (record {
         rows = take-at (without id (take (t .count) (t .list))) (zeroRow ∷ drop (t .count) (t .list)) (t .count - 1) left-over ∙ ap (without id) (k .rows) ∙ without-those id (afresh done) (k .once) ∙ sym (afresh-remove done id);
         once = ap (λ (rows : List Row). pairwise differ rows) (afresh-remove done id) ∙ pairwise-those (lacks id) differ (afresh done) (k .once);
@@ -126,50 +116,33 @@ module _ (K : ℕ) (ranking : List ℕ) (l : List Row) where
         within = omega (arith, same, k .within);
         few = omega (arith, k .few);
       })
-      (count-more (numberTo t (Remove id)) (t .count - 1) (t .count) e)
-      (by-number.accepted (removed id (t .count) (t .list)) (λ n. t .list) e)
+      (answer-count (removingRefusal K ranking (t .count) (t .list) id) (t .count - 1) answer (a .answers) e)
+      (a .leaves ∙ by-number.accepted (removed id (t .count) (t .list)) (λ n. t .list) e)
 
-  accepted-step : (t : Table) (c : Call) (done : List Call) → Kept l t done → numberTo t c ≡ 0 → Kept l (next K ranking t c) (done ++ (c ∷ []))
-  accepted-step t (Add row) done k e = add-step t row done k e
-  accepted-step t (Remove id) done k e = remove-step t id done k e
+  accepted-step : (t : Table) (c : Call) (m : List Row) (answer : Counted) (done : List Call) → Kept l t done → Does K ranking t c m answer → answer .number ≡ 0
+      → Kept l (record { count = answer .count; list = m }) (done ++ (c ∷ []))
+  accepted-step t (Add row) m answer done k a z = add-step t row m answer done k a z
+  accepted-step t (Remove id) m answer done k a z = remove-step t id m answer done k a z
 
   -- a refused call changes nothing
-  refused-step : (t : Table) (c : Call) (done : List Call) → Kept l t done → 0 < numberTo t c → Kept l (next K ranking t c) done
-  refused-step t (Add row) done k h =
-      carried t (next K ranking t (Add row)) k (count-old (numberTo t (Add row)) (t .count + 1) (t .count) h) (not-accepted (numberTo t (Add row)) (set (t .list) (t .count) row) (λ n. t .list) h)
-  refused-step t (Remove id) done k h =
-      carried t (next K ranking t (Remove id)) k (count-old (numberTo t (Remove id)) (t .count - 1) (t .count) h) (not-accepted (numberTo t (Remove id)) (removed id (t .count) (t .list)) (λ n. t .list) h)
-
-  accepted-yes : (t : Table) (c : Call) (cs : List Call) → answerTo K ranking t c .number ≡ 0 → accepted K ranking t (c ∷ cs) ≡ c ∷ accepted K ranking (next K ranking t c) cs
-  unfolding accepted
-  accepted-yes t c cs e = by-number.accepted (c ∷ accepted K ranking (next K ranking t c) cs) (λ n. accepted K ranking (next K ranking t c) cs) e
-
-  accepted-no : (t : Table) (c : Call) (cs : List Call) → 0 < answerTo K ranking t c .number → accepted K ranking t (c ∷ cs) ≡ accepted K ranking (next K ranking t c) cs
-  unfolding accepted
-  accepted-no t c cs h = not-accepted (answerTo K ranking t c .number) (c ∷ accepted K ranking (next K ranking t c) cs) (λ n. accepted K ranking (next K ranking t c) cs) h
-
-  kept-after : (cs : List Call) (t : Table) (done : List Call) → Kept l t done → Kept l (after K ranking t cs) (done ++ accepted K ranking t cs)
-  unfolding after accepted
-  kept-after [] t done k = subst (λ (d : List Call). Kept l t d) (sym (append-nil done)) k
-  kept-after (c ∷ cs) t done k = go (answerTo K ranking t c .number) refl (kept-after cs)
-    where
-      u : Table
-      u = next K ranking t c
-
-      go : (n : ℕ) → answerTo K ranking t c .number ≡ n → ((t : Table) (done : List Call) → Kept l t done → Kept l (after K ranking t cs) (done ++ accepted K ranking t cs))
-          → Kept l (after K ranking u cs) (done ++ accepted K ranking t (c ∷ cs))
-      go zero e rest =
-          subst (λ (d : List Call). Kept l (after K ranking u cs) d)
-          (append-assoc done (c ∷ []) (accepted K ranking u cs) ∙ ap (λ (d : List Call). done ++ d) (sym (accepted-yes t c cs e)))
-          (rest u (done ++ (c ∷ [])) (accepted-step t c done k (sym (number-is t c) ∙ e)))
-      go (suc n) e rest =
-          let h : 0 < answerTo K ranking t c .number = omega (arith, e) in
-          subst (λ (d : List Call). Kept l (after K ranking u cs) d) (ap (λ (d : List Call). done ++ d) (sym (accepted-no t c cs h)))
-          (rest u done (refused-step t c done k (omega (arith, h, number-is t c))))
+  refused-leaves : (t : Table) (c : Call) (m : List Row) (answer : Counted) → Does K ranking t c m answer → 0 < answer .number → m ≡ t .list
+  refused-leaves t (Add row) m answer a h =
+      let n = addingRefusal K ranking (t .count) (t .list) (row .id) in
+      let more : 0 < n = omega (arith, h, answer-number n (t .count + 1) answer (a .answers)) in
+      a .leaves ∙ not-accepted n (set (t .list) (t .count) row) (λ n. t .list) more
+  refused-leaves t (Remove id) m answer a h =
+      let n = removingRefusal K ranking (t .count) (t .list) id in
+      let more : 0 < n = omega (arith, h, answer-number n (t .count - 1) answer (a .answers)) in
+      a .leaves ∙ not-accepted n (removed id (t .count) (t .list)) (λ n. t .list) more
 
   kept-start : Kept l (started l) []
   unfolding afresh pairwise
   kept-start = record { rows = refl; once = refl; long = refl; within = omega arith; few = omega arith }
+
+  kept-ran : {calls done : List Call} {t : Table} → Ran K ranking l calls done t → Kept l t done
+  kept-ran begun = kept-start
+  kept-ran (accepts {calls} {done} {t} c m answer r d z) = accepted-step t c m answer done (kept-ran r) d z
+  kept-ran (refuses {calls} {done} {t} c m answer r d h) = carried t (record { count = t .count; list = m }) (kept-ran r) refl (refused-leaves t c m answer d h)
 
   -- ---- what that says
   three-zero : (a b c : ℕ) → a ≡ 0 → b ≡ 0 → c ≡ 0 → firstOf (a ∷ b ∷ c ∷ []) ≡ 0
@@ -205,6 +178,28 @@ module _ (K : ℕ) (ranking : List ℕ) (l : List Row) where
       adds : ℕ → ℕ → ℕ → List Row → ℕ
       adds id n m rows = firstOf (refuse 1 (isMachineCount K) ∷ refuse 7 (isRanking K ranking) ∷ refuse 23 (hasRoom n m) ∷ refuse 24 (not (present id rows)) ∷ [])
 
-  -- every list of calls, from an empty table in the list l
-  pub live-tableau : (calls : List Call) → WorkedOut K ranking l (after K ranking (started l) calls) (accepted K ranking (started l) calls)
-  live-tableau calls = worked-out (after K ranking (started l) calls) (accepted K ranking (started l) calls) (kept-after calls (started l) [] kept-start)
+  -- every table that was run to
+  pub live-tableau : {calls done : List Call} {t : Table} → Ran K ranking l calls done t → WorkedOut K ranking l t done
+  live-tableau {calls} {done} {t} r = worked-out t done (kept-ran r)
+
+  -- every list of calls has a run
+  abbrev pub Runs : List Call → Type 0
+  Runs calls = (done : List Call) × (t : Table) × Ran K ranking l calls done t
+
+  does : (t : Table) (c : Call) → (m : List Row) × (answer : Counted) × Does K ranking t c m answer
+  does t (Add row) = (addedList K ranking (t .count) (t .list) row, adding K ranking (t .count) (t .list) row, record { answers = refl; leaves = refl })
+  does t (Remove id) = (removedList K ranking (t .count) (t .list) id, removing K ranking (t .count) (t .list) id, record { answers = refl; leaves = refl })
+
+  runs-on : (calls made done : List Call) (t : Table) → Ran K ranking l made done t → Runs (made ++ calls)
+  runs-on [] made done t r = (done, t, subst (λ (cs : List Call). Ran K ranking l cs done t) (sym (append-nil made)) r)
+  runs-on (c ∷ cs) made done t r =
+      let (m, answer, d) = does t c in
+      subst Runs (append-assoc made (c ∷ []) cs) (go m answer d (answer .number) refl (runs-on cs (made ++ (c ∷ []))))
+    where
+      go : (m : List Row) (answer : Counted) → Does K ranking t c m answer → (n : ℕ) → answer .number ≡ n
+          → ((done : List Call) (t : Table) → Ran K ranking l (made ++ (c ∷ [])) done t → Runs ((made ++ (c ∷ [])) ++ cs)) → Runs ((made ++ (c ∷ [])) ++ cs)
+      go m answer d zero e rest = rest (done ++ (c ∷ [])) (record { count = answer .count; list = m }) (accepts c m answer r d e)
+      go m answer d (suc n) e rest = rest done (record { count = t .count; list = m }) (refuses c m answer r d (omega (arith, e)))
+
+  pub every-list-runs : (calls : List Call) → Runs calls
+  every-list-runs calls = runs-on calls [] [] (started l) begun

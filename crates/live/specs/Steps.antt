@@ -1,20 +1,12 @@
--- The steps by which the code finds, moves and compares rows, and the numbers of its refusals.
+-- The steps by which the code finds, moves and compares rows.
 use mathlib.Core.Bool.{Bool, true, false}
 use mathlib.Core.List.{List, [], _∷_}
 use Prim.Native.Nat.{ℕ, zero, suc, _+_, _-_}
-use lib.Dec.{eqb}
 use lib.ListN.{getD, set, take}
 use Rattle.ranking.specs.Harmony.{better}
 use Rattle.live.specs.declared.Row.{Row}
-use Rattle.live.specs.declared.Counted.{Counted}
 use Rattle.live.specs.declared.Lead.{Lead}
-use Rattle.live.specs.declared.Refusal.{Refusal}
-use Rattle.live.specs.declared.Refusal.the-variants.{RowCount, Presence}
-use Rattle.live.specs.Rows.{zeroRow, hasId, present, added, removed, counted, refusedCount, led, unled}
-
-abbrev pub numberOf : Refusal → ℕ
-numberOf RowCount = 23
-numberOf Presence = 24
+use Rattle.live.specs.Rows.{zeroRow, hasId, present, added, removed, led, unled}
 
 -- the row at a place
 abbrev pub rowAt : List Row → ℕ → Row
@@ -33,23 +25,13 @@ closingBy (suc n) at l = closingBy n (at + 1) (set l at (rowAt l (at + 1)))
 abbrev pub closing : ℕ → ℕ → List Row → List Row
 closing at last l = closingBy (last - at) at l
 
--- a row is put in unless its id is present: the list, and how many rows there are
+-- a row is put in unless its id is present
 unfoldable pub puttingIn : ℕ → List Row → Row → List Row
 puttingIn count l row = elim (present (row .id) (take count l)) [ true ↦ l | false ↦ added count l row ]
 
-unfoldable pub countPut : ℕ → ℕ → List Row → ℕ
-countPut id count l = elim (present id (take count l)) [ true ↦ count | false ↦ count + 1 ]
-
--- a row is taken out if its id is present: the list, and how many rows there are
+-- a row is taken out if its id is present
 unfoldable pub takingOut : ℕ → ℕ → List Row → List Row
 takingOut id count l = elim (present id (take count l)) [ true ↦ removed id count l | false ↦ l ]
-
-unfoldable pub countTaken : ℕ → ℕ → List Row → ℕ
-countTaken id count l = elim (present id (take count l)) [ true ↦ count - 1 | false ↦ count ]
-
--- as many rows as before are a refusal
-abbrev pub answeredWith : ℕ → ℕ → Counted
-answeredWith before after = elim (eqb after before) [ true ↦ refusedCount 24 | false ↦ counted after ]
 
 -- the better of two rows under a ranking, the second where neither is better
 abbrev pub firstIf : Bool → Row → Row → Row

@@ -1,20 +1,22 @@
 // The live tableau: rows proposed and withdrawn in class, kept in a lent list of records in order of arrival, and the leader among them.
 ghost use mathlib.Core.Path.{_≡_};
-ghost use mathlib.Core.Bool.{true};
+ghost use mathlib.Core.Bool.{true, not};
 ghost use mathlib.Core.List.{[], _∷_};
-ghost use Prim.Native.Nat.{_<_, _≤_};
+ghost use Prim.Native.Nat.{_+_, _-_, _<_, _≤_};
+ghost use lib.Dec.{eqb};
 ghost use lib.ListN.{length, take};
-ghost use Rattle.basics.specs.Refusals.{refuse, firstOf};
-ghost use Rattle.ranking.specs.Refusals.{isMachineCount};
-ghost use Rattle.ranking.specs.Rankings.{isRanking};
-ghost use Rattle.live.specs.Rows.{zeroRow, hasId, fits, hasRoom, refusedCount, unled, led};
-ghost use Rattle.live.specs.Steps.{numberOf, place, closing, puttingIn, countPut, takingOut, countTaken, answeredWith, betterOf, leaderDown};
+ghost use Rattle.refusals.specs.Refusals.{checkedNumber, refuse, firstOf, unlessRefused};
+ghost use Rattle.ranking.specs.Rankings.{isMachineCount, isRanking};
+ghost use Rattle.live.specs.Rows.{zeroRow, hasId, present, counted, fits, hasRoom, refusedCount, unled, led};
+ghost use Rattle.live.specs.Steps.{place, closing, puttingIn, takingOut, betterOf, leaderDown};
 ghost use Rattle.live.specs.Calls.{Adds, Removes, leading};
 use ranking::Order;
 use ranking::Profile;
-use ranking::Stage;
 use ranking::harmony;
 use ranking::rankings;
+use refusals::Checked;
+use refusals::Refusal;
+use refusals::tested;
 
 // A row: its id, and the profile that was handed in.
 #[repr(C)]
@@ -34,26 +36,6 @@ pub struct Lead {
     pub number: u8,
     pub any: bool,
     pub row: Row,
-}
-
-// Why a call is refused, once K and the ranking have passed.
-enum Refusal {
-    // The row count.
-    RowCount,
-    // An added id that is present, or a removed one that is not.
-    Presence,
-}
-
-impl Refusal {
-    // Its number in the refusal table.
-    fn number(self) -> u8
-        ensures { λ r. ⌜ r ≡ numberOf self ⌝ }
-    {
-        match self {
-            Refusal::RowCount => 23,
-            Refusal::Presence => 24,
-        }
-    }
 }
 
 // What a freed record is set to.
@@ -86,59 +68,89 @@ fn better(ranking: &[u8], row: Row, best: Row) -> Row
     }
 }
 
-// The number of the checks 1, 7 and 23, the last of which is handed in.
-fn check(machines: u8, ranking: &[u8], sound: bool) -> u8
-    ensures { λ r. ⌜ r ≡ firstOf (refuse 1 (isMachineCount machines) ∷ refuse 7 (isRanking machines (now (ranking .entry))) ∷ refuse 23 sound ∷ []) ⌝ }
+// The checks 1, 7 and 23, the test of the last of which is handed in.
+fn check(machines: u8, ranking: &[u8], sound: bool) -> Checked
+    ensures { λ r. ⌜ checkedNumber r ≡ firstOf (refuse 1 (isMachineCount machines) ∷ refuse 7 (isRanking machines (now (ranking .entry))) ∷ refuse 23 sound ∷ []) ⌝ }
 {
-    let Stage::Refused(refusal) = rankings::check(machines, ranking) else {
-        if sound {
-            return 0;
-        }
-        return Refusal::RowCount.number();
+    let answer = rankings::check(machines, ranking);
+    let Checked::Passed = answer else {
+        return answer;
     };
-    refusal.number()
+    tested(sound, Refusal::RowCount)
 }
 
 // The checks 1, 7 and 23 of a removal and of the leader's call.
-fn check_rows(machines: u8, ranking: &[u8], count: usize, length: usize) -> u8
-    ensures { λ r. ⌜ r ≡ firstOf (refuse 1 (isMachineCount machines) ∷ refuse 7 (isRanking machines (now (ranking .entry))) ∷ refuse 23 (fits count length) ∷ []) ⌝ }
+fn check_rows(machines: u8, ranking: &[u8], count: usize, length: usize) -> Checked
+    ensures { λ r. ⌜ checkedNumber r ≡ firstOf (refuse 1 (isMachineCount machines) ∷ refuse 7 (isRanking machines (now (ranking .entry))) ∷ refuse 23 (fits count length) ∷ []) ⌝ }
 {
     check(machines, ranking, (count <= 32) & (count <= length))
 }
 
 // The checks 1, 7 and 23 of an add.
-fn check_room(machines: u8, ranking: &[u8], count: usize, length: usize) -> u8
-    ensures { λ r. ⌜ r ≡ firstOf (refuse 1 (isMachineCount machines) ∷ refuse 7 (isRanking machines (now (ranking .entry))) ∷ refuse 23 (hasRoom count length) ∷ []) ⌝ }
+fn check_room(machines: u8, ranking: &[u8], count: usize, length: usize) -> Checked
+    ensures { λ r. ⌜ checkedNumber r ≡ firstOf (refuse 1 (isMachineCount machines) ∷ refuse 7 (isRanking machines (now (ranking .entry))) ∷ refuse 23 (hasRoom count length) ∷ []) ⌝ }
 {
     check(machines, ranking, (count < 32) & (count < length))
 }
 
-// The answer of a refusal.
-fn refused(number: u8) -> Counted
-    ensures { λ r. ⌜ r ≡ refusedCount number ⌝ }
+// Refusal 24 of an add: its id stands at no place among the rows.
+fn check_absent(at: usize, count: usize) -> Checked
+    ensures { λ r. ⌜ checkedNumber r ≡ refuse 24 (eqb at count) ⌝ }
 {
-    Counted { number, count: 0 }
+    tested(at == count, Refusal::Presence)
 }
 
-// The answer of a call that left so many rows: where there are as many as before, its id was refused.
-fn answered(before: usize, after: usize) -> Counted
-    ensures { λ r. ⌜ r ≡ answeredWith before after ⌝ }
+// Refusal 24 of a removal: its id stands at a place among the rows.
+fn check_present(at: usize, count: usize) -> Checked
+    ensures { λ r. ⌜ checkedNumber r ≡ refuse 24 (not (eqb at count)) ⌝ }
 {
-    if after == before {
-        return refused(Refusal::Presence.number());
+    tested(at != count, Refusal::Presence)
+}
+
+// The answer of a refusal.
+fn refused(answer: Checked) -> Counted
+    ensures { λ r. ⌜ r ≡ refusedCount (checkedNumber answer) ⌝ }
+{
+    Counted {
+        number: answer.number(),
+        count: 0,
     }
+}
+
+// The answer of an add, by its check 24: a row more.
+fn one_more(answer: Checked, count: usize) -> Counted
+    requires { ⌜ count < 32 ⌝ }
+    ensures { λ r. ⌜ r ≡ unlessRefused (checkedNumber answer) (counted (count + 1)) refusedCount ⌝ }
+{
+    let Checked::Passed = answer else {
+        return refused(answer);
+    };
     Counted {
         number: 0,
-        count: after,
+        count: count + 1,
+    }
+}
+
+// The answer of a removal, by its check 24: a row less.
+fn one_less(answer: Checked, count: usize) -> Counted
+    requires { ⌜ (checkedNumber answer ≡ 0 → 0 < count) ⌝ }
+    ensures { λ r. ⌜ r ≡ unlessRefused (checkedNumber answer) (counted (count - 1)) refusedCount ⌝ }
+{
+    let Checked::Passed = answer else {
+        return refused(answer);
+    };
+    Counted {
+        number: 0,
+        count: count - 1,
     }
 }
 
 // The answer where no row leads: a refusal's, or that of an empty table.
-fn no_leader(number: u8) -> Lead
-    ensures { λ r. ⌜ r ≡ unled number ⌝ }
+fn no_leader(answer: Checked) -> Lead
+    ensures { λ r. ⌜ r ≡ unled (checkedNumber answer) ⌝ }
 {
     Lead {
-        number,
+        number: answer.number(),
         any: false,
         row: zero_row(),
     }
@@ -187,30 +199,32 @@ fn close_gap(rows: &mut [Row], at: usize, last: usize)
     rows[i] = row;
 }
 
-// Puts a row behind the others unless its id is present, and answers how many rows there are then.
-fn put_in(rows: &mut [Row], count: usize, row: Row) -> usize
+// Puts a row behind the others unless its id is present: 24.
+fn put_in(rows: &mut [Row], count: usize, row: Row) -> Checked
     requires { ⌜ count < length (now rows) ⌝ }
-    ensures { λ r. ⌜ (now (rows .exit) ≡ puttingIn count (now (rows .entry)) row) × (r ≡ countPut (row .id) count (now (rows .entry))) ⌝ }
+    ensures { λ r. ⌜ (now (rows .exit) ≡ puttingIn count (now (rows .entry)) row) × (checkedNumber r ≡ refuse 24 (not (present (row .id) (take count (now (rows .entry)))))) ⌝ }
 {
     let at = find(rows, count, row.id);
-    if at != count {
-        return count;
-    }
+    let answer = check_absent(at, count);
+    let Checked::Passed = answer else {
+        return answer;
+    };
     rows[count] = row;
-    count + 1
+    answer
 }
 
-// Takes the first row with an id out, if there is one, and answers how many rows there are then.
-fn take_out(rows: &mut [Row], count: usize, id: u16) -> usize
+// Takes the first row with an id out, if there is one: 24.
+fn take_out(rows: &mut [Row], count: usize, id: u16) -> Checked
     requires { ⌜ count ≤ length (now rows) ⌝ }
-    ensures { λ r. ⌜ (now (rows .exit) ≡ takingOut id count (now (rows .entry))) × (r ≡ countTaken id count (now (rows .entry))) ⌝ }
+    ensures { λ r. ⌜ (now (rows .exit) ≡ takingOut id count (now (rows .entry))) × (checkedNumber r ≡ refuse 24 (present id (take count (now (rows .entry))))) ⌝ }
 {
     let at = find(rows, count, id);
-    if at == count {
-        return count;
-    }
+    let answer = check_present(at, count);
+    let Checked::Passed = answer else {
+        return answer;
+    };
     close_gap(rows, at, count - 1);
-    count - 1
+    answer
 }
 
 // The best of some rows, the earliest among equals.
@@ -231,36 +245,36 @@ fn foremost(ranking: &[u8], count: usize, rows: &[Row]) -> Row
 pub fn add(machines: u8, ranking: &[u8], count: usize, rows: &mut [Row], row: Row) -> Counted
     ensures { λ r. ⌜ Adds machines (now (ranking .entry)) count (now (rows .entry)) (now (rows .exit)) row r ⌝ }
 {
-    let number = check_room(machines, ranking, count, rows.len());
-    if number != 0 {
-        return refused(number);
-    }
-    let after = put_in(rows, count, row);
-    answered(count, after)
+    let answer = check_room(machines, ranking, count, rows.len());
+    let Checked::Passed = answer else {
+        return refused(answer);
+    };
+    let answer = put_in(rows, count, row);
+    one_more(answer, count)
 }
 
 // Takes the first row with an id out, and answers the new row count: 1, 7, 23, 24.
 pub fn remove(machines: u8, ranking: &[u8], count: usize, rows: &mut [Row], id: u16) -> Counted
     ensures { λ r. ⌜ Removes machines (now (ranking .entry)) count (now (rows .entry)) (now (rows .exit)) id r ⌝ }
 {
-    let number = check_rows(machines, ranking, count, rows.len());
-    if number != 0 {
-        return refused(number);
-    }
-    let after = take_out(rows, count, id);
-    answered(count, after)
+    let answer = check_rows(machines, ranking, count, rows.len());
+    let Checked::Passed = answer else {
+        return refused(answer);
+    };
+    let answer = take_out(rows, count, id);
+    one_less(answer, count)
 }
 
 // The row with the best profile under the ranking, the earliest among equals, or none: 1, 7, 23.
 pub fn leader(machines: u8, ranking: &[u8], count: usize, rows: &[Row]) -> Lead
     ensures { λ r. ⌜ r ≡ leading machines (now (ranking .entry)) count (now (rows .entry)) ⌝ }
 {
-    let number = check_rows(machines, ranking, count, rows.len());
-    if number != 0 {
-        return no_leader(number);
-    }
+    let answer = check_rows(machines, ranking, count, rows.len());
+    let Checked::Passed = answer else {
+        return no_leader(answer);
+    };
     if count == 0 {
-        return no_leader(0);
+        return no_leader(answer);
     }
     let row = foremost(ranking, count, rows);
     led_by(row)

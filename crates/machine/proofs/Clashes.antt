@@ -2,7 +2,7 @@
 use mathlib.Core.Path.{_≡_, refl, sym, ap, _∙_, subst}
 use mathlib.Core.Bool.{Bool, true, false, not, _&&_, _||_, cond, and-true, and-false, and-assoc, or-false}
 use mathlib.Core.List.{List, [], _∷_}
-use Prim.Native.Nat.{ℕ, zero, suc, _+_, _*_, _/_, _%_, _^_, _<_, _≤_}
+use Prim.Native.Nat.{ℕ, zero, suc, _+_, _*_, _^_, _<_, _≤_}
 use native.Mathlib.Decide.{ℕ-discrete}
 use native.Mathlib.Omega.{arith}
 use lib.Bits.{bitAnd, bitOr}
@@ -23,6 +23,7 @@ use Rattle.machine.specs.Part.{stateCount, arcCount, arcAt, arcsOf, soun
 use Rattle.machine.specs.Accepted.{sound-facts}
 use Rattle.machine.specs.CommonPair.{common-pair}
 use Rattle.machine.specs.Steps.{clash-at}
+use Rattle.machine.specs.SymbolSets.{withoutEmpty}
 use Rattle.machine.specs.Clashes.{LeavesStates, clashFreeFrom, pairsWith, noted, takenFrom, Taken, PairsNoted}
 use Rattle.machine.proofs.Partners.{without-empty, in-partners}
 use Rattle.machine.proofs.SetLoops.{Passed, with-true, passed-none, still-old, passed-next, passed-all}
@@ -31,12 +32,12 @@ use Rattle.machine.proofs.Arcs.{leaves, leaves-other, arc-at, arcs-coun
 -- the inputs that make a pair of a kind with an output
 pub pairs-member : (kind w : ℕ) (p : Pair) → member (pairsWith kind w (p .output)) (p .input) ≡ (isPair p && (member w (p .input) && ofKind kind p))
 pairs-member kind w p =
-    in-partners kind (cond (eqb (p .output) emptySymbol) (w / 2 * 2) w) (p .output) (p .input)
+    in-partners kind (cond (eqb (p .output) emptySymbol) (withoutEmpty w) w) (p .output) (p .input)
     ∙ ap (λ (b : Bool). b && ofKind kind p) (go (eqb (p .output) emptySymbol) refl)
     ∙ and-assoc (isPair p) (member w (p .input)) (ofKind kind p)
   where
     go : (b : Bool) → eqb (p .output) emptySymbol ≡ b
-        → member (cond (eqb (p .output) emptySymbol) (w / 2 * 2) w) (p .input) ≡ (not (eqb (p .input) emptySymbol && eqb (p .output) emptySymbol) && member w (p .input))
+        → member (cond (eqb (p .output) emptySymbol) (withoutEmpty w) w) (p .input) ≡ (not (eqb (p .input) emptySymbol && eqb (p .output) emptySymbol) && member w (p .input))
     go true e = rw (e, and-true (eqb (p .input) emptySymbol)) (without-empty w (p .input))
     go false e = rw (e, and-false (eqb (p .input) emptySymbol))
 

@@ -1,7 +1,6 @@
 pub mod SymbolSets
 pub mod Partners
 pub mod SetLoops
-pub mod Stages
 pub mod Arcs
 pub mod Clashes
 pub mod States

@@ -1,26 +1,17 @@
 -- The symbols of a set that make a pair of an arc's kind with a symbol. Assumes nothing.
 use mathlib.Core.Path.{_≡_, refl, sym, _∙_, ap, ap₂}
-use mathlib.Core.Bool.{Bool, true, false, not, _&&_, and-true, and-false, and-self, and-comm}
-use Prim.Native.Nat.{ℕ, zero, suc, _+_, _*_, _/_, _%_, _^_, _<_}
-use native.Mathlib.Nat.{div-one}
+use mathlib.Core.Bool.{Bool, true, false, not, _&&_, and-true, and-false, and-self, and-comm, and-assoc}
+use Prim.Native.Nat.{ℕ, zero, suc, _/_, _%_, _^_, _<_}
 use native.Mathlib.Omega.{arith}
 use lib.Dec.{eqb}
 use lib.Bits.{bitAnd, bitXor, differ, xor-shr, xor-step}
-use borrow.Author.Tests.{eqb-true, eq-eqb, ne-eqb}
+use borrow.Author.Tests.{eqb-true, eq-eqb}
 use Rattle.basics.specs.Sets.{member}
 use Rattle.basics.proofs.Bools.{same}
 use Rattle.basics.proofs.Sets.{member-one, member-and}
 use Rattle.machine.specs.Symbols.{emptySymbol, pairOf}
-use Rattle.machine.specs.SymbolSets.{partners}
+use Rattle.machine.specs.SymbolSets.{withoutSymbol, withoutEmpty, partners}
 use Rattle.machine.specs.Machine.{ofKind}
-use Rattle.machine.proofs.SymbolSets.{member-half}
-
--- a set without the empty symbol
-pub without-empty : (w n : ℕ) → member (w / 2 * 2) n ≡ (not (eqb n emptySymbol) && member w n)
-without-empty w zero = rw div-one (ne-eqb (w / 2 * 2 % 2) 1 (omega arith))
-without-empty w (suc n) =
-    let half : w / 2 * 2 / 2 ≡ w / 2 = omega arith in
-    rw (ne-eqb (suc n) 0 (omega arith)) (member-half (w / 2 * 2) n ∙ ap (λ (k : ℕ). member k n) half ∙ sym (member-half w n))
 
 -- a set without the symbol x
 bit-differ : (a b : ℕ) → a < 2 → b < 2 → (eqb a 1 && eqb (differ a b) 1) ≡ (eqb a 1 && not (eqb b 1))
@@ -37,7 +28,7 @@ differ-small (suc zero) (suc zero) h k = omega arith
 differ-small (suc zero) (suc (suc b)) h k = absurd (omega arith)
 differ-small (suc (suc a)) b h k = absurd (omega arith)
 
-without-symbol : (w x n : ℕ) → member (bitAnd w (bitXor w (2 ^ x))) n ≡ (member w n && not (eqb n x))
+without-symbol : (w x n : ℕ) → member (withoutSymbol w x) n ≡ (member w n && not (eqb n x))
 without-symbol w x n =
     let a = w / 2 ^ n in
     let b = 2 ^ x / 2 ^ n in
@@ -47,6 +38,9 @@ without-symbol w x n =
     ∙ ap (λ (k : ℕ). member w n && eqb k 1) e
     ∙ bit-differ (a % 2) (b % 2) (omega arith) (omega arith)
     ∙ ap (λ (t : Bool). member w n && not t) (member-one x n)
+
+pub without-empty : (w n : ℕ) → member (withoutEmpty w) n ≡ (not (eqb n emptySymbol) && member w n)
+without-empty w n = without-symbol w emptySymbol n ∙ and-comm (member w n) (not (eqb n emptySymbol))
 
 -- in and out may be exchanged
 eqb-swap : (x y : ℕ) → eqb x y ≡ eqb y x
@@ -65,26 +59,27 @@ unfolding partners
 any-partners zero set x e = refl
 any-partners (suc k) set x e = absurd (omega arith)
 
-pub same-partners : (kind set one x : ℕ) → kind ≡ 1 → one ≡ 2 ^ x → bitAnd set (one / 2 * 2) ≡ partners kind set x
+pub same-partners : (kind set one x : ℕ) → kind ≡ 1 → one ≡ 2 ^ x → withoutEmpty (bitAnd set one) ≡ partners kind set x
 unfolding partners
 same-partners zero set one x e q = absurd (omega arith)
-same-partners (suc zero) set one x e q = ap (λ (n : ℕ). bitAnd set (n / 2 * 2)) q
+same-partners (suc zero) set one x e q = ap (λ (n : ℕ). withoutEmpty (bitAnd set n)) q
 same-partners (suc (suc k)) set one x e q = absurd (omega arith)
 
-pub unlike-partners : (kind set one x : ℕ) → (kind ≡ 0 → ⊥) → (kind ≡ 1 → ⊥) → one ≡ 2 ^ x → bitAnd set (bitXor set one) ≡ partners kind set x
+pub unlike-partners : (kind set x : ℕ) → (kind ≡ 0 → ⊥) → (kind ≡ 1 → ⊥) → withoutSymbol set x ≡ partners kind set x
 unfolding partners
-unlike-partners zero set one x n m q = absurd (n refl)
-unlike-partners (suc zero) set one x n m q = absurd (m refl)
-unlike-partners (suc (suc k)) set one x n m q = ap (λ (n : ℕ). bitAnd set (bitXor set n)) q
+unlike-partners zero set x n m = absurd (n refl)
+unlike-partners (suc zero) set x n m = absurd (m refl)
+unlike-partners (suc (suc k)) set x n m = refl
 
 -- the partners of an in are outs
 pub out-partners : (kind set x y : ℕ) → member (partners kind set x) y ≡ (member set y && ofKind kind (pairOf x y))
 unfolding partners ofKind
 out-partners zero set x y = sym (and-true (member set y))
 out-partners (suc zero) set x y =
-    member-and set (2 ^ x / 2 * 2) y
-    ∙ ap (λ (t : Bool). member set y && t)
-    (without-empty (2 ^ x) y ∙ ap (λ (t : Bool). not (eqb y emptySymbol) && t) (member-one x y) ∙ same-symbol x y)
+    without-symbol (bitAnd set (2 ^ x)) emptySymbol y
+    ∙ ap (λ (t : Bool). t && not (eqb y emptySymbol)) (member-and set (2 ^ x) y ∙ ap (λ (t : Bool). member set y && t) (member-one x y))
+    ∙ and-assoc (member set y) (eqb y x) (not (eqb y emptySymbol))
+    ∙ ap (λ (t : Bool). member set y && t) (and-comm (eqb y x) (not (eqb y emptySymbol)) ∙ same-symbol x y)
 out-partners (suc (suc k)) set x y =
     without-symbol set x y ∙ ap (λ (t : Bool). member set y && not t) (eqb-swap y x)
 

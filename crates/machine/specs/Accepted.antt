@@ -8,7 +8,7 @@ use lib.Dec.{eqb, ltb, leb}
 use lib.ListN.{length, length-map}
 use lib.Seq.{length-slice}
 use borrow.Author.Tests.{ltb-true, leb-true, leb-false, eqb-true}
-use Rattle.basics.specs.Refusals.{refuse, firstOf}
+use Rattle.refusals.specs.Refusals.{refuse, firstOf}
 use Rattle.basics.specs.Sets.{member}
 use Rattle.basics.proofs.Bools.{clash as never, left, right}
 use Rattle.basics.proofs.Sets.{member-beyond}

@@ -2,7 +2,7 @@
 use mathlib.Core.Path.{_≡_}
 use mathlib.Core.Bool.{Bool, true, false, not, _&&_, _||_, cond}
 use mathlib.Core.List.{List, [], _∷_}
-use Prim.Native.Nat.{ℕ, _/_, _*_, _<_}
+use Prim.Native.Nat.{ℕ, _<_}
 use lib.Dec.{eqb, ltb}
 use lib.ListN.{getD}
 use Rattle.basics.specs.Search.{allOf}
@@ -10,7 +10,7 @@ use Rattle.basics.specs.Sets.{member}
 use Rattle.machine.specs.declared.Arc.{Arc}
 use Rattle.machine.specs.declared.Pair.{Pair}
 use Rattle.machine.specs.Symbols.{emptySymbol, isPair}
-use Rattle.machine.specs.SymbolSets.{partners}
+use Rattle.machine.specs.SymbolSets.{withoutEmpty, partners}
 use Rattle.machine.specs.Machine.{takesFrom, clash}
 use Rattle.machine.specs.Part.{stateCount, arcsOf}
 
@@ -24,7 +24,7 @@ clashFreeFrom s a b = not (eqb (a .from) s && clash a b)
 
 -- the inputs of a set that make a pair of a kind with an output: 0 with 0 is none
 abbrev pub pairsWith : ℕ → ℕ → ℕ → ℕ
-pairsWith kind inputs y = partners kind (cond (eqb y emptySymbol) (inputs / 2 * 2) inputs) y
+pairsWith kind inputs y = partners kind (cond (eqb y emptySymbol) (withoutEmpty inputs) inputs) y
 
 -- a pair is one of those noted: for each output, the set of their inputs
 abbrev pub noted : List ℕ → Pair → Bool

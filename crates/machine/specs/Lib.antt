@@ -1,4 +1,3 @@
-pub mod Refusals
 pub mod Symbols
 pub mod Machine
 pub mod Part
@@ -7,5 +6,6 @@ pub mod Clashes
 pub mod Accepted
 pub mod CommonPair
 pub mod Steps
+pub mod OldStates
 pub mod OldArcs
 pub mod SameAndDifferent

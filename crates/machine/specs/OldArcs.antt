@@ -9,13 +9,13 @@ use lib.Dec.{eqb, ltb, leb}
 use borrow.Author.Tests.{eqb-true}
 use Rattle.basics.specs.Search.{allOf, pairwise, someBelow}
 use Rattle.basics.specs.Sets.{member}
-use Rattle.basics.specs.Refusals.{refuse, firstOf}
+use Rattle.refusals.specs.Refusals.{refuse, firstOf}
 use Rattle.basics.proofs.Bools.{left, right}
 use Rattle.machine.specs.declared.Arc.{Arc}
 use Rattle.machine.specs.declared.Pair.{Pair}
 use Rattle.machine.specs.Symbols.{isPair, pairOf}
-use Rattle.machine.specs.Machine.{ofKind, takes, takesFrom, stepAmong, takeOnePair, clash}
-use Rattle.machine.specs.Part.{stateCount, arcsOf, shaped, soundSet, soundArc, soundStates, soundArcs, clashFree, noClash, partRefusal}
+use Rattle.machine.specs.Machine.{ofKind, takes, stepAmong, takeOnePair, clash}
+use Rattle.machine.specs.Part.{stateCount, arcsOf, shaped, soundSet, soundArc, soundStates, clashFree, partRefusal}
 
 -- an arc takes a pair if in and out are in its sets
 abbrev pub takesBySets : Arc → Pair → Bool

@@ -1,14 +1,22 @@
 -- Sets of symbols: going through one from the least symbol on, and the symbols that make pairs of a kind.
-use Prim.Native.Nat.{ℕ, zero, suc, _/_, _*_, _^_}
+use Prim.Native.Nat.{ℕ, zero, suc, _^_}
 use lib.Bits.{bitAnd, bitXor}
 use lib.Count.{trailingZeros}
+use Rattle.machine.specs.Symbols.{emptySymbol}
 
 -- the least symbol of a set of symbols, 64 where it is empty
 abbrev pub leastSymbol : ℕ → ℕ
 leastSymbol set = trailingZeros 64 set
 
--- the symbols of a set that make a pair of an arc's kind with the symbol x: any, x itself but for 0, all but x
+-- a set without a symbol, and without the empty symbol
+abbrev pub withoutSymbol : ℕ → ℕ → ℕ
+withoutSymbol set x = bitAnd set (bitXor set (2 ^ x))
+
+abbrev pub withoutEmpty : ℕ → ℕ
+withoutEmpty set = withoutSymbol set emptySymbol
+
+-- the symbols of a set that make a pair of an arc's kind with the symbol x: any, x itself unless it is the empty symbol, all but x
 unfoldable pub partners : ℕ → ℕ → ℕ → ℕ
 partners zero set x = set
-partners (suc zero) set x = bitAnd set (2 ^ x / 2 * 2)
-partners (suc (suc k)) set x = bitAnd set (bitXor set (2 ^ x))
+partners (suc zero) set x = withoutEmpty (bitAnd set (2 ^ x))
+partners (suc (suc k)) set x = withoutSymbol set x

@@ -1,12 +1,16 @@
 -- Symbols and pairs.
 use mathlib.Core.Bool.{Bool, _&&_, not}
-use Prim.Native.Nat.{ℕ}
+use Prim.Native.Nat.{ℕ, _+_}
 use lib.Dec.{eqb, leb}
 use Rattle.machine.specs.declared.Pair.{Pair}
 
 -- byte 0 is the empty symbol
 abbrev pub emptySymbol : ℕ
 emptySymbol = 0
+
+-- the other symbols start behind it
+abbrev pub firstSymbol : ℕ
+firstSymbol = emptySymbol + 1
 
 -- the pair of an in and an out
 abbrev pub pairOf : ℕ → ℕ → Pair

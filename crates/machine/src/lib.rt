@@ -5,15 +5,16 @@ ghost use Prim.Native.Nat.{ℕ, _<_, _^_};
 ghost use lib.Dec.{eqb};
 ghost use lib.ListN.{getD};
 ghost use Rattle.basics.specs.Sets.{member};
-ghost use Rattle.machine.specs.Refusals.{stageNumber};
+ghost use Rattle.refusals.specs.Refusals.{checkedNumber};
 ghost use Rattle.machine.specs.Symbols.{emptySymbol, pairOf, isPair, withinSymbols};
 ghost use Rattle.machine.specs.Machine.{startState, takes, stepOf, stepped, endingOf, ended};
 ghost use Rattle.machine.specs.Part.{stateCount, arcCount, arcsOf, machineOf, shaped, soundArc, partRefusal};
 
 pub mod sets; // sets.rt: sets of symbols
-mod part; // part.rt: what a part's bytes say, and the stages of its check
+mod part; // part.rt: what a part's bytes say, and its checks
 
 use basics::index;
+use refusals::Checked;
 
 // A pair of symbols, in and out.
 pub struct Pair {
@@ -24,6 +25,9 @@ pub struct Pair {
 impl Pair {
     // The empty symbol.
     pub const EMPTY: u8 = 0;
+
+    // The first of the other symbols.
+    pub const FIRST: usize = Pair::EMPTY as usize + 1;
 
     // The pair of an in and an out.
     pub fn new(input: u8, output: u8) -> Self
@@ -96,34 +100,21 @@ impl Arc {
     }
 }
 
-// Why a part is refused.
-pub enum Refusal {
-    Length,
-    Field,
-    Clash,
-}
-
-// What a checking stage answers.
-pub enum Stage {
-    Passed,
-    Refused(Refusal),
-}
-
 // The first of refusals 3, 4 and 5 that applies to a part, on a card of `symbols` symbols.
-pub fn check(part: &[u8], symbols: u8) -> Stage
+pub fn check(part: &[u8], symbols: u8) -> Checked
     requires { ⌜ symbols < 64 ⌝ }
-    ensures { λ r. ⌜ stageNumber r ≡ partRefusal symbols (now (part .entry)) ⌝ }
+    ensures { λ r. ⌜ checkedNumber r ≡ partRefusal symbols (now (part .entry)) ⌝ }
 {
     let answer = part::check_length(part);
-    let Stage::Passed = answer else {
+    let Checked::Passed = answer else {
         return answer;
     };
     let answer = part::check_states(part);
-    let Stage::Passed = answer else {
+    let Checked::Passed = answer else {
         return answer;
     };
     let answer = part::check_arcs(part, symbols);
-    let Stage::Passed = answer else {
+    let Checked::Passed = answer else {
         return answer;
     };
     part::check_clashes(part)

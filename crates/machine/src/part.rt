@@ -1,20 +1,20 @@
-// A machine part: its arcs, and the stages of its check.
+// A machine part: its arcs, and its checks.
 ghost use mathlib.Core.Path.{_≡_};
 ghost use mathlib.Core.Bool.{true};
 ghost use Prim.Native.Nat.{_+_, _*_, _^_, _<_, _≤_};
 ghost use lib.ListN.{length};
 ghost use Rattle.basics.specs.Search.{pairwise};
-ghost use Rattle.basics.specs.Refusals.{refuse};
-ghost use Rattle.machine.specs.Refusals.{numberOf, stageNumber};
+ghost use Rattle.refusals.specs.Refusals.{refuse, checkedNumber};
 ghost use Rattle.machine.specs.Machine.{takes, takesFrom};
 ghost use Rattle.machine.specs.Part.{stateCount, fourBytesAt, eightBytesAt, arcAt, arcsOf, shaped, soundStates, soundArcs, noClash};
 ghost use Rattle.machine.specs.Clashes.{pairsWith, clashFreeFrom, PairsNoted, LeavesStates};
 use crate::Arc;
 use crate::Pair;
-use crate::Refusal;
-use crate::Stage;
 use crate::sets;
 use basics::index;
+use refusals::Checked;
+use refusals::Refusal;
+use refusals::tested;
 
 fn wide(x: u8) -> u64
     ensures { λ r. ⌜ (r ≡ x) × (r < 256) ⌝ }
@@ -66,50 +66,39 @@ pub fn takes_from(part: &[u8], at: usize, state: u8, input: u64, output: u64) ->
     read_arc(part, at).takes(input, output)
 }
 
-// The answer of a stage that is one test.
-fn tested(ok: bool, refusal: Refusal) -> Stage
-    ensures { λ r. ⌜ stageNumber r ≡ refuse (numberOf refusal) ok ⌝ }
-{
-    if ok {
-        Stage::Passed
-    } else {
-        Stage::Refused(refusal)
-    }
-}
-
 // Refusal 3: the length is what the first bytes say.
-pub fn check_length(part: &[u8]) -> Stage
-    ensures { λ r. ⌜ stageNumber r ≡ refuse 3 (shaped (now (part .entry))) ⌝ }
+pub fn check_length(part: &[u8]) -> Checked
+    ensures { λ r. ⌜ checkedNumber r ≡ refuse 3 (shaped (now (part .entry))) ⌝ }
 {
     if part.len() < 2 {
-        return Stage::Refused(Refusal::Length);
+        return Checked::Refused(Refusal::PartLength);
     }
     let states = index(part[0]);
     let arcs = index(part[1]);
     tested(
         (1 <= states) & (states <= 32) & (part.len() == 2 + states + 20 * arcs),
-        Refusal::Length,
+        Refusal::PartLength,
     )
 }
 
 // Refusal 4, the states: no state byte is over 16.
-pub fn check_states(part: &[u8]) -> Stage
+pub fn check_states(part: &[u8]) -> Checked
     requires { ⌜ shaped (now part) ≡ true ⌝ }
-    ensures { λ r. ⌜ stageNumber r ≡ refuse 4 (soundStates (now (part .entry))) ⌝ }
+    ensures { λ r. ⌜ checkedNumber r ≡ refuse 4 (soundStates (now (part .entry))) ⌝ }
 {
     let end = 2 + index(part[0]);
     for at in 2..end {
         if part[at] > 16 {
-            return Stage::Refused(Refusal::Field);
+            return Checked::Refused(Refusal::Field);
         }
     }
-    Stage::Passed
+    Checked::Passed
 }
 
 // Refusal 4, the arcs: the fields of each are in range.
-pub fn check_arcs(part: &[u8], symbols: u8) -> Stage
+pub fn check_arcs(part: &[u8], symbols: u8) -> Checked
     requires { ⌜ (shaped (now part) ≡ true) × (symbols < 64) ⌝ }
-    ensures { λ r. ⌜ stageNumber r ≡ refuse 4 (soundArcs symbols (now (part .entry))) ⌝ }
+    ensures { λ r. ⌜ checkedNumber r ≡ refuse 4 (soundArcs symbols (now (part .entry))) ⌝ }
 {
     let states = part[0];
     let last = sets::set_of(symbols);
@@ -117,12 +106,12 @@ pub fn check_arcs(part: &[u8], symbols: u8) -> Stage
     let mut left = part[1];
     while left > 0 {
         if !read_arc(part, at).is_sound(states, last) {
-            return Stage::Refused(Refusal::Field);
+            return Checked::Refused(Refusal::Field);
         }
         at += 20;
         left -= 1;
     }
-    Stage::Passed
+    Checked::Passed
 }
 
 // The inputs of a set that make a pair of a kind with an output: 0 with 0 is none.
@@ -132,7 +121,7 @@ fn pairs_with(inputs: u64, kind: u8, output: usize) -> u64
 {
     let one = sets::set_of(output as u8);
     if output == index(Pair::EMPTY) {
-        return sets::of_kind(inputs / 2 * 2, kind, one);
+        return sets::of_kind(sets::without_empty(inputs), kind, one);
     }
     sets::of_kind(inputs, kind, one)
 }
@@ -171,35 +160,35 @@ fn note_arc(taken: &mut [u64], part: &[u8], at: usize, from: u8) -> bool
 }
 
 // Refusal 5, one state: no two arcs of it take one pair. The arcs are gone through from the last to the first.
-fn check_state(part: &[u8], states: usize, from: u8) -> Stage
+fn check_state(part: &[u8], states: usize, from: u8) -> Checked
     requires { ⌜ (shaped (now part) ≡ true) × (states ≡ stateCount (now part)) ⌝ }
-    ensures { λ r. ⌜ stageNumber r ≡ refuse 5 (pairwise (clashFreeFrom from) (arcsOf (now (part .entry)))) ⌝ }
+    ensures { λ r. ⌜ checkedNumber r ≡ refuse 5 (pairwise (clashFreeFrom from) (arcsOf (now (part .entry)))) ⌝ }
 {
     let mut taken = [0; 64];
     let mut left = index(part[1]);
     while left > 0 {
         left -= 1;
         if note_arc(&mut taken, part, 2 + states + 20 * left, from) {
-            return Stage::Refused(Refusal::Clash);
+            return Checked::Refused(Refusal::Clash);
         }
     }
-    Stage::Passed
+    Checked::Passed
 }
 
 // Refusal 5: no two arcs clash, if every arc leaves a state of the machine. Each state is checked for itself.
-pub fn check_clashes(part: &[u8]) -> Stage
+pub fn check_clashes(part: &[u8]) -> Checked
     requires { ⌜ (shaped (now part) ≡ true) × LeavesStates (now part) ⌝ }
-    ensures { λ r. ⌜ stageNumber r ≡ refuse 5 (noClash (now (part .entry))) ⌝ }
+    ensures { λ r. ⌜ checkedNumber r ≡ refuse 5 (noClash (now (part .entry))) ⌝ }
 {
     let states = part[0];
     let count = index(states);
     let mut from = 0;
     while from < states {
         let answer = check_state(part, count, from);
-        let Stage::Passed = answer else {
+        let Checked::Passed = answer else {
             return answer;
         };
         from += 1;
     }
-    Stage::Passed
+    Checked::Passed
 }

@@ -4,8 +4,12 @@ ghost use mathlib.Core.Bool.{true, not, _&&_};
 ghost use Prim.Native.Nat.{ℕ, _<_, _^_};
 ghost use lib.Dec.{eqb};
 ghost use Rattle.basics.specs.Sets.{member};
-ghost use Rattle.machine.specs.SymbolSets.{leastSymbol, partners};
+ghost use Rattle.machine.specs.SymbolSets.{leastSymbol, withoutSymbol, withoutEmpty, partners};
 ghost use Rattle.machine.specs.Part.{soundSet};
+use crate::Pair;
+
+// The set of the empty symbol.
+pub const EMPTY: u64 = 1 << Pair::EMPTY;
 
 // The set of one symbol.
 pub fn set_of(symbol: u8) -> u64
@@ -45,6 +49,20 @@ pub fn without_least(set: u64) -> u64
     set & (set - 1)
 }
 
+// A set without a symbol; `one` is the set of that symbol.
+fn without(set: u64, one: u64) -> u64
+    ensures { λ r. ⌜ ((symbol : ℕ) → one ≡ 2 ^ symbol → r ≡ withoutSymbol set symbol) ⌝ }
+{
+    set & (set ^ one)
+}
+
+// A set without the empty symbol.
+pub fn without_empty(set: u64) -> u64
+    ensures { λ r. ⌜ r ≡ withoutEmpty set ⌝ }
+{
+    without(set, EMPTY)
+}
+
 // The symbols of a set that make a pair of an arc's kind with one symbol, whichever of the two is in; `one` is the set of that symbol.
 pub fn of_kind(set: u64, kind: u8, one: u64) -> u64
     ensures { λ r. ⌜ ((x : ℕ) → one ≡ 2 ^ x → r ≡ partners kind set x) ⌝ }
@@ -53,7 +71,7 @@ pub fn of_kind(set: u64, kind: u8, one: u64) -> u64
         return set;
     }
     if kind == 1 {
-        return set & (one / 2 * 2);
+        return without_empty(set & one);
     }
-    set & (set ^ one)
+    without(set, one)
 }

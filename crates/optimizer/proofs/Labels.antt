@@ -6,8 +6,8 @@ use Prim.Native.Nat.{ℕ, _*_, _<_}
 use native.Mathlib.Omega.{arith}
 use lib.Dec.{leb, lit<}
 use borrow.Author.Tests.{leb-true}
-use Rattle.basics.specs.Refusals.{refuse}
-use Rattle.basics.proofs.Refusals.{passed}
+use Rattle.refusals.specs.Refusals.{refuse}
+use Rattle.refusals.proofs.Refusals.{passed}
 use Rattle.candidate.specs.Candidates.{isSome}
 use Rattle.paths.specs.Ranked.{Ranked, letterCount}
 use Rattle.product.specs.ProductGraph.{cardStart}
@@ -15,10 +15,6 @@ use Rattle.labels.specs.Work.{labelOf, costAt}
 use Rattle.labels.proofs.Work.{holds}
 use Rattle.walk.specs.Walked.{StartsAt}
 use Rattle.optimizer.specs.Searching.{labelRefusal}
-
--- a stage that answered a refusal has a number
-pub above-zero : {S : Type 0} (number : S → ℕ) {s t : S} → s ≡ t → 0 < number t → 0 < number s
-above-zero number e h = let q = ap number e in omega (arith, q)
 
 -- 10 is the first refusal
 pub not-there : (o : Option (Ranked 6)) (room n : ℕ) → n ≡ refuse 10 (isSome o) → 0 < n → n ≡ labelRefusal o room

@@ -1,4 +1,3 @@
-pub mod Refusals
 pub mod Places
 pub mod Found
 pub mod Answers

@@ -6,8 +6,8 @@ use Prim.Native.Nat.{ℕ, _+_, _*_, _<_, _≤_}
 use native.Mathlib.Omega.{arith}
 use lib.Dec.{leb}
 use lib.ListN.{length, drop}
-use Rattle.basics.specs.Refusals.{refuse, unlessRefused}
-use Rattle.basics.proofs.Refusals.{accepted as taken, not-accepted, last-one}
+use Rattle.refusals.specs.Refusals.{refuse, unlessRefused}
+use Rattle.refusals.proofs.Refusals.{accepted as taken, not-accepted, last-one}
 use Rattle.machine.specs.declared.Pair.{Pair}
 use Rattle.ranking.specs.declared.Profile.{Profile}
 use Rattle.ranking.specs.Lemmas.Rankings.{ranking-facts}
@@ -29,7 +29,7 @@ use Rattle.labels.specs.Work.{HasNode, labelOf, costAt}
 use Rattle.labels.proofs.Work.{holds}
 use Rattle.product.specs.ProductGraph.{cardStart}
 use Rattle.product.specs.Prices.{ranking-agrees}
-use Rattle.product.specs.SetsTheorem.{best-of-sets-is-small}
+use Rattle.product.specs.CountsFit.{best-of-sets-is-small}
 use Rattle.product.specs.Laws.Accepted.{accepted-machines}
 use Rattle.product.specs.Laws.BestCandidate.{profile-length}
 use Rattle.product.specs.Laws.CardGraph.{start-within}
@@ -127,7 +127,7 @@ module _ {card ranking sets work : List ℕ} {size : ℕ} (pre : SetsPre card ra
       -- which are few
       pub walked-few : {answer answerAfter : List ℕ} {n : ℕ} → Walked ranking card sets after answer answerAfter n → n ≤ 3199
       unfolding bestOfSets
-      walked-few w = omega (arith, walked-pairs w, best-of-sets-is-small (ranking-agrees ranking) card sets (pre .setting .accepted) (pre .setting .few) (the-best .form) (the-best .is) .pairs)
+      walked-few w = omega (arith, walked-pairs w, best-of-sets-is-small (ranking-agrees ranking) card (pre .setting .accepted) sets (pre .setting .few) (the-best .form) (the-best .is) .pairs)
 
     -- the best
     pub best-answered : {answer answerAfter : List ℕ} {n : ℕ} (label : Label) (profile : Profile) → labelRefusal (labelOf after (cardStart card)) (length answer) ≡ 0 → costOf label ≡ costAt after (cardStart card)

@@ -10,7 +10,7 @@ use lib.ListN.{length, getD, take, set, length-set}
 use lib.Seq.{getD-set-same, getD-set-other}
 use borrow.Author.Tests.{leb-true, ltb-true}
 use Rattle.basics.specs.Search.{allOf}
-use Rattle.basics.specs.Refusals.{unlessRefused}
+use Rattle.refusals.specs.Refusals.{unlessRefused}
 use Rattle.basics.specs.Sets.{member}
 use Rattle.basics.proofs.Bools.{left, right}
 use Rattle.basics.proofs.Search.{all-at}

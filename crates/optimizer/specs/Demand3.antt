@@ -1,29 +1,23 @@
 -- Demand 3, of what the optimizer's call answers: for every card, ranking, word and work slice that the checks 1 to 9 accept, and every answer slice.
 use mathlib.Core.Path.{_≡_, sym, subst₂}
 use mathlib.Core.Logic.{_⊎_, _↔_, _≢_}
-use mathlib.Core.Bool.{true}
 use mathlib.Core.List.{List, _++_}
-use mathlib.Core.Option.{some}
 use Prim.Native.Nat.{ℕ, _*_, _<_, _≤_}
-use native.Mathlib.Omega.{arith}
-use lib.Dec.{leb}
 use lib.ListN.{length, drop}
-use Rattle.basics.specs.Search.{allOf}
 use Rattle.machine.specs.declared.Pair.{Pair}
 use Rattle.card.specs.Layout.{symbolCount}
 use Rattle.card.specs.Card.{machinesOf}
 use Rattle.candidate.specs.declared.Evaluation.{Evaluation}
 use Rattle.candidate.specs.Candidates.{bytesOf, profileOf, IsCandidate}
 use Rattle.candidate.specs.Evaluating.{profileWith}
-use Rattle.paths.specs.Pigeonhole.{Distinct}
-use Rattle.paths.specs.Graph.{nodes}
-use Rattle.product.specs.Best.{Contender, contenderOf, best}
-use Rattle.product.specs.ProductGraph.{cardGraph, cardStart}
+use Rattle.product.specs.Best.{best, harmonic}
+use Rattle.product.specs.Sets.{singletons}
+use Rattle.product.specs.Prices.{byRanking, ranking-agrees}
 use Rattle.product.specs.Optimizing.{inputRefusal, optimizerRefusal, optimized, optimizedAnswer}
-use Rattle.product.specs.BestCandidate.{IsBestCandidate}
-use Rattle.product.specs.BestTheorem.{BestOfAll, best-is-best-of-all, best-is-short, SmallBest, best-is-small}
-use Rattle.product.specs.Laws.Accepted.{accepted-machines}
-use Rattle.product.specs.Laws.Counts.{profile-bound}
+use Rattle.product.specs.BestCandidate.{IsBestCandidate, IsUnbeatenIn}
+use Rattle.product.specs.BestTheorem.{BestOfAll, best-is-best-of-all}
+use Rattle.product.specs.CountsFit.{CountsFit, unbeaten-fit}
+use Rattle.product.specs.Laws.BestCandidate.{best-harmonic, best-unbeaten}
 use Rattle.input.specs.AcceptedInput.{AcceptedInput, accepted-input, short-word}
 use Rattle.optimizer.specs.Optimizes.{Optimizes}
 use Rattle.optimizer.specs.Demands.{Demands, demanded}
@@ -44,17 +38,15 @@ pub record Demand3 (card ranking word answer after : List ℕ) (r : Evaluation) 
   pub none-exactly : (r .number ≡ 10) ↔ ((c : List Pair) → ¬ (IsCandidate (machinesOf card) word c))
   -- otherwise there is a best one
   pub otherwise-best : (c : List Pair) → IsCandidate (machinesOf card) word c → (b : List Pair) × IsBestCandidate ranking (machinesOf card) word b
-  -- the best one passes no node twice, so it has at most 3,199 pairs and no count above 48,000
-  pub no-node-twice : (c : List Pair) → IsBestCandidate ranking (machinesOf card) word c → Distinct (nodes (cardGraph card ranking word) (cardStart card) c)
-  pub few-pairs : (c : List Pair) → IsBestCandidate ranking (machinesOf card) word c → length c ≤ 3199
-  pub small-counts : (c : List Pair) → IsBestCandidate ranking (machinesOf card) word c → allOf (λ n. leb n 48000) (profileOf (machinesOf card) c) ≡ true
+  -- each candidate that none beats by profile or pair count, the best one too, passes no node twice, so it has at most 3,199 pairs and no count
+  -- above 48,000
+  pub counts-fit : CountsFit (byRanking ranking) card (singletons word) (IsUnbeatenIn (harmonic ranking) (machinesOf card) (IsCandidate (machinesOf card) word))
+  pub best-unbeaten : (c : List Pair) → IsBestCandidate ranking (machinesOf card) word c → IsUnbeatenIn (harmonic ranking) (machinesOf card) (IsCandidate (machinesOf card) word) c
   -- 12 exactly when there is a best candidate and its bytes are more than the answer slice has
   pub room-exactly : (r .number ≡ 12) ↔ ((c : List Pair) × IsBestCandidate ranking (machinesOf card) word c × (length answer < 2 * length c))
   -- 0 exactly when there is a best candidate whose bytes the answer slice has room for
   pub best-exactly : (r .number ≡ 0) ↔ ((c : List Pair) × IsBestCandidate ranking (machinesOf card) word c × (2 * length c ≤ length answer))
-  -- and then it is answered, its pairs and counts as few
-  pub few-answered : r .number ≡ 0 → r .pairs ≤ 3199
-  pub small-answered : r .number ≡ 0 → allOf (λ n. leb n 48000) (r .profile .counts) ≡ true
+  -- and then it is answered
   pub answered : r .number ≡ 0 → (c : List Pair) × AnswersBest card ranking word answer after r c
   -- otherwise the answer slice keeps its bytes
   pub untouched : r .number ≢ 0 → after ≡ answer
@@ -66,17 +58,11 @@ module _ (card ranking word answer : List ℕ) (room : ℕ) (ok : inputRefusal c
   all : BestOfAll card ranking word
   all = best-is-best-of-all card ranking word (accepts .accepted) (accepts .ranks)
 
-  small : (b : Contender) → best card ranking word ≡ some b → SmallBest b
-  small = best-is-small card ranking word (accepts .accepted) (short-word (symbolCount card) word (accepts .sound))
-
-  distinct : (c : List Pair) → IsBestCandidate ranking (machinesOf card) word c → Distinct (nodes (cardGraph card ranking word) (cardStart card) c)
-  distinct c k = best-is-short card ranking word (accepts .accepted) (contenderOf (machinesOf card) c) (all .only-it c k) .no-node-twice
-
   -- of what the definitions give
   of-word : Demands (machinesOf card) (IsCandidate (machinesOf card) word) (IsBestCandidate ranking (machinesOf card) word) word answer (optimizedAnswer card ranking word room answer) (optimized card ranking word room (length answer))
   unfolding optimized optimizedAnswer optimizerRefusal
   of-word =
-      demanded (machinesOf card) (IsCandidate (machinesOf card) word) (IsBestCandidate ranking (machinesOf card) word) (best card ranking word) all (λ c k. k .candidate) small word answer
+      demanded (machinesOf card) (IsCandidate (machinesOf card) word) (IsBestCandidate ranking (machinesOf card) word) (best card ranking word) all (λ c k. k .candidate) word answer
       (optimizedAnswer card ranking word room answer) (optimized card ranking word room (length answer)) (rw ok) (rw ok)
 
   of-definitions : Demand3 card ranking word answer (optimizedAnswer card ranking word room answer) (optimized card ranking word room (length answer))
@@ -86,13 +72,10 @@ module _ (card ranking word answer : List ℕ) (room : ℕ) (ok : inputRefusal c
         numbers = d .numbers;
         none-exactly = d .none-exactly;
         otherwise-best = d .otherwise-best;
-        no-node-twice = distinct;
-        few-pairs = λ c k. omega (arith, d .few-pairs c k);
-        small-counts = λ c k. profile-bound (accepted-machines card (accepts .accepted) .sound) c _ (omega (arith, d .few-pairs c k));
+        counts-fit = unbeaten-fit (ranking-agrees ranking) card (accepts .accepted) word (short-word (symbolCount card) word (accepts .sound));
+        best-unbeaten = λ c k. best-unbeaten (ranking-agrees ranking) c (best-harmonic ranking (machinesOf card) word c k);
         room-exactly = d .room-exactly;
         best-exactly = d .best-exactly;
-        few-answered = d .few-answered;
-        small-answered = d .small-answered;
         answered = λ h.
             let a = d .answered h .1 in
             (d .answered h .0, record { is-best = a .is-best; fits = a .fits; bytes = a .bytes; profile = a .profile; pairs = a .pairs; word-length = a .word-length });

@@ -1,27 +1,22 @@
 -- What demand 3 says of an answer, by which candidates are meant and what it is for one of them to be the best; and that what a search answers meets it.
 use mathlib.Core.Path.{_≡_, refl, sym, _∙_, ap}
 use mathlib.Core.Logic.{_⊎_, inl, inr, _↔_, _≢_}
-use mathlib.Core.Bool.{true}
-use mathlib.Core.List.{List, [], _∷_, _++_}
+use mathlib.Core.List.{List, _++_}
 use mathlib.Core.Option.{Option, some, none}
-use Prim.Native.Nat.{ℕ, zero, suc, _*_, _-_, _<_, _≤_}
+use Prim.Native.Nat.{ℕ, _*_, _-_, _<_, _≤_}
 use native.Mathlib.Decide.{decLt}
 use native.Mathlib.Omega.{arith}
-use lib.Dec.{leb}
-use lib.ListN.{length, drop, replicate}
+use lib.ListN.{length, drop}
 use borrow.Author.Tests.{le-leb, lt-leb}
-use Rattle.basics.specs.Search.{allOf}
-use Rattle.basics.specs.Refusals.{unlessRefused}
-use Rattle.basics.proofs.Bools.{both, left, right}
+use Rattle.refusals.specs.Refusals.{unlessRefused}
 use Rattle.machine.specs.declared.Pair.{Pair}
 use Rattle.machine.specs.Machine.{Machine}
 use Rattle.candidate.specs.declared.Evaluation.{Evaluation}
 use Rattle.candidate.specs.Candidates.{bytesOf, profileOf}
 use Rattle.candidate.specs.Evaluating.{profileWith, refused}
-use Rattle.product.specs.Best.{Contender, contenderOf}
+use Rattle.product.specs.Best.{Contender}
 use Rattle.product.specs.Optimizing.{evaluationOf, filled}
 use Rattle.product.specs.BestCandidate.{BestOf}
-use Rattle.product.specs.BestTheorem.{SmallBest}
 use Rattle.optimizer.specs.Searching.{searchRefusal}
 
 -- the best candidate and where it stands: it beats every other one, however long, and the answer has it
@@ -40,26 +35,14 @@ pub record Demands (ms : List Machine) (Meant IsBest : List Pair → Type 0) (wo
   pub none-exactly : (r .number ≡ 10) ↔ ((c : List Pair) → ¬ (Meant c))
   -- otherwise there is a best one
   pub otherwise-best : (c : List Pair) → Meant c → (b : List Pair) × IsBest b
-  -- which has at most 3,199 pairs and no count above 48,000
-  pub few-pairs : (c : List Pair) → IsBest c → length c ≤ 3199
-  pub small-counts : (c : List Pair) → IsBest c → allOf (λ n. leb n 48000) (profileOf ms c) ≡ true
   -- 12 exactly when there is a best candidate and its bytes are more than the answer slice has
   pub room-exactly : (r .number ≡ 12) ↔ ((c : List Pair) × IsBest c × (length answer < 2 * length c))
   -- 0 exactly when there is a best candidate whose bytes the answer slice has room for
   pub best-exactly : (r .number ≡ 0) ↔ ((c : List Pair) × IsBest c × (2 * length c ≤ length answer))
-  -- and then it is answered, its pairs and counts as few
-  pub few-answered : r .number ≡ 0 → r .pairs ≤ 3199
-  pub small-answered : r .number ≡ 0 → allOf (λ n. leb n 48000) (r .profile .counts) ≡ true
+  -- and then it is answered
   pub answered : r .number ≡ 0 → (c : List Pair) × Answers ms IsBest word answer after r c
   -- otherwise the answer slice keeps its bytes
   pub untouched : r .number ≢ 0 → after ≡ answer
-
--- unused counts are 0
-with-zeros : (xs : List ℕ) (b n : ℕ) → allOf (λ k. leb k b) xs ≡ true → allOf (λ k. leb k b) (xs ++ replicate n 0) ≡ true
-unfolding allOf
-with-zeros [] b zero t = refl
-with-zeros [] b (suc n) t = both (le-leb 0 b (omega arith)) (with-zeros [] b n t)
-with-zeros (x ∷ xs) b n t = both (left (leb x b) (allOf (λ k. leb k b) xs) t) (with-zeros xs b n (right (leb x b) (allOf (λ k. leb k b) xs) t))
 
 -- what is answered, by what the best is
 data Outcome (best : Option Contender) (word answer after : List ℕ) (r : Evaluation) : Type 0 where
@@ -68,7 +51,7 @@ data Outcome (best : Option Contender) (word answer after : List ℕ) (r : Evalu
   found : (b : Contender) → best ≡ some b → 2 * length (b .candidate) ≤ length answer → r ≡ evaluationOf (some b) word → after ≡ filled (some b) answer → Outcome best word answer after r
 
 module _ (ms : List Machine) (Meant IsBest : List Pair → Type 0) (best : Option Contender) (all : BestOf ms Meant IsBest best) (meant : (c : List Pair) → IsBest c → Meant c)
-    (small : (b : Contender) → best ≡ some b → SmallBest b) (word answer after : List ℕ) (r : Evaluation)
+    (word answer after : List ℕ) (r : Evaluation)
     (result : r ≡ unlessRefused (searchRefusal best (length answer)) (evaluationOf best word) refused) (slice : after ≡ unlessRefused (searchRefusal best (length answer)) (filled best answer) (λ n. answer))
   where
     outcome : Outcome best word answer after r
@@ -93,10 +76,6 @@ module _ (ms : List Machine) (Meant IsBest : List Pair → Type 0) (best : Optio
     some-candidate : (b : Contender) → best ≡ some b → ((c : List Pair) → ¬ (Meant c)) → ⊥
     some-candidate b e f = f (b .candidate) (meant (b .candidate) (all .is-best b e))
 
-    -- a best candidate is the definition's
-    its-size : (c : List Pair) → IsBest c → SmallBest (contenderOf ms c)
-    its-size c k = small (contenderOf ms c) (all .only-it c k)
-
     pub demanded : Demands ms Meant IsBest word answer after r
     demanded = go outcome
       where
@@ -105,12 +84,8 @@ module _ (ms : List Machine) (Meant IsBest : List Pair → Type 0) (best : Optio
           numbers = inr (inl n);
           none-exactly = (λ _. all .none-exactly .0 e, λ _. n);
           otherwise-best = λ c h. absurd (all .none-exactly .0 e c h);
-          few-pairs = λ c k. its-size c k .pairs;
-          small-counts = λ c k. its-size c k .counts;
           room-exactly = (λ h. absurd (omega arith), λ t. absurd (no-best e (t .0) (t .1)));
           best-exactly = (λ h. absurd (omega arith), λ t. absurd (no-best e (t .0) (t .1)));
-          few-answered = λ h. absurd (omega arith);
-          small-answered = λ h. absurd (omega arith);
           answered = λ h. absurd (omega arith);
           untouched = λ _. u;
         }
@@ -118,12 +93,8 @@ module _ (ms : List Machine) (Meant IsBest : List Pair → Type 0) (best : Optio
           numbers = inr (inr n);
           none-exactly = (λ h. absurd (omega arith), λ f. absurd (some-candidate b e f));
           otherwise-best = λ _ _. (b .candidate, all .is-best b e);
-          few-pairs = λ c k. its-size c k .pairs;
-          small-counts = λ c k. its-size c k .counts;
           room-exactly = (λ _. (b .candidate, all .is-best b e, l), λ _. n);
           best-exactly = (λ h. absurd (omega arith), λ t. absurd (omega (arith, same-pairs b e (t .0) (t .1), t .2)));
-          few-answered = λ h. absurd (omega arith);
-          small-answered = λ h. absurd (omega arith);
           answered = λ h. absurd (omega arith);
           untouched = λ _. u;
         }
@@ -133,12 +104,8 @@ module _ (ms : List Machine) (Meant IsBest : List Pair → Type 0) (best : Optio
               numbers = inl n;
               none-exactly = (λ h. absurd (omega arith), λ f. absurd (some-candidate b e f));
               otherwise-best = λ _ _. (b .candidate, all .is-best b e);
-              few-pairs = λ c k. its-size c k .pairs;
-              small-counts = λ c k. its-size c k .counts;
               room-exactly = (λ h. absurd (omega arith), λ t. absurd (omega (arith, same-pairs b e (t .0) (t .1), t .2)));
               best-exactly = (λ _. (b .candidate, all .is-best b e, l), λ _. n);
-              few-answered = λ _. omega (arith, ap (λ (v : Evaluation). v .pairs) q, small b e .pairs);
-              small-answered = λ _. ap (λ (v : Evaluation). allOf (λ n. leb n 48000) (v .profile .counts)) q ∙ with-zeros (b .profile) 48000 (6 - length (b .profile)) (small b e .counts);
               answered = λ _. (
                 b .candidate,
                 record {

@@ -1,5 +1,5 @@
 -- definitions
-pub mod Refusals
+pub mod SmallAnswers
 pub mod Optimizes
 pub mod OptimizesSets
 pub mod Searching
@@ -8,5 +8,6 @@ pub mod Telling
 pub mod Demands
 pub mod Demand3
 pub mod Demand3Sets
--- sets of one symbol each, and two engines
+-- sets of one symbol each, and two calls with work slices of their own
 pub mod SetsCalls
+pub mod TwoCalls

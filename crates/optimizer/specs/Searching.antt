@@ -6,7 +6,7 @@ use mathlib.Core.Option.{Option, some, none}
 use Prim.Native.Nat.{ℕ, _+_, _*_, _≤_}
 use lib.Dec.{leb}
 use lib.ListN.{length}
-use Rattle.basics.specs.Refusals.{refuse, firstOf, unlessRefused}
+use Rattle.refusals.specs.Refusals.{refuse, firstOf, unlessRefused}
 use Rattle.ranking.specs.declared.Profile.{Profile}
 use Rattle.ranking.specs.Rankings.{isRanking}
 use Rattle.card.specs.Layout.{machineCount, symbolCount}

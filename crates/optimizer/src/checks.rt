@@ -2,43 +2,42 @@
 ghost use mathlib.Core.Path.{_≡_};
 ghost use Prim.Native.Nat.{_*_};
 ghost use lib.Dec.{leb};
-ghost use Rattle.basics.specs.Refusals.{refuse};
+ghost use Rattle.refusals.specs.Refusals.{refuse, checkedNumber};
 ghost use Rattle.candidate.specs.Candidates.{isSome};
 ghost use Rattle.labels.specs.Work.{HasNode, labelOf};
-ghost use Rattle.optimizer.specs.Refusals.{stageNumber};
 ghost use Rattle.optimizer.specs.Searching.{labelRefusal};
-use crate::Refusal;
-use crate::Stage;
 use labels::Label;
+use refusals::Checked;
+use refusals::Refusal;
 
 // Refusal 10: whether there is a candidate, and so a label at the start node.
-fn check_found(work: &[u16], start: usize) -> Stage
+fn check_found(work: &[u16], start: usize) -> Checked
     requires { ⌜ HasNode (now work) start ⌝ }
-    ensures { λ r. ⌜ stageNumber r ≡ refuse 10 (isSome (labelOf (now (work .entry)) start)) ⌝ }
+    ensures { λ r. ⌜ checkedNumber r ≡ refuse 10 (isSome (labelOf (now (work .entry)) start)) ⌝ }
 {
     if !labels::reached(work, start) {
-        return Stage::Refused(Refusal::NoCandidate);
+        return Checked::Refused(Refusal::NoCandidate);
     }
-    Stage::Passed
+    Checked::Passed
 }
 
 // Refusal 12, by the label of the start node: whether an answer slice of `room` bytes has two for each pair.
-fn check_answer(label: Label, room: usize) -> Stage
-    ensures { λ r. ⌜ stageNumber r ≡ refuse 12 (leb (2 * label .pairs) room) ⌝ }
+fn check_answer(label: Label, room: usize) -> Checked
+    ensures { λ r. ⌜ checkedNumber r ≡ refuse 12 (leb (2 * label .pairs) room) ⌝ }
 {
     if room / 2 < label.pairs as usize {
-        return Stage::Refused(Refusal::Answer);
+        return Checked::Refused(Refusal::Answer);
     }
-    Stage::Passed
+    Checked::Passed
 }
 
 // The first of refusals 10 and 12 that the search meets, by the label of the start node, for an answer slice of `room` bytes.
-pub fn check_best(work: &[u16], start: usize, room: usize) -> Stage
+pub fn check_best(work: &[u16], start: usize, room: usize) -> Checked
     requires { ⌜ HasNode (now work) start ⌝ }
-    ensures { λ r. ⌜ stageNumber r ≡ labelRefusal (labelOf (now (work .entry)) start) room ⌝ }
+    ensures { λ r. ⌜ checkedNumber r ≡ labelRefusal (labelOf (now (work .entry)) start) room ⌝ }
 {
     let answer = check_found(work, start);
-    let Stage::Passed = answer else {
+    let Checked::Passed = answer else {
         return answer;
     };
     let label = labels::load(work, start);

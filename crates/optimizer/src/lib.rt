@@ -10,11 +10,9 @@ ghost use Rattle.product.specs.Sets.{singletons, bestOfSets};
 ghost use Rattle.card.specs.Card.{cardRefusal};
 ghost use Rattle.product.specs.ProductGraph.{cardStart};
 ghost use Rattle.candidate.specs.Candidates.{isSome};
-ghost use Rattle.product.specs.Best.{best};
 ghost use Rattle.product.specs.Optimizing.{inputRefusal};
 ghost use Rattle.labels.specs.LabelCost.{costOf};
 ghost use Rattle.positions.specs.Labelling.{PositionsDone};
-ghost use Rattle.optimizer.specs.Refusals.{numberOf, stageNumber};
 ghost use Rattle.optimizer.specs.Optimizes.{Optimizes};
 ghost use Rattle.optimizer.specs.OptimizesSets.{OptimizesSets};
 ghost use Rattle.optimizer.specs.Searching.{SetsPre, SearchPre, Searched, RankingOfSome, CardOrder};
@@ -24,46 +22,9 @@ use candidate::Evaluation;
 use candidate::refused;
 use labels::Label;
 use ranking::Profile;
+use refusals::Checked;
 
 mod checks; // checks.rt: the checks of the best candidate
-
-// Why the call is refused after the search; the input has its own refusals.
-pub enum Refusal {
-    // No candidate is complete.
-    NoCandidate,
-    // The answer slice is too short.
-    Answer,
-}
-
-impl Refusal {
-    // Its number in the refusal table.
-    fn number(self) -> u8
-        ensures { λ r. ⌜ r ≡ numberOf self ⌝ }
-    {
-        match self {
-            Refusal::NoCandidate => 10,
-            Refusal::Answer => 12,
-        }
-    }
-}
-
-// What a checking stage answers.
-pub enum Stage {
-    Passed,
-    Refused(Refusal),
-}
-
-impl Stage {
-    // Its number: 0 where it passed.
-    fn number(self) -> u8
-        ensures { λ r. ⌜ r ≡ stageNumber self ⌝ }
-    {
-        match self {
-            Stage::Passed => 0,
-            Stage::Refused(refusal) => refusal.number(),
-        }
-    }
-}
 
 // Counts in ranked order as a profile, which is in card order.
 fn profile_of(label: Label, ranking: &[u8]) -> Profile
@@ -112,7 +73,7 @@ pub fn read_out(
 {
     let start = start_node(card);
     let found = checks::check_best(work, start, answer.len());
-    let Stage::Passed = found else {
+    let Checked::Passed = found else {
         return refused(found.number());
     };
     let label = labels::load(work, start);
@@ -214,7 +175,7 @@ pub fn optimize(
     ensures { λ r. ⌜ Optimizes (now (card .entry)) (now (ranking .entry)) (now (word .entry)) (now (work .entry)) (now (work .exit)) (now (answer .entry)) (now (answer .exit)) r ⌝ }
 {
     let checked = input::check_input(card, ranking, word, work.len());
-    let input::Stage::Passed = checked else {
+    let Checked::Passed = checked else {
         return refused(checked.number());
     };
     let size = input::joint_states(card);
@@ -233,7 +194,7 @@ pub fn optimize_sets(
     ensures { λ r. ⌜ OptimizesSets (now (card .entry)) (now (ranking .entry)) (now (sets .entry)) (now (work .entry)) (now (work .exit)) (now (answer .entry)) (now (answer .exit)) r ⌝ }
 {
     let checked = input::check_sets_input(card, ranking, sets, work.len());
-    let input::Stage::Passed = checked else {
+    let Checked::Passed = checked else {
         return refused(checked.number());
     };
     let size = input::joint_states(card);

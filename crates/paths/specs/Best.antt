@@ -1,5 +1,5 @@
 -- The best path from a node: the cheapest, and of those the first in the order of its letters. There is one at most, and below N nodes it is
--- the best of the paths of fewer than N letters.
+-- the best of the paths of fewer than N letters. A cheapest path, whatever its letters, passes no node twice.
 use mathlib.Core.Path.{_≡_, refl, sym, _∙_, ap}
 use mathlib.Core.Logic.{_⊎_, inl, inr, _≢_}
 use mathlib.Core.Option.{Option, none, some, Option·none-ne-some}
@@ -35,6 +35,12 @@ module _ {costs : Costs} {alphabet : Alphabet} (G : Graph costs alphabet) where
     pub is : pathCost G u ps ≡ some cost
     pub first : (qs : List Letter) (d : Cost) → qs ≢ ps → pathCost G u qs ≡ some d → Before costs alphabet (cost, ps) (d, qs)
 
+  -- ps is a path from u, and none of any length is cheaper
+  pub record IsCheapest (u : ℕ) (ps : List Letter) : Type 0 where
+    pub cost : Cost
+    pub is : pathCost G u ps ≡ some cost
+    pub none-cheaper : (qs : List Letter) (d : Cost) → pathCost G u qs ≡ some d → ¬ (d ≺ cost)
+
   -- ps is a path from u of fewer than N letters, and every other one of fewer than N letters comes after it
   pub record IsBestBelow (N u : ℕ) (ps : List Letter) : Type 0 where
     pub cost : Cost
@@ -62,26 +68,19 @@ module _ {costs : Costs} {alphabet : Alphabet} (G : Graph costs alphabet) where
   answer-unique u (some ps) none a b = let k = a .best ps refl in absurd (Option·none-ne-some (k .cost) (sym (b .no-path refl ps) ∙ k .is))
   answer-unique u (some ps) (some qs) a b = ap {B = Option (List Letter)} some (best-unique u ps qs (a .best ps refl) (b .best qs refl))
 
-  -- ---- a best path passes no node twice: it would be cut to a cheaper one
+  -- ---- a cheapest path passes no node twice: it would be cut to a cheaper one
 
-  pub best-distinct : (u : ℕ) (ps : List Letter) → IsBest u ps → Distinct (nodes G u ps)
-  best-distinct u ps a = go (cut G (cost→run G u ps (a .cost) (a .is)))
+  pub cheapest-distinct : (u : ℕ) (ps : List Letter) → IsCheapest u ps → Distinct (nodes G u ps)
+  cheapest-distinct u ps a = go (cut G (cost→run G u ps (a .cost) (a .is)))
     where
       go : Distinct (nodes G u ps) ⊎ Cheaper G u (length ps) (a .cost) → Distinct (nodes G u ps)
       go (inl k) = k
-      go (inr k) = absurd (other (same? (lex-total _◃_ letters-total) (k .letters) ps))
-        where
-          is : pathCost G u (k .letters) ≡ some (k .cost)
-          is = run→cost G (k .run)
-
-          other : Dec (k .letters ≡ ps) → ⊥
-          other (yes e) = let q : k .cost ≡ a .cost = cc (is, a .is, e) in total .irrefl (a .cost) (rw q at (k .cheaper))
-          other (no n) = asym (before-total costs alphabet) (a .cost, ps) (k .cost, k .letters) (a .first (k .letters) (k .cost) n is) (inl (k .cheaper))
+      go (inr k) = absurd (a .none-cheaper (k .letters) (k .cost) (run→cost G (k .run)) (k .cheaper))
 
   module _ {N : ℕ} (W : Within G N) (u : ℕ) (b : u < N) where
     -- so it has fewer than N letters
-    pub best-short : (ps : List Letter) → IsBest u ps → length ps < N
-    best-short ps a = distinct-short G W u ps (a .cost) b (a .is) (best-distinct u ps a)
+    pub cheapest-short : (ps : List Letter) → IsCheapest u ps → length ps < N
+    cheapest-short ps a = distinct-short G W u ps (a .cost) b (a .is) (cheapest-distinct u ps a)
 
     -- ---- Theorem 4, for the best: the best of the paths of fewer than N letters is the best of all
 

@@ -122,7 +122,7 @@ fn enter_node(
 {
     let symbols = card::symbol_count(card) as usize;
     let mut own = front(work, position * size + code);
-    let mut output = 0;
+    let mut output = tables::DELETION;
     while output <= symbols {
         own = try_pair(
             work,

@@ -1,5 +1,5 @@
 -- How the check of sets ends. Assumes nothing.
-use mathlib.Core.Path.{_≡_, refl}
+use mathlib.Core.Path.{_≡_}
 use mathlib.Core.Bool.{true, false}
 use mathlib.Core.List.{List}
 use Prim.Native.Nat.{ℕ, _+_, _<_, _≤_}
@@ -8,8 +8,8 @@ use lib.ListN.{length, getD, drop}
 use lib.Seq.{drop-cons, drop-length}
 use borrow.Author.Tests.{le-leb, lt-leb}
 use Rattle.basics.specs.Search.{allOf}
-use Rattle.basics.specs.Refusals.{refuse}
-use Rattle.basics.proofs.Refusals.{last-one}
+use Rattle.refusals.specs.Refusals.{refuse}
+use Rattle.refusals.proofs.Refusals.{last-one}
 use Rattle.basics.proofs.Search.{all-next, all-fails, all-none}
 use Rattle.product.specs.OptimizingSets.{symbolSet, setsRefusal}
 

@@ -1,10 +1,10 @@
 -- When a candidate is the best for a word, among candidates of any length; and when an answer is it.
 use mathlib.Core.Path.{_≡_}
 use mathlib.Core.Logic.{_≢_, _↔_}
-use mathlib.Core.Bool.{true}
+use mathlib.Core.Bool.{true, false}
 use mathlib.Core.List.{List}
 use mathlib.Core.Option.{Option, some, none}
-use Prim.Native.Nat.{ℕ, _<_}
+use Prim.Native.Nat.{ℕ, _<_, _≤_}
 use lib.ListN.{length}
 use Rattle.machine.specs.declared.Pair.{Pair}
 use Rattle.machine.specs.Machine.{Machine}
@@ -27,6 +27,12 @@ pub data BeatsIn (better : ProfileOrder) (a b : Contender) : Type 0 where
 pub record IsBestIn (better : ProfileOrder) (ms : List Machine) (Meant : List Pair → Type 0) (c : List Pair) : Type 0 where
   pub candidate : Meant c
   pub rivals : (d : List Pair) → Meant d → d ≢ c → BeatsIn better (contenderOf ms c) (contenderOf ms d)
+
+-- of the candidates meant none has a better profile than c, and none of as good a profile has fewer pairs: c is beaten by its bytes at most
+pub record IsUnbeatenIn (better : ProfileOrder) (ms : List Machine) (Meant : List Pair → Type 0) (c : List Pair) : Type 0 where
+  pub candidate : Meant c
+  pub none-better : (d : List Pair) → Meant d → better (profileOf ms d) (profileOf ms c) ≡ false
+  pub none-shorter : (d : List Pair) → Meant d → Alike better (profileOf ms d) (profileOf ms c) → length c ≤ length d
 
 -- ---- under a ranking, where equal in harmony is equal
 

@@ -4,12 +4,8 @@ use mathlib.Core.Path.{_≡_, refl, sym, _∙_, ap}
 use mathlib.Core.Bool.{true}
 use mathlib.Core.List.{List}
 use mathlib.Core.Option.{Option, some, none, Option·none-ne-some}
-use Prim.Native.Nat.{ℕ, _+_, _*_, _<_, _≤_}
-use native.Mathlib.Nat.{mul-le-mul}
-use native.Mathlib.Omega.{arith}
+use Prim.Native.Nat.{ℕ}
 use lib.ListN.{length}
-use lib.Dec.{leb}
-use Rattle.basics.specs.Search.{allOf}
 use Rattle.machine.specs.declared.Pair.{Pair}
 use Rattle.machine.specs.Machine.{Machine}
 use Rattle.ranking.specs.Rankings.{isRanking}
@@ -18,22 +14,18 @@ use Rattle.card.specs.Card.{machinesOf, cardRefusal}
 use Rattle.candidate.specs.Candidates.{profileOf, IsCandidate}
 use Rattle.product.specs.Sets.{singletons}
 use Rattle.product.specs.Best.{Contender, contenderOf, ProfileOrder, bestIn, best}
-use Rattle.product.specs.Nodes.{nodeCount}
 use Rattle.paths.specs.Total.{lex-total, same?, asym}
 use Rattle.paths.specs.Costs.{Costs}
-use Rattle.paths.specs.Pigeonhole.{Distinct}
-use Rattle.paths.specs.Graph.{pathCost, nodes}
-use Rattle.paths.specs.Best.{before-total, IsBest, best-distinct, best-short}
-use Rattle.product.specs.Prices.{Price, Alike, Agrees, byRanking, ranking-agrees}
+use Rattle.paths.specs.Graph.{pathCost}
+use Rattle.paths.specs.Best.{before-total, IsBest}
+use Rattle.product.specs.Prices.{Price, Alike, Agrees, ranking-agrees}
 use Rattle.product.specs.ProductGraph.{pairs, pricedGraph, cardGraph, cardStart}
 use Rattle.product.specs.BestCandidate.{BeatsIn, by-profile, by-pairs, by-bytes, IsBestIn, IsBestCandidate, BestOf}
 use Rattle.product.specs.Laws.Candidates.{candidate-cost, cost-candidate}
 use Rattle.product.specs.Laws.Accepted.{accepted-machines}
-use Rattle.product.specs.Laws.CardGraph.{start-within, word-within}
 use Rattle.product.specs.Laws.Preference.{keyOf, beats-earlier}
 use Rattle.product.specs.Laws.Best.{candidateOf, best-answers, best-contender, is-the-best, there-is-none}
 use Rattle.product.specs.Laws.BestCandidate.{best-harmonic, harmonic-best, path-best-in, best-in-path}
-use Rattle.product.specs.Laws.Counts.{profile-bound}
 
 -- ---- in an order on profiles, with a price that agrees with it
 
@@ -62,20 +54,6 @@ module _ {costs : Costs} {price : Price costs} {better : ProfileOrder} (agrees :
 
       only : (c : List Pair) → IsBestIn better (machinesOf card) (IsCandidate (machinesOf card) word) c → bestIn better card word ≡ some (contenderOf (machinesOf card) c)
       only c a = is-the-best agrees card word ok c (best-in-path agrees (accepted-machines card ok .sound) word c a)
-
--- it passes no node twice, so it has fewer pairs than there are nodes
-pub record ShortAt {costs : Costs} (price : Price costs) (card word : List ℕ) (b : Contender) : Type 0 where
-  pub no-node-twice : Distinct (nodes (pricedGraph price card (singletons word)) (cardStart card) (b .candidate))
-  pub fewer-pairs : length (b .candidate) < nodeCount (machinesOf card) (length word)
-
-pub best-in-is-short : {costs : Costs} {price : Price costs} {better : ProfileOrder} → Agrees price better → (card word : List ℕ) → cardRefusal card ≡ 0 → (b : Contender) → bestIn better card word ≡ some b → ShortAt price card word b
-best-in-is-short {price = price} agrees card word ok b e =
-    let G = pricedGraph price card (singletons word) in
-    let a = best-answers agrees card word ok .best (b .candidate) (ap candidateOf e) in
-    record {
-      no-node-twice = best-distinct G (cardStart card) (b .candidate) a;
-      fewer-pairs = best-short G (word-within card word ok price) (cardStart card) (start-within card word ok) (b .candidate) a;
-    }
 
 -- orders that compare two profiles alike prefer alike
 pub beats-alike : {better better′ : ProfileOrder} {a b : Contender} → better (a .profile) (b .profile) ≡ better′ (a .profile) (b .profile) → better (b .profile) (a .profile) ≡ better′ (b .profile) (a .profile) → BeatsIn better a b → BeatsIn better′ a b
@@ -113,20 +91,6 @@ module _ {costs costs′ : Costs} {price : Price costs} {price′ : Price costs�
           let ba : BeatsIn better′ b a = rw (one, other) (y .rivals (a .candidate) (x .candidate) n) in
           absurd (asym (before-total costs′ pairs) (keyOf price′ a) (keyOf price′ b) (beats-earlier agrees′ a b (beats-alike p q ab)) (beats-earlier agrees′ b a ba))
 
--- of a word of at most 24 symbols it has at most 3,199 pairs and no count above 48,000, which is 15 a pair and 15 for ending
-pub record SmallBest (b : Contender) : Type 0 where
-  pub pairs : length (b .candidate) ≤ 3199
-  pub counts : allOf (λ n. leb n 48000) (b .profile) ≡ true
-
-pub best-in-is-small : {costs : Costs} {price : Price costs} {better : ProfileOrder} → Agrees price better → (card word : List ℕ) → cardRefusal card ≡ 0 → length word ≤ 24 → (b : Contender) → bestIn better card word ≡ some b → SmallBest b
-best-in-is-small agrees card word ok h b e = record { pairs = short; counts = rw (best-contender agrees card word ok b e) (profile-bound (accepted-machines card ok .sound) (b .candidate) 48000 (omega (arith, short))) }
-  where
-    few : nodeCount (machinesOf card) (length word) ≤ 25 * 128
-    few = let n : length word + 1 ≤ 25 = omega arith in mul-le-mul n (accepted-machines card ok .few-states)
-
-    short : length (b .candidate) ≤ 3199
-    short = omega (arith, few, best-in-is-short agrees card word ok b e .fewer-pairs)
-
 -- ---- under a ranking
 
 abbrev pub BestOfAll : (card ranking word : List ℕ) → Type 0
@@ -152,15 +116,3 @@ best-path-is-best card r word ok = is-the-best (ranking-agrees r) card word ok
 pub no-path-no-best : (card ranking word : List ℕ) → cardRefusal card ≡ 0 → ((c : List Pair) → pathCost (cardGraph card ranking word) (cardStart card) c ≡ none) → best card ranking word ≡ none
 unfolding best
 no-path-no-best card r word ok = there-is-none (ranking-agrees r) card word ok
-
--- how long it is
-abbrev pub ShortBest : (card ranking word : List ℕ) → Contender → Type 0
-ShortBest card ranking word b = ShortAt (byRanking ranking) card word b
-
-pub best-is-short : (card ranking word : List ℕ) → cardRefusal card ≡ 0 → (b : Contender) → best card ranking word ≡ some b → ShortBest card ranking word b
-unfolding best
-best-is-short card r word ok b e = best-in-is-short (ranking-agrees r) card word ok b e
-
-pub best-is-small : (card ranking word : List ℕ) → cardRefusal card ≡ 0 → length word ≤ 24 → (b : Contender) → best card ranking word ≡ some b → SmallBest b
-unfolding best
-best-is-small card r word ok h b e = best-in-is-small (ranking-agrees r) card word ok h b e

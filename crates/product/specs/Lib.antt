@@ -1,5 +1,4 @@
 -- definitions
-pub mod Refusals
 pub mod Nodes
 pub mod JointStep
 pub mod Prices
@@ -18,5 +17,6 @@ pub mod Laws
 pub mod CandidatePaths
 pub mod BestTheorem
 pub mod SetsTheorem
+pub mod CountsFit
 pub mod OneSymbolEach
 pub mod LabelTheorem

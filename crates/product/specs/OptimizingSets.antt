@@ -6,7 +6,7 @@ use lib.ListN.{length}
 use lib.Dec.{leb}
 use Rattle.basics.specs.Search.{allOf}
 use Rattle.basics.specs.Sets.{member}
-use Rattle.basics.specs.Refusals.{refuse, firstOf, unlessRefused}
+use Rattle.refusals.specs.Refusals.{refuse, firstOf, unlessRefused}
 use Rattle.machine.specs.Symbols.{emptySymbol}
 use Rattle.machine.specs.Part.{soundSet}
 use Rattle.ranking.specs.Rankings.{isRanking}

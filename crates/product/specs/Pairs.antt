@@ -2,7 +2,7 @@
 use mathlib.Core.Bool.{cond}
 use Prim.Native.Nat.{ℕ, _+_}
 use lib.Dec.{eqb}
-use Rattle.machine.specs.Symbols.{emptySymbol}
+use Rattle.machine.specs.Symbols.{emptySymbol, firstSymbol}
 
 -- after a pair with the in x: an insertion stays
 abbrev pub positionAfter : ℕ → ℕ → ℕ
@@ -10,4 +10,4 @@ positionAfter i x = cond (eqb x emptySymbol) i (i + 1)
 
 -- the first out of the pairs with the in x: 0:0 is no pair
 abbrev pub firstOutput : ℕ → ℕ
-firstOutput x = cond (eqb x emptySymbol) 1 0
+firstOutput x = cond (eqb x emptySymbol) firstSymbol emptySymbol

@@ -6,8 +6,7 @@ use mathlib.Core.Logic.{inl, inr, _≢_}
 use mathlib.Core.Bool.{true}
 use mathlib.Core.List.{List}
 use mathlib.Core.Option.{Option, some, none, Option·none-ne-some}
-use Prim.Native.Nat.{ℕ, _≤_}
-use lib.ListN.{length}
+use Prim.Native.Nat.{ℕ}
 use lib.Dec.{ltb}
 use Rattle.basics.specs.Search.{allOf}
 use Rattle.machine.specs.declared.Pair.{Pair}
@@ -25,25 +24,19 @@ use Rattle.paths.specs.Best.{Before, IsBest, best-unique}
 use Rattle.product.specs.Prices.{Price, Agrees, ranking-agrees}
 use Rattle.product.specs.ProductGraph.{pairs, pricedGraph, cardStart}
 use Rattle.product.specs.BestCandidate.{BeatsIn, IsBestIn, IsBestOfSets, BestOf}
-use Rattle.product.specs.BestTheorem.{beats-alike, best-in-is-best-of-all, SmallBest, best-in-is-small}
+use Rattle.product.specs.BestTheorem.{beats-alike, best-in-is-best-of-all}
 use Rattle.product.specs.Laws.Candidates.{fitting-cost, as-sets, as-word}
 use Rattle.product.specs.Laws.Preference.{keyOf, earlier-beats}
 use Rattle.product.specs.Laws.Accepted.{accepted-machines}
 use Rattle.product.specs.Laws.Best.{best-contender}
 use Rattle.product.specs.Laws.BestCandidate.{sets-harmonic, harmonic-sets, path-best-of-sets, best-of-sets-path}
-use Rattle.product.specs.Laws.BestOfSets.{are64Bits, singletons-64, fits-length, BestForOne, best-for-one, BestUpto, best-upto}
+use Rattle.product.specs.Laws.BestOfSets.{are64Bits, singletons-64, BestForOne, best-for-one, BestUpto, best-upto}
 
 -- ---- in an order on profiles, with a price that agrees with it
 
 module _ {costs : Costs} {price : Price costs} {better : ProfileOrder} (agrees : Agrees price better) (card sets : List ℕ) (ok : cardRefusal card ≡ 0) where
   pub best-of-sets-contender : (b : Contender) → bestOfSetsIn better card sets ≡ some b → b ≡ contenderOf (machinesOf card) (b .candidate)
   best-of-sets-contender b e = let o = best-for-one better card sets b e in best-contender agrees card (o .word) ok b (o .is-best)
-
-  -- of at most 24 sets it has at most 3,199 pairs and no count above 48,000
-  pub best-of-sets-is-small : length sets ≤ 24 → (b : Contender) → bestOfSetsIn better card sets ≡ some b → SmallBest b
-  best-of-sets-is-small h b e =
-      let o = best-for-one better card sets b e in
-      best-in-is-small agrees card (o .word) ok (rw (fits-length sets (o .word) (o .fits)) h) b (o .is-best)
 
   module _ (bits : are64Bits sets ≡ true) where
     best-one : (b : Contender) → bestOfSetsIn better card sets ≡ some b → IsBestIn better (machinesOf card) (IsCandidateOf (machinesOf card) sets) (b .candidate)

@@ -4,26 +4,13 @@ ghost use mathlib.Core.Path.{_≡_};
 ghost use mathlib.Core.Bool.{_&&_};
 ghost use Prim.Native.Nat.{ℕ, _^_, _<_};
 ghost use lib.Dec.{leb};
-ghost use Rattle.basics.specs.Refusals.{refuse};
+ghost use Rattle.refusals.specs.Refusals.{refuse, checkedNumber};
 ghost use Rattle.product.specs.Optimizing.{soundWord};
 ghost use Rattle.product.specs.OptimizingSets.{symbolSet, setsRefusal};
-ghost use Rattle.product.specs.Refusals.{stageNumber};
 use machine::Pair;
 use machine::sets;
-
-// Why a word is refused, or sets in its place.
-pub enum Refusal {
-    // The word has too many positions, or a symbol of it is none.
-    Word,
-    // A set is empty, holds the empty symbol, or has a bit over S.
-    Set,
-}
-
-// What a checking stage answers.
-pub enum Stage {
-    Passed,
-    Refused(Refusal),
-}
+use refusals::Checked;
+use refusals::Refusal;
 
 // Whether a byte is one of the symbols 1 to `symbols`.
 fn is_symbol(byte: u8, symbols: u8) -> bool
@@ -33,18 +20,18 @@ fn is_symbol(byte: u8, symbols: u8) -> bool
 }
 
 // Refusal 8: whether a word has at most 24 symbols, each 1 to `symbols`.
-pub fn check_word(word: &[u8], symbols: u8) -> Stage
-    ensures { λ r. ⌜ stageNumber r ≡ refuse 8 (soundWord symbols (now (word .entry))) ⌝ }
+pub fn check_word(word: &[u8], symbols: u8) -> Checked
+    ensures { λ r. ⌜ checkedNumber r ≡ refuse 8 (soundWord symbols (now (word .entry))) ⌝ }
 {
     if word.len() > 24 {
-        return Stage::Refused(Refusal::Word);
+        return Checked::Refused(Refusal::Word);
     }
     for at in 0..word.len() {
         if !is_symbol(word[at], symbols) {
-            return Stage::Refused(Refusal::Word);
+            return Checked::Refused(Refusal::Word);
         }
     }
-    Stage::Passed
+    Checked::Passed
 }
 
 // Whether a set has symbols of 1 to S alone, and one at least; `last` is the set of S.
@@ -56,18 +43,18 @@ fn is_symbol_set(set: u64, last: u64) -> bool
 }
 
 // 8's length limit and refusal 25: whether there are at most 24 sets, each of symbols of 1 to `symbols`.
-pub fn check_sets(sets: &[u64], symbols: u8) -> Stage
+pub fn check_sets(sets: &[u64], symbols: u8) -> Checked
     requires { ⌜ symbols < 64 ⌝ }
-    ensures { λ r. ⌜ stageNumber r ≡ setsRefusal symbols (now (sets .entry)) ⌝ }
+    ensures { λ r. ⌜ checkedNumber r ≡ setsRefusal symbols (now (sets .entry)) ⌝ }
 {
     if sets.len() > 24 {
-        return Stage::Refused(Refusal::Word);
+        return Checked::Refused(Refusal::Word);
     }
     let last = sets::set_of(symbols);
     for at in 0..sets.len() {
         if !is_symbol_set(sets[at], last) {
-            return Stage::Refused(Refusal::Set);
+            return Checked::Refused(Refusal::Sets);
         }
     }
-    Stage::Passed
+    Checked::Passed
 }

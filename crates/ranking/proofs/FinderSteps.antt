@@ -12,18 +12,21 @@ use lib.Seq.{append-snoc, take-suc-set, drop-set-lt, drop-drop}
 use borrow.Author.Tests.{eq-eqb, ne-eqb, not-true}
 use Rattle.basics.specs.Search.{those, firstThat, numbersBelow}
 use Rattle.basics.specs.Sets.{member}
-use Rattle.basics.specs.Refusals.{refuse, firstOf}
-use Rattle.basics.proofs.Refusals.{passed, none-first}
+use Rattle.refusals.specs.Refusals.{numberOf, checkedNumber, refuse, firstOf}
+use Rattle.refusals.specs.declared.Refusal.{Refusal}
+use Rattle.refusals.specs.declared.Checked.the-variants.{Passed, Refused}
+use Rattle.refusals.proofs.Refusals.{passed, none-first, number-positive}
 use Rattle.basics.proofs.Bools.{clash, fails, both, left, right, neither, left-fails, right-fails, same}
 use Rattle.basics.proofs.Search.{first-member}
 use Rattle.basics.proofs.Below.{numbers-member}
 use Rattle.basics.proofs.Sets.{no-member}
 use Rattle.ranking.specs.declared.Condition.{Condition}
 use Rattle.ranking.specs.declared.Finding.{Finding}
-use Rattle.ranking.specs.Refusals.{isMachineCount}
+use Rattle.ranking.specs.Rankings.{isMachineCount}
 use Rattle.ranking.specs.Lemmas.Rankings.{machine-count}
 use Rattle.ranking.specs.Finder.{disjoint, soundList, smallest, findingOf}
-use Rattle.ranking.specs.FinderSteps.{mayStand, nextMachine}
+use Rattle.ranking.specs.declared.finder.Next.{Next}
+use Rattle.ranking.specs.FinderSteps.{mayStand, nextMachine, nextOf}
 use Rattle.ranking.specs.Lemmas.Searches.{equal-or-not, first-here, first-on, first-append, first-before, first-same, first-those, all-those, all-same, those-in, those-those, those-same}
 use Rattle.ranking.specs.Lemmas.Arrangements.{without}
 use Rattle.ranking.proofs.FinderDemotion.{free, still, demotion, demotion-stops, demotion-goes}
@@ -67,6 +70,15 @@ module _ (cs : List Condition) (placed : ℕ) where
 pub next-below : (K : ℕ) (cs : List Condition) (placed : ℕ) {m : ℕ} → nextMachine K cs placed ≡ some m → m < K
 unfolding nextMachine
 next-below K cs placed e = numbers-member K (first-member (next cs placed) (numbersBelow K) e)
+
+-- what was answered of the next place
+pub next-there : (o : Option ℕ) {n : Next} → n ≡ nextOf o → n .checked ≡ Passed → o ≡ some (n .machine)
+next-there none {n} e t = absurd (let z : _≡_ {A = ℕ} 16 0 = ap checkedNumber (ap (λ (n : Next). n .checked) (sym e) ∙ t) in omega (arith, z))
+next-there (some m) {n} e t = ap {B = Option ℕ} some (ap (λ (n : Next). n .machine) (sym e))
+
+pub next-missing : (o : Option ℕ) {n : Next} {r : Refusal} → n ≡ nextOf o → n .checked ≡ Refused r → (o ≡ none) × (checkedNumber (n .checked) ≡ 16)
+next-missing none {n} e t = (refl, ap (λ (n : Next). checkedNumber (n .checked)) e)
+next-missing (some m) {n} {r} e t = absurd (let z : 0 ≡ numberOf r = ap checkedNumber (ap (λ (n : Next). n .checked) (sym e) ∙ t) in omega (arith, z, number-positive r))
 
 -- the machines that are not placed, and the conditions that no placed machine decides
 abbrev pub remaining : ℕ → ℕ → List ℕ

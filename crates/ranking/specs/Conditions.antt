@@ -6,12 +6,12 @@ use Prim.Native.Nat.{ℕ}
 use lib.ListN.{getD}
 use lib.Dec.{eqb, ltb}
 use Rattle.basics.specs.Sets.{member, setOf}
-use Rattle.basics.specs.Refusals.{refuse, unlessRefused}
+use Rattle.refusals.specs.Refusals.{refuse, unlessRefused, numberOf}
 use Rattle.ranking.specs.declared.Condition.{Condition}
 use Rattle.ranking.specs.declared.Derived.{Derived}
 use Rattle.ranking.specs.declared.Derived.the-variants as answers
 use Rattle.ranking.specs.declared.Profile.{Profile}
-use Rattle.ranking.specs.Refusals.{numberOf, isMachineCount}
+use Rattle.ranking.specs.Rankings.{isMachineCount}
 
 -- the set of the machines, of K, where a has fewer than b
 abbrev pub fewerIn : ℕ → List ℕ → List ℕ → ℕ

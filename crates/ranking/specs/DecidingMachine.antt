@@ -11,8 +11,7 @@ use Rattle.basics.proofs.Bools.{clash}
 use Rattle.ranking.specs.declared.Order.{Order}
 use Rattle.ranking.specs.declared.Order.the-variants.{Better, Equal, Worse}
 use Rattle.ranking.specs.declared.Profile.{Profile}
-use Rattle.ranking.specs.Refusals.{isMachineCount}
-use Rattle.ranking.specs.Rankings.{isRanking}
+use Rattle.ranking.specs.Rankings.{isMachineCount, isRanking}
 use Rattle.ranking.specs.Harmony.{harmony, isBetter, Compared, comparing}
 use Rattle.ranking.specs.HarmonicInequality.{opposite, reversed, equal-at, same-at, itself}
 use Rattle.ranking.specs.Lemmas.Harmony.{Standing, fewer, same, more, standing, harmony-end, at-fewer, at-same, at-more}

@@ -7,11 +7,10 @@ use lib.ListN.{length, replicate}
 use lib.Dec.{eqb, ltb, leb}
 use Rattle.basics.specs.Search.{allOf, everyBelow, firstThat}
 use Rattle.basics.specs.Sets.{member}
-use Rattle.basics.specs.Refusals.{refuse, firstOf, unlessRefused}
+use Rattle.refusals.specs.Refusals.{refuse, firstOf, unlessRefused}
 use Rattle.ranking.specs.declared.Condition.{Condition}
 use Rattle.ranking.specs.declared.Finding.{Finding}
-use Rattle.ranking.specs.Refusals.{isMachineCount}
-use Rattle.ranking.specs.Rankings.{rankings}
+use Rattle.ranking.specs.Rankings.{isMachineCount, rankings}
 use Rattle.ranking.specs.Conditions.{fits}
 
 -- the conditions of a list of byte pairs, W before L

@@ -8,7 +8,8 @@ use Rattle.basics.specs.Search.{allOf, firstThat, numbersBelow}
 use Rattle.basics.specs.Sets.{member}
 use Rattle.ranking.specs.declared.Condition.{Condition}
 use Rattle.ranking.specs.declared.finder.Next.{Next}
-use Rattle.ranking.specs.declared.finder.Next.the-variants as nexts
+use Rattle.refusals.specs.declared.Checked.the-variants.{Passed, Refused}
+use Rattle.refusals.specs.declared.Refusal.the-variants.{NoRanking}
 use Rattle.ranking.specs.Finder.{disjoint}
 
 -- the condition whose bytes stand at a place of a list
@@ -27,6 +28,7 @@ mayStand cs placed m = allOf (λ c. not (blocks placed m c)) cs
 unfoldable pub nextMachine : ℕ → List Condition → ℕ → Option ℕ
 nextMachine K cs placed = firstThat (λ m. not (member placed m) && mayStand cs placed m) (numbersBelow K)
 
-abbrev pub machineOf : Next → Option ℕ
-machineOf (nexts.Machine m) = some m
-machineOf nexts.Nothing = none
+-- it, or refusal 16
+abbrev pub nextOf : Option ℕ → Next
+nextOf (some m) = record { checked = Passed; machine = m }
+nextOf none = record { checked = Refused NoRanking; machine = 0 }

@@ -11,13 +11,12 @@ use lib.ListN.{replicate}
 use Rattle.basics.specs.Search.{allOf, pairwise}
 use Rattle.ranking.specs.declared.Condition.{Condition}
 use Rattle.ranking.specs.declared.Finding.{Finding}
-use Rattle.ranking.specs.Rankings.{isRanking, rankings}
+use Rattle.ranking.specs.Rankings.{isRanking, rankings, isMachineCount}
 use Rattle.ranking.specs.Conditions.{fits}
 use Rattle.ranking.specs.ByteStrings.{smaller}
-use Rattle.ranking.specs.Refusals.{isMachineCount}
 use Rattle.ranking.specs.Finder.{conditionsOf, soundList, smallest, refusedFinding, findingOf, finding}
-use Rattle.basics.specs.Refusals.{refuse, firstOf}
-use Rattle.basics.proofs.Refusals.{accepted}
+use Rattle.refusals.specs.Refusals.{refuse, firstOf}
+use Rattle.refusals.proofs.Refusals.{accepted}
 use Rattle.basics.proofs.Search.{first-passes, first-member, first-misses}
 use Rattle.basics.proofs.Below.{length-numbers}
 use Rattle.ranking.specs.Lemmas.Searches.{none-first}

@@ -5,14 +5,13 @@ use mathlib.Core.Option.{Option, some, none}
 use Prim.Native.Nat.{ℕ}
 use lib.ListN.{getD}
 use lib.Dec.{ltb}
-use Rattle.basics.specs.Refusals.{refuse, firstOf, unlessRefused}
+use Rattle.refusals.specs.Refusals.{refuse, firstOf, unlessRefused, numberOf}
 use Rattle.ranking.specs.declared.Order.{Order}
 use Rattle.ranking.specs.declared.Order.the-variants.{Better, Equal, Worse}
 use Rattle.ranking.specs.declared.Comparison.{Comparison}
 use Rattle.ranking.specs.declared.Comparison.the-variants as answers
 use Rattle.ranking.specs.declared.Profile.{Profile}
-use Rattle.ranking.specs.Refusals.{numberOf, isMachineCount}
-use Rattle.ranking.specs.Rankings.{isRanking}
+use Rattle.ranking.specs.Rankings.{isMachineCount, isRanking}
 
 -- down the ranking: the smaller count at the highest ranked machine where the two differ, and that machine's number
 unfoldable pub harmony : List ℕ → List ℕ → List ℕ → Order

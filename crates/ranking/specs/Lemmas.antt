@@ -1,5 +1,4 @@
 -- Lemmas about the definitions, for the theorems and for proofs.
-pub mod Refusals
 pub mod Rankings
 pub mod Harmony
 pub mod Conditions

@@ -1,4 +1,3 @@
-pub mod Refusals
 pub mod Profiles
 pub mod Rankings
 pub mod Harmony

@@ -3,8 +3,12 @@ use mathlib.Core.Bool.{Bool, not, _&&_}
 use mathlib.Core.List.{List, [], _∷_, map}
 use Prim.Native.Nat.{ℕ, zero, suc}
 use lib.ListN.{length}
-use lib.Dec.{eqb}
+use lib.Dec.{eqb, leb}
 use Rattle.basics.specs.Search.{everyBelow, occurrences, those, joined, numbersBelow}
+
+-- K is 1 to 6
+abbrev pub isMachineCount : ℕ → Bool
+isMachineCount K = leb 1 K && leb K 6
 
 -- K bytes, each of 0 to K−1 once
 unfoldable pub isRanking : ℕ → List ℕ → Bool

@@ -2,8 +2,8 @@
 use super::Condition;
 use super::Derived;
 use super::Profile;
-use super::Stage;
 use super::rankings;
+use refusals::Checked;
 ghost use mathlib.Core.Path.{_≡_};
 ghost use Prim.Native.Nat.{_≤_};
 ghost use Rattle.ranking.specs.Conditions.{fewerIn, derived, derivedFrom};
@@ -28,7 +28,7 @@ fn fewer_in(machines: u8, first: Profile, second: Profile) -> u8
 pub fn derive(machines: u8, first: Profile, second: Profile) -> Derived
     ensures { λ r. ⌜ derived r ≡ derivedFrom machines first second ⌝ }
 {
-    let Stage::Refused(refusal) = rankings::check_machine_count(machines) else {
+    let Checked::Refused(refusal) = rankings::check_machine_count(machines) else {
         return Derived::Condition(Condition {
             fewer: fewer_in(machines, first, second),
             more: fewer_in(machines, second, first),

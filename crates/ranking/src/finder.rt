@@ -1,24 +1,24 @@
 // The smallest ranking that fits a list of ranking conditions, by recursive constraint demotion.
 use super::Condition;
 use super::Finding;
-use super::Refusal;
-use super::Stage;
 use super::rankings;
+use refusals::Checked;
+use refusals::Refusal;
 ghost use mathlib.Core.Path.{_≡_};
 ghost use mathlib.Core.Bool.{true};
 ghost use mathlib.Core.List.{[], _∷_};
 ghost use Prim.Native.Nat.{_+_, _<_, _≤_, _%_};
 ghost use lib.ListN.{length};
 ghost use Rattle.basics.specs.Sets.{member};
-ghost use Rattle.basics.specs.Refusals.{refuse, firstOf};
-ghost use Rattle.ranking.specs.Refusals.{numberOf, stageNumber, isMachineCount};
+ghost use Rattle.refusals.specs.Refusals.{refuse, firstOf, checkedNumber};
+ghost use Rattle.ranking.specs.Rankings.{isMachineCount};
 ghost use Rattle.ranking.specs.Finder.{disjoint, soundCondition, soundList, conditionsOf, smallest, refusedFinding, findingOf, finding};
-ghost use Rattle.ranking.specs.FinderSteps.{conditionAt, blocks, mayStand, nextMachine, machineOf};
+ghost use Rattle.ranking.specs.FinderSteps.{conditionAt, blocks, mayStand, nextMachine, nextOf};
 
-// The machine for the next place.
-enum Next {
-    Machine(u8),
-    Nothing,
+// The machine for the next place: refusal 16 and machine 0 where there is none.
+struct Next {
+    checked: Checked,
+    machine: u8,
 }
 
 // Whether a machine is in a set.
@@ -66,32 +66,32 @@ fn blocks(condition: Condition, placed: u8, machine: u8) -> bool
 }
 
 // Refusal 15: whether the list is even, of at most 64 pairs, and sound in each.
-fn check_conditions(machines: u8, conditions: &[u8]) -> Stage
+fn check_conditions(machines: u8, conditions: &[u8]) -> Checked
     requires { ⌜ machines < 8 ⌝ }
-    ensures { λ r. ⌜ stageNumber r ≡ refuse 15 (soundList machines (now (conditions .entry))) ⌝ }
+    ensures { λ r. ⌜ checkedNumber r ≡ refuse 15 (soundList machines (now (conditions .entry))) ⌝ }
 {
     if conditions.len() % 2 != 0 {
-        return Stage::Refused(Refusal::Conditions);
+        return Checked::Refused(Refusal::Conditions);
     }
     if conditions.len() > 128 {
-        return Stage::Refused(Refusal::Conditions);
+        return Checked::Refused(Refusal::Conditions);
     }
     let mut at = 0;
     while at < conditions.len() {
         if !sound(machines, condition_at(conditions, at)) {
-            return Stage::Refused(Refusal::Conditions);
+            return Checked::Refused(Refusal::Conditions);
         }
         at += 2;
     }
-    Stage::Passed
+    Checked::Passed
 }
 
 // Refusals 1 and 15.
-fn check(machines: u8, conditions: &[u8]) -> Stage
-    ensures { λ r. ⌜ stageNumber r ≡ firstOf (refuse 1 (isMachineCount machines) ∷ refuse 15 (soundList machines (now (conditions .entry))) ∷ []) ⌝ }
+fn check(machines: u8, conditions: &[u8]) -> Checked
+    ensures { λ r. ⌜ checkedNumber r ≡ firstOf (refuse 1 (isMachineCount machines) ∷ refuse 15 (soundList machines (now (conditions .entry))) ∷ []) ⌝ }
 {
     let answer = rankings::check_machine_count(machines);
-    let Stage::Passed = answer else {
+    let Checked::Passed = answer else {
         return answer;
     };
     check_conditions(machines, conditions)
@@ -112,25 +112,31 @@ fn may_stand(conditions: &[u8], placed: u8, machine: u8) -> bool
     true
 }
 
-// The smallest machine that is not placed and may stand at the next place.
+// The smallest machine that is not placed and may stand at the next place, or refusal 16.
 fn next_machine(machines: u8, conditions: &[u8], placed: u8) -> Next
     requires { ⌜ (length (now conditions) % 2 ≡ 0) × (machines < 8) ⌝ }
-    ensures { λ r. ⌜ machineOf r ≡ nextMachine machines (conditionsOf (now (conditions .entry))) placed ⌝ }
+    ensures { λ r. ⌜ r ≡ nextOf (nextMachine machines (conditionsOf (now (conditions .entry))) placed) ⌝ }
 {
     for machine in 0..machines {
         if !has(placed, machine) & may_stand(conditions, placed, machine) {
-            return Next::Machine(machine);
+            return Next {
+                checked: Checked::Passed,
+                machine,
+            };
         }
     }
-    Next::Nothing
+    Next {
+        checked: Checked::Refused(Refusal::NoRanking),
+        machine: 0,
+    }
 }
 
 // What a refused call answers: the number, and no ranking.
-fn refused(refusal: Refusal) -> Finding
-    ensures { λ r. ⌜ r ≡ refusedFinding (numberOf refusal) ⌝ }
+fn refused(answer: Checked) -> Finding
+    ensures { λ r. ⌜ r ≡ refusedFinding (checkedNumber answer) ⌝ }
 {
     Finding {
-        number: refusal.number(),
+        number: answer.number(),
         ranking: [0; 6],
     }
 }
@@ -144,9 +150,11 @@ fn rank(machines: u8, conditions: &[u8]) -> Finding
     let mut placed: u8 = 0;
     for place in 0..machines {
         let next = next_machine(machines, conditions, placed);
-        let Next::Machine(machine) = next else {
-            return refused(Refusal::NoRanking);
+        let answer = next.checked;
+        let Checked::Passed = answer else {
+            return refused(answer);
         };
+        let machine = next.machine;
         ranking[place as usize] = machine;
         placed = placed | (1 << machine);
     }
@@ -157,8 +165,9 @@ fn rank(machines: u8, conditions: &[u8]) -> Finding
 pub fn find(machines: u8, conditions: &[u8]) -> Finding
     ensures { λ r. ⌜ r ≡ finding machines (now (conditions .entry)) ⌝ }
 {
-    let Stage::Refused(refusal) = check(machines, conditions) else {
-        return rank(machines, conditions);
+    let answer = check(machines, conditions);
+    let Checked::Passed = answer else {
+        return refused(answer);
     };
-    refused(refusal)
+    rank(machines, conditions)
 }

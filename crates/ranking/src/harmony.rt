@@ -2,8 +2,8 @@
 use super::Comparison;
 use super::Order;
 use super::Profile;
-use super::Stage;
 use super::rankings;
+use refusals::Checked;
 ghost use mathlib.Core.Path.{_≡_};
 ghost use mathlib.Core.Bool.{true};
 ghost use Prim.Native.Nat.{_<_, _≤_};
@@ -42,7 +42,7 @@ pub fn harmony(ranking: &[u8], first: Profile, second: Profile) -> Order
 pub fn compare(machines: u8, ranking: &[u8], first: Profile, second: Profile) -> Comparison
     ensures { λ r. ⌜ compared r ≡ comparing machines (now (ranking .entry)) first second ⌝ }
 {
-    let Stage::Refused(refusal) = rankings::check(machines, ranking) else {
+    let Checked::Refused(refusal) = rankings::check(machines, ranking) else {
         return Comparison::Ordered(harmony(ranking, first, second));
     };
     Comparison::Refused(refusal)

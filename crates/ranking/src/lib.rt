@@ -7,9 +7,8 @@ pub mod rankings;
 ghost use mathlib.Core.Path.{_≡_};
 ghost use Prim.Native.Nat.{_<_};
 ghost use lib.ListN.{getD};
-ghost use Rattle.basics.specs.Refusals.{refuse};
-ghost use Rattle.ranking.specs.Refusals.{numberOf, stageNumber};
 ghost use Rattle.ranking.specs.Profiles.{zeroProfile};
+use refusals::Refusal;
 
 // How often a candidate breaks each constraint, in card order; unused places are 0.
 #[repr(C)]
@@ -49,47 +48,6 @@ pub enum Order {
 pub struct Condition {
     pub fewer: u8,
     pub more: u8,
-}
-
-// Why a call is refused.
-pub enum Refusal {
-    MachineCount,
-    Ranking,
-    Conditions,
-    NoRanking,
-}
-
-impl Refusal {
-    // Its number in the refusal table.
-    pub fn number(self) -> u8
-        ensures { λ r. ⌜ r ≡ numberOf self ⌝ }
-    {
-        match self {
-            Refusal::MachineCount => 1,
-            Refusal::Ranking => 7,
-            Refusal::Conditions => 15,
-            Refusal::NoRanking => 16,
-        }
-    }
-}
-
-// What a checking stage answers.
-pub enum Stage {
-    Passed,
-    Refused(Refusal),
-}
-
-impl Stage {
-    // The answer of a stage that is one test.
-    pub fn tested(passed: bool, refusal: Refusal) -> Stage
-        ensures { λ r. ⌜ stageNumber r ≡ refuse (numberOf refusal) passed ⌝ }
-    {
-        if passed {
-            Stage::Passed
-        } else {
-            Stage::Refused(refusal)
-        }
-    }
 }
 
 // What comparing answers.

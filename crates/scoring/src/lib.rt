@@ -18,9 +18,7 @@ ghost use Rattle.steps.specs.StepTable.{HoldsMachine};
 ghost use Rattle.steps.specs.Filling.{AcceptedPart};
 use basics::index;
 use candidate::Marks;
-use candidate::Refusal;
 use candidate::Scored;
-use candidate::Stage;
 use candidate::pair_at;
 use candidate::wide;
 use machine::Ending;
@@ -29,37 +27,48 @@ use machine::Position;
 use machine::Step;
 use machine::sets;
 use ranking::Profile;
+use refusals::Checked;
+use refusals::Refusal;
 use steps::NO_STEP;
 
-// Takes a pair whose input the table is for: its number has the state moved on to and the marks.
-fn look_up(part: &[u8], stretch: &[u16], position: Position, pair: Pair) -> Step
-    requires { ⌜ AcceptedPart (now part) × HoldsMachine (machineOf (now part)) (pair .input) (now stretch) ⌝ }
-    requires { ⌜ (position .state < stateCount (now part)) × (pair .output < 64) ⌝ }
-    ensures { λ r. ⌜ stepped r ≡ stepOf (machineOf (now (part .entry))) (position .state) pair ⌝ }
-{
-    let place = index(position.state) * 64 + index(pair.output);
-    let step = stretch[place];
-    if step == NO_STEP {
-        return Step::Stuck;
-    }
-    Step::Moved(
-        Position {
-            state: (step / 16) as u8,
-        },
-        (step % 16) as u8,
-    )
+// A position in a machine whose insertions are looked up.
+struct Tabled {
+    position: Position,
 }
 
-// Takes a pair, as `Position::step` does: an insertion by the table of insertions.
-fn step(part: &[u8], stretch: &[u16], position: Position, pair: Pair) -> Step
-    requires { ⌜ AcceptedPart (now part) × HoldsMachine (machineOf (now part)) emptySymbol (now stretch) ⌝ }
-    requires { ⌜ (position .state < stateCount (now part)) × (pair .input < 64) × (pair .output < 64) ⌝ }
-    ensures { λ r. ⌜ stepped r ≡ stepOf (machineOf (now (part .entry))) (position .state) pair ⌝ }
-{
-    if pair.inserts() {
-        return look_up(part, stretch, position, pair);
+impl Tabled {
+    // Takes a pair whose input the table is for: its number has the state moved on to and the marks.
+    fn look_up(self, part: &[u8], stretch: &[u16], pair: Pair) -> Step
+        requires { ⌜ AcceptedPart (now part) × HoldsMachine (machineOf (now part)) (pair .input) (now stretch) ⌝ }
+        requires { ⌜ (self .position .state < stateCount (now part)) × (pair .output < 64) ⌝ }
+        ensures { λ r. ⌜ stepped r ≡ stepOf (machineOf (now (part .entry))) (self .position .state) pair ⌝ }
+    {
+        let position = self.position;
+        let place = index(position.state) * 64 + index(pair.output);
+        let step = stretch[place];
+        if step == NO_STEP {
+            return Step::Stuck;
+        }
+        Step::Moved(
+            Position {
+                state: (step / 16) as u8,
+            },
+            (step % 16) as u8,
+        )
     }
-    position.step(part, pair)
+
+    // Takes a pair, as `Position::step` does: an insertion by the table of insertions.
+    fn step(self, part: &[u8], stretch: &[u16], pair: Pair) -> Step
+        requires { ⌜ AcceptedPart (now part) × HoldsMachine (machineOf (now part)) emptySymbol (now stretch) ⌝ }
+        requires { ⌜ (self .position .state < stateCount (now part)) × (pair .input < 64) × (pair .output < 64) ⌝ }
+        ensures { λ r. ⌜ stepped r ≡ stepOf (machineOf (now (part .entry))) (self .position .state) pair ⌝ }
+    {
+        if pair.inserts() {
+            return self.look_up(part, stretch, pair);
+        }
+        let position = self.position;
+        position.step(part, pair)
+    }
 }
 
 // Takes a candidate's pairs in turn on one machine, by its table of insertions, and ends.
@@ -72,7 +81,8 @@ fn run_by(part: &[u8], stretch: &[u16], candidate: &[u8], symbols: u8) -> Marks
     let mut marks: u16 = 0;
     let mut at = 0;
     while at < candidate.len() {
-        let Step::Moved(next, more) = step(part, stretch, position, pair_at(candidate, at)) else {
+        let tabled = Tabled { position };
+        let Step::Moved(next, more) = tabled.step(part, stretch, pair_at(candidate, at)) else {
             return Marks::NotComplete;
         };
         position = next;
@@ -108,14 +118,14 @@ pub fn score(card: &[u8], candidate: &[u8]) -> Scored
     for machine in 0..machines {
         let Marks::Complete(marks) = run(card::part(card, machine), candidate, symbols) else {
             return Scored {
-                stage: Stage::Refused(Refusal::NotComplete),
+                checked: Checked::Refused(Refusal::NotComplete),
                 profile: Profile::zero(),
             };
         };
         counts[machine] = marks;
     }
     Scored {
-        stage: Stage::Passed,
+        checked: Checked::Passed,
         profile: Profile { counts },
     }
 }

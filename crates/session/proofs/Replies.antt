@@ -44,7 +44,8 @@ pub bad-reply : (card : List ℕ) (o : Option Request) → parsedAnswer o ≡ pa
 bad-reply card none e = refl
 bad-reply card (some request) e = let z : _≡_ {A = ℕ} 0 1 = cc in absurd (omega arith)
 
-front : (text old new : List ℕ) (n : ℕ) → n ≡ length text → new ≡ atFront text old → take n new ≡ text
+-- a text written to the front of a slice stands there
+pub front : (text old new : List ℕ) (n : ℕ) → n ≡ length text → new ≡ atFront text old → take n new ≡ text
 front text old new n e f = let s : take (length text) (text ++ drop (length text) old) ≡ text = take-append-seam text _ in rw (e, f) s
 
 pub good-reply : (card : List ℕ) (o : Option Request) (rs₀ ws₀ : List ℕ) {n m : ℕ} {rs ws : List ℕ} → parsedAnswer o ≡ parsed.Line n m

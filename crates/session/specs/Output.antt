@@ -3,7 +3,7 @@ use mathlib.Core.Path.{_≡_}
 use mathlib.Core.Bool.{Bool, true, false, not}
 use mathlib.Core.List.{List, [], _∷_, _++_, map}
 use mathlib.Core.Option.{Option, some, none}
-use Prim.Native.Nat.{ℕ, _+_, _≤_}
+use Prim.Native.Nat.{ℕ, _+_, _<_, _≤_}
 use lib.ListN.{length, getD, take, drop}
 use Rattle.basics.specs.Search.{joined, those, numbersBelow}
 use Rattle.candidate.specs.Candidates.{isSome}
@@ -54,13 +54,13 @@ lessonOutput card lines = joined (printed card) (take 1000 lines) ++ pastLine (d
 abbrev pub output : List ℕ → List ℕ → List ℕ
 output card input = lessonOutput card (linesOf input)
 
--- what a piece of the input leaves: the tally after the lines that end in it, and in the line's buffer, where the input goes on,
--- what is held of the line that goes on
-pub record Answers (card held piece : List ℕ) (tally : Tally) (line : List ℕ) (n : ℕ) (after : Tally) (written : Bool) : Type 0 where
+-- what bytes of the input leave that are read: the tally after the lines that end in them, and in the line's buffer, where the input
+-- goes on, what is held of the line that goes on
+pub record Answers (card held read : List ℕ) (tally : Tally) (line : List ℕ) (n : ℕ) (after : Tally) (written : Bool) : Type 0 where
   pub few : n ≤ 201
   pub fits : Fits after
-  pub lines-counted : written ≡ true → after ≡ linesTally card tally (endedLines held piece)
-  pub bytes : written ≡ true → after .past ≡ false → take n line ≡ heldAfter held piece
+  pub lines-counted : written ≡ true → after ≡ linesTally card tally (endedLines held read)
+  pub bytes : written ≡ true → after .past ≡ false → take n line ≡ heldAfter held read
 
 -- what is printed for pieces in turn: for each line that ends in a piece, from what is held of it; after the last piece for the
 -- line that is held, if there is one, and then the closing lines
@@ -68,3 +68,16 @@ unfoldable pub printedPieces : List ℕ → Tally → List ℕ → List (List �
 printedPieces card t held [] = linesText card t (lastLine held) ++ closingText card (linesTally card t (lastLine held))
 printedPieces card t held (piece ∷ pieces) =
     linesText card t (endedLines held piece) ++ printedPieces card (linesTally card t (endedLines held piece)) (heldAfter held piece) pieces
+
+-- what reading to the end leaves, from any tally and any bytes held. No contract can say which bytes are read, so it says that there
+-- are bytes that leave this
+pub record Reads (card held : List ℕ) (tally : Tally) (line : List ℕ) (n : ℕ) (after : Tally) (written : Bool) : Type 0 where
+  pub read : List ℕ
+  pub answers : Answers card held read tally line n after written
+
+-- the text that reading to the end leaves to print: what is printed after the lines that end in the bytes read. Where no text is
+-- left, which stands for a write that failed, nothing is said
+pub record Finishes (card held : List ℕ) (tally : Tally) (out : List ℕ) (r : ℕ) : Type 0 where
+  pub read : List ℕ
+  pub fits : r ≤ length out
+  pub text : 0 < r → take r out ≡ printedPieces card (linesTally card tally (endedLines held read)) (heldAfter held read) []

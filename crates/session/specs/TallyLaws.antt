@@ -49,7 +49,7 @@ pub open-at : (t : Tally) → t .answered + t .refused < 1000 → isFull t ≡ f
 unfolding isFull
 open-at t h = lt-leb 1000 (t .answered + t .refused) h
 
-full-passed : (t : Tally) → isFull t ≡ true → isFull (passed t) ≡ true
+pub full-passed : (t : Tally) → isFull t ≡ true → isFull (passed t) ≡ true
 unfolding isFull
 full-passed t f = f
 
@@ -110,3 +110,8 @@ module _ (card : List ℕ) where
   pub tally-none : (t : Tally) → linesTally card t [] ≡ t
   unfolding linesTally
   tally-none t = refl
+
+  pub tally-append : (t : Tally) (xs ys : List (List ℕ)) → linesTally card t (xs ++ ys) ≡ linesTally card (linesTally card t xs) ys
+  unfolding linesTally
+  tally-append t [] ys = refl
+  tally-append t (x ∷ xs) ys = tally-append (lineTally card t x) xs ys

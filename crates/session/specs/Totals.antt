@@ -22,8 +22,8 @@ use Rattle.lines.specs.LinesOfPieces.{lines-of-pieces, kept-parsed}
 use Rattle.session.specs.declared.Tally.{Tally}
 use Rattle.session.specs.Printed.{reply, printed}
 use Rattle.session.specs.Tally.{requestCounts, lineCounts, noLines, counted, isFull, pastText, lineTally, lineText, linesTally, linesText, shownMachines, closingText}
-use Rattle.session.specs.TallyLaws.{added-length, added-at, counted-past, counted-lines, full-at, open-at, tally-full, tally-open, text-full, text-open, passed-tally, passed-text}
-use Rattle.session.specs.Output.{isAnswered, answeredAmong, refusedAmong, countIn, totalOf, totals, closing, pastLine, lessonOutput, output, printedPieces}
+use Rattle.session.specs.TallyLaws.{added-length, added-at, counted-past, counted-lines, full-at, open-at, tally-full, tally-open, text-full, text-open, passed-tally, passed-text, tally-append}
+use Rattle.session.specs.Output.{isAnswered, answeredAmong, refusedAmong, countIn, totalOf, totals, closing, pastLine, lessonOutput, output, printedPieces, Reads, Finishes}
 
 -- the lines of a lesson counted one after another, with no end
 unfoldable pub tallied : List ℕ → Tally → List (List ℕ) → Tally
@@ -202,11 +202,6 @@ module _ (card : List ℕ) where
       ∙ ap (λ (x : List ℕ). joined (printed card) (take 1000 ls) ++ pastLine (drop 1000 ls) ++ x) (r .end ∙ closing-told (take 1000 ls))
 
   -- lines after lines
-  tally-append : (t : Tally) (xs ys : List (List ℕ)) → linesTally card t (xs ++ ys) ≡ linesTally card (linesTally card t xs) ys
-  unfolding linesTally
-  tally-append t [] ys = refl
-  tally-append t (x ∷ xs) ys = tally-append (lineTally card t x) xs ys
-
   text-append : (t : Tally) (xs ys : List (List ℕ)) → linesText card t (xs ++ ys) ≡ linesText card t xs ++ linesText card (linesTally card t xs) ys
   unfolding linesTally linesText
   text-append t [] ys = refl
@@ -228,7 +223,7 @@ module _ (card : List ℕ) where
       ap (λ (x : List ℕ). linesText card t E ++ x) (pieces-taken u (heldAfter held piece) pieces)
       ∙ sym (append-assoc (linesText card t E) (linesText card u R) (closingText card (linesTally card u R)))
       ∙ ap (λ (x : List ℕ). x ++ closingText card (linesTally card u R)) (sym (text-append t E R))
-      ∙ ap (λ (v : Tally). linesText card t (E ++ R) ++ closingText card v) (sym (tally-append t E R))
+      ∙ ap (λ (v : Tally). linesText card t (E ++ R) ++ closingText card v) (sym (tally-append card t E R))
 
   -- what is kept of a line counts as the line, and prints the same
   kept-tally : (t : Tally) (l : List ℕ) → lineTally card t (kept l) ≡ lineTally card t l
@@ -268,3 +263,29 @@ module _ (card : List ℕ) where
       ∙ ap (λ (x : List ℕ). x ++ closingText card (linesTally card noLines (map kept ls))) (kept-lines-text noLines ls)
       ∙ ap (λ (u : Tally). linesText card noLines ls ++ closingText card u) (kept-lines-tally noLines ls)
       ∙ lines-output ls
+
+  -- the theorem: from no line and nothing held, what is printed for the lines that end in the bytes read, and then the text that is
+  -- left to print, are the output for these bytes
+  pub output-left : {out : List ℕ} {r : ℕ} (f : Finishes card [] noLines out r) → 0 < r
+      → linesText card noLines (endedLines [] (f .read)) ++ take r out ≡ output card (f .read)
+  unfolding printedPieces joined
+  output-left f h =
+      ap (λ (x : List ℕ). linesText card noLines (endedLines [] (f .read)) ++ x) (f .text h)
+      ∙ output-of-pieces (f .read ∷ [])
+      ∙ ap (output card) (append-nil (f .read))
+
+  -- whatever is read, no line is forgotten: at the end at least as many are counted as at the start
+  line-grows : (t : Tally) (l : List ℕ) → t .answered + t .refused ≤ lineTally card t l .answered + lineTally card t l .refused
+  line-grows t l = go (isFull t) refl
+    where
+      go : (b : Bool) → isFull t ≡ b → t .answered + t .refused ≤ lineTally card t l .answered + lineTally card t l .refused
+      go true f = omega (arith, ap (λ (u : Tally). u .answered + u .refused) (tally-full card t l f))
+      go false f = omega (arith, ap (λ (u : Tally). u .answered + u .refused) (tally-open card t l f), counted-lines t (lineCounts card l))
+
+  lines-grow : (t : Tally) (ls : List (List ℕ)) → t .answered + t .refused ≤ linesTally card t ls .answered + linesTally card t ls .refused
+  unfolding linesTally
+  lines-grow t [] = omega arith
+  lines-grow t (l ∷ ls) = omega (arith, line-grows t l, lines-grow (lineTally card t l) ls)
+
+  pub none-forgotten : {held line : List ℕ} {n : ℕ} {t u : Tally} → Reads card held t line n u true → t .answered + t .refused ≤ u .answered + u .refused
+  none-forgotten {held} {t = t} r = omega (arith, ap (λ (v : Tally). v .answered + v .refused) (r .answers .lines-counted refl), lines-grow t (endedLines held (r .read)))

@@ -1,21 +1,27 @@
 // The board's work from its first byte to its last: the card from `card.bin`, lines from standard input, and for each a line on
-// standard output, then the lesson's totals. What a line says, what is printed for it and how lines are taken from pieces is proved
-// in the crate lines; no contract can speak of what is read and written.
-use card::Stage;
+// standard output, then the lesson's totals. What a line says and how lines are taken from pieces is proved in the crate lines; what
+// is printed for them, what is kept between two pieces and what is printed at the end, here. No contract can speak of what is read and
+// written.
 use libc::STDIN_FILENO;
 use libc::STDOUT_FILENO;
 use lines::Next;
 use lines::Parsed;
+use ranking::Profile;
+use refusals::Checked;
+use refusals::Refusal;
+use refusals::tested;
 ghost use mathlib.Core.Path.{_≡_};
-ghost use mathlib.Core.Bool.{false};
+ghost use mathlib.Core.Bool.{true, false};
+ghost use mathlib.Core.List.{[]};
 ghost use mathlib.Core.Option.{some, none};
 ghost use Prim.Native.Nat.{_+_, _<_, _≤_};
 ghost use lib.ListN.{length, take};
 ghost use Rattle.io.specs.Counts.{Counts};
 ghost use Rattle.card.specs.Layout.{machineCount};
+ghost use Rattle.lines.specs.Buffers.{atFront};
 ghost use Rattle.session.specs.Printed.{bestLine, printed, Prints};
 ghost use Rattle.session.specs.Tally.{bestCounts, lineCounts, told, noLines, counted, isFull, passed, lineTally, lineText, shownMachines, closingText, Fits};
-ghost use Rattle.session.specs.Output.{Answers};
+ghost use Rattle.session.specs.Output.{Answers, Reads, Finishes, printedPieces};
 
 // More bytes than any accepted card has: of a longer file the first ones are used.
 const CARD_BYTES: usize = 30831;
@@ -31,8 +37,8 @@ const OUT_BYTES: usize = 25628;
 // What is kept of a line: one byte more than it may have.
 const LINE_BYTES: usize = 201;
 
-// Room for the closing lines.
-const CLOSING_BYTES: usize = 120;
+// Room for a line's text and the closing lines.
+const LAST_BYTES: usize = 25748;
 
 // The input is read in pieces of at most so many bytes.
 const PIECE_BYTES: usize = 4096;
@@ -154,7 +160,7 @@ impl Tally {
 
 // Writes the line of the optimizer's answer to the front of a slice.
 fn write_best(card: &[u8], ranking: &[u8], word: &[u8], out: &mut [u8]) -> Reply
-    requires { ⌜ length (now out) ≡ 25628 ⌝ }
+    requires { ⌜ 25628 ≤ length (now out) ⌝ }
     ensures text { λ r. ⌜ Prints (bestLine (now (card .entry)) (now (ranking .entry)) (now (word .entry))) (now (out .entry)) (now (out .exit)) (r .size) ⌝ }
     ensures counts { λ r. ⌜ told (r .answered) (r .counts) ≡ bestCounts (now (card .entry)) (now (ranking .entry)) (now (word .entry)) ⌝ }
 {
@@ -173,7 +179,7 @@ fn write_best(card: &[u8], ranking: &[u8], word: &[u8], out: &mut [u8]) -> Reply
 
 // Writes what is printed for a line to the front of a slice.
 fn answer_line(card: &[u8], line: &[u8], out: &mut [u8]) -> Reply
-    requires { ⌜ length (now out) ≡ 25628 ⌝ }
+    requires { ⌜ 25628 ≤ length (now out) ⌝ }
     ensures text { λ r. ⌜ Prints (printed (now (card .entry)) (now (line .entry))) (now (out .entry)) (now (out .exit)) (r .size) ⌝ }
     ensures counts { λ r. ⌜ told (r .answered) (r .counts) ≡ lineCounts (now (card .entry)) (now (line .entry)) ⌝ }
 {
@@ -186,7 +192,7 @@ fn answer_line(card: &[u8], line: &[u8], out: &mut [u8]) -> Reply
     } = parsed
     else {
         let size = lines::write_bad_line(out);
-        let counts = [0u16; 6];
+        let counts = Profile::ZERO.counts;
         return Reply {
             size,
             answered: false,
@@ -204,15 +210,16 @@ struct Turn {
 
 // Writes what is printed for the next line to the front of a slice: past the thousandth the refusal, before its form is looked at.
 fn answer_next(card: &[u8], line: &[u8], tally: Tally, out: &mut [u8]) -> Turn
-    requires { ⌜ (length (now out) ≡ 25628) × Fits tally × (tally .past ≡ false) ⌝ }
+    requires { ⌜ (25628 ≤ length (now out)) × Fits tally × (tally .past ≡ false) ⌝ }
     ensures text { λ r. ⌜ Prints (lineText (now (card .entry)) tally (now (line .entry))) (now (out .entry)) (now (out .exit)) (r .size) ⌝ }
     ensures tally { λ r. ⌜ (r .tally ≡ lineTally (now (card .entry)) tally (now (line .entry))) × Fits (r .tally) ⌝ }
 {
-    if tally.is_full() {
-        let size = lines::write_refused(22, out);
+    let answer = tested(!tally.is_full(), Refusal::Line);
+    let Checked::Passed = answer else {
+        let size = lines::write_refused(answer.number(), out);
         let tally = tally.passed();
         return Turn { size, tally };
-    }
+    };
     let reply = answer_line(card, line, out);
     let size = reply.size;
     let tally = tally.count(reply);
@@ -225,13 +232,13 @@ struct Printed {
     written: bool,
 }
 
-// Prints the answer to the next line.
-fn print_answer(card: &[u8], line: &[u8], tally: Tally) -> Printed
-    requires { ⌜ Fits tally × (tally .past ≡ false) ⌝ }
-    ensures { λ r. ⌜ (r .tally ≡ lineTally (now (card .entry)) tally (now (line .entry))) × Fits (r .tally) ⌝ }
+// Prints the answer to the next line: its text, which is left at the front of `out`.
+fn print_answer(card: &[u8], line: &[u8], tally: Tally, out: &mut [u8]) -> Printed
+    requires { ⌜ (25628 ≤ length (now out)) × Fits tally × (tally .past ≡ false) ⌝ }
+    ensures tally { λ r. ⌜ (r .tally ≡ lineTally (now (card .entry)) tally (now (line .entry))) × Fits (r .tally) ⌝ }
+    ensures text { λ _. ⌜ now (out .exit) ≡ atFront (lineText (now (card .entry)) tally (now (line .entry))) (now (out .entry)) ⌝ }
 {
-    let mut out = [0u8; OUT_BYTES];
-    let turn = answer_next(card, line, tally, &mut out);
+    let turn = answer_next(card, line, tally, out);
     let size = turn.size;
     let written = io::write_all(STDOUT_FILENO, &out[..size]);
     let tally = turn.tally;
@@ -248,8 +255,15 @@ struct Progress {
 
 // Prints the answers to the lines that end in a piece of the input, up to the first past the thousandth. The first one's bytes so
 // far stand at the front of `line`, `held` of them.
-fn answer_piece(card: &[u8], piece: &[u8], line: &mut [u8], held: usize, tally: Tally) -> Progress
-    requires { ⌜ (held ≤ 201) × (length (now line) ≡ 201) × Fits tally × (tally .past ≡ false) ⌝ }
+fn answer_piece(
+    card: &[u8],
+    piece: &[u8],
+    line: &mut [u8],
+    held: usize,
+    tally: Tally,
+    out: &mut [u8],
+) -> Progress
+    requires { ⌜ (held ≤ 201) × (length (now line) ≡ 201) × Fits tally × (tally .past ≡ false) × (25628 ≤ length (now out)) ⌝ }
     ensures { λ r. ⌜ Answers (now (card .entry)) (take held (now (line .entry))) (now (piece .entry)) tally (now (line .exit)) (r .held) (r .tally) (r .written) ⌝ }
 {
     let mut at = 0;
@@ -262,7 +276,7 @@ fn answer_piece(card: &[u8], piece: &[u8], line: &mut [u8], held: usize, tally: 
                 length: whole,
                 at: after,
             } => {
-                let printed = print_answer(card, &line[..whole], so_far);
+                let printed = print_answer(card, &line[..whole], so_far, out);
                 let written = printed.written;
                 let tally = printed.tally;
                 if tally.past | !written {
@@ -295,34 +309,41 @@ fn read_piece(piece: &mut [u8]) -> usize
     io::count(got, piece)
 }
 
-// Prints the answers to the lines of the input that end. The bytes held of the last one stand at the front of `line`. A proved
-// loop has to end, and nothing says that an input does: the loop counts its turns down, from a number that no run uses up, since
-// a thousand million readings a second take 584 years for it.
-fn answer_pieces(card: &[u8], line: &mut [u8]) -> Progress
-    requires { ⌜ length (now line) ≡ 201 ⌝ }
-    ensures { λ r. ⌜ (r .held ≤ 201) × Fits (r .tally) ⌝ }
+// Prints the answers to the lines of the rest of the input that end, up to the first past the thousandth. The first one's bytes so
+// far stand at the front of `line`, `held` of them, and in the end those of the last one. A proved loop has to end, and nothing says
+// that an input does: the loop counts its turns down, from a number that no run uses up, since a thousand million readings a second
+// take 584 years for it.
+fn answer_pieces(
+    card: &[u8],
+    line: &mut [u8],
+    held: usize,
+    tally: Tally,
+    out: &mut [u8],
+) -> Progress
+    requires { ⌜ (held ≤ 201) × (length (now line) ≡ 201) × Fits tally × (tally .past ≡ false) × (25628 ≤ length (now out)) ⌝ }
+    ensures { λ r. ⌜ Reads (now (card .entry)) (take held (now (line .entry))) tally (now (line .exit)) (r .held) (r .tally) (r .written) ⌝ }
 {
     let mut piece = [0u8; PIECE_BYTES];
-    let mut held = 0;
-    let mut tally = Tally::none();
+    let mut bytes = held;
+    let mut so_far = tally;
     let mut turns = u64::MAX;
     while turns > 0 {
         let n = read_piece(&mut piece);
         if n == 0 {
             break;
         }
-        let progress = answer_piece(card, &piece[..n], line, held, tally);
+        let progress = answer_piece(card, &piece[..n], line, bytes, so_far, out);
         let after = progress.tally;
         if after.past | !progress.written {
             return progress;
         }
-        held = progress.held;
-        tally = after;
+        bytes = progress.held;
+        so_far = after;
         turns -= 1;
     }
     Progress {
-        held,
-        tally,
+        held: bytes,
+        tally: so_far,
         written: true,
     }
 }
@@ -331,8 +352,8 @@ fn answer_pieces(card: &[u8], line: &mut [u8]) -> Progress
 fn shown_machines(card: &[u8]) -> usize
     ensures { λ r. ⌜ (r ≡ shownMachines (now (card .entry))) × (r ≤ 6) ⌝ }
 {
-    let stage = card::check(card);
-    let Stage::Passed = stage else {
+    let answer = card::check(card);
+    let Checked::Passed = answer else {
         return 0;
     };
     card::machine_count(card)
@@ -340,7 +361,7 @@ fn shown_machines(card: &[u8]) -> usize
 
 // Writes the closing lines to the front of a slice, and answers their length.
 fn write_closing(card: &[u8], tally: Tally, out: &mut [u8]) -> usize
-    requires { ⌜ length (now out) ≡ 120 ⌝ }
+    requires { ⌜ 120 ≤ length (now out) ⌝ }
     ensures { λ r. ⌜ Prints (closingText (now (card .entry)) tally) (now (out .entry)) (now (out .exit)) r ⌝ }
 {
     let totals = tally.totals;
@@ -348,31 +369,42 @@ fn write_closing(card: &[u8], tally: Tally, out: &mut [u8]) -> usize
     lines::write_closing(tally.answered, tally.refused, &totals[..shown], out)
 }
 
-// Prints the closing lines.
-fn print_closing(card: &[u8], tally: Tally) {
-    let mut out = [0u8; CLOSING_BYTES];
-    let n = write_closing(card, tally, &mut out);
-    io::write_all(STDOUT_FILENO, &out[..n]);
+// Writes what is printed after the last piece to the front of a slice, and answers its length: the answer to the line that is held,
+// if there is one, and the closing lines.
+fn finish(card: &[u8], line: &[u8], tally: Tally, out: &mut [u8]) -> usize
+    requires { ⌜ (length (now out) ≡ 25748) × Fits tally × (tally .past ≡ true → isFull tally ≡ true) ⌝ }
+    ensures { λ r. ⌜ Prints (printedPieces (now (card .entry)) tally (now (line .entry)) []) (now (out .entry)) (now (out .exit)) r ⌝ }
+{
+    if tally.past | (line.len() == 0) {
+        return write_closing(card, tally, out);
+    }
+    let room = OUT_BYTES;
+    let turn = answer_next(card, line, tally, &mut out[..room]);
+    let size = turn.size;
+    let n = write_closing(card, turn.tally, &mut out[size..]);
+    size + n
+}
+
+// Prints the answers to the lines of the rest of the input that end, writes what is printed after them to the front of `out`, and
+// answers its length: 0 where a write failed.
+fn answer_rest(card: &[u8], line: &mut [u8], held: usize, tally: Tally, out: &mut [u8]) -> usize
+    requires { ⌜ (held ≤ 201) × (length (now line) ≡ 201) × Fits tally × (tally .past ≡ false) × (length (now out) ≡ 25748) ⌝ }
+    ensures { λ r. ⌜ Finishes (now (card .entry)) (take held (now (line .entry))) tally (now (out .exit)) r ⌝ }
+{
+    let progress = answer_pieces(card, line, held, tally, out);
+    if !progress.written {
+        return 0;
+    }
+    let bytes = progress.held;
+    finish(card, &line[..bytes], progress.tally, out)
 }
 
 // Prints the answers to the lines of the input, the last of which may lack its line end, and the closing lines.
 fn answer_input(card: &[u8]) {
     let mut line = [0u8; LINE_BYTES];
-    let progress = answer_pieces(card, &mut line);
-    let held = progress.held;
-    let tally = progress.tally;
-    if !progress.written {
-        return;
-    }
-    if tally.past | (held == 0) {
-        print_closing(card, tally);
-        return;
-    }
-    let printed = print_answer(card, &line[..held], tally);
-    if printed.written {
-        let tally = printed.tally;
-        print_closing(card, tally);
-    }
+    let mut out = [0u8; LAST_BYTES];
+    let size = answer_rest(card, &mut line, 0, Tally::none(), &mut out);
+    io::write_all(STDOUT_FILENO, &out[..size]);
 }
 
 // Reads the card, and answers its length: 0 where there is none, or it cannot be read.

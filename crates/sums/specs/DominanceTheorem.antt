@@ -46,11 +46,11 @@ module _ (c : ℕ) (weights : List ℕ) where
   at-most (m ∷ r) v h = omega (arith, at-most r v h, mul-le-mul-left (getD weights m 0) (h m), mul-comm (getD weights m 0) c, mul-add c (getD weights m 0) (sumOver (λ i. getD weights i 0) r))
 
   -- so fewer marks at the highest ranked machine make the smaller sum, whatever stands below
-  head-decides : (m : ℕ) (r v w : List ℕ) → c * sumOver (λ i. getD weights i 0) r < getD weights m 0 → ((m : ℕ) → getD v m 0 ≤ c) → getD v m 0 < getD w m 0 → sumBy (m ∷ r) v < sumBy (m ∷ r) w
+  head-decides : (m : ℕ) (r v w : List ℕ) → Outweighs c weights (m ∷ r) → ((m : ℕ) → getD v m 0 ≤ c) → getD v m 0 < getD w m 0 → sumBy (m ∷ r) v < sumBy (m ∷ r) w
   unfolding sumOver
   head-decides m r v w d h k =
       let step : suc (getD v m 0) ≤ getD w m 0 = omega arith in
-      omega (arith, at-most r v h, mul-suc (getD weights m 0) (getD v m 0), mul-le-mul-left (getD weights m 0) step)
+      omega (arith, d .0, at-most r v h, mul-suc (getD weights m 0) (getD v m 0), mul-le-mul-left (getD weights m 0) step)
 
   by-ranking : (r v w : List ℕ) → Outweighs c weights r → ((m : ℕ) → getD v m 0 ≤ c) → ((m : ℕ) → getD w m 0 ≤ c) → harmonic r v w ≡ ltb (sumBy r v) (sumBy r w)
   unfolding sumOver
@@ -58,10 +58,10 @@ module _ (c : ℕ) (weights : List ℕ) where
   by-ranking (m ∷ r) v w d hv hw = go (standing (getD v m 0) (getD w m 0)) (by-ranking r v w (d .1) hv hw)
     where
       go : Standing (getD v m 0) (getD w m 0) → harmonic r v w ≡ ltb (sumBy r v) (sumBy r w) → harmonic (m ∷ r) v w ≡ ltb (sumBy (m ∷ r) v) (sumBy (m ∷ r) w)
-      go (fewer h) rec = ap isBetter (at-fewer m r v w h) ∙ sym (lt-ltb (sumBy (m ∷ r) v) (sumBy (m ∷ r) w) (head-decides m r v w (d .0) hv h))
+      go (fewer h) rec = ap isBetter (at-fewer m r v w h) ∙ sym (lt-ltb (sumBy (m ∷ r) v) (sumBy (m ∷ r) w) (head-decides m r v w d hv h))
       go (same h) rec = ap isBetter (at-same m r v w h) ∙ rec ∙ sym (less-added (getD weights m 0 * getD v m 0) (getD weights m 0 * getD w m 0) (sumBy r v) (sumBy r w) (ap (λ n. getD weights m 0 * n) h))
       go (more h) rec =
-          let k = head-decides m r w v (d .0) hw h in
+          let k = head-decides m r w v d hw h in
           ap isBetter (at-more m r v w h) ∙ sym (le-ltb (sumBy (m ∷ r) v) (sumBy (m ∷ r) w) (omega arith))
 
 pub dominance : (c : ℕ) (weights r v w : List ℕ) → isRanking (length weights) r ≡ true → Outweighs c weights r

@@ -3,7 +3,7 @@ ghost use mathlib.Core.Path.{_≡_};
 ghost use Prim.Native.Nat.{ℕ, _+_, _*_, _^_, _<_, _≤_};
 ghost use lib.ListN.{length, getD, replicate};
 ghost use mathlib.Core.Logic.{_≢_};
-ghost use Rattle.machine.specs.Symbols.{emptySymbol};
+ghost use Rattle.machine.specs.Symbols.{emptySymbol, firstSymbol};
 ghost use Rattle.card.specs.Layout.{machineCount, symbolCount};
 ghost use Rattle.sums.specs.Numbers.{noLabel, sixWeights, endingNumber, pairNumber};
 ghost use Rattle.sums.specs.Lowering.{SixWeights, LowerPre, Lowered};
@@ -211,7 +211,7 @@ fn settle(
     size: usize,
     position: usize,
 )
-    requires { ⌜ SweepPre (now card) (now weights) (now sets) (now insertions) (now costs) (now work) size position position emptySymbol 1 × Listed (now card) (now costs) (now lists) size ⌝ }
+    requires { ⌜ SweepPre (now card) (now weights) (now sets) (now insertions) (now costs) (now work) size position position emptySymbol firstSymbol × Listed (now card) (now costs) (now lists) size ⌝ }
     ensures { λ _. ⌜ Settled (now (card .entry)) (now (weights .entry)) (now (sets .entry)) (now (work .entry)) (now (work .exit)) position ⌝ }
 {
     loop {
@@ -320,7 +320,7 @@ fn enter_symbol(
             position,
             position + 1,
             symbol,
-            0,
+            tables::DELETION,
         );
         left = machine::sets::without_least(left);
     }

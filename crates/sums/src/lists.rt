@@ -3,11 +3,12 @@
 ghost use mathlib.Core.Path.{_≡_};
 ghost use Prim.Native.Nat.{_+_, _*_, _<_, _≤_};
 ghost use lib.ListN.{length};
-ghost use Rattle.machine.specs.Symbols.{emptySymbol};
+ghost use Rattle.machine.specs.Symbols.{emptySymbol, firstSymbol};
 ghost use Rattle.card.specs.Layout.{symbolCount};
 ghost use Rattle.sums.specs.Sweeping.{SweepPre, Swept, OfNode, WithInput};
 ghost use Rattle.sums.specs.Listing.{codeIn, priceIn, Inserts, NoCheaper, RowListed, PlaceFound, PairListed, NodeListed, Listed, ListPre};
 use crate::NO_LABEL;
+use machine::Pair;
 use tables::Joint;
 
 // In an entry the code that a pair leads to stands in front of the pair's number, which is below 2^56.
@@ -90,7 +91,7 @@ fn list_node(
     let symbols = card::symbol_count(card) as usize;
     let mut seen = [0u8; 128];
     let mut kept = 0;
-    let mut output = 1;
+    let mut output = Pair::FIRST;
     while output <= symbols {
         kept = list_pair(
             card,
@@ -133,7 +134,7 @@ fn try_entry(
     code: usize,
     entry: u64,
 ) -> bool
-    requires { ⌜ SweepPre (now card) (now weights) (now sets) (now insertions) (now costs) (now work) size position position emptySymbol 1 × (code < size) × Inserts (now card) (now costs) code (codeIn entry) (priceIn entry) ⌝ }
+    requires { ⌜ SweepPre (now card) (now weights) (now sets) (now insertions) (now costs) (now work) size position position emptySymbol firstSymbol × (code < size) × Inserts (now card) (now costs) code (codeIn entry) (priceIn entry) ⌝ }
     ensures { λ r. ⌜ Swept (now (card .entry)) (now (weights .entry)) (now (sets .entry)) (NoCheaper (now (card .entry)) (now (costs .entry)) (position * size + code) code (codeIn entry) (priceIn entry)) (now (work .entry)) (now (work .exit)) position r ⌝ }
 {
     let rest = work[position * size + code_in(entry)];
@@ -156,7 +157,7 @@ fn sweep_node(
     position: usize,
     code: usize,
 ) -> bool
-    requires { ⌜ SweepPre (now card) (now weights) (now sets) (now insertions) (now costs) (now work) size position position emptySymbol 1 × Listed (now card) (now costs) (now lists) size × (code < size) ⌝ }
+    requires { ⌜ SweepPre (now card) (now weights) (now sets) (now insertions) (now costs) (now work) size position position emptySymbol firstSymbol × Listed (now card) (now costs) (now lists) size × (code < size) ⌝ }
     ensures { λ r. ⌜ Swept (now (card .entry)) (now (weights .entry)) (now (sets .entry)) (OfNode (position * size + code) emptySymbol) (now (work .entry)) (now (work .exit)) position r ⌝ }
 {
     let mut fell = false;
@@ -196,7 +197,7 @@ pub fn sweep(
     size: usize,
     position: usize,
 ) -> bool
-    requires { ⌜ SweepPre (now card) (now weights) (now sets) (now insertions) (now costs) (now work) size position position emptySymbol 1 × Listed (now card) (now costs) (now lists) size ⌝ }
+    requires { ⌜ SweepPre (now card) (now weights) (now sets) (now insertions) (now costs) (now work) size position position emptySymbol firstSymbol × Listed (now card) (now costs) (now lists) size ⌝ }
     ensures { λ r. ⌜ Swept (now (card .entry)) (now (weights .entry)) (now (sets .entry)) (WithInput emptySymbol) (now (work .entry)) (now (work .exit)) position r ⌝ }
 {
     let mut fell = false;

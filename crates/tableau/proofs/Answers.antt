@@ -6,8 +6,8 @@ use mathlib.Core.Option.{Option, some, none, Option·none-ne-some}
 use Prim.Native.Nat.{ℕ, zero, suc, _<_}
 use native.Mathlib.Omega.{arith}
 use lib.Dec.{lit<}
-use Rattle.basics.specs.Refusals.{refuse, firstOf}
-use Rattle.basics.proofs.Refusals.{passed, none-first, accepted}
+use Rattle.refusals.specs.Refusals.{refuse, firstOf}
+use Rattle.refusals.proofs.Refusals.{passed, none-first, accepted}
 use Rattle.ranking.specs.declared.Profile.{Profile}
 use Rattle.card.specs.Layout.{machineCount}
 use Rattle.candidate.specs.Candidates.{isSome}
@@ -15,20 +15,11 @@ use Rattle.candidate.specs.Evaluating.{profileWith}
 use Rattle.product.specs.Best.{Contender, best}
 use Rattle.product.specs.Optimizing.{inputRefusal}
 use Rattle.optimizer.specs.Telling.{profileTold}
-use Rattle.tableau.specs.declared.Refusal.{Refusal}
-use Rattle.tableau.specs.declared.Refusal.the-variants as refusals
-use Rattle.tableau.specs.Refusals.{numberOf}
 use Rattle.tableau.specs.Tableau.{countsOf, everyRow, soundTableau}
 use Rattle.tableau.specs.Reading.{Readable}
 use Rattle.tableau.specs.Judging.{isForWord, sameCounts, countsAreProfile, hasProfileOf, verdictOf, verdictNumbers, refusedJudging, judgingRefusal, judging}
 use Rattle.tableau.specs.Laws.Accepted.{tableau-told}
 use Rattle.tableau.specs.Verdicts.{no-case-for-10}
-
--- no refusal has the number 0
-pub number-positive : (r : Refusal) → 0 < numberOf r
-number-positive refusals.Layout = lit< tt
-number-positive refusals.Candidate = lit< tt
-number-positive refusals.Profile = lit< tt
 
 -- 19, 20 and 21
 abbrev pub tableauRefusal : List ℕ → List ℕ → List ℕ → ℕ

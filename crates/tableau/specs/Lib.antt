@@ -1,5 +1,4 @@
 -- definitions
-pub mod Refusals
 pub mod Tableau
 pub mod Reading
 pub mod Judging

@@ -7,9 +7,9 @@ use mathlib.Core.Option.{Option, some, none}
 use Prim.Native.Nat.{ℕ, zero, suc, _<_}
 use native.Mathlib.Omega.{arith}
 use lib.ListN.{length}
-use Rattle.basics.specs.Refusals.{refuse, firstOf, unlessRefused}
+use Rattle.refusals.specs.Refusals.{refuse, firstOf, unlessRefused}
 use Rattle.basics.proofs.Bools.{clash}
-use Rattle.basics.proofs.Refusals.{accepted}
+use Rattle.refusals.proofs.Refusals.{accepted}
 use Rattle.basics.proofs.Below.{every-at}
 use Rattle.card.specs.Layout.{machineCount}
 use Rattle.card.specs.Card.{machinesOf}

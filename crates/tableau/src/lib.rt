@@ -3,14 +3,13 @@ ghost use mathlib.Core.Path.{_≡_};
 ghost use mathlib.Core.List.{[], _∷_};
 ghost use Prim.Native.Nat.{ℕ, _+_, _%_, _<_, _≤_};
 ghost use lib.ListN.{length};
-ghost use Rattle.basics.specs.Refusals.{refuse, firstOf};
+ghost use Rattle.refusals.specs.Refusals.{refuse, firstOf, checkedNumber};
 ghost use Rattle.layout.specs.Layout.{shortAt};
 ghost use Rattle.layout.specs.LaidOut.{LaidOut};
 ghost use Rattle.card.specs.Layout.{machineCount};
 ghost use Rattle.card.specs.Card.{cardRefusal};
 ghost use Rattle.candidate.specs.Candidates.{pairsOf, spelled};
 ghost use Rattle.product.specs.Best.{sameWord};
-ghost use Rattle.tableau.specs.Refusals.{numberOf, stageNumber};
 ghost use Rattle.tableau.specs.Tableau.{rowCount, rowOf, countsOf, everyRow, soundRow, soundTableau};
 ghost use Rattle.tableau.specs.Reading.{Readable, CompleteRow};
 ghost use Rattle.tableau.specs.Judging.{isForWord, sameCounts, countsAreProfile, verdictOf, verdictNumbers, refusedJudging};
@@ -18,6 +17,8 @@ ghost use Rattle.tableau.specs.Judges.{Judges};
 use basics::index;
 use machine::Pair;
 use ranking::Profile;
+use refusals::Checked;
+use refusals::Refusal;
 
 // What judging answers: the refusal's number, 0 where there is none; the verdict, 1 right, 2 another row, 3 not in the table; the
 // first row that wins, for another row. What is not there is 0.
@@ -58,47 +59,6 @@ impl Verdict {
                 verdict: 3,
                 row: 0,
             },
-        }
-    }
-}
-
-// Why a tableau is refused.
-enum Refusal {
-    // The layout, or the claimed row.
-    Layout,
-    // A row's candidate.
-    Candidate,
-    // A row's counts.
-    Profile,
-}
-
-impl Refusal {
-    // Its number in the refusal table.
-    fn number(self) -> u8
-        ensures { λ r. ⌜ r ≡ numberOf self ⌝ }
-    {
-        match self {
-            Refusal::Layout => 19,
-            Refusal::Candidate => 20,
-            Refusal::Profile => 21,
-        }
-    }
-}
-
-// What a checking stage answers.
-enum Stage {
-    Passed,
-    Refused(Refusal),
-}
-
-impl Stage {
-    // Its number: 0 where it passed.
-    fn number(self) -> u8
-        ensures { λ r. ⌜ r ≡ stageNumber self ⌝ }
-    {
-        match self {
-            Stage::Passed => 0,
-            Stage::Refused(refusal) => refusal.number(),
         }
     }
 }
@@ -198,34 +158,34 @@ fn is_sound_row(row: &[u8], machines: usize) -> bool
 }
 
 // Refusal 19, of the rows: each has its counts, unused ones 0.
-fn check_rows(tableau: &[u8], machines: usize) -> Stage
+fn check_rows(tableau: &[u8], machines: usize) -> Checked
     requires { ⌜ (2 ≤ length (now tableau)) × LaidOut (rowCount (now tableau)) (now tableau) × (machines ≤ 6) ⌝ }
-    ensures { λ r. ⌜ stageNumber r ≡ refuse 19 (everyRow (soundRow machines) (now (tableau .entry))) ⌝ }
+    ensures { λ r. ⌜ checkedNumber r ≡ refuse 19 (everyRow (soundRow machines) (now (tableau .entry))) ⌝ }
 {
     let rows = index(tableau[0]);
     for i in 0..rows {
         if !is_sound_row(layout::part(tableau, i), machines) {
-            return Stage::Refused(Refusal::Layout);
+            return Checked::Refused(Refusal::Tableau);
         }
     }
-    Stage::Passed
+    Checked::Passed
 }
 
 // Refusal 19: the layout, and the claimed row.
-fn check_layout(tableau: &[u8], machines: usize) -> Stage
+fn check_layout(tableau: &[u8], machines: usize) -> Checked
     requires { ⌜ machines ≤ 6 ⌝ }
-    ensures { λ r. ⌜ stageNumber r ≡ refuse 19 (soundTableau machines (now (tableau .entry))) ⌝ }
+    ensures { λ r. ⌜ checkedNumber r ≡ refuse 19 (soundTableau machines (now (tableau .entry))) ⌝ }
 {
     if tableau.len() < 2 {
-        return Stage::Refused(Refusal::Layout);
+        return Checked::Refused(Refusal::Tableau);
     }
     let count = tableau[0];
     let claimed = tableau[1];
     if !((1 <= count) & (count <= 32) & (claimed < count)) {
-        return Stage::Refused(Refusal::Layout);
+        return Checked::Refused(Refusal::Tableau);
     }
     if !layout::is_laid_out(tableau, count) {
-        return Stage::Refused(Refusal::Layout);
+        return Checked::Refused(Refusal::Tableau);
     }
     check_rows(tableau, machines)
 }
@@ -237,29 +197,29 @@ fn is_for_word(card: &[u8], word: &[u8], row: &[u8]) -> bool
 {
     let bytes = &row[12..];
     let answer = candidate::check_candidate(bytes, card::symbol_count(card));
-    let candidate::Stage::Passed = answer else {
+    let Checked::Passed = answer else {
         return false;
     };
     let scored = candidate::score(card, bytes);
-    let answer = scored.stage;
-    let candidate::Stage::Passed = answer else {
+    let answer = scored.checked;
+    let Checked::Passed = answer else {
         return false;
     };
     spells(bytes, word)
 }
 
 // Refusal 20: each row's candidate.
-fn check_candidates(card: &[u8], word: &[u8], tableau: &[u8]) -> Stage
+fn check_candidates(card: &[u8], word: &[u8], tableau: &[u8]) -> Checked
     requires { ⌜ (cardRefusal (now card) ≡ 0) × Readable (now tableau) ⌝ }
-    ensures { λ r. ⌜ stageNumber r ≡ refuse 20 (everyRow (isForWord (now (card .entry)) (now (word .entry))) (now (tableau .entry))) ⌝ }
+    ensures { λ r. ⌜ checkedNumber r ≡ refuse 20 (everyRow (isForWord (now (card .entry)) (now (word .entry))) (now (tableau .entry))) ⌝ }
 {
     let candidates = index(tableau[0]);
     for i in 0..candidates {
         if !is_for_word(card, word, layout::part(tableau, i)) {
-            return Stage::Refused(Refusal::Candidate);
+            return Checked::Refused(Refusal::RowCandidate);
         }
     }
-    Stage::Passed
+    Checked::Passed
 }
 
 // Whether a row's counts are its candidate's profile.
@@ -273,17 +233,17 @@ fn are_its_profile(card: &[u8], row: &[u8]) -> bool
 }
 
 // Refusal 21: each row's counts.
-fn check_profiles(card: &[u8], tableau: &[u8]) -> Stage
+fn check_profiles(card: &[u8], tableau: &[u8]) -> Checked
     requires { ⌜ (cardRefusal (now card) ≡ 0) × Readable (now tableau) × ((i : ℕ) → i < rowCount (now tableau) → CompleteRow (now card) (rowOf (now tableau) i)) ⌝ }
-    ensures { λ r. ⌜ stageNumber r ≡ refuse 21 (everyRow (countsAreProfile (now (card .entry))) (now (tableau .entry))) ⌝ }
+    ensures { λ r. ⌜ checkedNumber r ≡ refuse 21 (everyRow (countsAreProfile (now (card .entry))) (now (tableau .entry))) ⌝ }
 {
     let profiles = index(tableau[0]);
     for i in 0..profiles {
         if !are_its_profile(card, layout::part(tableau, i)) {
-            return Stage::Refused(Refusal::Profile);
+            return Checked::Refused(Refusal::RowCounts);
         }
     }
-    Stage::Passed
+    Checked::Passed
 }
 
 // Whether a row has the profile.
@@ -313,16 +273,16 @@ fn verdict_of(tableau: &[u8], best: Profile) -> Verdict
 }
 
 // The first of refusals 19, 20 and 21 that a tableau meets, each for all rows before the next, for an accepted card.
-fn check_tableau(card: &[u8], word: &[u8], tableau: &[u8]) -> Stage
+fn check_tableau(card: &[u8], word: &[u8], tableau: &[u8]) -> Checked
     requires { ⌜ cardRefusal (now card) ≡ 0 ⌝ }
-    ensures { λ r. ⌜ stageNumber r ≡ firstOf (refuse 19 (soundTableau (machineCount (now (card .entry))) (now (tableau .entry))) ∷ refuse 20 (everyRow (isForWord (now (card .entry)) (now (word .entry))) (now (tableau .entry))) ∷ refuse 21 (everyRow (countsAreProfile (now (card .entry))) (now (tableau .entry))) ∷ []) ⌝ }
+    ensures { λ r. ⌜ checkedNumber r ≡ firstOf (refuse 19 (soundTableau (machineCount (now (card .entry))) (now (tableau .entry))) ∷ refuse 20 (everyRow (isForWord (now (card .entry)) (now (word .entry))) (now (tableau .entry))) ∷ refuse 21 (everyRow (countsAreProfile (now (card .entry))) (now (tableau .entry))) ∷ []) ⌝ }
 {
     let answer = check_layout(tableau, card::machine_count(card));
-    let Stage::Passed = answer else {
+    let Checked::Passed = answer else {
         return answer;
     };
     let answer = check_candidates(card, word, tableau);
-    let Stage::Passed = answer else {
+    let Checked::Passed = answer else {
         return answer;
     };
     check_profiles(card, tableau)
@@ -334,11 +294,11 @@ pub fn judge(card: &[u8], ranking: &[u8], word: &[u8], work: &mut [u16], tableau
     ensures { λ r. ⌜ Judges (now (card .entry)) (now (ranking .entry)) (now (word .entry)) (now (work .entry)) (now (work .exit)) (now (tableau .entry)) r ⌝ }
 {
     let checked = input::check_input(card, ranking, word, work.len());
-    let input::Stage::Passed = checked else {
+    let Checked::Passed = checked else {
         return refused(checked.number());
     };
     let answer = check_tableau(card, word, tableau);
-    let Stage::Passed = answer else {
+    let Checked::Passed = answer else {
         return refused(answer.number());
     };
     let best = optimizer::best_profile(card, ranking, word, work);

@@ -18,10 +18,14 @@ ghost use Rattle.tables.specs.FillingCheapest.{NotePre, Noted, Blank, Fi
 use basics::index;
 use labels::Label;
 use machine::Ending;
+use machine::Pair;
 use machine::Position;
 use steps::NO_STEP;
 
 pub mod joint_table; // joint_table.rt: the table of the joint steps
+
+// The output of a deletion, the first that a row of steps has.
+pub const DELETION: usize = Pair::EMPTY as usize;
 
 // What taking a pair on all machines does: the code of the states led to with the marks as one number, or nothing takes it.
 pub enum Joint {
@@ -239,7 +243,7 @@ fn fill_from(joint: &[u32], size: usize, symbols: usize, from: usize, table: &mu
     requires { ⌜ FillPre (now joint) (now table) size symbols × (from < size) ⌝ }
     ensures { λ _. ⌜ FilledFrom (now (joint .entry)) (now (table .entry)) (now (table .exit)) size symbols from ⌝ }
 {
-    let mut y = 1;
+    let mut y = Pair::FIRST;
     while y <= symbols {
         let step = joint_table::read(joint[from * 64 + y]);
         note(table, size, from, step);

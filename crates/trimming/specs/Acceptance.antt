@@ -1,4 +1,4 @@
--- A card without one of its arcs is accepted: its counts and its other parts are those of the card, and machine i lacks the arc and nothing else.
+-- Of every arc of an accepted card there is an accepted card that lacks it and nothing else: its counts and its other parts are those of the card.
 use mathlib.Core.Path.{_≡_, refl, sym, _∙_, ap}
 use mathlib.Core.List.{List, [], _∷_, map}
 use Prim.Native.Nat.{ℕ, zero, suc, _+_, _*_, _<_}
@@ -7,7 +7,7 @@ use native.Mathlib.Omega.{arith}
 use lib.ListN.{length, getD, set, length-set}
 use lib.Seq.{map-set-same, getD-set-same, getD-set-other}
 use Rattle.basics.specs.Products.{product}
-use Rattle.basics.proofs.Refusals.{none-first}
+use Rattle.refusals.proofs.Refusals.{none-first}
 use Rattle.machine.specs.Machine.{Machine, noMachine, stateCountOf}
 use Rattle.machine.specs.Part.{stateCount, machineOf, partRefusal}
 use Rattle.machine.specs.Accepted.{Shaped}
@@ -22,16 +22,10 @@ use Rattle.card.specs.Laws.Layout.{length-parts, part-at}
 use Rattle.card.specs.Laws.Machines.{machine-at}
 use Rattle.product.specs.Nodes.{nodeCount}
 use Rattle.trimming.specs.Travelling.{machineWithout, machinesWithout}
-use Rattle.trimming.specs.Trimmed.{HasArc, partWithout, partsWithout, cardWithout}
+use Rattle.trimming.specs.Trimmed.{HasArc, LacksArc, partWithout, partsWithout, cardWithout}
 use Rattle.trimming.specs.Laws.Parts.{same-state-count, trimmed-machine, trimmed-part, trimmed-bytes}
 
--- a card that differs from another only by lacking arc j of its machine i
-pub record LacksArc (card : List ℕ) (i j : ℕ) (trimmed : List ℕ) : Type 0 where
-  pub symbols : symbolCount trimmed ≡ symbolCount card
-  pub count : machineCount trimmed ≡ machineCount card
-  pub machines : machinesOf trimmed ≡ machinesWithout i j (machinesOf card)
-
--- it has as many nodes
+-- a card that lacks an arc has as many nodes
 pub same-nodes : {card trimmed : List ℕ} {i j : ℕ} → LacksArc card i j trimmed → (n : ℕ) → nodeCount (machinesOf trimmed) n ≡ nodeCount (machinesOf card) n
 same-nodes {card} {i = i} {j = j} lacks n =
     let ms = machinesOf card in
@@ -99,7 +93,7 @@ module _ (card : List ℕ) (i j : ℕ) (ok : cardRefusal card ≡ 0) (has : HasA
 
   pub trimmed-lacks : LacksArc card i j (cardWithout i j card)
   unfolding cardWithout partsWithout
-  trimmed-lacks = record { symbols = made .symbols; count = made .count ∙ count; machines = made .machines ∙ trimmed-machines }
+  trimmed-lacks = record { has = has; symbols = made .symbols; count = made .count ∙ count; machines = made .machines ∙ trimmed-machines }
 
   -- and it is a card of bytes, if the first is
   pub trimmed-is-bytes : Bytes card → Bytes (cardWithout i j card)

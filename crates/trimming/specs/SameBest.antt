@@ -29,9 +29,9 @@ use Rattle.product.specs.BestTheorem.{best-in-is-best-of-all}
 use Rattle.product.specs.SetsTheorem.{best-in-is-best-of-all-words}
 use Rattle.product.specs.Laws.BestOfSets.{are64Bits}
 use Rattle.trimming.specs.Travelling.{machineWithout, machinesWithout, travels}
+use Rattle.trimming.specs.Trimmed.{LacksArc}
 use Rattle.trimming.specs.Laws.Lists.{all-set-same}
 use Rattle.trimming.specs.Laws.Runs.{Clashless, run-same, run-kept, run-gone}
-use Rattle.trimming.specs.Acceptance.{LacksArc}
 
 -- ---- candidates
 
@@ -56,12 +56,15 @@ module _ {better : ProfileOrder} {ms ms′ : List Machine} {Meant Meant′ : Lis
       rivals : (d : List Pair) → Meant′ d → d ≢ c → BeatsIn better (contenderOf ms′ c) (contenderOf ms′ d)
       rivals d h n = rw (kept c is .1, kept d h .1) (b .rivals d (kept d h .0) n)
 
-module _ {card trimmed : List ℕ} {i j : ℕ} (ok : cardRefusal card ≡ 0) (ok′ : cardRefusal trimmed ≡ 0) (is : i < machineCount card) (lacks : LacksArc card i j trimmed) where
+module _ {card trimmed : List ℕ} {i j : ℕ} (ok : cardRefusal card ≡ 0) (ok′ : cardRefusal trimmed ≡ 0) (lacks : LacksArc card i j trimmed) where
   abbrev ms : List Machine
   ms = machinesOf card
 
   abbrev machine : Machine
   machine = getD ms i noMachine
+
+  is : i < machineCount card
+  is = lacks .has .machine
 
   its-machine : machine ≡ machineOf (partOf card i)
   its-machine = machine-at card i is noMachine

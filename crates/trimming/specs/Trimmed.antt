@@ -1,16 +1,28 @@
--- A card without one of its arcs: its bytes.
+-- Cards that lack one arc of another, and the bytes of one of them.
+use mathlib.Core.Path.{_≡_}
 use mathlib.Core.List.{List, _++_, map}
 use Prim.Native.Nat.{ℕ, _+_, _*_, _-_, _<_}
 use lib.ListN.{length, take, drop, set}
 use Rattle.basics.specs.Search.{joined}
 use Rattle.machine.specs.Part.{stateCount, arcCount}
 use Rattle.card.specs.Layout.{machineCount, symbolCount, partsOf, partOf}
+use Rattle.card.specs.Card.{machinesOf}
 use Rattle.card.specs.Packing.{packed}
+use Rattle.trimming.specs.Travelling.{machinesWithout}
 
 -- a card has an arc j of machine i
 pub record HasArc (card : List ℕ) (i j : ℕ) : Type 0 where
   pub machine : i < machineCount card
   pub arc : j < arcCount (partOf card i)
+
+-- a card differs from another only by lacking arc j of its machine i
+pub record LacksArc (card : List ℕ) (i j : ℕ) (trimmed : List ℕ) : Type 0 where
+  pub has : HasArc card i j
+  pub symbols : symbolCount trimmed ≡ symbolCount card
+  pub count : machineCount trimmed ≡ machineCount card
+  pub machines : machinesOf trimmed ≡ machinesWithout i j (machinesOf card)
+
+-- ---- the bytes of one
 
 -- where the 20 bytes of arc j of a part start
 abbrev pub arcPlace : List ℕ → ℕ → ℕ

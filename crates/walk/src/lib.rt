@@ -31,9 +31,6 @@ pub enum Tried {
     Without,
 }
 
-// The set of the empty symbol alone, the in of an insertion.
-const INSERTION: u64 = 1;
-
 // Whether a joint step from the node u to the nodes from base on keeps to the labels.
 fn keeps(work: &[u16], u: usize, base: usize, found: Joint) -> Kept
     requires { ⌜ KeepsPre (now work) u base found ⌝ }
@@ -147,7 +144,7 @@ fn try_input(
             position,
             input,
             code,
-            1,
+            Pair::FIRST,
         );
     }
     steps::fill_steps(card, input, steps);
@@ -164,7 +161,7 @@ fn try_input(
         position + 1,
         input,
         code,
-        0,
+        tables::DELETION,
     )
 }
 
@@ -173,9 +170,9 @@ pub fn inputs_at(sets: &[u64], position: usize) -> u64
     ensures { λ r. ⌜ ((x : ℕ) → member r x ≡ (eqb x emptySymbol || member (getD (now (sets .entry)) position 0) x)) ⌝ }
 {
     if position < sets.len() {
-        return INSERTION | sets[position];
+        return machine::sets::EMPTY | sets[position];
     }
-    INSERTION
+    machine::sets::EMPTY
 }
 
 // Writes a pair after as many pairs.

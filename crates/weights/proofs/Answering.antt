@@ -1,29 +1,35 @@
 -- The search for a word by its sets, and what the call answers. Assumes nothing.
 use mathlib.Core.Path.{_≡_, refl, _∙_, ap}
 use mathlib.Core.Bool.{true}
-use mathlib.Core.List.{List}
+use mathlib.Core.Logic.{_≢_}
+use mathlib.Core.List.{List, [], _∷_}
 use mathlib.Core.Option.{Option, some, none}
 use Prim.Native.Nat.{ℕ, zero, suc, _*_, _<_, _≤_}
 use native.Mathlib.Omega.{arith}
 use lib.Dec.{ltb}
 use lib.ListN.{length, replicate, length-replicate}
 use Rattle.basics.specs.Search.{allOf}
-use Rattle.basics.specs.Refusals.{unlessRefused}
+use Rattle.refusals.specs.Refusals.{refuse, unlessRefused}
 use Rattle.card.specs.Layout.{symbolCount}
+use Rattle.candidate.specs.Candidates.{isSome}
 use Rattle.product.specs.Best.{Contender}
 use Rattle.product.specs.Sets.{singletons, bestOfSetsIn}
-use Rattle.product.specs.Optimizing.{filled}
+use Rattle.product.specs.Optimizing.{answerFits}
 use Rattle.product.specs.SetsTheorem.{best-in-of-one-word}
 use Rattle.product.specs.Laws.Words.{accepted-word}
 use Rattle.product.specs.Laws.Sets.{as-many}
 use Rattle.product.specs.Laws.BestOfSets.{singletons-64}
+use Rattle.optimizer.specs.SmallAnswers.{SmallAnswer, small-answer}
 use Rattle.optimizer.specs.Searching.{searchRefusal}
 use Rattle.optimizer.proofs.Words.{all-small, of-sets}
 use Rattle.sums.specs.Weights.{bySum, bestByWeights}
 use Rattle.sums.specs.WeightedPaths.{weights-agree}
 use Rattle.weights.specs.declared.Weighing.{Weighing}
 use Rattle.weights.specs.Weighing.{weightedRefusal, callRefusal, refusedWeighing, weighingOf, weighed, weighedAnswer}
-use Rattle.weights.specs.Searching.{SetsPre, TablesFit, SearchPre, Searched}
+use Rattle.weights.specs.Accepting.{accepts}
+use Rattle.weights.specs.WeightedBest.{weighted-best-is-small}
+use Rattle.weights.specs.Demand3.{its-evaluation}
+use Rattle.weights.specs.Searching.{SetsPre, TablesFit, SearchPre, Searched, Optimizes}
 
 -- three new tables, with room for the joint steps of P codes and lists of their insertions
 pub tables-fit : (P n : ℕ) → P * 64 ≤ n → TablesFit (replicate {A = ℕ} n 0) (replicate {A = ℕ} n 0) (replicate {A = ℕ} n 0) P
@@ -68,25 +74,29 @@ module _ {card weights word work : List ℕ} {size : ℕ} (pre : SearchPre card 
 
 -- ---- the call
 
-module _ (card weights word : List ℕ) (room : ℕ) where
-  -- a refusal's answer
-  pub refused-result : (n answerRoom : ℕ) → n ≡ weightedRefusal card weights word room → 0 < n → refusedWeighing n ≡ weighed card weights word room answerRoom
-  unfolding weighed callRefusal
-  refused-result zero answerRoom e h = absurd (omega arith)
-  refused-result (suc n) answerRoom e h = rw (← e)
+-- what the definition answers is small
+answers-small : (card weights word : List ℕ) (room answerRoom : ℕ) → SmallAnswer (weighed card weights word room answerRoom .evaluation)
+unfolding weighed callRefusal
+answers-small card weights word room answerRoom =
+    let o = bestByWeights card weights word in
+    rw (its-evaluation (callRefusal card weights word room answerRoom) weights o word)
+    (small-answer (weightedRefusal card weights word room) (refuse 10 (isSome o) ∷ refuse 12 (answerFits o answerRoom) ∷ []) o word
+    (λ e. let a = accepts card weights word room e in weighted-best-is-small card weights word (a .accepted) (accepted-word (symbolCount card) word (a .sound) .short)))
 
-  pub refused-answer : (n : ℕ) (answer : List ℕ) → n ≡ weightedRefusal card weights word room → 0 < n → answer ≡ weighedAnswer card weights word room answer
-  unfolding weighedAnswer callRefusal
-  refused-answer zero answer e h = absurd (omega arith)
-  refused-answer (suc n) answer e h = rw (← e)
+-- so it comes with the rest of the contract
+call-answers : {card weights word work workAfter answer answerAfter : List ℕ} {r : Weighing} → r ≡ weighed card weights word (length work) (length answer) → answerAfter ≡ weighedAnswer card weights word (length work) answer
+    → length workAfter ≡ length work → (weightedRefusal card weights word (length work) ≢ 0 → workAfter ≡ work) → Optimizes card weights word work workAfter answer answerAfter r
+call-answers {card} {weights} {word} {work} {answer = answer} e s l k = record { result = e; answer-slice = s; work-length = l; work-kept = k; small = rw e (answers-small card weights word (length work) (length answer)) }
 
-  -- otherwise the search decides
-  pub searched-result : (answerRoom : ℕ) → weightedRefusal card weights word room ≡ 0
-      → weighed card weights word room answerRoom ≡ unlessRefused (searchRefusal (bestByWeights card weights word) answerRoom) (weighingOf weights (bestByWeights card weights word) word) refusedWeighing
-  unfolding weighed callRefusal
-  searched-result answerRoom e = rw e
+-- a refusal of the input
+pub call-refused : {card weights word work answer : List ℕ} {r : Weighing} (n : ℕ) → n ≡ weightedRefusal card weights word (length work) → 0 < n → r ≡ refusedWeighing n
+    → Optimizes card weights word work work answer answer r
+unfolding weighed weighedAnswer callRefusal
+call-refused zero e h q = absurd (omega arith)
+call-refused (suc n) e h q = call-answers (q ∙ (rw (← e))) (rw (← e)) refl (λ _. refl)
 
-  pub searched-answer : (answer : List ℕ) → weightedRefusal card weights word room ≡ 0
-      → weighedAnswer card weights word room answer ≡ unlessRefused (searchRefusal (bestByWeights card weights word) (length answer)) (filled (bestByWeights card weights word) answer) (λ n. answer)
-  unfolding weighedAnswer callRefusal
-  searched-answer answer e = rw e
+-- accepted input: what the search answers is the call's answer
+pub call-searched : {card weights word front frontAfter work workAfter answer answerAfter : List ℕ} {r : Weighing} → weightedRefusal card weights word (length work) ≡ 0 → length workAfter ≡ length work
+    → Searched weights (bestByWeights card weights word) word front frontAfter answer answerAfter r → Optimizes card weights word work workAfter answer answerAfter r
+unfolding weighed weighedAnswer callRefusal
+call-searched ok w s = call-answers (s .result ∙ (rw ok)) (s .answer-slice ∙ (rw ok)) w (λ n. absurd (n ok))

@@ -5,26 +5,14 @@ use mathlib.Core.Bool.{true, false}
 use mathlib.Core.List.{List}
 use Prim.Native.Nat.{ℕ, _+_, _*_, _<_, _≤_}
 use native.Mathlib.Omega.{arith}
-use lib.Dec.{leb, lit<}
+use lib.Dec.{leb}
 use lib.ListN.{length, getD, drop}
 use borrow.Author.Tests.{eq-eqb, ne-eqb, le-leb, lt-leb}
 use Rattle.basics.specs.Search.{allOf}
 use Rattle.basics.proofs.Search.{left-next, left-none, all-none, all-next, all-fails}
 use Rattle.card.specs.Card.{machinesOf}
 use Rattle.product.specs.Nodes.{product, stateCounts, nodeCount}
-use Rattle.input.proofs.Refusals.{number-positive as input-positive}
 use Rattle.sums.specs.Weights.{soundWeights}
-use Rattle.weights.specs.declared.Refusal.{Refusal}
-use Rattle.weights.specs.declared.Refusal.the-variants.{Input, Weights, Work, NoCandidate, Answer}
-use Rattle.weights.specs.Refusals.{numberOf}
-
--- no refusal has the number 0
-pub number-positive : (r : Refusal) → 0 < numberOf r
-number-positive (Input r) = input-positive r
-number-positive Weights = lit< tt
-number-positive Work = lit< tt
-number-positive NoCandidate = lit< tt
-number-positive Answer = lit< tt
 
 -- ---- weights
 

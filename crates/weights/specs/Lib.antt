@@ -1,5 +1,4 @@
 -- definitions: the call's answer and its refusals
-pub mod Refusals
 pub mod Weighing
 pub mod Accepting
 -- theorems on the best by weights
@@ -10,6 +9,7 @@ pub mod GangingUp
 -- the walk and the search
 pub mod Walking
 pub mod Searching
--- theorems of what the call answers: demand 3, and that the two engines agree
+-- theorems of what the call answers: demand 3, that the two engines agree, and two calls with work slices of their own
 pub mod Demand3
 pub mod TwoEngines
+pub mod TwoCalls

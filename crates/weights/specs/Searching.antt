@@ -7,7 +7,7 @@ use mathlib.Core.Option.{Option}
 use Prim.Native.Nat.{ℕ, _+_, _*_, _%_, _≤_}
 use lib.Dec.{leb, ltb}
 use lib.ListN.{length}
-use Rattle.basics.specs.Refusals.{refuse, firstOf, unlessRefused}
+use Rattle.refusals.specs.Refusals.{refuse, firstOf, unlessRefused}
 use Rattle.card.specs.Layout.{machineCount, symbolCount}
 use Rattle.card.specs.Card.{cardRefusal, machinesOf}
 use Rattle.product.specs.Best.{Contender}
@@ -16,6 +16,7 @@ use Rattle.product.specs.Nodes.{product, stateCounts}
 use Rattle.product.specs.Setting.{Setting}
 use Rattle.product.specs.Laws.BestOfSets.{are64Bits}
 use Rattle.optimizer.specs.Searching.{searchRefusal}
+use Rattle.optimizer.specs.SmallAnswers.{SmallAnswer}
 use Rattle.sums.specs.Weights.{soundWeights}
 use Rattle.sums.specs.Numbers.{noLabel}
 use Rattle.weights.specs.declared.Weighing.{Weighing}
@@ -53,9 +54,10 @@ pub record Searched (weights : List ℕ) (b : Option Contender) (word work workA
   pub work-length : length workAfter ≡ length work
 
 -- the contract of the call. The work slice keeps its length; where one of the checks 1 to 6, 26, 8 and 9 refuses it keeps its contents, and
--- otherwise its contents at exit are left open
+-- otherwise its contents at exit are left open. At most 3,199 pairs are answered, and no count above 48,000
 pub record Optimizes (card weights word work workAfter answer answerAfter : List ℕ) (r : Weighing) : Type 0 where
   pub result : r ≡ weighed card weights word (length work) (length answer)
   pub answer-slice : answerAfter ≡ weighedAnswer card weights word (length work) answer
   pub work-length : length workAfter ≡ length work
   pub work-kept : weightedRefusal card weights word (length work) ≢ 0 → workAfter ≡ work
+  pub small : SmallAnswer (r .evaluation)

@@ -23,11 +23,12 @@ use Rattle.product.specs.Best.{Contender, contenderOf}
 use Rattle.paths.specs.Total.{lex-total, same?}
 use Rattle.product.specs.ProductGraph.{pairs}
 use Rattle.product.specs.Prices.{Alike}
-use Rattle.product.specs.BestCandidate.{BeatsIn, by-profile, by-pairs, by-bytes, BestOf}
-use Rattle.product.specs.BestTheorem.{best-in-is-best-of-all, ShortAt, best-in-is-short, SmallBest, best-in-is-small}
+use Rattle.product.specs.BestCandidate.{BeatsIn, by-profile, by-pairs, by-bytes, IsBestIn, BestOf}
+use Rattle.product.specs.BestTheorem.{best-in-is-best-of-all}
+use Rattle.product.specs.CountsFit.{SmallBest, best-in-is-small}
 use Rattle.sums.specs.Weights.{soundWeights, weightedSum, bySum, bestByWeights}
 use Rattle.sums.specs.Laws.Sums.{sum-bound}
-use Rattle.sums.specs.WeightedPaths.{byWeights, weights-agree}
+use Rattle.sums.specs.WeightedPaths.{weights-agree}
 
 -- c beats d: it has the smaller sum; or an equal sum and fewer pairs; or an equal sum, as many pairs and the smaller byte string
 pub data BeatsBySum (weights : List ℕ) (ms : List Machine) (c d : List Pair) : Type 0 where
@@ -57,6 +58,9 @@ module _ (weights : List ℕ) (ms : List Machine) where
   sum-beats c d (fewer-pairs e h) = by-pairs (alike-sums c d e) h
   sum-beats c d (smaller-bytes e h m) = by-bytes (alike-sums c d e) h m
 
+  pub best-by-sum : (word : List ℕ) (c : List Pair) → IsBestByWeights weights ms word c → IsBestIn (bySum weights) ms (IsCandidate ms word) c
+  best-by-sum word c k = record { candidate = k .candidate; rivals = λ d h n. sum-beats c d (k .rivals d h n) }
+
 -- the best of the definition is the best of the lists of pairs of any length
 abbrev pub BestOfAllByWeights : (card weights word : List ℕ) → Type 0
 BestOfAllByWeights card weights word = BestOf (machinesOf card) (IsCandidate (machinesOf card) word) (IsBestByWeights weights (machinesOf card) word) (bestByWeights card weights word)
@@ -69,7 +73,7 @@ weighted-best-is-best-of-all card weights word ok =
       none-exactly = all .none-exactly;
       is-best = λ b e. let k = all .is-best b e in record { candidate = k .candidate; rivals = λ d h n. beats-by-sum weights (machinesOf card) (b .candidate) d (k .rivals d h n) };
       its-profile = all .its-profile;
-      only-it = λ c k. all .only-it c (record { candidate = k .candidate; rivals = λ d h n. sum-beats weights (machinesOf card) c d (k .rivals d h n) });
+      only-it = λ c k. all .only-it c (best-by-sum weights (machinesOf card) word c k);
     }
 
 -- no candidate, however long, has a smaller sum
@@ -92,15 +96,10 @@ smallest-sum card weights word ok b e d h = rw (all .its-profile b e) (go (same?
     go (yes q) = rw q (omega arith)
     go (no n) = by (all .is-best b e .rivals d h n)
 
--- it passes no node twice, so it has fewer pairs than there are nodes
-pub weighted-best-is-short : (card weights word : List ℕ) → cardRefusal card ≡ 0 → (b : Contender) → bestByWeights card weights word ≡ some b → ShortAt (byWeights weights) card word b
-unfolding bestByWeights
-weighted-best-is-short card weights word ok b e = best-in-is-short (weights-agree weights) card word ok b e
-
 -- of a word of at most 24 symbols it has at most 3,199 pairs and no count above 48,000
 pub weighted-best-is-small : (card weights word : List ℕ) → cardRefusal card ≡ 0 → length word ≤ 24 → (b : Contender) → bestByWeights card weights word ≡ some b → SmallBest b
 unfolding bestByWeights
-weighted-best-is-small card weights word ok h b e = best-in-is-small (weights-agree weights) card word ok h b e
+weighted-best-is-small card weights word ok h b e = best-in-is-small (weights-agree weights) card ok word h b e
 
 -- what sound weights are
 pub record Weighs (K : ℕ) (weights : List ℕ) : Type 0 where

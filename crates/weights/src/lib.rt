@@ -10,13 +10,13 @@ ghost use Rattle.candidate.specs.Evaluating.{soundCandidate, profileWith};
 ghost use Rattle.product.specs.Sets.{bestOfSetsIn};
 ghost use Rattle.sums.specs.Weights.{bySum, bestByWeights};
 ghost use Rattle.sums.specs.Labelling.{Lent};
-ghost use Rattle.weights.specs.Refusals.{numberOf, stageNumber};
 ghost use Rattle.weights.specs.Weighing.{refusedWeighing};
 ghost use Rattle.weights.specs.Walking.{Labelled};
 ghost use Rattle.weights.specs.Searching.{SetsPre, TablesFit, SearchPre, Searched, Optimizes};
 use candidate::Evaluation;
 use machine::Pair;
 use ranking::Profile;
+use refusals::Checked;
 
 mod checks; // checks.rt: the checks of the input and of the best candidate
 mod walking; // walking.rt: the walk
@@ -25,52 +25,6 @@ mod walking; // walking.rt: the walk
 pub struct Weighing {
     pub evaluation: Evaluation,
     pub sum: u64,
-}
-
-// Why the call is refused.
-pub enum Refusal {
-    Input(input::Refusal),
-    // Not one weight for each machine, or one above the limit.
-    Weights,
-    // The work slice is too short.
-    Work,
-    // No candidate is complete.
-    NoCandidate,
-    // The answer slice is too short.
-    Answer,
-}
-
-impl Refusal {
-    // Its number in the refusal table.
-    fn number(self) -> u8
-        ensures { λ r. ⌜ r ≡ numberOf self ⌝ }
-    {
-        match self {
-            Refusal::Input(refusal) => refusal.number(),
-            Refusal::Weights => 26,
-            Refusal::Work => 9,
-            Refusal::NoCandidate => 10,
-            Refusal::Answer => 12,
-        }
-    }
-}
-
-// What a checking stage answers.
-pub enum Stage {
-    Passed,
-    Refused(Refusal),
-}
-
-impl Stage {
-    // Its number: 0 where it passed.
-    fn number(self) -> u8
-        ensures { λ r. ⌜ r ≡ stageNumber self ⌝ }
-    {
-        match self {
-            Stage::Passed => 0,
-            Stage::Refused(refusal) => refusal.number(),
-        }
-    }
 }
 
 // The answer of a refusal.
@@ -118,7 +72,7 @@ fn read_out(
 {
     let number = work[tables::start_node(counts)];
     let found = checks::check_best(number, answer.len());
-    let Stage::Passed = found else {
+    let Checked::Passed = found else {
         return refused(found.number());
     };
     let pairs = walking::follow(
@@ -346,7 +300,7 @@ pub fn optimize(
     ensures { λ r. ⌜ Optimizes (now (card .entry)) (now (weights .entry)) (now (word .entry)) (now (work .entry)) (now (work .exit)) (now (answer .entry)) (now (answer .exit)) r ⌝ }
 {
     let checked = checks::check_input(card, weights, word, work.len());
-    let Stage::Passed = checked else {
+    let Checked::Passed = checked else {
         return refused(checked.number());
     };
     let size = input::joint_states(card);

@@ -163,7 +163,7 @@ fn try_input(
             position,
             position,
             input,
-            1,
+            Pair::FIRST,
             code,
         );
     }
@@ -179,7 +179,7 @@ fn try_input(
         position,
         position + 1,
         input,
-        0,
+        tables::DELETION,
         code,
     )
 }

@@ -1,4 +1,4 @@
-//! Writes the corpus of the test program `corpus`: its calls to data/cases, what has to be printed to stdout.
+//! Writes the corpus of the test program `test_corpus`: its calls to data/cases, what has to be printed to stdout.
 //!
 //!     corpus DIRECTORY
 

@@ -2,6 +2,7 @@
 
 use super::candidates::{bytes_of, damage_a_candidate, walk};
 use super::cards::{any_card, any_ranking, any_word, open_card};
+use super::columns::with_columns;
 use super::damage::{add_states, damage_a_part, damage_a_ranking, damage_a_word, perhaps_damaged};
 use super::joining::joined_at_the_limits;
 use super::live::{live_table, row_call};
@@ -25,6 +26,8 @@ pub struct Generator {
     examples: Vec<Card>,
     /// The heaviest cards, on which the search takes long.
     heaviest: Vec<Card>,
+    /// How many of a hundred cards get outputs alike, or nearly.
+    columns: Option<usize>,
 }
 
 impl Default for Generator {
@@ -35,11 +38,17 @@ impl Default for Generator {
         Generator {
             examples: vec![read(CARD_A.to_vec()), read(samples::card_b())],
             heaviest: heaviest.map(read).to_vec(),
+            columns: Some(25),
         }
     }
 }
 
 impl Generator {
+    /// Makes no outputs alike but by chance: the calls of the corpus, whose file is kept.
+    pub fn of_the_corpus() -> Generator {
+        Generator { columns: None, ..Generator::default() }
+    }
+
     /// A call of any kind.
     pub fn call(&self, random: &mut Random) -> Call {
         match random.below(100) {
@@ -73,7 +82,11 @@ impl Generator {
         } else if random.below(600) == 0 {
             self.heaviest[random.below(self.heaviest.len())].clone()
         } else {
-            any_card(random)
+            let card = any_card(random);
+            match self.columns {
+                Some(share) if random.percent(share) => with_columns(random, &card),
+                _ => card,
+            }
         }
     }
 

@@ -84,7 +84,7 @@ impl Style {
 }
 
 /// Whether two arcs of a state take one pair.
-fn clash(first: &Arc, second: &Arc) -> bool {
+pub fn clash(first: &Arc, second: &Arc) -> bool {
     first.from == second.from && share_a_pair(first, second)
 }
 

@@ -1,16 +1,14 @@
-use mathlib.Core.Path.{_≡_, sym, ap, _∙_}
-use mathlib.Core.Bool.{true, false, not}
-use mathlib.Core.Logic.{⊎-elim}
-use Prim.Native.Nat.{_≤_, _-_, _+_, _*_, _%_}
+use mathlib.Core.Path.{_≡_, sym, _∙_}
+use Prim.Native.Nat.{_≤_, _-_, _%_}
 use borrow.Author.Needs.{needs}
 use borrow.Author.Tests.{not-true, not-false}
 use native.Mathlib.Omega.{arith}
 use lib.ListN.{length, drop}
 use Rattle.basics.specs.Search.{allOf}
 use Rattle.basics.proofs.Search.{all-none, all-next, all-fails}
-use Rattle.basics.proofs.Refusals.{passes-with, refuses-with}
+use Rattle.refusals.proofs.Refusals.{passes-with, refuses-with}
 use Rattle.candidate.specs.Candidates.{pairsOf}
-use Rattle.candidate.specs.Evaluating.{soundPair, soundCandidate}
+use Rattle.candidate.specs.Evaluating.{soundPair}
 use Rattle.candidate.proofs.Pairs.{pairs-next, pairs-end, odd-refused, long-refused, sound-is}
 use Rattle.candidate.proofs.check_candidate.Statement.{statement}
 use Rattle.candidate.proofs.check_candidate.Tie as tie

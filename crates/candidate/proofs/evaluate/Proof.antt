@@ -4,31 +4,27 @@ use Prim.Native.Nat.{_≤_, _<_, _%_}
 use native.Mathlib.Omega.{arith}
 use lib.Dec.{lit<}
 use lib.ListN.{length}
-use Rattle.basics.proofs.Refusals.{passed, refuses-with, refused as test-failed}
+use Rattle.refusals.proofs.Refusals.{passed, refuses-with, was-false, refused-number}
 use Rattle.card.specs.Layout.{symbolCount}
 use Rattle.card.specs.Card.{cardRefusal, machinesOf}
-use Rattle.card.specs.Refusals.{stageNumber as cardStage}
-use Rattle.card.proofs.Stages.{number-pos as card-number-pos}
-use Rattle.candidate.specs.Refusals.{stageNumber}
+use Rattle.refusals.specs.Refusals.{checkedNumber}
 use Rattle.candidate.specs.Candidates.{pairsOf, isComplete}
 use Rattle.candidate.specs.Evaluating.{soundCandidate, refused}
 use Rattle.candidate.proofs.Pairs.{sound-shape, length-pairs}
-use Rattle.candidate.proofs.Answers.{number-pos, card-refused, candidate-refused, completion-refused, evaluated}
+use Rattle.candidate.proofs.Answers.{card-refused, candidate-refused, completion-refused, evaluated}
 use borrow.Author.Needs.{needs}
 use Rattle.candidate.proofs.evaluate.Statement.{statement}
 use Rattle.candidate.proofs.evaluate.Tie as tie
-use Rattle.card.proofs.Stage.number.Reads as Stage-number-reads′
 
 returns : tie.Need-returns
 returns c =
     let a = c .before .before .before .before .before .before .before .args in
     let e : cardRefusal (a .card .now) ≡ c .before .number .result = sym (c .before .before .before .before .check .ensures) ∙ sym (c .before .number .ensures) in
-    let q = ap cardStage (c .before .before .enum-told2 .given .1) in
-    c .refused .ensures ∙ sym (card-refused (a .card .now) (a .candidate .now) (c .before .number .result) e (omega (arith, q, card-number-pos (c .before .before .enum-told2 .given .0 .0), c .before .number .ensures)))
+    c .refused .ensures ∙ sym (card-refused (a .card .now) (a .candidate .now) (c .before .number .result) e (refused-number (c .before .before .enum-told2 .given .1) (sym (c .before .number .ensures))))
 
 -- the card is accepted
 card-passed : (c : tie.After-enum-told) → cardRefusal (c .before .before .before .before .before .args .card .now) ≡ 0
-card-passed c = sym (c .before .before .check .ensures) ∙ ap cardStage (c .enum-told .given .1)
+card-passed c = sym (c .before .before .check .ensures) ∙ ap checkedNumber (c .enum-told .given .1)
 
 symbol-count-requires : tie.Need-symbol-count-requires
 symbol-count-requires c κs = card-passed c
@@ -39,7 +35,7 @@ candidate-passed : (c : tie.After-enum-told3) →
 candidate-passed c =
     let S = c .before .before .before .symbol-count in
     let l = c .before .before .before .before .before .before .before .before .before .args .candidate .now in
-    rw (S .ensures) at (passed 13 (soundCandidate (S .result) l) (lit< tt) (sym (c .before .before .check-candidate .ensures) ∙ ap stageNumber (c .enum-told3 .given .1)))
+    rw (S .ensures) at (passed 13 (soundCandidate (S .result) l) (lit< tt) (sym (c .before .before .check-candidate .ensures) ∙ ap checkedNumber (c .enum-told3 .given .1)))
 
 returns-2 : tie.Need-returns-2
 returns-2 c =
@@ -47,8 +43,7 @@ returns-2 c =
     let k = c .before .before .before .before in
     let S = k .before .symbol-count in
     let b = soundCandidate (S .result) (a .candidate .now) in
-    let q = ap stageNumber (c .before .before .enum-told4 .given .1) in
-    let f : b ≡ false = test-failed 13 b (omega (arith, number-pos (c .before .before .enum-told4 .given .0 .0), q, k .check-candidate .ensures)) in
+    let f : b ≡ false = was-false (c .before .before .enum-told4 .given .1) 13 b (k .check-candidate .ensures) in
     c .refused2 .ensures
     ∙ ap refused (c .before .number2 .ensures ∙ k .check-candidate .ensures ∙ refuses-with 13 f)
     ∙ sym (candidate-refused (a .card .now) (a .candidate .now) (card-passed (k .before .before)) (rw (S .ensures) at f))
@@ -61,10 +56,9 @@ returns-3 c =
     let a = c .before .before .before .before .before .before .before .before .before .before .before .before .before .before .args in
     let k = c .before .before .before .before in
     let b = isComplete (machinesOf (a .card .now)) (pairsOf (a .candidate .now)) in
-    let q = ap stageNumber (c .before .before .enum-told6 .given .1) in
-    let f : b ≡ false = test-failed 14 b (omega (arith, number-pos (c .before .before .enum-told6 .given .0 .0), q, k .score .ensures .stage)) in
+    let f : b ≡ false = was-false (c .before .before .enum-told6 .given .1) 14 b (k .score .ensures .checked) in
     c .refused3 .ensures
-    ∙ ap refused (c .before .number3 .ensures ∙ k .score .ensures .stage ∙ refuses-with 14 f)
+    ∙ ap refused (c .before .number3 .ensures ∙ k .score .ensures .checked ∙ refuses-with 14 f)
     ∙ sym (completion-refused (a .card .now) (a .candidate .now) (card-passed (k .before .before .before .before .before)) (candidate-passed (k .before)) f)
 
 -- the candidate's shape
@@ -86,7 +80,7 @@ returns-4 c =
     let a = c .before .before .before .before .before .before .before .before .before .before .before .before .before .before .args in
     let k = c .before .before .before .before in
     let b = isComplete (machinesOf (a .card .now)) (pairsOf (a .candidate .now)) in
-    let t : b ≡ true = passed 14 b (lit< tt) (sym (k .score .ensures .stage) ∙ ap stageNumber (c .before .before .enum-told5 .given .1)) in
+    let t : b ≡ true = passed 14 b (lit< tt) (sym (k .score .ensures .checked) ∙ ap checkedNumber (c .before .before .enum-told5 .given .1)) in
     let p = k .score .ensures .profile t in
     let n = sym (length-pairs (a .candidate .now) (shape (c .before) .0)) in
     let w = c .spelled-length .ensures in

@@ -2,29 +2,29 @@ use mathlib.Core.Path.{_≡_}
 use mathlib.Core.Bool.{true}
 use mathlib.Core.List.{[], _∷_}
 use lib.Dec.{lit<}
-use Rattle.basics.specs.Refusals.{refuse}
+use Rattle.refusals.specs.Refusals.{refuse}
 use Rattle.layout.specs.Layout.{laidOut}
 use Rattle.card.specs.Layout.{machineCount, symbolCount, counted, partsOf}
 use Rattle.card.specs.Card.{partsRefusal, fewStates, cardRefusal}
-use Rattle.card.proofs.Stages.{passed-test, refused-up}
+use Rattle.refusals.proofs.Refusals.{was-true, goes-up}
 use borrow.Author.Needs.{needs}
 use Rattle.card.proofs.check.Statement.{statement}
 use Rattle.card.proofs.check.Tie as tie
 
--- what each stage that passed says of the card
+-- what each check that passed says of the card
 head-passed : (c : tie.After-enum-told) → counted (c .before .before .before .before .args .card .now) ≡ true
-head-passed c = passed-test (c .enum-told .given .1) 1 (counted (c .before .before .before .before .args .card .now)) (lit< tt) (c .before .before .check-head .ensures)
+head-passed c = was-true (c .enum-told .given .1) 1 (counted (c .before .before .before .before .args .card .now)) (lit< tt) (c .before .before .check-head .ensures)
 
 layout-passed : (c : tie.After-enum-told3) → laidOut (machineCount (c .before .before .before .before .before .before .before .args .card .now)) (c .before .before .before .before .before .before .before .args .card .now) ≡ true
 layout-passed c =
     let l = c .before .before .before .before .before .before .before .args .card .now in
-    passed-test (c .enum-told3 .given .1) 2 (laidOut (machineCount l) l) (lit< tt) (c .before .before .check-layout .ensures)
+    was-true (c .enum-told3 .given .1) 2 (laidOut (machineCount l) l) (lit< tt) (c .before .before .check-layout .ensures)
 
 returns : tie.Need-returns
 unfolding cardRefusal
 returns c =
     let l = c .before .before .before .before .args .card .now in
-    refused-up (c .enum-told2 .given .1) (refuse 1 (counted l))
+    goes-up (c .enum-told2 .given .1) (refuse 1 (counted l))
     (refuse 2 (laidOut (machineCount l) l) ∷ partsRefusal (symbolCount l) (partsOf l) ∷ refuse 6 (fewStates (partsOf l)) ∷ [])
     (c .before .before .check-head .ensures)
 
@@ -37,7 +37,7 @@ returns-2 c =
     let p = c .before .before .before in
     let l = p .before .before .before .before .args .card .now in
     rw (head-passed p)
-    (refused-up (c .enum-told4 .given .1) (refuse 2 (laidOut (machineCount l) l)) (partsRefusal (symbolCount l) (partsOf l) ∷ refuse 6 (fewStates (partsOf l)) ∷ [])
+    (goes-up (c .enum-told4 .given .1) (refuse 2 (laidOut (machineCount l) l)) (partsRefusal (symbolCount l) (partsOf l) ∷ refuse 6 (fewStates (partsOf l)) ∷ [])
     (c .before .before .check-layout .ensures))
 
 check-card-requires : tie.Need-check-card-requires

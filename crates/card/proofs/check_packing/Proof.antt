@@ -5,31 +5,29 @@ use mathlib.Core.List.{[], _∷_}
 use lib.Dec.{eqb, leb, lit<}
 use lib.ListN.{length}
 use borrow.Author.Tests.{eqb-true, eq-eqb}
-use Rattle.basics.specs.Refusals.{refuse, firstOf}
-use Rattle.basics.proofs.Refusals.{last-one}
-use Rattle.card.specs.Refusals.{stageNumber}
+use Rattle.refusals.specs.Refusals.{refuse, firstOf, checkedNumber}
+use Rattle.refusals.proofs.Refusals.{last-one, passed-number, was-true, refused-number, goes-up}
 use Rattle.card.specs.Layout.{soundCounts}
 use Rattle.card.specs.Card.{partsRefusal, fewStates}
 use Rattle.card.specs.Packing.{total, split, packed, packingRefusal}
 use Rattle.card.specs.Laws.Layout.{Counted, counts-told}
 use Rattle.card.specs.Laws.Packed.{packed-length}
-use Rattle.card.proofs.Stages.{passed-number, passed-test, refused-number, refused-up}
 use Rattle.card.proofs.Answers.{two-up, two-on}
 use borrow.Author.Needs.{needs}
 use Rattle.card.proofs.check_packing.Statement.{statement}
 use Rattle.card.proofs.check_packing.Tie as tie
 
--- what each stage that passed says of the input
+-- what each check that passed says of the input
 counts-passed : (c : tie.After-enum-told) → soundCounts (length (c .before .before .before .before .before .args .lengths .now)) (c .before .before .before .before .before .args .symbols) ≡ true
 counts-passed c =
     let a = c .before .before .before .before .before .args in
-    passed-test (c .enum-told .given .1) 1 (soundCounts (length (a .lengths .now)) (a .symbols)) (lit< tt) (c .before .before .check-counts .ensures)
+    was-true (c .enum-told .given .1) 1 (soundCounts (length (a .lengths .now)) (a .symbols)) (lit< tt) (c .before .before .check-counts .ensures)
 
 counts : (c : tie.After-enum-told) → Counted (length (c .before .before .before .before .before .args .lengths .now)) (c .before .before .before .before .before .args .symbols)
 counts c = let a = c .before .before .before .before .before .args in counts-told (length (a .lengths .now)) (a .symbols) (counts-passed c)
 
 sum-tested : (c : tie.After-tested)
-    → stageNumber (c .tested .result) ≡ refuse 17 (eqb (total (c .before .before .before .before .before .before .before .args .lengths .now)) (length (c .before .before .before .before .before .before .before .args .parts .now)))
+    → checkedNumber (c .tested .result) ≡ refuse 17 (eqb (total (c .before .before .before .before .before .before .before .args .lengths .now)) (length (c .before .before .before .before .before .before .before .args .parts .now)))
 sum-tested c =
     c .tested .ensures ∙ ap (λ n. refuse 17 (eqb n (length (c .before .before .before .before .before .before .before .args .parts .now)))) (c .before .sum .ensures)
 
@@ -38,7 +36,7 @@ sum-passed : (c : tie.After-enum-told3)
 sum-passed c =
     let a = c .before .before .before .before .before .before .before .before .before .args in
     let t = eqb (total (a .lengths .now)) (length (a .parts .now)) in
-    eqb-true (total (a .lengths .now)) (length (a .parts .now)) (passed-test (c .enum-told3 .given .1) 17 t (lit< tt) (sum-tested (c .before .before)))
+    eqb-true (total (a .lengths .now)) (length (a .parts .now)) (was-true (c .enum-told3 .given .1) 17 t (lit< tt) (sum-tested (c .before .before)))
 
 -- the refusal of parts that pass
 parts-passed : (c : tie.After-enum-told5)
@@ -52,7 +50,7 @@ unfolding packingRefusal
 returns c =
     let a = c .before .before .before .before .before .args in
     let parts = split (a .lengths .now) (a .parts .now) in
-    refused-up (c .enum-told2 .given .1) (refuse 1 (soundCounts (length (a .lengths .now)) (a .symbols)))
+    goes-up (c .enum-told2 .given .1) (refuse 1 (soundCounts (length (a .lengths .now)) (a .symbols)))
     (refuse 17 (eqb (total (a .lengths .now)) (length (a .parts .now))) ∷ partsRefusal (a .symbols) parts ∷ refuse 6 (fewStates parts)
     ∷ refuse 18 (leb (length (packed (a .symbols) (a .lengths .now) (a .parts .now))) (a .room)) ∷ [])
     (c .before .before .check-counts .ensures)
@@ -67,7 +65,7 @@ returns-2 c =
     let a = p .before .before .before .before .before .args in
     let parts = split (a .lengths .now) (a .parts .now) in
     rw (counts-passed p)
-    (refused-up (c .enum-told4 .given .1) (refuse 17 (eqb (total (a .lengths .now)) (length (a .parts .now))))
+    (goes-up (c .enum-told4 .given .1) (refuse 17 (eqb (total (a .lengths .now)) (length (a .parts .now))))
     (partsRefusal (a .symbols) parts ∷ refuse 6 (fewStates parts) ∷ refuse 18 (leb (length (packed (a .symbols) (a .lengths .now) (a .parts .now))) (a .room)) ∷ [])
     (sum-tested (c .before .before)))
 
@@ -82,7 +80,7 @@ returns-3 c =
     let a = p .before .before .before .before .before .args in
     let parts = split (a .lengths .now) (a .parts .now) in
     rw (counts-passed p, eq-eqb (total (a .lengths .now)) (length (a .parts .now)) (sum-passed q))
-    (two-up (partsRefusal (a .symbols) parts) (refuse 6 (fewStates parts)) (stageNumber (c .before .before .check-parts .result))
+    (two-up (partsRefusal (a .symbols) parts) (refuse 6 (fewStates parts)) (checkedNumber (c .before .before .check-parts .result))
     (refuse 18 (leb (length (packed (a .symbols) (a .lengths .now) (a .parts .now))) (a .room)) ∷ [])
     (c .before .before .check-parts .ensures) (refused-number (c .enum-told6 .given .1) refl))
 

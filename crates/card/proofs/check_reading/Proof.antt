@@ -2,12 +2,11 @@ use native.Mathlib.Omega.{arith}
 use mathlib.Core.Path.{_≡_, sym, _∙_}
 use mathlib.Core.List.{[], _∷_}
 use lib.Dec.{ltb}
-use Rattle.basics.specs.Refusals.{refuse}
-use Rattle.basics.proofs.Refusals.{last-one}
+use Rattle.refusals.specs.Refusals.{refuse}
+use Rattle.refusals.proofs.Refusals.{last-one, passed-number, goes-up}
 use Rattle.card.specs.Layout.{machineCount}
 use Rattle.card.specs.Card.{cardRefusal}
 use Rattle.card.specs.Accepted.{accepted}
-use Rattle.card.proofs.Stages.{passed-number, refused-up}
 use borrow.Author.Needs.{needs}
 use Rattle.card.proofs.check_reading.Statement.{statement}
 use Rattle.card.proofs.check_reading.Tie as tie
@@ -18,7 +17,7 @@ card-passed c = passed-number (c .enum-told .given .1) (c .before .before .check
 returns : tie.Need-returns
 returns c =
     let a = c .before .before .before .before .args in
-    refused-up (c .enum-told2 .given .1) (cardRefusal (a .card .now)) (refuse 17 (ltb (a .machine) (machineCount (a .card .now))) ∷ [])
+    goes-up (c .enum-told2 .given .1) (cardRefusal (a .card .now)) (refuse 17 (ltb (a .machine) (machineCount (a .card .now))) ∷ [])
     (c .before .before .check .ensures)
 
 shared-slice-read-tested : tie.Need-shared-slice-read-tested

@@ -8,7 +8,7 @@ use Rattle.card.specs.Laws.Layout.{Counted, counts-told}
 use Rattle.card.specs.Laws.Packed.{packed-length}
 use Rattle.card.specs.Laws.Packable.{Packable, packable}
 use Rattle.card.specs.Laws.Checked.{parts-small}
-use Rattle.card.proofs.Stages.{passed-number, refused-number}
+use Rattle.refusals.proofs.Refusals.{passed-number, refused-number}
 use Rattle.card.proofs.Answers.{pack-refused, target-kept, pack-accepted, target-packed}
 use borrow.Author.Needs.{needs}
 use Rattle.card.proofs.pack.Statement.{statement}

@@ -5,14 +5,13 @@ use Prim.Native.Nat.{_+_, _*_, _<_, _≤_}
 use lib.Dec.{ltb, lit<}
 use lib.ListN.{length}
 use borrow.Author.Tests.{ltb-true}
-use Rattle.basics.specs.Refusals.{refuse}
-use Rattle.basics.proofs.Refusals.{passed}
+use Rattle.refusals.specs.Refusals.{refuse}
+use Rattle.refusals.proofs.Refusals.{passed, passed-number, refused-number}
 use Rattle.card.specs.Layout.{machineCount}
 use Rattle.card.specs.Card.{cardRefusal}
 use Rattle.card.specs.Reading.{readingRefusal}
 use Rattle.card.specs.Laws.Search.{first-passed, rest-passed}
 use Rattle.card.specs.Accepted.{accepted}
-use Rattle.card.proofs.Stages.{passed-number, refused-number}
 use Rattle.card.proofs.Answers.{read-refused, read-accepted}
 use borrow.Author.Needs.{needs}
 use Rattle.card.proofs.read_part.Statement.{statement}

@@ -6,10 +6,10 @@ use Prim.Native.Nat.{ℕ, _≤_}
 use lib.Dec.{eqb, leb, lit<}
 use lib.ListN.{length, length-map}
 use borrow.Author.Tests.{leb-true, eqb-true, le-leb, eq-eqb}
-use Rattle.basics.specs.Refusals.{refuse}
+use Rattle.refusals.specs.Refusals.{refuse}
 use Rattle.basics.specs.Search.{joined}
 use Rattle.basics.specs.Products.{product}
-use Rattle.basics.proofs.Refusals.{passed}
+use Rattle.refusals.proofs.Refusals.{passed}
 use Rattle.machine.specs.Part.{stateCount}
 use Rattle.card.specs.Layout.{soundCounts}
 use Rattle.card.specs.Card.{partsRefusal, fewStates}

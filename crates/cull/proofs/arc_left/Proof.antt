@@ -61,7 +61,9 @@ add-if1 : tie.Need-add-if1 Inv-loop μ-loop
 add-if1 c = search needs
 
 returns : tie.Need-returns Inv-loop μ-loop
-returns c = left-broken (c .before .before .before .before .before .before .before .before .loop .i) (omega arith) (c .before .before .marks-at .ensures) (omega (arith, c .if1 .taken, c .before .wide3 .ensures, c .before .before .before .wide2 .ensures, c .before .before .before .before .before .wide .ensures))
+returns c =
+    let w = c .before in
+    left-broken (c .before .before .before .before .before .before .before .before .loop .i) (omega arith) (w .before .marks-at .ensures) (omega (arith, c .if1 .taken, w .wide3 .ensures, w .before .before .wide2 .ensures, w .before .before .before .before .wide .ensures))
 
 add-i : tie.Need-add-i Inv-loop μ-loop
 add-i c = search needs
@@ -70,7 +72,9 @@ loop-less : tie.Need-loop-less Inv-loop μ-loop
 loop-less c = search needs
 
 loop-again : tie.Need-loop-again Inv-loop μ-loop
-loop-again c = (omega arith, left-next (c .before .before .before .before .before .before .before .before .loop .inv .1) (c .before .before .marks-at .ensures) (omega (arith, c .if1 .left, c .before .wide3 .ensures, c .before .before .before .wide2 .ensures, c .before .before .before .before .before .wide .ensures)))
+loop-again c =
+    let w = c .before in
+    (omega arith, left-next (c .before .before .before .before .before .before .before .before .loop .inv .1) (w .before .marks-at .ensures) (omega (arith, c .if1 .left, w .wide3 .ensures, w .before .before .wide2 .ensures, w .before .before .before .before .wide .ensures)))
 
 returns-2 : tie.Need-returns-2 Inv-loop μ-loop
 returns-2 c = left-told (c .before .loop .inv .1) (omega arith)

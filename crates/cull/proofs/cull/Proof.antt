@@ -1,34 +1,28 @@
-use mathlib.Core.Path.{_≡_, refl, sym, _∙_, ap}
+use mathlib.Core.Path.{_≡_, sym, _∙_, ap}
 use Prim.Native.Nat.{_≤_, _<_, _+_, _*_}
 use native.Mathlib.Omega.{arith}
 use lib.ListN.{length}
 use borrow.Author.Needs.{needs}
 use Rattle.product.specs.Optimizing.{inputRefusal}
-use Rattle.input.specs.Refusals.{stageNumber}
+use Rattle.refusals.specs.Refusals.{checkedNumber}
 use Rattle.input.specs.AcceptedInput.{AcceptedInput, accepted-input}
-use Rattle.input.proofs.Refusals.{number-positive}
+use Rattle.refusals.proofs.Refusals.{refused-number}
 use Rattle.input.proofs.Nodes.{node-room, nodes-few}
-use Rattle.optimizer.proofs.Answers.{refused-result, refused-answer, searched-result, searched-answer, front-room, same-room}
+use Rattle.optimizer.proofs.Answers.{call-refused, call-searched, front-room, same-room}
 use Rattle.cull.proofs.cull.Statement.{statement}
 use Rattle.cull.proofs.cull.Tie as tie
 
 returns : tie.Need-returns
 returns c =
     let k = c .before .before .before .before in
-    let a = k .before .before .before .before .before .before .args in
     let n = c .before .number in
     let e = n .ensures ∙ k .check-input .ensures in
-    let p : 0 < n .result = omega (arith, ap stageNumber (c .before .before .enum-told2 .given .1), number-positive (c .before .before .enum-told2 .given .0 .0), n .ensures) in
-    record {
-      result = c .refused .ensures ∙ refused-result (a .card .now) (a .ranking .now) (a .word .now) (length (a .work .now)) (n .result) (length (a .answer .now)) e p;
-      answer-slice = refused-answer (a .card .now) (a .ranking .now) (a .word .now) (length (a .work .now)) (n .result) (a .answer .now) e p;
-      work-length = refl;
-      work-kept = λ _. refl;
-    }
+    let p : 0 < n .result = refused-number (c .before .before .enum-told2 .given .1) (sym (n .ensures)) in
+    call-refused (n .result) e p (c .refused .ensures)
 
 -- the input is accepted
 passed : (c : tie.After-enum-told) → inputRefusal (c .before .before .before .before .before .before .before .before .args .card .now) (c .before .before .before .before .before .before .before .before .args .ranking .now) (c .before .before .before .before .before .before .before .before .args .word .now) (length (c .before .before .before .before .before .before .before .before .args .work .now)) ≡ 0
-passed c = sym (c .before .before .check-input .ensures) ∙ ap stageNumber (c .enum-told .given .1)
+passed c = sym (c .before .before .check-input .ensures) ∙ ap checkedNumber (c .enum-told .given .1)
 
 accepts : (c : tie.After-enum-told) → AcceptedInput (c .before .before .before .before .before .before .before .before .args .card .now) (c .before .before .before .before .before .before .before .before .args .ranking .now) (c .before .before .before .before .before .before .before .before .args .word .now) (length (c .before .before .before .before .before .before .before .before .args .work .now))
 accepts c = accepted-input _ _ _ _ (passed c)
@@ -67,13 +61,7 @@ returns-2 c =
     let j = c .before .before .before .before .before .before .before in
     let a = j .before .before .before .before .before .before .before .before .before .args in
     let s = c .before .before .before .before .search .ensures in
-    let e = passed (j .before) in
-    record {
-      result = s .result ∙ sym (searched-result (a .card .now) (a .ranking .now) (a .word .now) (length (a .work .now)) (length (a .answer .now)) e);
-      answer-slice = s .answer-slice ∙ sym (searched-answer (a .card .now) (a .ranking .now) (a .word .now) (length (a .work .now)) (a .answer .now) e);
-      work-length = same-room _ (a .work .now) (c .before .before .before .before .search .last .1 .1 .1 .1 .0) (fits j) (s .work-length);
-      work-kept = λ n. absurd (n e);
-    }
+    call-searched (passed (j .before)) (same-room _ (a .work .now) (c .before .before .before .before .search .last .1 .1 .1 .1 .0) (fits j) (s .work-length)) s
 
 pub cull-spec : {M : Type 1} → statement M
 cull-spec =

@@ -4,8 +4,8 @@ use native.Mathlib.Omega.{arith}
 use lib.ListN.{length}
 use borrow.Author.Needs.{needs}
 use Rattle.product.specs.OptimizingSets.{setsInputRefusal}
-use Rattle.input.specs.Refusals.{stageNumber}
-use Rattle.input.proofs.Refusals.{number-positive}
+use Rattle.refusals.specs.Refusals.{checkedNumber}
+use Rattle.refusals.proofs.Refusals.{refused-number}
 use Rattle.optimizer.proofs.Answers.{front-room, same-room}
 use Rattle.optimizer.proofs.SetsCalls.{sets-refused, accepts, sets-few, sets-fit, sets-given, sets-searched}
 use Rattle.cull.proofs.cull_sets.Statement.{statement}
@@ -16,12 +16,12 @@ returns c =
     let k = c .before .before .before .before in
     let n = c .before .number in
     let e = n .ensures ∙ k .check-sets-input .ensures in
-    let p : 0 < n .result = omega (arith, ap stageNumber (c .before .before .enum-told2 .given .1), number-positive (c .before .before .enum-told2 .given .0 .0), n .ensures) in
+    let p : 0 < n .result = refused-number (c .before .before .enum-told2 .given .1) (sym (n .ensures)) in
     sets-refused (n .result) e p (c .refused .ensures)
 
 -- the input is accepted
 passed : (c : tie.After-enum-told) → setsInputRefusal (c .before .before .before .before .before .before .before .before .args .card .now) (c .before .before .before .before .before .before .before .before .args .ranking .now) (c .before .before .before .before .before .before .before .before .args .sets .now) (length (c .before .before .before .before .before .before .before .before .args .work .now)) ≡ 0
-passed c = sym (c .before .before .check-sets-input .ensures) ∙ ap stageNumber (c .enum-told .given .1)
+passed c = sym (c .before .before .check-sets-input .ensures) ∙ ap checkedNumber (c .enum-told .given .1)
 
 joint-states-requires : tie.Need-joint-states-requires
 joint-states-requires c κs = accepts _ _ _ _ (passed c) .accepted

@@ -22,6 +22,19 @@ Inv-loop work₀ card ranking sets rows counts places insertions «insertion_end
 abbrev μ-loop : tie.MeasureT-loop
 μ-loop work₀ card ranking sets rows counts places insertions «insertion_ends» stretch₀ joint₀ «joint_ends₀» size position stage symbols left₀ work stretch joint «joint_ends» left = left
 
+-- ---- the places on the way: the call, the turn of the loop, the table filled, its runs found
+
+abbrev start : tie.At-loop Inv-loop μ-loop → tie.Start Inv-loop μ-loop
+start l = l .before .before .before .before .before .before .before .before .before .before .before .before .before .before
+
+abbrev turn : tie.After-fill Inv-loop μ-loop → tie.At-loop Inv-loop μ-loop
+turn f = f .before .before .before .before .before
+
+abbrev filled : tie.After-find-runs Inv-loop μ-loop → tie.After-fill Inv-loop μ-loop
+filled r = r .before .before .before .before .before .before .before
+
+-- ---- what each place asks for
+
 loop-holds : tie.Need-loop-holds Inv-loop μ-loop
 loop-holds c = (symbols-start, c .before .symbol-count .ensures, refl, refl, refl)
 
@@ -30,39 +43,64 @@ cast-symbol c = omega (arith, c .least .ensures .1)
 
 fill-requires : tie.Need-fill-requires Inv-loop μ-loop
 fill-requires c κs =
-    let v = c .before .before .before .before .loop .inv in
-    let t = c .before .before .before .before .before .before .before .before .before .before .before .before .before .before .before .before .before .before .pre in
-    joint-ready (c .before .before .before .before .before .before .before .before .before .before .before .before .before .before .before .before .before .before .args .card .now) (c .before .before .before .before .before .before .before .before .before .before .before .before .before .before .before .before .before .before .args .ranking .now) (t .0 .given .setting .accepted) (t .0 .given .looked .counts) (t .0 .given .looked .places) (t .0 .given .looked .six) (t .0 .given .setting .states) (c .before .before .least .ensures .1) (v .1)
-    (record { stretch = v .2 ∙ t .1 .steps .stretch; joint = omega (arith, v .3, t .1 .steps .joint) })
+    let l = c .before .before .before .before in
+    let v = l .loop .inv in
+    let t = start l in
+    let given = t .pre .0 .given in
+    joint-ready (t .args .card .now) (t .args .ranking .now) (given .setting .accepted) (given .looked .counts) (given .looked .places) (given .looked .six) (given .setting .states) (c .before .before .least .ensures .1) (v .1)
+    (record { stretch = v .2 ∙ t .pre .1 .steps .stretch; joint = omega (arith, v .3, t .pre .1 .steps .joint) })
 
 find-runs-requires : tie.Need-find-runs-requires Inv-loop μ-loop
-find-runs-requires c κs = symbol-runs-pre (c .before .before .before .before .before .before .before .before .before .before .before .before .before .before .before .before .before .before .before .before .before .before .before .before .before .pre .0) (c .before .before .before .before .before .before .before .before .before .before .before .loop .inv .0) (c .before .before .before .before .before .before .before .before .before .least .ensures .2) (joint-filled (c .before .before .before .before .before .before .before .before .before .before .before .before .before .before .before .before .before .before .before .before .before .before .before .before .before .args .card .now) (c .before .before .before .before .before .before .before .before .before .before .before .before .before .before .before .before .before .before .before .before .before .before .before .before .before .args .ranking .now) (c .before .before .before .before .before .before .before .before .before .before .before .before .before .before .before .before .before .before .before .before .before .before .before .before .before .pre .0 .given .setting .accepted) (c .before .before .before .before .before .before .before .before .before .before .before .before .before .before .before .before .before .before .before .before .before .before .before .before .before .pre .0 .given .looked .counts) (c .before .before .before .before .before .before .before .before .before .before .before .before .before .before .before .before .before .before .before .before .before .before .before .before .before .pre .0 .given .looked .places) (c .before .before .before .before .before .before .before .before .before .before .before .loop .inv .1) (c .before .before .before .before .before .before .fill .ensures)) (c .before .before .before .before .before .before .before .before .before .before .before .loop .inv .1) (omega (arith, c .before .before .before .before .before .before .before .before .before .before .before .loop .inv .4, c .before .before .before .before .before .before .before .before .before .before .before .before .before .before .before .before .before .before .before .before .before .before .before .before .before .pre .1 .runs))
+find-runs-requires c κs =
+    let f = c .before .before .before .before .before .before in
+    let v = turn f .loop .inv in
+    let t = start (turn f) in
+    let given = t .pre .0 .given in
+    let held = joint-filled (t .args .card .now) (t .args .ranking .now) (given .setting .accepted) (given .looked .counts) (given .looked .places) (v .1) (f .fill .ensures) in
+    symbol-runs-pre (t .pre .0) (v .0) (f .before .before .before .least .ensures .2) held (v .1) (omega (arith, v .4, t .pre .1 .runs))
 
 mul-relax : tie.Need-mul-relax Inv-loop μ-loop
-mul-relax c = omega (arith, few-nodes (c .before .before .before .before .before .before .before .before .before .before .before .before .before .before .before .before .before .before .before .before .before .before .before .before .before .before .before .before .before .before .before .pre .0 .given .setting), position-there (c .before .before .before .before .before .before .before .before .before .before .before .before .before .before .before .before .before .before .before .before .before .before .before .before .before .before .before .before .before .before .before .pre .0 .given .setting) (c .before .before .before .before .before .before .before .before .before .before .before .before .before .before .before .before .before .before .before .before .before .before .before .before .before .before .before .before .before .before .before .args .position) (omega (arith, c .before .before .before .before .before .before .before .before .before .before .before .before .before .before .before .before .before .before .before .before .before .before .before .before .before .before .before .before .before .before .before .pre .2)))
+mul-relax c =
+    let t = start (turn (filled (c .before .before .before .before .before))) in
+    omega (arith, few-nodes (t .pre .0 .given .setting), position-there (t .pre .0 .given .setting) (t .args .position) (omega (arith, t .pre .2)))
 
 add-relax : tie.Need-add-relax Inv-loop μ-loop
-add-relax c = omega (arith, c .before .before .before .before .before .before .before .before .before .before .before .before .before .before .before .before .before .before .before .before .before .before .before .before .before .before .before .before .before .before .before .pre .2, c .before .before .before .before .before .before .before .before .before .before .before .before .before .before .before .before .before .before .before .before .before .before .before .before .before .before .before .before .before .before .before .pre .0 .given .setting .few)
+add-relax c = let t = start (turn (filled (c .before .before .before .before .before))) in omega (arith, t .pre .2, t .pre .0 .given .setting .few)
 
 mul-relax-2 : tie.Need-mul-relax-2 Inv-loop μ-loop
-mul-relax-2 c = omega (arith, few-nodes (c .before .before .before .before .before .before .before .before .before .before .before .before .before .before .before .before .before .before .before .before .before .before .before .before .before .before .before .before .before .before .before .pre .0 .given .setting), position-there (c .before .before .before .before .before .before .before .before .before .before .before .before .before .before .before .before .before .before .before .before .before .before .before .before .before .before .before .before .before .before .before .pre .0 .given .setting) (c .before .before .before .before .before .before .before .before .before .before .before .before .before .before .before .before .before .before .before .before .before .before .before .before .before .before .before .before .before .before .before .args .position + 1) (omega (arith, c .before .before .before .before .before .before .before .before .before .before .before .before .before .before .before .before .before .before .before .before .before .before .before .before .before .before .before .before .before .before .before .pre .2)))
+mul-relax-2 c =
+    let t = start (turn (filled (c .before .before .before .before .before))) in
+    omega (arith, few-nodes (t .pre .0 .given .setting), position-there (t .pre .0 .given .setting) (t .args .position + 1) (omega (arith, t .pre .2)))
 
 relax-requires : tie.Need-relax-requires Inv-loop μ-loop
-relax-requires c κs = (symbol-pre (c .before .before .before .before .before .before .before .before .before .before .before .before .before .before .before .before .before .before .before .before .before .before .before .before .before .before .before .before .before .before .before .pre .0) (c .before .before .before .before .before .before .before .before .before .before .before .before .before .before .before .before .before .loop .inv .0) (c .before .before .before .before .before .before .before .before .before .before .before .before .before .before .before .least .ensures .2) (joint-filled (c .before .before .before .before .before .before .before .before .before .before .before .before .before .before .before .before .before .before .before .before .before .before .before .before .before .before .before .before .before .before .before .args .card .now) (c .before .before .before .before .before .before .before .before .before .before .before .before .before .before .before .before .before .before .before .before .before .before .before .before .before .before .before .before .before .before .before .args .ranking .now) (c .before .before .before .before .before .before .before .before .before .before .before .before .before .before .before .before .before .before .before .before .before .before .before .before .before .before .before .before .before .before .before .pre .0 .given .setting .accepted) (c .before .before .before .before .before .before .before .before .before .before .before .before .before .before .before .before .before .before .before .before .before .before .before .before .before .before .before .before .before .before .before .pre .0 .given .looked .counts) (c .before .before .before .before .before .before .before .before .before .before .before .before .before .before .before .before .before .before .before .before .before .before .before .before .before .before .before .before .before .before .before .pre .0 .given .looked .places) (c .before .before .before .before .before .before .before .before .before .before .before .before .before .before .before .before .before .loop .inv .1) (c .before .before .before .before .before .before .before .before .before .before .before .before .fill .ensures)) (c .before .before .before .before .before .before .before .before .before .before .before .before .before .before .before .before .before .loop .inv .1) (c .before .before .before .before .before .before .before .before .before .before .before .before .before .before .before .before .before .before .before .before .before .before .before .before .before .before .before .before .before .before .before .pre .2), c .before .before .before .before .before .find-runs .ensures)
+relax-requires c κs =
+    let r = c .before .before .before .before .before in
+    let f = filled r in
+    let v = turn f .loop .inv in
+    let t = start (turn f) in
+    let given = t .pre .0 .given in
+    let held = joint-filled (t .args .card .now) (t .args .ranking .now) (given .setting .accepted) (given .looked .counts) (given .looked .places) (v .1) (f .fill .ensures) in
+    (symbol-pre (t .pre .0) (v .0) (f .before .before .before .least .ensures .2) held (v .1) (t .pre .2), r .find-runs .ensures)
 
 loop-less : tie.Need-loop-less Inv-loop μ-loop
 loop-less c = c .without-least .ensures .0
 
 loop-again : tie.Need-loop-again Inv-loop μ-loop
 loop-again c =
-    let v = c .before .before .before .before .before .before .before .before .before .before .before .before .before .before .before .before .before .before .before .before .before .loop .inv in
-    let left = c .before .before .before .before .before .before .before .before .before .before .before .before .before .before .before .before .before .before .before .before .before .loop .left in
-    let k = c .before .before .before .before .before .before .before .before .before .before .before .before .before .before .before .before .fill .kept in (
-      symbols-next (c .before .before .before .before .before .before .before .before .before .before .before .before .before .before .before .before .before .before .before .before .before .before .before .before .before .before .before .before .before .before .before .before .before .before .before .pre .0) (v .0) (c .before .before .before .before .before .before .before .before .before .before .before .before .before .before .before .before .before .before .before .least .ensures .2) (joint-filled (c .before .before .before .before .before .before .before .before .before .before .before .before .before .before .before .before .before .before .before .before .before .before .before .before .before .before .before .before .before .before .before .before .before .before .before .args .card .now) (c .before .before .before .before .before .before .before .before .before .before .before .before .before .before .before .before .before .before .before .before .before .before .before .before .before .before .before .before .before .before .before .before .before .before .before .args .ranking .now) (c .before .before .before .before .before .before .before .before .before .before .before .before .before .before .before .before .before .before .before .before .before .before .before .before .before .before .before .before .before .before .before .before .before .before .before .pre .0 .given .setting .accepted) (c .before .before .before .before .before .before .before .before .before .before .before .before .before .before .before .before .before .before .before .before .before .before .before .before .before .before .before .before .before .before .before .before .before .before .before .pre .0 .given .looked .counts) (c .before .before .before .before .before .before .before .before .before .before .before .before .before .before .before .before .before .before .before .before .before .before .before .before .before .before .before .before .before .before .before .before .before .before .before .pre .0 .given .looked .places) (c .before .before .before .before .before .before .before .before .before .before .before .before .before .before .before .before .before .before .before .before .before .loop .inv .1) (c .before .before .before .before .before .before .before .before .before .before .before .before .before .before .before .before .fill .ensures)) (v .1) (λ n. c .without-least .ensures .1 n ∙ ap (λ (x : ℕ). member left n && not (eqb n x)) (sym (c .before .before .before .before .before .before .before .before .before .before .before .before .before .before .before .before .before .before .before .least .ensures .0))) (c .before .before .before .relax .ensures),
+    let r = c .before .before .before .before .before .before .before .before .before in
+    let f = filled r in
+    let l = turn f .loop in
+    let v = l .inv in
+    let t = start (turn f) in
+    let given = t .pre .0 .given in
+    let least = f .before .before .before .least .ensures in
+    let held = joint-filled (t .args .card .now) (t .args .ranking .now) (given .setting .accepted) (given .looked .counts) (given .looked .places) (v .1) (f .fill .ensures) in
+    let k = f .fill .kept in (
+      symbols-next (t .pre .0) (v .0) (least .2) held (v .1) (λ n. c .without-least .ensures .1 n ∙ ap (λ (x : ℕ). member (l .left) n && not (eqb n x)) (sym (least .0))) (c .before .before .before .relax .ensures),
       v .1,
       k .1 .1 .1 .1 .1 .0 ∙ v .2,
       k .1 .1 .1 .1 .1 .1 .0 ∙ v .3,
-      c .before .before .before .before .before .before .before .before .before .find-runs .kept .1 .0 ∙ v .4,
+      r .find-runs .kept .1 .0 ∙ v .4,
     )
 
 same-length : tie.Need-same-length Inv-loop μ-loop
@@ -78,7 +116,9 @@ same-length-4 : tie.Need-same-length-4 Inv-loop μ-loop
 same-length-4 c = c .before .loop .inv .4
 
 returns : tie.Need-returns Inv-loop μ-loop
-returns c = entered-symbols (c .before .before .before .before .before .before .before .before .before .before .before .before .before .before .before .pre .0) (c .before .loop .inv .0) (c .before .before .before .before .before .before .before .before .before .before .before .before .before .before .before .pre .2) (omega arith)
+returns c =
+    let l = c .before in
+    entered-symbols (start l .pre .0) (l .loop .inv .0) (start l .pre .2) (omega arith)
 
 pub enter-symbol-spec : {M : Type 1} → statement M
 enter-symbol-spec =

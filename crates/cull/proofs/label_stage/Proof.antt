@@ -1,11 +1,11 @@
 -- `label_stage` meets its contract.
 use mathlib.Core.Path.{_≡_, refl, _∙_}
-use Prim.Native.Nat.{_+_, _-_, _≤_}
+use Prim.Native.Nat.{_+_, _≤_}
 use native.Mathlib.Omega.{arith}
 use lib.ListN.{length}
 use Rattle.product.specs.Laws.Setting.{few-nodes}
 use Rattle.cull.specs.Culling.{PositionDone}
-use Rattle.cull.proofs.Culling.{stage-begun, stage-start, position-ready, position-passed, positions-end}
+use Rattle.cull.proofs.Culling.{stage-begun, stage-start, position-ready, position-passed, stage-end}
 use Rattle.cull.proofs.label_stage.Statement.{statement}
 use Rattle.cull.proofs.label_stage.Tie as tie
 
@@ -15,6 +15,16 @@ Inv-loop work₀ card ranking sets rows counts places insertions «insertion_end
 
 abbrev μ-loop : tie.MeasureT-loop
 μ-loop work₀ card ranking sets rows counts places insertions «insertion_ends» stretch₀ joint₀ «joint_ends₀» size stage left₀ work stretch joint «joint_ends» left = left
+
+-- ---- the places on the way: the call, the labels taken, the turn of the loop
+
+abbrev start : tie.After-blank Inv-loop μ-loop → tie.Start Inv-loop μ-loop
+start b = b .before .before .before .before .before .before .before .before .before .before .before .before .before
+
+abbrev blanked : tie.At-loop Inv-loop μ-loop → tie.After-blank Inv-loop μ-loop
+blanked l = l .before .before .before
+
+-- ---- what each place asks for
 
 add-blank : tie.Need-add-blank Inv-loop μ-loop
 add-blank c = omega (arith, c .before .before .before .before .before .before .before .before .before .before .before .before .pre .0 .given .setting .few)
@@ -26,20 +36,22 @@ blank-requires : tie.Need-blank-requires Inv-loop μ-loop
 blank-requires c κs = omega (arith, c .before .before .before .before .before .before .before .before .before .before .before .before .pre .0 .given .room)
 
 add-left : tie.Need-add-left Inv-loop μ-loop
-add-left c = omega (arith, c .before .before .before .before .before .before .before .before .before .before .before .before .before .before .before .pre .0 .given .setting .few)
+add-left c = omega (arith, start (c .before .before) .pre .0 .given .setting .few)
 
 loop-holds : tie.Need-loop-holds Inv-loop μ-loop
-loop-holds c = (omega arith, stage-start (c .before .before .before .before .before .before .before .before .before .before .before .before .before .before .before .pre .0) (c .before .before .blank .ensures), refl, refl, refl)
+loop-holds c = let b = c .before .before in (omega arith, stage-start (start b .pre .0) (b .blank .ensures), refl, refl, refl)
 
 sub-left : tie.Need-sub-left Inv-loop μ-loop
 sub-left c = omega arith
 
 label-position-requires : tie.Need-label-position-requires Inv-loop μ-loop
 label-position-requires c κs =
-    let t = c .before .before .before .before .before .before .before .before .before .before .before .before .before .before .before .before .before .before .before .before .before in
-    let l = c .before .before .before .before .before .loop in (
-      position-ready (t .pre .0) (l .left) (c .before .before .before .before .loop-test .taken) (l .inv .0) (position-passed (stage-begun (t .pre .0) (c .before .before .before .before .before .before .before .before .blank .ensures)) (l .inv .1)),
-      record { steps = record { stretch = l .inv .2 ∙ t .pre .1 .steps .stretch; joint = omega (arith, l .inv .3, t .pre .1 .steps .joint) }; runs = omega (arith, l .inv .4, t .pre .1 .runs) },
+    let l = c .before .before .before .before .before in
+    let v = l .loop .inv in
+    let b = blanked l in
+    let t = start b in (
+      position-ready (t .pre .0) (l .loop .left) (c .before .before .before .before .loop-test .taken) (v .0) (position-passed (stage-begun (t .pre .0) (b .blank .ensures)) (v .1)),
+      record { steps = record { stretch = v .2 ∙ t .pre .1 .steps .stretch; joint = omega (arith, v .3, t .pre .1 .steps .joint) }; runs = omega (arith, v .4, t .pre .1 .runs) },
     )
 
 loop-less : tie.Need-loop-less Inv-loop μ-loop
@@ -47,12 +59,16 @@ loop-less c = omega arith
 
 loop-again : tie.Need-loop-again Inv-loop μ-loop
 loop-again c =
-    let l = c .before .before .before .before .before .before .before .before .before .before .before .before .before .before .loop .inv in
-    let k = c .before .before .before .before .before .before .before .before .label-position in
-    (omega (arith, l .0), position-passed (l .1) (k .ensures), k .kept .1 .1 .1 .1 .1 .1 .1 .1 .1 .0 ∙ l .2, k .kept .1 .1 .1 .1 .1 .1 .1 .1 .1 .1 .0 ∙ l .3, k .kept .1 .1 .1 .1 .1 .1 .1 .1 .1 .1 .1 .0 ∙ l .4)
+    let v = c .before .before .before .before .before .before .before .before .before .before .before .before .before .before .loop .inv in
+    let p = c .before .before .before .before .before .before .before .before .label-position in
+    let kept = p .kept .1 .1 .1 .1 .1 .1 .1 .1 .1 in
+    (omega (arith, v .0), position-passed (v .1) (p .ensures), kept .0 ∙ v .2, kept .1 .0 ∙ v .3, kept .1 .1 .0 ∙ v .4)
 
 same-length : tie.Need-same-length Inv-loop μ-loop
-same-length c = positions-end (position-passed (stage-begun (c .before .before .before .before .before .before .before .before .before .before .before .before .before .before .before .before .before .pre .0) (c .before .before .before .before .blank .ensures)) (c .before .loop .inv .1)) (omega arith) .size
+same-length c =
+    let l = c .before in
+    let b = blanked l in
+    position-passed (stage-begun (start b .pre .0) (b .blank .ensures)) (l .loop .inv .1) .size
 
 same-length-2 : tie.Need-same-length-2 Inv-loop μ-loop
 same-length-2 c = c .before .loop .inv .2
@@ -64,7 +80,10 @@ same-length-4 : tie.Need-same-length-4 Inv-loop μ-loop
 same-length-4 c = c .before .loop .inv .4
 
 returns : tie.Need-returns Inv-loop μ-loop
-returns c = positions-end (position-passed (stage-begun (c .before .before .before .before .before .before .before .before .before .before .before .before .before .before .before .before .before .pre .0) (c .before .before .before .before .blank .ensures)) (c .before .loop .inv .1)) (omega arith)
+returns c =
+    let l = c .before in
+    let b = blanked l in
+    stage-end (position-passed (stage-begun (start b .pre .0) (b .blank .ensures)) (l .loop .inv .1)) (omega arith)
 
 pub label-stage-spec : {M : Type 1} → statement M
 label-stage-spec =

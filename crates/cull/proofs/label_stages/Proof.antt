@@ -15,15 +15,23 @@ Inv-loop work₀ card ranking sets rows counts places insertions «insertion_end
 abbrev μ-loop : tie.MeasureT-loop
 μ-loop work₀ card ranking sets rows counts places insertions «insertion_ends» stretch₀ joint₀ «joint_ends₀» size stage₀ work stretch joint «joint_ends» stage = 6 - stage
 
+-- ---- the place on the way: the call
+
+abbrev start : tie.At-loop Inv-loop μ-loop → tie.Start Inv-loop μ-loop
+start l = l .before .before .before .before .before .before .before .before .before .before .before .before
+
+-- ---- what each place asks for
+
 loop-holds : tie.Need-loop-holds Inv-loop μ-loop
 loop-holds c = (omega arith, stages-start, refl, refl, refl)
 
 label-stage-requires : tie.Need-label-stage-requires Inv-loop μ-loop
 label-stage-requires c κs =
-    let t = c .before .before .before .before .before .before .before .before .before .before .before .before .before .before .before .before .before in
-    let l = c .before .before .before .before .before .loop in (
-      record { given = stage-given (l .inv .1 .size) (omega (arith, c .before .before .before .before .loop-test .taken)) (t .pre .0); before = l .inv .1 .before },
-      record { steps = record { stretch = l .inv .2 ∙ t .pre .1 .steps .stretch; joint = omega (arith, l .inv .3, t .pre .1 .steps .joint) }; runs = omega (arith, l .inv .4, t .pre .1 .runs) },
+    let l = c .before .before .before .before .before in
+    let v = l .loop .inv in
+    let t = start l in (
+      record { given = stage-given (v .1 .size) (omega (arith, c .before .before .before .before .loop-test .taken)) (t .pre .0); before = v .1 .before },
+      record { steps = record { stretch = v .2 ∙ t .pre .1 .steps .stretch; joint = omega (arith, v .3, t .pre .1 .steps .joint) }; runs = omega (arith, v .4, t .pre .1 .runs) },
     )
 
 add-stage : tie.Need-add-stage Inv-loop μ-loop
@@ -34,9 +42,10 @@ loop-less c = omega arith
 
 loop-again : tie.Need-loop-again Inv-loop μ-loop
 loop-again c =
-    let l = c .before .before .before .before .before .before .before .before .before .before .before .before .before .before .loop .inv in
-    let k = c .before .before .before .before .before .before .before .before .label-stage in
-    (omega (arith, c .before .before .before .before .before .before .before .before .before .before .before .before .before .loop-test .taken), stages-next (l .1) (k .ensures), k .kept .1 .1 .1 .1 .1 .1 .1 .1 .1 .0 ∙ l .2, k .kept .1 .1 .1 .1 .1 .1 .1 .1 .1 .1 .0 ∙ l .3, k .kept .1 .1 .1 .1 .1 .1 .1 .1 .1 .1 .1 .0 ∙ l .4)
+    let v = c .before .before .before .before .before .before .before .before .before .before .before .before .before .before .loop .inv in
+    let s = c .before .before .before .before .before .before .before .before .label-stage in
+    let kept = s .kept .1 .1 .1 .1 .1 .1 .1 .1 .1 in
+    (omega (arith, c .before .before .before .before .before .before .before .before .before .before .before .before .before .loop-test .taken), stages-next (v .1) (s .ensures), kept .0 ∙ v .2, kept .1 .0 ∙ v .3, kept .1 .1 .0 ∙ v .4)
 
 same-length : tie.Need-same-length Inv-loop μ-loop
 same-length c = c .before .loop .inv .1 .size

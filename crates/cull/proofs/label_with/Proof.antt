@@ -1,7 +1,10 @@
 -- `label_with` meets its contract.
 use borrow.Author.Needs.{needs}
-use mathlib.Core.Path.{refl}
+use mathlib.Core.Path.{_≡_, refl}
 use native.Mathlib.Omega.{arith}
+use lib.ListN.{take}
+use Rattle.card.specs.Card.{machinesOf}
+use Rattle.product.specs.Nodes.{stateCounts}
 use Rattle.product.specs.Laws.Setting.{few-codes}
 use Rattle.positions.proofs.Prefix.{places-six, front-is, front-fits, front-length, rows-ready, front-looked}
 use Rattle.positions.proofs.JointSteps.{joint-ready, joint-filled}
@@ -9,33 +12,71 @@ use Rattle.cull.proofs.Culling.{runs-ready, runs-are, steps-fit}
 use Rattle.cull.proofs.label_with.Statement.{statement}
 use Rattle.cull.proofs.label_with.Tie as tie
 
+-- ---- the places on the way, from the last to the first
+
+abbrev start : tie.After-machine-count → tie.Start
+start c = c .before .before .before .before .before .before .before .before
+
+abbrev counted : tie.After-symbol-count → tie.After-machine-count
+counted c = c .before .before .before
+
+abbrev told : tie.After-fill → tie.After-symbol-count
+told c = c .before .before .before .before .before .before .before
+
+abbrev filled : tie.After-joint-ends → tie.After-fill
+filled c = c .before .before .before .before .before .before .before .before .before .before .before .before .before .before .before
+
+-- ---- what each place asks for
+
+-- the counts of states
+counts-are : (c : tie.After-machine-count) → take (c .machine-count .result) (c .before .state-counts .result) ≡ stateCounts (machinesOf (start c .args .card .now))
+counts-are c = front-is (start c .args .card .now) (start c .pre .0 .setting .accepted) (c .before .state-counts .result) (c .machine-count .result) (c .machine-count .ensures) (c .before .state-counts .ensures)
+
 array-share-prefix-all : tie.Need-array-share-prefix-all
-array-share-prefix-all c = front-fits (c .before .before .before .before .before .before .before .before .args .card .now) (c .before .before .before .before .before .before .before .before .pre .0 .setting .accepted) (c .before .state-counts .result) (c .machine-count .result) (c .machine-count .ensures) (c .before .state-counts .ensures)
+array-share-prefix-all c = front-fits (start c .args .card .now) (start c .pre .0 .setting .accepted) (c .before .state-counts .result) (c .machine-count .result) (c .machine-count .ensures) (c .before .state-counts .ensures)
 
 slice-aggregate-counts : tie.Need-slice-aggregate-counts
-slice-aggregate-counts c = front-length (c .before .before .before .before .before .before .before .before .before .args .card .now) (c .before .before .before .before .before .before .before .before .before .pre .0 .setting .accepted) (c .before .before .state-counts .result) (c .before .machine-count .result) (c .before .machine-count .ensures) (c .before .before .state-counts .ensures)
+slice-aggregate-counts c =
+    let k = c .before in
+    front-length (start k .args .card .now) (start k .pre .0 .setting .accepted) (k .before .state-counts .result) (k .machine-count .result) (k .machine-count .ensures) (k .before .state-counts .ensures)
 
 fill-rows-requires : tie.Need-fill-rows-requires
-fill-rows-requires c κs = rows-ready (c .before .before .before .before .before .before .before .before .before .before .before .before .args .card .now) (c .before .before .before .before .before .before .before .before .before .before .before .before .pre .0 .setting .accepted) (c .before .before .before .before .before .state-counts .result) (c .before .before .before .before .machine-count .result) (c .before .before .before .before .machine-count .ensures) (c .before .before .before .before .before .state-counts .ensures) _ _ (c .before .before .before .before .before .before .before .before .before .before .before .before .pre .0 .setting .states) refl
+fill-rows-requires c κs =
+    let k = counted (c .before) in
+    rows-ready (start k .args .card .now) (start k .pre .0 .setting .accepted) (k .before .state-counts .result) (k .machine-count .result) (k .machine-count .ensures) (k .before .state-counts .ensures) _ _ (start k .pre .0 .setting .states) refl
 
 fill-requires : tie.Need-fill-requires
-fill-requires c κs = joint-ready (c .before .before .before .before .before .before .before .before .before .before .before .before .before .before .before .before .before .args .card .now) (c .before .before .before .before .before .before .before .before .before .before .before .before .before .before .before .before .before .args .ranking .now) (c .before .before .before .before .before .before .before .before .before .before .before .before .before .before .before .before .before .pre .0 .setting .accepted) (front-is (c .before .before .before .before .before .before .before .before .before .before .before .before .before .before .before .before .before .args .card .now) (c .before .before .before .before .before .before .before .before .before .before .before .before .before .before .before .before .before .pre .0 .setting .accepted) (c .before .before .before .before .before .before .before .before .before .before .state-counts .result) (c .before .before .before .before .before .before .before .before .before .machine-count .result) (c .before .before .before .before .before .before .before .before .before .machine-count .ensures) (c .before .before .before .before .before .before .before .before .before .before .state-counts .ensures)) (c .before .before .before .before .before .before .before .places-of .ensures) (places-six (c .before .before .before .before .before .before .before .before .before .before .before .before .before .before .before .before .before .args .card .now) (c .before .before .before .before .before .before .before .before .before .before .before .before .before .before .before .before .before .pre .0 .setting .accepted) (c .before .before .before .before .before .before .before .before .before .before .before .before .before .before .before .before .before .args .ranking .now) (c .before .before .before .before .before .before .before .places-of .ensures) (c .before .before .before .before .before .before .before .before .before .before .before .before .before .before .before .before .before .pre .0 .ranks)) (c .before .before .before .before .before .before .before .before .before .before .before .before .before .before .before .before .before .pre .0 .setting .states) (omega arith) (c .before .before .before .before .before .before .symbol-count .ensures) (record { stretch = refl; joint = c .before .before .before .before .before .before .before .before .before .before .before .before .before .before .before .before .before .pre .1 })
+fill-requires c κs =
+    let s = c .before .before .before .before .before .before in
+    let k = counted s in
+    let t = start k in
+    let six = places-six (t .args .card .now) (t .pre .0 .setting .accepted) (t .args .ranking .now) (s .before .places-of .ensures) (t .pre .0 .ranks) in
+    joint-ready (t .args .card .now) (t .args .ranking .now) (t .pre .0 .setting .accepted) (counts-are k) (s .before .places-of .ensures) six (t .pre .0 .setting .states) (omega arith) (s .symbol-count .ensures) (record { stretch = refl; joint = t .pre .1 })
 
 find-runs-requires : tie.Need-find-runs-requires
-find-runs-requires c κs = runs-ready (c .before .before .before .before .before .before .before .before .before .before .before .before .before .before .before .before .before .before .before .before .before .before .before .pre .0 .setting) (joint-filled (c .before .before .before .before .before .before .before .before .before .before .before .before .before .before .before .before .before .before .before .before .before .before .before .args .card .now) (c .before .before .before .before .before .before .before .before .before .before .before .before .before .before .before .before .before .before .before .before .before .before .before .args .ranking .now) (c .before .before .before .before .before .before .before .before .before .before .before .before .before .before .before .before .before .before .before .before .before .before .before .pre .0 .setting .accepted) (front-is (c .before .before .before .before .before .before .before .before .before .before .before .before .before .before .before .before .before .before .before .before .before .before .before .args .card .now) (c .before .before .before .before .before .before .before .before .before .before .before .before .before .before .before .before .before .before .before .before .before .before .before .pre .0 .setting .accepted) (c .before .before .before .before .before .before .before .before .before .before .before .before .before .before .before .before .state-counts .result) (c .before .before .before .before .before .before .before .before .before .before .before .before .before .before .before .machine-count .result) (c .before .before .before .before .before .before .before .before .before .before .before .before .before .before .before .machine-count .ensures) (c .before .before .before .before .before .before .before .before .before .before .before .before .before .before .before .before .state-counts .ensures)) (c .before .before .before .before .before .before .before .before .before .before .before .before .before .places-of .ensures) (c .before .before .before .before .before .before .before .before .before .before .before .before .symbol-count .ensures) (c .before .before .before .before .before .fill .ensures)) (c .before .before .before .before .before .before .before .before .before .before .before .before .symbol-count .ensures) (steps-fit (c .before .before .before .before .before .before .before .before .before .before .before .before .before .before .before .before .before .before .before .before .before .before .before .args .size) 8192 (few-codes (c .before .before .before .before .before .before .before .before .before .before .before .before .before .before .before .before .before .before .before .before .before .before .before .pre .0 .setting)) (omega arith))
+find-runs-requires c κs =
+    let f = c .before .before .before .before .before in
+    let s = told f in
+    let k = counted s in
+    let t = start k in
+    let held = joint-filled (t .args .card .now) (t .args .ranking .now) (t .pre .0 .setting .accepted) (counts-are k) (s .before .places-of .ensures) (s .symbol-count .ensures) (f .fill .ensures) in
+    runs-ready (t .pre .0 .setting) held (s .symbol-count .ensures) (steps-fit (t .args .size) 8192 (few-codes (t .pre .0 .setting)) (omega arith))
 
 label-stages-requires : tie.Need-label-stages-requires
 label-stages-requires c κs =
-    let t = c .before .before .before .before .before .before .before .before .before .before .before .before .before .before .before .before .before .before .before .before .before .before .before .before .before .before .before .before .before .before .before .before .before in (
+    let f = filled c in
+    let s = told f in
+    let k = counted s in
+    let t = start k in (
       record {
         setting = t .pre .0 .setting;
-        looked = front-looked (c .before .before .before .before .before .before .before .before .before .before .before .before .before .before .before .before .before .before .before .before .before .before .before .before .before .before .before .before .before .before .before .before .before .args .card .now) (c .before .before .before .before .before .before .before .before .before .before .before .before .before .before .before .before .before .before .before .before .before .before .before .before .before .before .before .before .before .before .before .before .before .pre .0 .setting .accepted) (c .before .before .before .before .before .before .before .before .before .before .before .before .before .before .before .before .before .before .before .before .before .before .before .before .before .before .state-counts .result) (c .before .before .before .before .before .before .before .before .before .before .before .before .before .before .before .before .before .before .before .before .before .before .before .before .before .machine-count .result) (c .before .before .before .before .before .before .before .before .before .before .before .before .before .before .before .before .before .before .before .before .before .before .before .before .before .machine-count .ensures) (c .before .before .before .before .before .before .before .before .before .before .before .before .before .before .before .before .before .before .before .before .before .before .before .before .before .before .state-counts .ensures) (c .before .before .before .before .before .before .before .before .before .before .before .before .before .before .before .before .before .before .before .before .fill-rows .ensures) (c .before .before .before .before .before .before .before .before .before .before .before .before .before .before .before .before .before .before .before .before .before .before .before .places-of .ensures) (t .pre .0 .ranks);
-        insertions = joint-filled (c .before .before .before .before .before .before .before .before .before .before .before .before .before .before .before .before .before .before .before .before .before .before .before .before .before .before .before .before .before .before .before .before .before .args .card .now) (c .before .before .before .before .before .before .before .before .before .before .before .before .before .before .before .before .before .before .before .before .before .before .before .before .before .before .before .before .before .before .before .before .before .args .ranking .now) (c .before .before .before .before .before .before .before .before .before .before .before .before .before .before .before .before .before .before .before .before .before .before .before .before .before .before .before .before .before .before .before .before .before .pre .0 .setting .accepted) (front-is (c .before .before .before .before .before .before .before .before .before .before .before .before .before .before .before .before .before .before .before .before .before .before .before .before .before .before .before .before .before .before .before .before .before .args .card .now) (c .before .before .before .before .before .before .before .before .before .before .before .before .before .before .before .before .before .before .before .before .before .before .before .before .before .before .before .before .before .before .before .before .before .pre .0 .setting .accepted) (c .before .before .before .before .before .before .before .before .before .before .before .before .before .before .before .before .before .before .before .before .before .before .before .before .before .before .state-counts .result) (c .before .before .before .before .before .before .before .before .before .before .before .before .before .before .before .before .before .before .before .before .before .before .before .before .before .machine-count .result) (c .before .before .before .before .before .before .before .before .before .before .before .before .before .before .before .before .before .before .before .before .before .before .before .before .before .machine-count .ensures) (c .before .before .before .before .before .before .before .before .before .before .before .before .before .before .before .before .before .before .before .before .before .before .before .before .before .before .state-counts .ensures)) (c .before .before .before .before .before .before .before .before .before .before .before .before .before .before .before .before .before .before .before .before .before .before .before .places-of .ensures) (c .before .before .before .before .before .before .before .before .before .before .before .before .before .before .before .before .before .before .before .before .before .before .symbol-count .ensures) (c .before .before .before .before .before .before .before .before .before .before .before .before .before .before .before .fill .ensures);
-        runs = runs-are (c .before .before .before .before .before .before .before .before .before .before .before .before .before .before .before .before .before .before .before .before .before .before .symbol-count .ensures) (c .before .before .before .before .before .before .before .before .before .find-runs .ensures);
+        looked = front-looked (t .args .card .now) (t .pre .0 .setting .accepted) (k .before .state-counts .result) (k .machine-count .result) (k .machine-count .ensures) (k .before .state-counts .ensures) (f .before .before .before .before .before .fill-rows .ensures) (s .before .places-of .ensures) (t .pre .0 .ranks);
+        insertions = joint-filled (t .args .card .now) (t .args .ranking .now) (t .pre .0 .setting .accepted) (counts-are k) (s .before .places-of .ensures) (s .symbol-count .ensures) (f .fill .ensures);
+        runs = runs-are (s .symbol-count .ensures) (c .before .before .before .before .before .before .before .before .before .find-runs .ensures);
         room = t .pre .0 .room;
         stage = omega arith;
       },
-      record { steps = record { stretch = c .before .before .before .before .before .before .before .before .before .before .before .before .before .before .before .fill .kept .1 .1 .1 .1 .1 .0; joint = t .pre .2 }; runs = steps-fit (t .args .size) 8192 (few-codes (t .pre .0 .setting)) (omega arith) },
+      record { steps = record { stretch = f .fill .kept .1 .1 .1 .1 .1 .0; joint = t .pre .2 }; runs = steps-fit (t .args .size) 8192 (few-codes (t .pre .0 .setting)) (omega arith) },
     )
 
 pub label-with-spec : {M : Type 1} → statement M

@@ -19,13 +19,18 @@ sub-left : tie.Need-sub-left Inv-loop μ-loop
 sub-left c = search needs
 
 relax-node-requires : tie.Need-relax-node-requires Inv-loop μ-loop
-relax-node-requires c κs = (relax-next (c .before .before .before .before .before .before .pre .0) (c .before .before .loop .inv .1), c .before .before .before .before .before .before .pre .1, omega (arith, c .before .before .loop .inv .0, c .before .loop-test .taken))
+relax-node-requires c κs =
+    let v = c .before .before .loop .inv in
+    let t = c .before .before .before .before .before .before in
+    (relax-next (t .pre .0) (v .1), t .pre .1, omega (arith, v .0, c .before .loop-test .taken))
 
 loop-less : tie.Need-loop-less Inv-loop μ-loop
 loop-less c = omega arith
 
 loop-again : tie.Need-loop-again Inv-loop μ-loop
-loop-again c = (omega (arith, c .before .before .before .before .before .loop .inv .0), nodes-next (c .before .before .before .before .before .loop .left - 1) (c .before .before .before .before .before .loop .left) (omega (arith, c .before .before .before .before .loop-test .taken)) (c .before .before .before .before .before .loop .inv .1) (c .before .before .relax-node .ensures))
+loop-again c =
+    let l = c .before .before .before .before .before .loop in
+    (omega (arith, l .inv .0), nodes-next (l .left - 1) (l .left) (omega (arith, c .before .before .before .before .loop-test .taken)) (l .inv .1) (c .before .before .relax-node .ensures))
 
 same-length : tie.Need-same-length Inv-loop μ-loop
 same-length c = c .before .loop .inv .1 .size

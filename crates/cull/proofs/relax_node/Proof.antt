@@ -1,6 +1,6 @@
 -- `relax_node` meets its contract. The loop's invariant: the outputs so far were tried.
 use mathlib.Core.Path.{sym, subst}
-use Prim.Native.Nat.{ℕ, _+_, _-_, _≤_}
+use Prim.Native.Nat.{ℕ, _+_, _*_, _-_, _≤_, _<_}
 use native.Mathlib.Omega.{arith}
 use Rattle.cull.specs.Relaxing.{RunEnd, Relaxed}
 use Rattle.cull.proofs.Relaxing.{entry-there, entry-few, entry-ready, relaxed-entry, relax-next, outputs-start, outputs-next, outputs-end}
@@ -14,54 +14,81 @@ Inv-loop work₀ table ends base targets size code first last stage changed₀ o
 abbrev μ-loop : tie.MeasureT-loop
 μ-loop work₀ table ends base targets size code first last stage changed₀ output₀ work changed output = last + 1 - output
 
+-- ---- the places on the way: the call, and the turn of the loop
+
+abbrev start : tie.In-loop Inv-loop μ-loop → tie.Start Inv-loop μ-loop
+start l = l .before .before .before .before .before
+
+-- the entry of the code and the output is in the table
+in-table : (l : tie.In-loop Inv-loop μ-loop) → start l .args .code * 64 + l .before .loop .output < 8256
+in-table l = entry-few (start l .pre .0) (start l .args .code) (l .before .loop .output) (start l .pre .2) (l .before .loop .inv .0) (l .loop-test .taken)
+
+-- ---- what each place asks for
+
 loop-holds : tie.Need-loop-holds Inv-loop μ-loop
 loop-holds c = (omega arith, omega (arith, c .before .before .before .pre .0 .order), outputs-start)
 
 mul-entry : tie.Need-mul-entry Inv-loop μ-loop
-mul-entry c = omega (arith, entry-few (c .before .before .before .before .before .pre .0) (c .before .before .before .before .before .args .code) (c .before .loop .output) (c .before .before .before .before .before .pre .2) (c .before .loop .inv .0) (c .loop-test .taken))
+mul-entry c = omega (arith, in-table c)
 
 add-entry : tie.Need-add-entry Inv-loop μ-loop
-add-entry c = omega (arith, entry-few (c .before .before .before .before .before .pre .0) (c .before .before .before .before .before .args .code) (c .before .loop .output) (c .before .before .before .before .before .pre .2) (c .before .loop .inv .0) (c .loop-test .taken))
+add-entry c = omega (arith, in-table c)
 
 mul-entry-2 : tie.Need-mul-entry-2 Inv-loop μ-loop
-mul-entry-2 c = omega (arith, entry-few (c .before .before .before .before .before .pre .0) (c .before .before .before .before .before .args .code) (c .before .loop .output) (c .before .before .before .before .before .pre .2) (c .before .loop .inv .0) (c .loop-test .taken))
+mul-entry-2 c = omega (arith, in-table c)
 
 shared-slice-read-entry : tie.Need-shared-slice-read-entry Inv-loop μ-loop
-shared-slice-read-entry c = entry-there (c .before .before .before .before .before .before .pre .0) (c .before .before .before .before .before .before .args .code) (c .before .before .loop .output) (c .before .before .before .before .before .before .pre .2) (c .before .before .loop .inv .0) (c .before .loop-test .taken)
+shared-slice-read-entry c =
+    let l = c .before in
+    entry-there (start l .pre .0) (start l .args .code) (l .before .loop .output) (start l .pre .2) (l .before .loop .inv .0) (l .loop-test .taken)
 
 add-try-entry : tie.Need-add-try-entry Inv-loop μ-loop
-add-try-entry c = omega (arith, c .before .before .before .before .before .before .before .pre .0 .few-nodes, c .before .before .before .before .before .before .before .pre .2)
+add-try-entry c = let t = start (c .before .before) in omega (arith, t .pre .0 .few-nodes, t .pre .2)
 
 try-entry-requires : tie.Need-try-entry-requires Inv-loop μ-loop
-try-entry-requires c κs = entry-ready (relax-next (c .before .before .before .before .before .before .before .pre .0) (c .before .before .before .loop .inv .2)) (c .before .before .before .before .before .before .before .args .code) (c .before .before .before .loop .output) (c .before .before .before .before .before .before .before .pre .2) (c .before .before .before .loop .inv .0) (c .before .before .loop-test .taken)
+try-entry-requires c κs =
+    let l = c .before .before in
+    let v = l .before .loop in
+    entry-ready (relax-next (start l .pre .0) (v .inv .2)) (start l .args .code) (v .output) (start l .pre .2) (v .inv .0) (l .loop-test .taken)
 
 mul-index : tie.Need-mul-index Inv-loop μ-loop
-mul-index c = omega (arith, entry-few (c .before .before .before .before .before .before .before .before .before .before .pre .0) (c .before .before .before .before .before .before .before .before .before .before .args .code) (c .before .before .before .before .before .before .loop .output) (c .before .before .before .before .before .before .before .before .before .before .pre .2) (c .before .before .before .before .before .before .loop .inv .0) (c .before .before .before .before .before .loop-test .taken))
+mul-index c = omega (arith, in-table (c .before .before .before .before .before))
 
 add-index : tie.Need-add-index Inv-loop μ-loop
-add-index c = omega (arith, entry-few (c .before .before .before .before .before .before .before .before .before .before .pre .0) (c .before .before .before .before .before .before .before .before .before .before .args .code) (c .before .before .before .before .before .before .loop .output) (c .before .before .before .before .before .before .before .before .before .before .pre .2) (c .before .before .before .before .before .before .loop .inv .0) (c .before .before .before .before .before .loop-test .taken))
+add-index c = omega (arith, in-table (c .before .before .before .before .before))
 
 shared-slice-read-index : tie.Need-shared-slice-read-index Inv-loop μ-loop
-shared-slice-read-index c = omega (arith, c .before .before .before .before .before .before .before .before .before .before .before .pre .1 .room, c .before .before .before .before .before .before .before .before .before .before .before .pre .2, c .before .before .before .before .before .before .before .before .before .before .before .pre .0 .outputs, c .before .before .before .before .before .before .loop-test .taken)
+shared-slice-read-index c =
+    let l = c .before .before .before .before .before .before in
+    let t = start l in
+    omega (arith, t .pre .1 .room, t .pre .2, t .pre .0 .outputs, l .loop-test .taken)
 
 index-requires : tie.Need-index-requires Inv-loop μ-loop
 index-requires c κs = tt
 
+abbrev turn : tie.After-index Inv-loop μ-loop → tie.In-loop Inv-loop μ-loop
+turn c = c .before .before .before .before .before .before .before
+
 -- the run of the entry that was tried
-run : (c : tie.After-index Inv-loop μ-loop) → RunEnd (c .before .before .before .before .before .before .before .before .before .before .before .before .args .table .now) (c .before .before .before .before .before .before .before .before .before .before .before .before .args .code) (c .before .before .before .before .before .before .before .before .loop .output) (c .before .before .before .before .before .before .before .before .before .before .before .before .args .last) (c .index .result)
-run c = subst (λ (z : ℕ). RunEnd (c .before .before .before .before .before .before .before .before .before .before .before .before .args .table .now) (c .before .before .before .before .before .before .before .before .before .before .before .before .args .code) (c .before .before .before .before .before .before .before .before .loop .output) (c .before .before .before .before .before .before .before .before .before .before .before .before .args .last) z) (sym (c .index .ensures .0)) (c .before .before .before .before .before .before .before .before .before .before .before .before .pre .1 .row (c .before .before .before .before .before .before .before .before .before .before .before .before .args .code) (c .before .before .before .before .before .before .before .before .before .before .before .before .pre .2) .end (c .before .before .before .before .before .before .before .before .loop .output) (omega arith) (c .before .before .before .before .before .before .before .loop-test .taken))
+run : (c : tie.After-index Inv-loop μ-loop) → RunEnd (start (turn c) .args .table .now) (start (turn c) .args .code) (turn c .before .loop .output) (start (turn c) .args .last) (c .index .result)
+run c =
+    let l = turn c in
+    let t = start l in
+    let u = l .before .loop .output in
+    subst (λ (z : ℕ). RunEnd (t .args .table .now) (t .args .code) u (t .args .last) z) (sym (c .index .ensures .0)) (t .pre .1 .row (t .args .code) (t .pre .2) .end u (omega arith) (l .loop-test .taken))
 
 loop-less : tie.Need-loop-less Inv-loop μ-loop
-loop-less c = omega (arith, run c .beyond, c .before .before .before .before .before .before .before .loop-test .taken)
+loop-less c = omega (arith, run c .beyond, turn c .loop-test .taken)
 
 loop-again : tie.Need-loop-again Inv-loop μ-loop
 loop-again c =
-    let l = c .before .before .before .before .before .before .before .before .loop in
-    let t = c .before .before .before .before .before .before .before .before .before .before .before .before in
-    let n = c .before .before .before .before .before .before .before .loop-test .taken in (
+    let l = turn c .before .loop in
+    let t = start (turn c) in
+    let n = turn c .loop-test .taken in
+    let tried = relaxed-entry (relax-next (t .pre .0) (l .inv .2)) (t .args .code) (l .output) (t .pre .2) (l .inv .0) n (c .before .before .before .before .try-entry .ensures) in (
       omega (arith, run c .beyond, l .inv .0),
       run c .within,
-      outputs-covered (t .args .code) (l .output) (c .index .result) (t .pre .2) (l .inv .0) (run c) (outputs-next (l .inv .2) (relaxed-entry (relax-next (t .pre .0) (l .inv .2)) (t .args .code) (l .output) (t .pre .2) (l .inv .0) n (c .before .before .before .before .try-entry .ensures))),
+      outputs-covered (t .args .code) (l .output) (c .index .result) (t .pre .2) (l .inv .0) (run c) (outputs-next (l .inv .2) tried),
     )
 
 same-length : tie.Need-same-length Inv-loop μ-loop

@@ -1,5 +1,4 @@
 -- `run_end` meets its contract: a case for each way out.
-use native.Mathlib.Omega.{arith}
 use borrow.Author.Needs.{needs}
 use Rattle.cull.proofs.Runs.{run-alone, run-longer}
 use Rattle.cull.proofs.run_end.Statement.{statement}

@@ -71,7 +71,9 @@ same-length-2 : tie.Need-same-length-2
 same-length-2 c = search needs
 
 returns-3 : tie.Need-returns-3
-returns-3 c = arc-lowered (c .before .before .before .before .before .before .marks-at .ensures) (c .before .before .before .before .before .before .before .before .before .before .if1 .left) (c .before .before .before .before .before .before .before .before .arc-left .ensures .kept (not-false _ (c .before .before .before .before .before .before .before .if2 .left))) (c .before .before .lower .ensures)
+returns-3 c =
+    let e = c .before .before .before .before .before .before .before in
+    arc-lowered (c .before .before .before .before .before .before .marks-at .ensures) (e .before .before .before .if1 .left) (e .before .arc-left .ensures .kept (not-false _ (e .if2 .left))) (c .before .before .lower .ensures)
 
 pub try-arc-spec : {M : Type 1} → statement M
 try-arc-spec =

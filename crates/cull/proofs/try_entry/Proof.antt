@@ -17,16 +17,22 @@ returns : tie.Need-returns
 returns c = entry-nothing (c .before .before .read .ensures) (c .enum-told .given .1)
 
 add-try-arc : tie.Need-add-try-arc
-add-try-arc c = omega (arith, entry-target (c .before .before .before .before .before .before .pre) (c .before .before .before .before .read .ensures) (c .before .before .found .given .0 .0) (c .before .before .found .given .0 .1 .0) (c .before .before .found .given .1))
+add-try-arc c =
+    let f = c .before .before .found .given in
+    omega (arith, entry-target (c .before .before .before .before .before .before .pre) (c .before .before .before .before .read .ensures) (f .0 .0) (f .0 .1 .0) (f .1))
 
 try-arc-requires : tie.Need-try-arc-requires
-try-arc-requires c κs = entry-arc (c .before .before .before .before .before .before .pre) (c .before .before .before .before .read .ensures) (c .before .before .found .given .0 .0) (c .before .before .found .given .0 .1 .0) (c .before .before .found .given .1)
+try-arc-requires c κs =
+    let f = c .before .before .found .given in
+    entry-arc (c .before .before .before .before .before .before .pre) (c .before .before .before .before .read .ensures) (f .0 .0) (f .0 .1 .0) (f .1)
 
 same-length : tie.Need-same-length
 same-length c = search needs
 
 returns-2 : tie.Need-returns-2
-returns-2 c = entry-arc-tried (c .before .before .before .before .before .before .before .read .ensures) (c .before .before .before .before .before .found .given .0 .0) (c .before .before .before .before .before .found .given .0 .1 .0) (c .before .before .before .before .before .found .given .1) (c .before .before .try-arc .ensures)
+returns-2 c =
+    let f = c .before .before .before .before .before .found .given in
+    entry-arc-tried (c .before .before .before .before .before .before .before .read .ensures) (f .0 .0) (f .0 .1 .0) (f .1) (c .before .before .try-arc .ensures)
 
 pub try-entry-spec : {M : Type 1} → statement M
 try-entry-spec =

@@ -1,7 +1,6 @@
-use mathlib.Core.Path.{_≡_, sym, ap, _∙_}
+use mathlib.Core.Path.{_≡_, ap, _∙_}
 use native.Mathlib.Omega.{arith}
-use Rattle.basics.specs.Refusals.{refuse}
-use Rattle.ranking.specs.Refusals.{stageNumber}
+use Rattle.refusals.specs.Refusals.{refuse}
 use Rattle.ranking.specs.Rankings.{isRanking}
 use Rattle.card.specs.Layout.{machineCount}
 use Rattle.card.specs.Accepted.{accepted}
@@ -17,14 +16,7 @@ of-card : (c : tie.After-check-ranking) → refuse 7 (isRanking (c .before .mach
 of-card c = ap (λ K. refuse 7 (isRanking K (c .before .before .before .before .args .ranking .now))) (c .before .machine-count .ensures)
 
 returns : tie.Need-returns
-returns c =
-    let k = c .before .before in
-    sym (ap stageNumber (c .enum-told .given .1)) ∙ k .check-ranking .ensures ∙ of-card k
-
-returns-2 : tie.Need-returns-2
-returns-2 c =
-    let k = c .before .before .before in
-    sym (ap stageNumber (c .before .refusal .given .1)) ∙ k .check-ranking .ensures ∙ of-card k
+returns c = c .check-ranking .ensures ∙ of-card c
 
 pub check-ranking-spec : {M : Type 1} → statement M
 check-ranking-spec =
@@ -33,7 +25,4 @@ check-ranking-spec =
     (λ c κs. search needs)
     cast-machines
     (λ c κs. search needs)
-    (λ c. search needs)
-    (λ c. search needs)
-    returns
-    returns-2)
+    returns)

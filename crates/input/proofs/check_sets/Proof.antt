@@ -1,7 +1,6 @@
-use mathlib.Core.Path.{_≡_, sym, ap, _∙_}
+use mathlib.Core.Path.{_≡_, ap, _∙_}
 use Rattle.card.specs.Layout.{symbolCount}
 use Rattle.product.specs.OptimizingSets.{setsRefusal}
-use Rattle.product.specs.Refusals.{stageNumber}
 use native.Mathlib.Omega.{arith}
 use Rattle.card.specs.Accepted.{accepted}
 use borrow.Author.Needs.{needs}
@@ -18,14 +17,7 @@ check-sets-requires c κs =
     omega (arith, accepted (s .args .card .now) (s .pre) .head .counts .symbols, c .symbol-count .ensures)
 
 returns : tie.Need-returns
-returns c =
-    let k = c .before .before in
-    sym (ap stageNumber (c .enum-told .given .1)) ∙ k .check-sets .ensures ∙ of-card k
-
-returns-2 : tie.Need-returns-2
-returns-2 c =
-    let k = c .before .before .before in
-    sym (ap stageNumber (c .before .refusal .given .1)) ∙ k .check-sets .ensures ∙ of-card k
+returns c = c .check-sets .ensures ∙ of-card c
 
 pub check-sets-spec : {M : Type 1} → statement M
 check-sets-spec =
@@ -33,7 +25,4 @@ check-sets-spec =
     (tie.spec
     (λ c κs. search needs)
     check-sets-requires
-    (λ c. search needs)
-    (λ c. search needs)
-    returns
-    returns-2)
+    returns)

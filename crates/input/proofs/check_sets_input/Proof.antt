@@ -1,44 +1,42 @@
-use mathlib.Core.Path.{_≡_, refl, sym, ap, _∙_}
+use mathlib.Core.Path.{_≡_, sym, ap, _∙_}
 use mathlib.Core.Bool.{true}
 use Prim.Native.Nat.{_*_}
 use mathlib.Core.List.{[], _∷_}
 use lib.Dec.{leb, lit<}
 use lib.ListN.{length}
-use Rattle.basics.specs.Refusals.{refuse}
-use Rattle.basics.proofs.Refusals.{was-true, goes-up, last-one}
+use Rattle.refusals.specs.Refusals.{refuse, checkedNumber}
+use Rattle.refusals.proofs.Refusals.{was-true, goes-up, last-one}
 use Rattle.ranking.specs.Rankings.{isRanking}
 use Rattle.card.specs.Layout.{machineCount, symbolCount}
 use Rattle.card.specs.Card.{cardRefusal, machinesOf}
 use Rattle.product.specs.Nodes.{nodeCount}
 use Rattle.product.specs.OptimizingSets.{setsRefusal, setsInputRefusal}
 use Rattle.product.specs.Laws.SymbolSets.{accepted-sets}
-use Rattle.input.specs.Refusals.{stageNumber}
-use Rattle.input.proofs.Refusals.{number-positive}
 use borrow.Author.Needs.{needs}
 use Rattle.input.proofs.check_sets_input.Statement.{statement}
 use Rattle.input.proofs.check_sets_input.Tie as tie
 
--- what each stage that passed says
+-- what each check that passed says
 card-passed : (c : tie.After-enum-told) → cardRefusal (c .before .before .before .before .before .before .args .card .now) ≡ 0
-card-passed c = sym (c .before .before .check-card .ensures) ∙ ap stageNumber (c .enum-told .given .1)
+card-passed c = sym (c .before .before .check .ensures) ∙ ap checkedNumber (c .enum-told .given .1)
 
 ranking-passed : (c : tie.After-enum-told3) →
     isRanking (machineCount (c .before .before .before .before .before .before .before .before .before .args .card .now)) (c .before .before .before .before .before .before .before .before .before .args .ranking .now) ≡ true
 ranking-passed c =
     let a = c .before .before .before .before .before .before .before .before .before .args in
-    was-true stageNumber (c .enum-told3 .given .1) 7 (isRanking (machineCount (a .card .now)) (a .ranking .now)) (lit< tt) (c .before .before .check-ranking .ensures) refl
+    was-true (c .enum-told3 .given .1) 7 (isRanking (machineCount (a .card .now)) (a .ranking .now)) (lit< tt) (c .before .before .check-ranking .ensures)
 
 sets-passed : (c : tie.After-enum-told5) →
     setsRefusal (symbolCount (c .before .before .before .before .before .before .before .before .before .before .before .before .args .card .now)) (c .before .before .before .before .before .before .before .before .before .before .before .before .args .sets .now) ≡ 0
-sets-passed c = sym (c .before .before .check-sets .ensures) ∙ ap stageNumber (c .enum-told5 .given .1)
+sets-passed c = sym (c .before .before .check-sets .ensures) ∙ ap checkedNumber (c .enum-told5 .given .1)
 
 returns : tie.Need-returns
 unfolding setsInputRefusal
 returns c =
     let a = c .before .before .before .before .before .before .args in
-    goes-up stageNumber (c .enum-told2 .given .1) (cardRefusal (a .card .now))
+    goes-up (c .enum-told2 .given .1) (cardRefusal (a .card .now))
     (refuse 7 (isRanking (machineCount (a .card .now)) (a .ranking .now)) ∷ setsRefusal (symbolCount (a .card .now)) (a .sets .now) ∷ refuse 9 (leb (8 * nodeCount (machinesOf (a .card .now)) (length (a .sets .now))) (a .room)) ∷ [])
-    (c .before .before .check-card .ensures) (number-positive (c .enum-told2 .given .0 .0))
+    (c .before .before .check .ensures)
 
 check-ranking-requires : tie.Need-check-ranking-requires
 check-ranking-requires c κs = card-passed c
@@ -49,9 +47,9 @@ returns-2 c =
     let p = c .before .before .before in
     let a = p .before .before .before .before .before .before .args in
     rw (card-passed p)
-    (goes-up stageNumber (c .enum-told4 .given .1) (refuse 7 (isRanking (machineCount (a .card .now)) (a .ranking .now)))
+    (goes-up (c .enum-told4 .given .1) (refuse 7 (isRanking (machineCount (a .card .now)) (a .ranking .now)))
     (setsRefusal (symbolCount (a .card .now)) (a .sets .now) ∷ refuse 9 (leb (8 * nodeCount (machinesOf (a .card .now)) (length (a .sets .now))) (a .room)) ∷ [])
-    (c .before .before .check-ranking .ensures) (number-positive (c .enum-told4 .given .0 .0)))
+    (c .before .before .check-ranking .ensures))
 
 check-sets-requires : tie.Need-check-sets-requires
 check-sets-requires c κs = card-passed (c .before .before .before)
@@ -63,9 +61,9 @@ returns-3 c =
     let p = q .before .before .before in
     let a = p .before .before .before .before .before .before .args in
     rw (card-passed p, ranking-passed q)
-    (goes-up stageNumber (c .enum-told6 .given .1) (setsRefusal (symbolCount (a .card .now)) (a .sets .now))
+    (goes-up (c .enum-told6 .given .1) (setsRefusal (symbolCount (a .card .now)) (a .sets .now))
     (refuse 9 (leb (8 * nodeCount (machinesOf (a .card .now)) (length (a .sets .now))) (a .room)) ∷ [])
-    (c .before .before .check-sets .ensures) (number-positive (c .enum-told6 .given .0 .0)))
+    (c .before .before .check-sets .ensures))
 
 check-work-requires : tie.Need-check-work-requires
 check-work-requires c κs = (card-passed (c .before .before .before .before .before .before), accepted-sets _ _ (sets-passed c) .short)

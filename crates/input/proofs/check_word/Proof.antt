@@ -1,8 +1,7 @@
-use mathlib.Core.Path.{_≡_, sym, ap, _∙_}
-use Rattle.basics.specs.Refusals.{refuse}
+use mathlib.Core.Path.{_≡_, ap, _∙_}
+use Rattle.refusals.specs.Refusals.{refuse}
 use Rattle.card.specs.Layout.{symbolCount}
 use Rattle.product.specs.Optimizing.{soundWord}
-use Rattle.product.specs.Refusals.{stageNumber}
 use borrow.Author.Needs.{needs}
 use Rattle.input.proofs.check_word.Statement.{statement}
 use Rattle.input.proofs.check_word.Tie as tie
@@ -12,14 +11,7 @@ of-card : (c : tie.After-check-word) → refuse 8 (soundWord (c .before .symbol-
 of-card c = ap (λ S. refuse 8 (soundWord S (c .before .before .before .before .args .word .now))) (c .before .symbol-count .ensures)
 
 returns : tie.Need-returns
-returns c =
-    let k = c .before .before in
-    sym (ap stageNumber (c .enum-told .given .1)) ∙ k .check-word .ensures ∙ of-card k
-
-returns-2 : tie.Need-returns-2
-returns-2 c =
-    let k = c .before .before .before in
-    sym (ap stageNumber (c .before .refusal .given .1)) ∙ k .check-word .ensures ∙ of-card k
+returns c = c .check-word .ensures ∙ of-card c
 
 pub check-word-spec : {M : Type 1} → statement M
 check-word-spec =
@@ -27,7 +19,4 @@ check-word-spec =
     (tie.spec
     (λ c κs. search needs)
     (λ c κs. search needs)
-    (λ c. search needs)
-    (λ c. search needs)
-    returns
-    returns-2)
+    returns)

@@ -1,7 +1,7 @@
 use mathlib.Core.Path.{_≡_, sym}
 use Prim.Native.Nat.{_≤_, _+_, _*_}
 use native.Mathlib.Omega.{arith}
-use Rattle.basics.proofs.Refusals.{passes-with, refuses-with}
+use Rattle.refusals.proofs.Refusals.{passes-with, refuses-with}
 use Rattle.card.specs.Card.{machinesOf}
 use Rattle.product.specs.Nodes.{nodeCount}
 use Rattle.input.proofs.Nodes.{room-for, few-for}

@@ -1,26 +1,20 @@
 use borrow.Author.Needs.{needs}
 use native.Mathlib.Omega.{arith}
-use mathlib.Core.Path.{_≡_, refl, sym, ap, _∙_}
-use mathlib.Core.List.{List, [], _∷_}
-use Prim.Native.Nat.{ℕ}
+use mathlib.Core.Path.{_≡_, sym, ap, _∙_}
+use mathlib.Core.List.{[], _∷_}
 use Rattle.card.specs.Card.{cardRefusal}
-use Rattle.basics.specs.Refusals.{refuse, firstOf}
-use Rattle.basics.proofs.Refusals.{goes-on, last-one}
-use Rattle.join.specs.Refusals.{stageNumber}
+use Rattle.refusals.specs.Refusals.{refuse, checkedNumber}
+use Rattle.refusals.proofs.Refusals.{passed-number, goes-up, first-on, last-one}
 use Rattle.join.specs.JoinedCard.{lower, other, joinable, joinFits, machinesRefusal}
-use Rattle.join.proofs.Answers.{two-of, fits-as, passed-number, refused-up}
+use Rattle.join.proofs.Answers.{two-of, fits-as}
 use Rattle.join.proofs.check_joining.Statement.{statement}
 use Rattle.join.proofs.check_joining.Tie as tie
 
--- a refusal that is passed over
-past : (n : ℕ) (ns : List ℕ) → n ≡ 0 → firstOf (n ∷ ns) ≡ firstOf ns
-past n ns e = goes-on (λ (k : ℕ). k) e n ns refl refl
-
--- where a stage passed
+-- where a check passed
 ok : (c : tie.After-enum-told) → cardRefusal (c .before .before .before .before .args .card .now) ≡ 0
-ok c = passed-number (c .enum-told .given .1) (c .before .before .check-card .ensures)
+ok c = passed-number (c .enum-told .given .1) (c .before .before .check .ensures)
 
-tested-27 : (c : tie.After-tested) → stageNumber (c .tested .result) ≡ refuse 27 (joinable (c .before .before .before .before .before .before .args .card .now) (c .before .before .before .before .before .before .args .first) (c .before .before .before .before .before .before .args .second))
+tested-27 : (c : tie.After-tested) → checkedNumber (c .tested .result) ≡ refuse 27 (joinable (c .before .before .before .before .before .before .args .card .now) (c .before .before .before .before .before .before .args .first) (c .before .before .before .before .before .before .args .second))
 tested-27 c = c .tested .ensures ∙ ap (refuse 27) (c .before .is-joinable .ensures)
 
 ok-27 : (c : tie.After-enum-told3) → refuse 27 (joinable (c .before .before .before .before .before .before .before .before .args .card .now) (c .before .before .before .before .before .before .before .before .args .first) (c .before .before .before .before .before .before .before .before .args .second)) ≡ 0
@@ -30,7 +24,7 @@ returns : tie.Need-returns
 unfolding machinesRefusal
 returns c =
     let s = c .before .before .before .before in
-    refused-up (c .enum-told2 .given .1) (cardRefusal (s .args .card .now)) (refuse 27 (joinable (s .args .card .now) (s .args .first) (s .args .second)) ∷ refuse 28 (joinFits (s .args .card .now) (s .args .first) (s .args .second)) ∷ []) (c .before .before .check-card .ensures)
+    goes-up (c .enum-told2 .given .1) (cardRefusal (s .args .card .now)) (refuse 27 (joinable (s .args .card .now) (s .args .first) (s .args .second)) ∷ refuse 28 (joinFits (s .args .card .now) (s .args .first) (s .args .second)) ∷ []) (c .before .before .check .ensures)
 
 is-joinable-requires : tie.Need-is-joinable-requires
 is-joinable-requires c κs = ok c
@@ -42,8 +36,8 @@ returns-2 c =
     let e = t .before .before in
     let s = e .before .before .before .before in
     let card = s .args .card .now in
-    refused-up (c .enum-told4 .given .1) (refuse 27 (joinable card (s .args .first) (s .args .second))) (refuse 28 (joinFits card (s .args .first) (s .args .second)) ∷ []) (tested-27 t)
-    ∙ sym (past (cardRefusal card) (refuse 27 (joinable card (s .args .first) (s .args .second)) ∷ refuse 28 (joinFits card (s .args .first) (s .args .second)) ∷ []) (ok e))
+    goes-up (c .enum-told4 .given .1) (refuse 27 (joinable card (s .args .first) (s .args .second))) (refuse 28 (joinFits card (s .args .first) (s .args .second)) ∷ []) (tested-27 t)
+    ∙ sym (first-on (cardRefusal card) (refuse 27 (joinable card (s .args .first) (s .args .second)) ∷ refuse 28 (joinFits card (s .args .first) (s .args .second)) ∷ []) (ok e))
 
 fits-part-requires : tie.Need-fits-part-requires
 fits-part-requires c κs =
@@ -69,7 +63,7 @@ returns-3 c =
     let w = two-of card a b (ok-27 p) in
     c .tested2 .ensures
     ∙ ap (refuse 28) (f .fits-part .ensures ∙ fits-as card a b w (l .lower .result) (f .before .other .result) (l .lower .ensures) (f .before .other .ensures))
-    ∙ sym (past (cardRefusal card) (refuse 27 (joinable card a b) ∷ refuse 28 (joinFits card a b) ∷ []) (ok e) ∙ past (refuse 27 (joinable card a b)) (refuse 28 (joinFits card a b) ∷ []) (ok-27 p) ∙ last-one (refuse 28 (joinFits card a b)))
+    ∙ sym (first-on (cardRefusal card) (refuse 27 (joinable card a b) ∷ refuse 28 (joinFits card a b) ∷ []) (ok e) ∙ first-on (refuse 27 (joinable card a b)) (refuse 28 (joinFits card a b) ∷ []) (ok-27 p) ∙ last-one (refuse 28 (joinFits card a b)))
 
 pub check-joining-spec : {M : Type 1} → statement M
 check-joining-spec =

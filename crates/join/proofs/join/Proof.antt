@@ -2,12 +2,16 @@ use borrow.Author.Needs.{needs}
 use native.Mathlib.Omega.{arith}
 use mathlib.Core.Path.{_≡_, sym, ap, ap₂, subst, _∙_}
 use mathlib.Core.List.{List}
-use Prim.Native.Nat.{ℕ}
+use Prim.Native.Nat.{ℕ, _≤_}
+use lib.Dec.{leb, lit<}
 use lib.ListN.{length}
-use Rattle.join.specs.JoinedCard.{joinedCard, lower, other, machinesRefusal}
+use borrow.Author.Tests.{leb-true}
+use Rattle.refusals.specs.Refusals.{checkedNumber, refuse}
+use Rattle.join.specs.JoinedCard.{joinedCard, lower, other, joining, machinesRefusal, joiningRefusal}
 use Rattle.join.specs.Laws.Joinable.{may-join}
 use Rattle.join.specs.Writing.{placed, CardJoins}
-use Rattle.join.proofs.Answers.{as-called, passed-number, refused-number, refused-early, too-short, long-enough}
+use Rattle.refusals.proofs.Refusals.{passed-number, was-true, refused-number}
+use Rattle.join.proofs.Answers.{as-called, target-refusal, refused-by, refused-early, long-enough}
 use Rattle.join.proofs.join.Statement.{statement}
 use Rattle.join.proofs.join.Tie as tie
 
@@ -36,9 +40,19 @@ returns c =
 new-card-length-requires : tie.Need-new-card-length-requires
 new-card-length-requires c κs = numbers c
 
+-- refusal 18
+tested-18 : (c : tie.After-tested) → let e = c .before .before .before .before in let i2 = e .before .before .before in let s = i2 .before .before .before .before in
+    checkedNumber (c .tested .result) ≡ refuse 18 (leb (length (joining (s .args .card .now) (i2 .before .index .result) (i2 .index2 .result))) (length (s .args .target .now)))
+tested-18 c =
+    let l = c .before in
+    let o = l .before in
+    let s = o .before .before .before .before .before .before .before .before .before in
+    c .tested .ensures ∙ ap (λ (n : ℕ). refuse 18 (leb n (length (s .args .target .now)))) (l .new-card-length .ensures ∙ ap₂ (λ (x y : ℕ). length (joinedCard x y (s .args .card .now))) (o .before .lower .ensures) (o .other .ensures))
+
 returns-2 : tie.Need-returns-2
 returns-2 c =
-    let l = c .before .before in
+    let t = c .before .before .before in
+    let l = t .before in
     let o = l .before in
     let e = o .before .before in
     let i2 = e .before .before .before in
@@ -46,15 +60,23 @@ returns-2 c =
     let card = s .args .card .now in
     let a = i2 .before .index .result in
     let b = i2 .index2 .result in
-    let len = l .new-card-length .ensures ∙ ap₂ (λ (x y : ℕ). length (joinedCard x y card)) (o .before .lower .ensures) (o .other .ensures) in
+    let n : joiningRefusal card a b (length (s .args .target .now)) ≡ c .number2 .result = target-refusal card a b (s .args .target .now) (passed e) ∙ sym (tested-18 t) ∙ sym (c .number2 .ensures) in
     as-called card (s .args .target .now) a b (s .args .first) (s .args .second) _ _ (i2 .before .index .ensures .0) (i2 .index2 .ensures .0)
-    (ap (λ (n : ℕ). record { number = n; length = 0 }) (c .number2 .ensures) ∙ too-short card a b (s .args .target .now) (passed e) (omega (arith, c .before .if1 .taken, len)) .0, too-short card a b (s .args .target .now) (passed e) (omega (arith, c .before .if1 .taken, len)) .1)
+    (refused-by card a b (s .args .target .now) (c .number2 .result) n (refused-number (c .before .enum-told4 .given .1) (sym (c .number2 .ensures))))
+
+-- the new card fits the target
+fits : (c : tie.After-enum-told3) → let l = c .before .before .before in let e = l .before .before .before in let s = e .before .before .before .before .before .before .before in
+    l .new-card-length .result ≤ length (s .args .target .now)
+fits c =
+    let t = c .before .before in
+    let s = t .before .before .before .before .before .before .before .before .before .before .before in
+    leb-true (t .before .new-card-length .result) (length (s .args .target .now)) (was-true (c .enum-told3 .given .1) 18 (leb (t .before .new-card-length .result) (length (s .args .target .now))) (lit< tt) (t .tested .ensures))
 
 write-card-requires : tie.Need-write-card-requires
 write-card-requires c κs =
     let x = c .before in
-    let o = x .before .before in
-    (numbers o, omega (arith, x .if1 .left, x .before .new-card-length .ensures))
+    let l = x .before .before .before in
+    (numbers (l .before), omega (arith, fits x, l .new-card-length .ensures))
 
 same-length : tie.Need-same-length
 same-length c = omega (arith, c .before .before .write-card .kept)
@@ -63,7 +85,7 @@ returns-3 : tie.Need-returns-3
 returns-3 c =
     let w = c .before .before in
     let x = w .before .before in
-    let l = x .before in
+    let l = x .before .before .before in
     let o = l .before in
     let e = o .before .before in
     let i2 = e .before .before .before in
@@ -73,7 +95,7 @@ returns-3 c =
     let b = i2 .index2 .result in
     let q = ap₂ (λ (x y : ℕ). joinedCard x y card) (o .before .lower .ensures) (o .other .ensures) in
     let len = l .new-card-length .ensures ∙ ap length q in
-    let done = long-enough card a b (s .args .target .now) (passed e) (omega (arith, x .if1 .left, len)) (w .write-card .last .0) (w .write-card .ensures ∙ ap (λ (y : List ℕ). placed 0 y (s .args .target .now)) q) in
+    let done = long-enough card a b (s .args .target .now) (passed e) (omega (arith, fits x, len)) (w .write-card .last .0) (w .write-card .ensures ∙ ap (λ (y : List ℕ). placed 0 y (s .args .target .now)) q) in
     as-called card (s .args .target .now) a b (s .args .first) (s .args .second) _ _ (i2 .before .index .ensures .0) (i2 .index2 .ensures .0)
     (ap (λ (n : ℕ). record { number = 0; length = n }) len ∙ done .0, done .1)
 
@@ -91,6 +113,9 @@ join-spec =
     (λ c κs. search needs)
     (λ c κs. search needs)
     new-card-length-requires
+    (λ c κs. search needs)
+    (λ c. search needs)
+    (λ c. search needs)
     (λ c κs. search needs)
     returns-2
     write-card-requires

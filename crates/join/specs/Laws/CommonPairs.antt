@@ -2,10 +2,10 @@
 use mathlib.Core.Path.{_≡_, refl, sym, ap, _∙_}
 use mathlib.Core.Logic.{_⊎_, inl, inr}
 use mathlib.Core.Bool.{Bool, true, false, not, _&&_, _||_, or-true}
-use Prim.Native.Nat.{ℕ, zero, suc, _/_, _^_, _<_}
+use Prim.Native.Nat.{ℕ, zero, suc, _^_, _<_}
 use native.Mathlib.Decide.{ℕ-discrete}
 use native.Mathlib.Omega.{arith}
-use lib.Bits.{bitAnd, bitOr, and-le-l}
+use lib.Bits.{bitAnd, bitOr, bitXor, and-le-l}
 use lib.Dec.{eqb}
 use borrow.Author.Tests.{eqb-true, eqb-false, eq-eqb, ne-eqb, not-true}
 use Rattle.basics.specs.Sets.{member}
@@ -13,10 +13,11 @@ use Rattle.basics.proofs.Bools.{same, both, left, right, either, fails, clash}
 use Rattle.basics.proofs.Sets.{has-member, its-member, member-and, member-or}
 use Rattle.machine.specs.declared.Arc.{Arc}
 use Rattle.machine.specs.declared.Pair.{Pair}
-use Rattle.machine.specs.Symbols.{isPair}
+use Rattle.machine.specs.Symbols.{emptySymbol, isPair}
+use Rattle.machine.specs.SymbolSets.{withoutEmpty}
 use Rattle.machine.specs.Machine.{ofKind, takes, takeOnePair}
 use Rattle.machine.specs.CommonPair.{take-one, common-pair}
-use Rattle.machine.proofs.SymbolSets.{member-half}
+use Rattle.machine.proofs.Partners.{without-empty}
 use Rattle.join.specs.JoinedMachine.{joinedKind}
 use Rattle.join.specs.Laws.KindsInCommon.{no-common-kind, kinds-joined}
 use Rattle.join.specs.CommonPairs.{kindsClash, PairIn, HasPair}
@@ -31,15 +32,18 @@ made x y h = ap not (fails (eqb x 0 && eqb y 0) (λ t. go (eqb-true x 0 (left (e
     go a b (inl h) = omega (arith, a, h)
     go a b (inr h) = omega (arith, b, h)
 
--- a member that is not 0
-half-member : (w : ℕ) → w < 2 ^ 64 → (w / 2 ≡ 0 → ⊥) → (i : ℕ) × (i < 64) × (0 < i) × (member w i ≡ true)
-half-member w h n =
-    let q = its-member 63 (w / 2) (omega (arith, h)) (omega (arith, n)) in
-    (suc (q .0), omega (arith, q .1), omega arith, member-half w (q .0) ∙ q .2)
+-- a set has a symbol that is not 0 exactly if it has one without the empty symbol
+its-symbol : (w : ℕ) → w < 2 ^ 64 → (withoutEmpty w ≡ 0 → ⊥) → (i : ℕ) × (i < 64) × (0 < i) × (member w i ≡ true)
+its-symbol w h n =
+    let q = its-member 64 (withoutEmpty w) (omega (arith, h, and-le-l w (bitXor w (2 ^ emptySymbol)))) (omega (arith, n)) in
+    let m : (not (eqb (q .0) emptySymbol) && member w (q .0)) ≡ true = sym (without-empty w (q .0)) ∙ q .2 in
+    let d = eqb-false (q .0) emptySymbol (not-true (eqb (q .0) emptySymbol) (left (not (eqb (q .0) emptySymbol)) (member w (q .0)) m)) in
+    (q .0, q .1, omega (arith, d), right (not (eqb (q .0) emptySymbol)) (member w (q .0)) m)
 
-member-half-pos : (w i : ℕ) → 0 < i → member w i ≡ true → w / 2 ≡ 0 → ⊥
-member-half-pos w zero h m e = omega (arith, h)
-member-half-pos w (suc i) h m e = let p = has-member (w / 2) i (sym (member-half w i) ∙ m) in omega (arith, p, e)
+has-symbol : (w i : ℕ) → 0 < i → member w i ≡ true → withoutEmpty w ≡ 0 → ⊥
+has-symbol w i h m e =
+    let p = has-member (withoutEmpty w) i (without-empty w i ∙ both (ap not (ne-eqb i emptySymbol (omega (arith, h)))) m) in
+    omega (arith, p, e)
 
 same-kind : (k : ℕ) (p : Pair) → k ≡ 1 → ofKind k p ≡ (isPair p && eqb (p .input) (p .output))
 unfolding ofKind
@@ -71,38 +75,38 @@ module _ (kind I O : ℕ) (hi : I < 2 ^ 64) (ho : O < 2 ^ 64) (si : I ≡ 0 → 
   an-output = its-member 64 O ho (omega (arith, so))
 
   -- kind 0: one of the sets has a symbol that is not 0
-  pub any-in : kind ≡ 0 → (U : ℕ) → U < 2 ^ 64 → U ≡ bitOr I O → HasPair kind I O (not (eqb (U / 2) 0))
+  pub any-in : kind ≡ 0 → (U : ℕ) → U < 2 ^ 64 → U ≡ bitOr I O → HasPair kind I O (not (eqb (withoutEmpty U) 0))
   any-in k U hU e = record { found = found; missed = missed }
     where
-      found : not (eqb (U / 2) 0) ≡ true → PairIn kind I O
+      found : not (eqb (withoutEmpty U) 0) ≡ true → PairIn kind I O
       found t =
-          let z = half-member U hU (eqb-false (U / 2) 0 (not-true (eqb (U / 2) 0) t)) in
+          let z = its-symbol U hU (eqb-false (withoutEmpty U) 0 (not-true (eqb (withoutEmpty U) 0) t)) in
           go (z .0) (z .1) (z .2) (either (member I (z .0)) (member O (z .0)) (sym (member-or I O (z .0)) ∙ ap (λ w. member w (z .0)) (sym e) ∙ z .3))
         where
           go : (z : ℕ) → z < 64 → 0 < z → (member I z ≡ true) ⊎ (member O z ≡ true) → PairIn kind I O
           go z h p (inl m) = record { pair = record { input = z; output = an-output .0 }; input = h; output = an-output .1; is-pair = made z (an-output .0) (inl p); in-set = m; out-set = an-output .2; kind-is = any-kind kind _ k }
           go z h p (inr m) = record { pair = record { input = an-input .0; output = z }; input = an-input .1; output = h; is-pair = made (an-input .0) z (inr p); in-set = an-input .2; out-set = m; kind-is = any-kind kind _ k }
 
-      missed : PairIn kind I O → not (eqb (U / 2) 0) ≡ true
-      missed q = ap not (ne-eqb (U / 2) 0 (λ z. go (eqb (q .pair .input) 0) refl z))
+      missed : PairIn kind I O → not (eqb (withoutEmpty U) 0) ≡ true
+      missed q = ap not (ne-eqb (withoutEmpty U) 0 (λ z. go (eqb (q .pair .input) 0) refl z))
         where
           in-union : (i : ℕ) → (member I i ≡ true) ⊎ (member O i ≡ true) → member U i ≡ true
           in-union i (inl m) = ap (λ w. member w i) e ∙ member-or I O i ∙ ap (λ b. b || member O i) m
           in-union i (inr m) = ap (λ w. member w i) e ∙ member-or I O i ∙ ap (λ b. member I i || b) m ∙ or-true (member I i)
 
-          go : (b : Bool) → eqb (q .pair .input) 0 ≡ b → U / 2 ≡ 0 → ⊥
-          go false f z = member-half-pos U (q .pair .input) (omega (arith, eqb-false (q .pair .input) 0 f)) (in-union (q .pair .input) (inl (q .in-set))) z
+          go : (b : Bool) → eqb (q .pair .input) 0 ≡ b → withoutEmpty U ≡ 0 → ⊥
+          go false f z = has-symbol U (q .pair .input) (omega (arith, eqb-false (q .pair .input) 0 f)) (in-union (q .pair .input) (inl (q .in-set))) z
           go true f z =
               let g : eqb (q .pair .output) 0 ≡ false = fails (eqb (q .pair .output) 0) (λ t. clash (both f t) (not-true (eqb (q .pair .input) 0 && eqb (q .pair .output) 0) (q .is-pair))) in
-              member-half-pos U (q .pair .output) (omega (arith, eqb-false (q .pair .output) 0 g)) (in-union (q .pair .output) (inr (q .out-set))) z
+              has-symbol U (q .pair .output) (omega (arith, eqb-false (q .pair .output) 0 g)) (in-union (q .pair .output) (inr (q .out-set))) z
 
   -- kind 1: both have a symbol that is not 0
-  pub same-in : kind ≡ 1 → HasPair kind I O (not (eqb (bitAnd I O / 2) 0))
+  pub same-in : kind ≡ 1 → HasPair kind I O (not (eqb (withoutEmpty (bitAnd I O)) 0))
   same-in k = record { found = found; missed = missed }
     where
-      found : not (eqb (bitAnd I O / 2) 0) ≡ true → PairIn kind I O
+      found : not (eqb (withoutEmpty (bitAnd I O)) 0) ≡ true → PairIn kind I O
       found t =
-          let z = half-member (bitAnd I O) (omega (arith, hi, and-le-l I O)) (eqb-false (bitAnd I O / 2) 0 (not-true (eqb (bitAnd I O / 2) 0) t)) in
+          let z = its-symbol (bitAnd I O) (omega (arith, hi, and-le-l I O)) (eqb-false (withoutEmpty (bitAnd I O)) 0 (not-true (eqb (withoutEmpty (bitAnd I O)) 0) t)) in
           let m = sym (member-and I O (z .0)) ∙ z .3 in
           let p : Pair = record { input = z .0; output = z .0 } in
           let i = made (z .0) (z .0) (inl (z .2)) in
@@ -116,7 +120,7 @@ module _ (kind I O : ℕ) (hi : I < 2 ^ 64) (ho : O < 2 ^ 64) (si : I ≡ 0 → 
             kind-is = same-kind kind p k ∙ both i (eq-eqb (z .0) (z .0) refl);
           }
 
-      missed : PairIn kind I O → not (eqb (bitAnd I O / 2) 0) ≡ true
+      missed : PairIn kind I O → not (eqb (withoutEmpty (bitAnd I O)) 0) ≡ true
       missed q =
           let x = q .pair .input in
           let y = q .pair .output in
@@ -124,7 +128,7 @@ module _ (kind I O : ℕ) (hi : I < 2 ^ 64) (ho : O < 2 ^ 64) (si : I ≡ 0 → 
           let e : x ≡ y = eqb-true x y (right (isPair (q .pair)) (eqb x y) s) in
           let p : x ≡ 0 → ⊥ = λ z. clash (both (eq-eqb x 0 z) (eq-eqb y 0 (sym e ∙ z))) (not-true (eqb x 0 && eqb y 0) (q .is-pair)) in
           let m : member (bitAnd I O) x ≡ true = member-and I O x ∙ both (q .in-set) (ap (λ n. member O n) e ∙ q .out-set) in
-          ap not (ne-eqb (bitAnd I O / 2) 0 (member-half-pos (bitAnd I O) x (omega (arith, p)) m))
+          ap not (ne-eqb (withoutEmpty (bitAnd I O)) 0 (has-symbol (bitAnd I O) x (omega (arith, p)) m))
 
   -- kind 2: the two together have more symbols than one. R is what they have but for their least symbol t
   pub unlike-in : (kind ≡ 0 → ⊥) → (kind ≡ 1 → ⊥) → (U R t : ℕ) → U ≡ bitOr I O → R < 2 ^ 64 → t < 64 → member U t ≡ true → ((n : ℕ) → member R n ≡ (member U n && not (eqb n t))) → HasPair kind I O (not (eqb R 0))

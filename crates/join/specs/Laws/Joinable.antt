@@ -7,9 +7,9 @@ use Prim.Native.Nat.{ℕ, _<_}
 use native.Mathlib.Omega.{arith}
 use lib.Dec.{eqb, ltb, lit<}
 use borrow.Author.Tests.{eqb-false, ltb-true, ltb-false, not-true}
-use Rattle.basics.specs.Refusals.{refuse}
+use Rattle.refusals.specs.Refusals.{refuse}
 use Rattle.basics.proofs.Bools.{left, right, either}
-use Rattle.basics.proofs.Refusals.{passed, none-first}
+use Rattle.refusals.proofs.Refusals.{passed, none-first}
 use Rattle.machine.specs.Machine.{Machine}
 use Rattle.card.specs.Layout.{machineCount}
 use Rattle.card.specs.Card.{machinesOf, cardRefusal}

@@ -1,12 +1,12 @@
 -- Laws of lists in which one place takes in another. Assumes nothing.
 use mathlib.Core.Path.{_≡_, refl, sym, ap, subst, _∙_}
 use mathlib.Core.Bool.{Bool, true, false, _&&_, and-assoc, and-comm}
-use mathlib.Core.List.{List, [], _∷_, map}
+use mathlib.Core.List.{List, [], _∷_, _++_, map}
 use Prim.Native.Nat.{ℕ, zero, suc, _*_, _<_, _≤_}
 use native.Mathlib.Nat.{mul-assoc, mul-comm}
 use native.Mathlib.Omega.{arith}
 use lib.Dec.{eqb, ltb}
-use lib.ListN.{length, getD, List·getD-map}
+use lib.ListN.{length, getD, List·getD-map, List·getD-append}
 use borrow.Author.Tests.{eqb-true, eqb-false, ltb-true, ltb-false}
 use Rattle.basics.specs.Search.{allOf, without}
 use Rattle.basics.specs.Products.{product}
@@ -66,6 +66,23 @@ module _ {A : Type 0} where
   merged-after f (x ∷ xs) zero (suc j) (suc k) d h l = without-after xs j k d (omega arith)
   merged-after f (x ∷ xs) (suc i) (suc j) zero d h l = absurd (omega arith)
   merged-after f (x ∷ xs) (suc i) (suc j) (suc k) d h l = merged-after f xs i j k d (omega arith) (omega arith)
+
+  -- what stands behind them stays
+  without-append : (xs ys : List A) (j : ℕ) → j < length xs → without j (xs ++ ys) ≡ without j xs ++ ys
+  unfolding without
+  without-append [] ys j h = absurd (omega arith)
+  without-append (x ∷ xs) ys zero h = refl
+  without-append (x ∷ xs) ys (suc j) h = ap (λ (l : List A). x ∷ l) (without-append xs ys j (omega arith))
+
+  pub merged-append : (f : A → A → A) (xs ys : List A) (i j : ℕ) → i < j → j < length xs → mergedAt f i j (xs ++ ys) ≡ mergedAt f i j xs ++ ys
+  unfolding mergedAt
+  merged-append f [] ys i j h k = absurd (omega arith)
+  merged-append f (x ∷ xs) ys i zero h k = absurd (omega arith)
+  merged-append f (x ∷ xs) ys zero (suc j) h k =
+      let q = List·getD-append xs ys x j (omega arith) in
+      let w = without-append xs ys j (omega arith) in
+      λ n. f x (q n) ∷ w n
+  merged-append f (x ∷ xs) ys (suc i) (suc j) h k = ap (λ (l : List A). x ∷ l) (merged-append f xs ys i j (omega arith) (omega arith))
 
   -- what holds of each element and of the merged one holds of each then
   pub each-merged : (P : A → Type 0) (f : A → A → A) (xs : List A) (i j : ℕ) (d : A) → i < j → j < length xs → ((k : ℕ) → k < length xs → P (getD xs k d))

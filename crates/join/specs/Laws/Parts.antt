@@ -7,9 +7,9 @@ use native.Mathlib.Omega.{arith}
 use lib.Dec.{eqb, leb}
 use borrow.Author.Tests.{eqb-true, leb-true, eq-eqb, le-leb}
 use Rattle.basics.specs.Search.{allOf}
-use Rattle.basics.specs.Refusals.{firstOf}
+use Rattle.refusals.specs.Refusals.{firstOf}
 use Rattle.basics.proofs.Bools.{same, both, left, right}
-use Rattle.basics.proofs.Refusals.{none-first}
+use Rattle.refusals.proofs.Refusals.{none-first}
 use Rattle.machine.specs.Part.{stateCount, stateBytes, endingByte, arcsOf, machineOf, shaped, soundArc, soundStates, soundArcs, partRefusal}
 use Rattle.machine.specs.Accepted.{Accepted, accepted, shape-facts, state-count}
 use Rattle.card.specs.Card.{partsRefusal}

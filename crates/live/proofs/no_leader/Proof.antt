@@ -1,5 +1,6 @@
-use mathlib.Core.Path.{ap}
+use mathlib.Core.Path.{ap₂}
 use mathlib.Core.Bool.{false}
+use Prim.Native.Nat.{ℕ}
 use borrow.Author.Needs.{needs}
 use Rattle.live.specs.declared.Row.{Row}
 use Rattle.live.specs.declared.Lead.{Lead}
@@ -7,7 +8,7 @@ use Rattle.live.proofs.no_leader.Statement.{statement}
 use Rattle.live.proofs.no_leader.Tie as tie
 
 returns : tie.Need-returns
-returns c = ap {B = Lead} (λ (r : Row). record { number = c .before .args .number; any = false; row = r }) (c .zero-row .ensures)
+returns c = ap₂ {C = Lead} (λ (n : ℕ) (r : Row). record { number = n; any = false; row = r }) (c .before .number .ensures) (c .zero-row .ensures)
 
 pub no-leader-spec : {M : Type 1} → statement M
-no-leader-spec = tie.close (tie.spec (λ c κs. search needs) returns)
+no-leader-spec = tie.close (tie.spec (λ c κs. search needs) (λ c κs. search needs) returns)

@@ -3,9 +3,8 @@ use mathlib.Core.Path.{sym, _∙_, ap}
 use native.Mathlib.Omega.{arith}
 use borrow.Author.Needs.{needs}
 use lib.ListN.{length}
-use Rattle.optimizer.specs.Refusals.{stageNumber}
-use Rattle.optimizer.proofs.Refusals.{number-positive}
-use Rattle.optimizer.proofs.Labels.{above-zero}
+use Rattle.refusals.specs.Refusals.{checkedNumber}
+use Rattle.refusals.proofs.Refusals.{refused-number}
 use Rattle.optimizer.proofs.Stages.{some-ranking, start-there, at-start, loaded-at, refused-answered, walk-pre, walked-few, best-answered}
 use Rattle.optimizer.proofs.read_out.Statement.{statement}
 use Rattle.optimizer.proofs.read_out.Tie as tie
@@ -25,7 +24,7 @@ returns c =
     let m = c .before .number in
     refused-answered (s .pre .0) (s .pre .1) (s .args .answer .now) (m .result) (c .refused .result)
     (at-start (s .pre .0) (s .pre .1) _ _ (n .start-node .ensures) (m .ensures ∙ k .check-best .ensures))
-    (omega (arith, m .ensures, above-zero stageNumber (t .1) (number-positive (t .0 .0)))) (c .refused .ensures)
+    (refused-number (t .1) (sym (m .ensures))) (c .refused .ensures)
 
 load-requires : tie.Need-load-requires
 load-requires c κs =
@@ -43,7 +42,7 @@ walk-requires c κs =
     let k = t .before .before in
     let n = k .before in
     let s = n .before .before .before .before .before .before in
-    walk-pre (s .pre .0) (s .pre .1) (length (s .args .answer .now)) (sym (at-start (s .pre .0) (s .pre .1) _ _ (n .start-node .ensures) (k .check-best .ensures)) ∙ ap stageNumber (t .enum-told .given .1))
+    walk-pre (s .pre .0) (s .pre .1) (length (s .args .answer .now)) (sym (at-start (s .pre .0) (s .pre .1) _ _ (n .start-node .ensures) (k .check-best .ensures)) ∙ ap checkedNumber (t .enum-told .given .1))
 
 cast-pairs : tie.Need-cast-pairs
 cast-pairs c =
@@ -53,7 +52,7 @@ cast-pairs c =
     let n = k .before in
     let s = n .before .before .before .before .before .before in
     let few =
-    walked-few (s .pre .0) (s .pre .1) (length (s .args .answer .now)) (sym (at-start (s .pre .0) (s .pre .1) _ _ (n .start-node .ensures) (k .check-best .ensures)) ∙ ap stageNumber (t .enum-told .given .1)) (w .walk .ensures)
+    walked-few (s .pre .0) (s .pre .1) (length (s .args .answer .now)) (sym (at-start (s .pre .0) (s .pre .1) _ _ (n .start-node .ensures) (k .check-best .ensures)) ∙ ap checkedNumber (t .enum-told .given .1)) (w .walk .ensures)
     in
     omega (arith, few)
 
@@ -72,7 +71,7 @@ returns-2 c =
     let n = k .before in
     let s = n .before .before .before .before .before .before in
     best-answered (s .pre .0) (s .pre .1) (d .load .result) (p .profile-of .result)
-    (sym (at-start (s .pre .0) (s .pre .1) _ _ (n .start-node .ensures) (k .check-best .ensures)) ∙ ap stageNumber (t .enum-told .given .1))
+    (sym (at-start (s .pre .0) (s .pre .1) _ _ (n .start-node .ensures) (k .check-best .ensures)) ∙ ap checkedNumber (t .enum-told .given .1))
     (loaded-at (s .pre .0) (s .pre .1) _ (n .start-node .ensures) (d .load .ensures)) (p .profile-of .ensures) (w .walk .ensures)
 
 pub read-out-spec : {M : Type 1} → statement M

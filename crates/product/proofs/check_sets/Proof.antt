@@ -6,7 +6,7 @@ use lib.ListN.{length, getD, drop}
 use borrow.Author.Needs.{needs}
 use borrow.Author.Tests.{not-true, not-false}
 use Rattle.basics.specs.Search.{allOf}
-use Rattle.basics.specs.Refusals.{refuse}
+use Rattle.refusals.specs.Refusals.{refuse}
 use Rattle.product.specs.OptimizingSets.{symbolSet, setsRefusal}
 use Rattle.product.proofs.Sets.{too-many, few, next-set, wrong-set, no-set-left}
 use Rattle.product.proofs.check_sets.Statement.{statement}

@@ -6,7 +6,7 @@ use lib.ListN.{length, getD, drop}
 use borrow.Author.Needs.{needs}
 use borrow.Author.Tests.{not-true, not-false}
 use Rattle.basics.specs.Search.{allOf}
-use Rattle.basics.proofs.Refusals.{passes-with, refuses-with}
+use Rattle.refusals.proofs.Refusals.{passes-with, refuses-with}
 use Rattle.product.specs.Optimizing.{soundWord}
 use Rattle.product.proofs.Words.{symbol, wrong-length, right-length, next-symbol, wrong-symbol, no-symbol-left}
 use Rattle.product.proofs.check_word.Statement.{statement}

@@ -1,12 +1,12 @@
 -- What an accepted card promises of its machines and of P.
-use mathlib.Core.Path.{_≡_, refl, _∙_, ap, ap₂}
+use mathlib.Core.Path.{_≡_, refl, ap, ap₂}
 use mathlib.Core.List.{List, [], _∷_, map}
-use Prim.Native.Nat.{ℕ, _+_, _≤_}
+use Prim.Native.Nat.{ℕ, _≤_}
 use native.Mathlib.Omega.{arith}
-use lib.ListN.{length, length-map}
+use lib.ListN.{length}
 use borrow.Author.Tests.{le-leb}
 use Rattle.basics.proofs.Bools.{both}
-use Rattle.basics.proofs.Refusals.{none-first}
+use Rattle.refusals.proofs.Refusals.{none-first}
 use Rattle.machine.specs.Part.{machineOf, stateCount, partRefusal}
 use Rattle.machine.specs.Accepted.{shape-facts, state-count, accepted}
 use Rattle.machine.specs.Steps.{step-bounds, ending-bounds}

@@ -1,12 +1,15 @@
--- The best candidate is the best path from the start node.
+-- The best candidate is the best path from the start node, and a candidate that none beats by profile or pair count is a cheapest one.
 use mathlib.Core.Path.{_≡_, sym, _∙_, ap}
-use mathlib.Core.Logic.{_≢_}
-use mathlib.Core.Bool.{true}
+use mathlib.Core.Logic.{_⊎_, inl, inr, _≢_}
+use mathlib.Core.Bool.{true, false}
 use mathlib.Core.List.{List}
 use mathlib.Core.Option.{some}
-use Prim.Native.Nat.{ℕ}
+use Prim.Native.Nat.{ℕ, _<_, _≤_}
+use native.Mathlib.Decide.{decLt}
+use native.Mathlib.Omega.{arith}
 use lib.ListN.{length, length-map}
 use lib.Seq.{ext-getD}
+use Rattle.basics.proofs.Bools.{clash}
 use Rattle.machine.specs.declared.Pair.{Pair}
 use Rattle.machine.specs.Machine.{Machine}
 use Rattle.ranking.specs.Rankings.{isRanking}
@@ -15,15 +18,16 @@ use Rattle.ranking.specs.HarmonicInequality.{better-worse, neither-way, equal-m
 use Rattle.candidate.specs.Candidates.{marksOf, countOf, profileOf, IsCandidate}
 use Rattle.product.specs.Sets.{singletons, IsCandidateOf}
 use Rattle.product.specs.Best.{contenderOf, ProfileOrder, harmonic}
+use Rattle.paths.specs.Total.{lex-total, same?, asym, less-not-same}
 use Rattle.paths.specs.Costs.{Costs}
 use Rattle.paths.specs.Graph.{pathCost}
-use Rattle.paths.specs.Best.{Before, IsBest}
+use Rattle.paths.specs.Best.{Before, before-total, IsBest, IsCheapest}
 use Rattle.product.specs.Prices.{Price, Alike, Agrees, byRanking, ranking-agrees}
 use Rattle.product.specs.ProductGraph.{pairs, startNode, productGraph}
-use Rattle.product.specs.BestCandidate.{BeatsIn, by-profile, by-pairs, by-bytes, IsBestIn, Beats, better-profile, fewer-pairs, smaller-bytes, IsBestCandidate, IsBestOfSets}
+use Rattle.product.specs.BestCandidate.{BeatsIn, by-profile, by-pairs, by-bytes, IsBestIn, IsUnbeatenIn, Beats, better-profile, fewer-pairs, smaller-bytes, IsBestCandidate, IsBestOfSets}
 use Rattle.product.specs.Laws.JointStep.{AllSound}
 use Rattle.product.specs.Laws.Candidates.{fitting-cost, CostOfFitting, cost-fitting, as-sets, as-word}
-use Rattle.product.specs.Laws.Preference.{beats-earlier, earlier-beats}
+use Rattle.product.specs.Laws.Preference.{decided, fewer-cost-less, same-cost, beats-earlier, earlier-beats}
 
 -- a profile has one count per machine
 pub profile-length : (ms : List Machine) (c : List Pair) → length (profileOf ms c) ≡ length ms
@@ -71,7 +75,36 @@ module _ (r : List ℕ) (ms : List Machine) (sets : List ℕ) (c : List Pair) wh
   pub harmonic-sets : isRanking (length ms) r ≡ true → IsBestIn (harmonic r) ms (IsCandidateOf ms sets) c → IsBestOfSets r ms sets c
   harmonic-sets is a = record { candidate = a .candidate; rivals = λ d h n. harmonic-beats r ms c d is (a .rivals d h n) }
 
--- ---- the best candidate is the best path
+-- ---- the best candidate is one that none beats by profile or pair count, whatever candidates are meant
+
+module _ {costs : Costs} {price : Price costs} {better : ProfileOrder} (agrees : Agrees price better) {ms : List Machine} {Meant : List Pair → Type 0} where
+  pub best-unbeaten : (c : List Pair) → IsBestIn better ms Meant c → IsUnbeatenIn better ms Meant c
+  best-unbeaten c a = record {
+    candidate = a .candidate;
+    none-better = λ d h. not-better d h (decided (better (profileOf ms d) (profileOf ms c)));
+    none-shorter = λ d h e. not-shorter d h e (decLt (length d) (length c));
+  }
+    where
+      costOf : List Pair → costs .Cost
+      costOf d = price .of (profileOf ms d) (length d)
+
+      not-cheaper : (d : List Pair) → Meant d → Dec (d ≡ c) → ¬ (costs ._≺_ (costOf d) (costOf c))
+      not-cheaper d h (yes e) l = costs .total .irrefl (costOf c) (rw e at l)
+      not-cheaper d h (no n) l =
+          asym (before-total costs pairs) (costOf c, c) (costOf d, d) (beats-earlier agrees (contenderOf ms c) (contenderOf ms d) (a .rivals d h n)) (inl l)
+
+      refuted : (d : List Pair) → Meant d → ¬ (costs ._≺_ (costOf d) (costOf c))
+      refuted d h = not-cheaper d h (same? (lex-total (pairs ._◃_) (pairs .total)) d c)
+
+      not-better : (d : List Pair) → Meant d → (better (profileOf ms d) (profileOf ms c) ≡ true) ⊎ (better (profileOf ms d) (profileOf ms c) ≡ false) → better (profileOf ms d) (profileOf ms c) ≡ false
+      not-better d h (inl e) = absurd (refuted d h (agrees .less (profileOf ms d) (profileOf ms c) (length d) (length c) e))
+      not-better d h (inr e) = e
+
+      not-shorter : (d : List Pair) → Meant d → Alike better (profileOf ms d) (profileOf ms c) → Dec (length d < length c) → length c ≤ length d
+      not-shorter d h e (yes l) = absurd (refuted d h (rw (agrees .alike (profileOf ms d) (profileOf ms c) (length d) e) (fewer-cost-less price (profileOf ms c) (length d) (length c) l)))
+      not-shorter d h e (no n) = omega arith
+
+-- ---- the best candidate is the best path, and one that none beats by profile or pair count a cheapest path
 
 module _ {costs : Costs} {price : Price costs} {better : ProfileOrder} (agrees : Agrees price better) {S : ℕ} {ms : List Machine} (sound : AllSound S ms) where
   -- over sets
@@ -95,6 +128,23 @@ module _ {costs : Costs} {price : Price costs} {better : ProfileOrder} (agrees :
             let k = cost-fitting price sets sound d x h in
             rw (k .cost) (beats-earlier agrees (contenderOf ms c) (contenderOf ms d) (a .rivals d (k .is) n))
 
+    pub unbeaten-path : (c : List Pair) → IsUnbeatenIn better ms (IsCandidateOf ms sets) c → IsCheapest (productGraph price sets ms) (startNode ms) c
+    unbeaten-path c a = record { cost = price .of (profileOf ms c) (length c); is = fitting-cost price sets sound c (a .candidate); none-cheaper = none-cheaper }
+      where
+        none-cheaper : (d : List Pair) (x : costs .Cost) → pathCost (productGraph price sets ms) (startNode ms) d ≡ some x → ¬ (costs ._≺_ x (price .of (profileOf ms c) (length c)))
+        none-cheaper d x h l = go (earlier-beats agrees (contenderOf ms d) (contenderOf ms c) (inl less))
+          where
+            k : CostOfFitting price sets sound d x
+            k = cost-fitting price sets sound d x h
+
+            less : costs ._≺_ (price .of (profileOf ms d) (length d)) (price .of (profileOf ms c) (length c))
+            less = rw (k .cost) at l
+
+            go : BeatsIn better (contenderOf ms d) (contenderOf ms c) → ⊥
+            go (by-profile e) = clash e (a .none-better d (k .is))
+            go (by-pairs e f) = omega (arith, a .none-shorter d (k .is) e)
+            go (by-bytes e f g) = less-not-same (costs .total) less (same-cost agrees (contenderOf ms d) (contenderOf ms c) e f)
+
   -- for a word
   module _ (word : List ℕ) where
     pub path-best-in : (c : List Pair) → IsBest (productGraph price (singletons word) ms) (startNode ms) c → IsBestIn better ms (IsCandidate ms word) c
@@ -104,6 +154,10 @@ module _ {costs : Costs} {price : Price costs} {better : ProfileOrder} (agrees :
 
     pub best-in-path : (c : List Pair) → IsBestIn better ms (IsCandidate ms word) c → IsBest (productGraph price (singletons word) ms) (startNode ms) c
     best-in-path c a = best-of-sets-path (singletons word) c (record { candidate = as-sets word c (a .candidate); rivals = λ d h. a .rivals d (as-word word d h) })
+
+-- of a word and of its sets of one symbol each the same candidates are unbeaten
+pub unbeaten-sets : {better : ProfileOrder} {ms : List Machine} (word : List ℕ) {c : List Pair} → IsUnbeatenIn better ms (IsCandidate ms word) c → IsUnbeatenIn better ms (IsCandidateOf ms (singletons word)) c
+unbeaten-sets word {c} a = record { candidate = as-sets word c (a .candidate); none-better = λ d h. a .none-better d (as-word word d h); none-shorter = λ d h. a .none-shorter d (as-word word d h) }
 
 -- under a ranking
 pub best-sets-path : {S : ℕ} {ms : List Machine} (sound : AllSound S ms) (r sets : List ℕ) (c : List Pair) → IsBestOfSets r ms sets c → IsBest (productGraph (byRanking r) sets ms) (startNode ms) c

@@ -14,7 +14,7 @@ use Rattle.basics.specs.Sets.{member}
 use Rattle.basics.proofs.Bools.{left as left-passes, either, left-fails, right-fails, clash}
 use Rattle.basics.proofs.Sets.{no-member}
 use Rattle.machine.specs.declared.Pair.{Pair}
-use Rattle.machine.specs.Symbols.{emptySymbol}
+use Rattle.machine.specs.Symbols.{emptySymbol, firstSymbol}
 use Rattle.machine.specs.SymbolSets.{leastSymbol}
 use Rattle.machine.proofs.SymbolSets.{below-least}
 use Rattle.machine.proofs.SetLoops.{with-true}
@@ -25,7 +25,7 @@ use Rattle.product.specs.Laws.Letters.{PairAt}
 
 -- no pair with the in x and an out before y passes
 pub record Passing (card : List ℕ) (Passes : Pair → Type 0) (x y : ℕ) : Type 0 where
-  pub from : x ≡ emptySymbol → 1 ≤ y
+  pub from : x ≡ emptySymbol → firstSymbol ≤ y
   pub upto : y ≤ symbolCount card + 1
   pub passed : (q : Pair) → q .input ≡ x → q .output < y → ¬ (Passes q)
 

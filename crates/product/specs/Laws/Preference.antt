@@ -93,7 +93,7 @@ cases-tie c d (inl k) = or-left (eqb (length c) (length d) && smaller (bytesOf c
 cases-tie c d (inr k) = or-right (ltb (length c) (length d)) (both (eq-eqb (length c) (length d) (k .0)) (k .1))
 
 -- a test passes or fails
-decided : (a : Bool) → (a ≡ true) ⊎ (a ≡ false)
+pub decided : (a : Bool) → (a ≡ true) ⊎ (a ≡ false)
 decided true = inl refl
 decided false = inr refl
 
@@ -165,7 +165,7 @@ module _ {costs : Costs} (price : Price costs) where
 
 module _ {costs : Costs} {price : Price costs} {better : ProfileOrder} (agrees : Agrees price better) (a b : Contender) where
   -- profiles of which neither is better, with as many pairs, cost the same
-  same-cost : Alike better (a .profile) (b .profile) → length (a .candidate) ≡ length (b .candidate) → keyOf price a .0 ≡ keyOf price b .0
+  pub same-cost : Alike better (a .profile) (b .profile) → length (a .candidate) ≡ length (b .candidate) → keyOf price a .0 ≡ keyOf price b .0
   same-cost e k = agrees .alike (a .profile) (b .profile) (length (a .candidate)) e ∙ ap (price .of (b .profile)) k
 
   pub beats-earlier : BeatsIn better a b → Earlier price a b

@@ -1,6 +1,6 @@
--- What accepted sets are known to be, and that sets of one symbol each are accepted where the word is.
-use mathlib.Core.Path.{_≡_, refl, sym, _∙_}
-use mathlib.Core.Bool.{Bool, true, false, not, _&&_}
+-- What accepted sets are known to be, and that sets of one symbol each pass the test of sets exactly where the word passes that of symbols.
+use mathlib.Core.Path.{_≡_, refl}
+use mathlib.Core.Bool.{true, not, _&&_, and-false}
 use mathlib.Core.List.{List, [], _∷_}
 use Prim.Native.Nat.{ℕ, zero, suc, _+_, _^_, _<_, _≤_}
 use native.Mathlib.Decide.{decLt}
@@ -8,20 +8,19 @@ use native.Mathlib.Omega.{arith}
 use lib.Dec.{leb, ltb, eqb, lit<}
 use lib.ListN.{length, getD}
 use lib.Pow.{pow-pos, pow-lt, pow-mono}
-use borrow.Author.Tests.{leb-true, le-leb, ltb-true, lt-ltb, ne-eqb, not-true}
+use borrow.Author.Tests.{leb-true, le-leb, lt-leb, ltb-true, lt-ltb, le-ltb, ne-eqb, not-true}
 use Rattle.basics.specs.Search.{allOf}
 use Rattle.basics.specs.Sets.{member}
-use Rattle.basics.specs.Refusals.{refuse, firstOf}
-use Rattle.basics.proofs.Bools.{both, left, right, clash}
+use Rattle.refusals.specs.Refusals.{refuse}
+use Rattle.basics.proofs.Bools.{left, right, clash}
 use Rattle.basics.proofs.Search.{all-at, each-at}
 use Rattle.basics.proofs.Sets.{member-beyond, member-one}
-use Rattle.basics.proofs.Refusals.{passed, none-first}
+use Rattle.refusals.proofs.Refusals.{passed, none-first}
 use Rattle.machine.specs.Symbols.{emptySymbol}
 use Rattle.machine.specs.Part.{soundSet}
 use Rattle.product.specs.Sets.{singletons}
-use Rattle.product.specs.Optimizing.{soundWord}
 use Rattle.product.specs.OptimizingSets.{symbolSet, setsRefusal}
-use Rattle.product.specs.Laws.Sets.{member-within, as-many}
+use Rattle.product.specs.Laws.Sets.{member-within}
 use Rattle.product.specs.Laws.BestOfSets.{are64Bits}
 
 -- ---- one set
@@ -73,27 +72,16 @@ module _ (S : ℕ) (sets : List ℕ) (t : allOf (symbolSet S) sets ≡ true) whe
 
 -- ---- sets of one symbol each
 
-singleton-set : (S x : ℕ) → 1 ≤ x → x ≤ S → symbolSet S (2 ^ x) ≡ true
-singleton-set S x h k =
-    let n : not (eqb (2 ^ x) 0) ≡ true = rw (ne-eqb (2 ^ x) 0 (omega (arith, pow-pos x))) in
-    let o : not (member (2 ^ x) emptySymbol) ≡ true = rw (member-one x emptySymbol, ne-eqb emptySymbol x (omega arith)) in
-    both (both n (lt-ltb (2 ^ x) (2 ^ (S + 1)) (pow-lt (omega arith)))) o
+singleton-set : (S x : ℕ) → symbolSet S (2 ^ x) ≡ (leb 1 x && leb x S)
+singleton-set S zero = and-false (soundSet S (2 ^ 0))
+singleton-set S (suc x) = rw (member-one (suc x) emptySymbol, ne-eqb emptySymbol (suc x) (omega arith), ne-eqb (2 ^ suc x) 0 (omega (arith, pow-pos (suc x))), le-leb 1 (suc x) (omega arith)) (go (decLt S (suc x)))
+  where
+    go : Dec (S < suc x) → (ltb (2 ^ suc x) (2 ^ (S + 1)) && true) ≡ leb (suc x) S
+    go (yes h) = rw (le-ltb (2 ^ suc x) (2 ^ (S + 1)) (pow-mono {i = S + 1} {j = suc x} (omega arith)), lt-leb (suc x) S h)
+    go (no h) = rw (lt-ltb (2 ^ suc x) (2 ^ (S + 1)) (pow-lt (omega arith)), le-leb (suc x) S (omega arith))
 
-module _ (S : ℕ) where
-  pub singleton-sets : (word : List ℕ) → allOf (λ x. leb 1 x && leb x S) word ≡ true → allOf (symbolSet S) (singletons word) ≡ true
-  unfolding allOf
-  singleton-sets [] t = refl
-  singleton-sets (x ∷ word) t =
-      let rest = allOf (λ x. leb 1 x && leb x S) word in
-      let its = left (leb 1 x && leb x S) rest t in
-      both (singleton-set S x (leb-true 1 x (left (leb 1 x) (leb x S) its)) (leb-true x S (right (leb 1 x) (leb x S) its)))
-      (singleton-sets word (right (leb 1 x && leb x S) rest t))
-
-  -- what is left of the two checks is the length limit
-  pub same-limit : (word : List ℕ) → allOf (λ x. leb 1 x && leb x S) word ≡ true → setsRefusal S (singletons word) ≡ refuse 8 (soundWord S word)
-  unfolding setsRefusal soundWord
-  same-limit word t = rw (singleton-sets word t, t, as-many word) (go (leb (length word) 24))
-    where
-      go : (b : Bool) → firstOf (refuse 8 b ∷ 0 ∷ []) ≡ refuse 8 (b && true)
-      go true = refl
-      go false = refl
+-- they are sets of symbols exactly where the word is of symbols
+pub singleton-sets : (S : ℕ) (word : List ℕ) → allOf (symbolSet S) (singletons word) ≡ allOf (λ x. leb 1 x && leb x S) word
+unfolding allOf
+singleton-sets S [] = refl
+singleton-sets S (x ∷ word) = rw (singleton-set S x, singleton-sets S word)

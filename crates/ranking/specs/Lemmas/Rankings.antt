@@ -11,8 +11,7 @@ use Rattle.basics.specs.Search.{everyBelow, occurrences}
 use Rattle.basics.proofs.Bools.{left, right, both}
 use Rattle.basics.proofs.Below.{every-at, one-below-fails}
 use Rattle.basics.proofs.Occurrences.{its-place, one-place}
-use Rattle.ranking.specs.Refusals.{isMachineCount}
-use Rattle.ranking.specs.Rankings.{isRanking}
+use Rattle.ranking.specs.Rankings.{isMachineCount, isRanking}
 
 -- 1 to 6 machines
 pub record MachineCount (K : ℕ) : Type 0 where

@@ -7,7 +7,7 @@ use Rattle.machine.specs.Part.{machineOf}
 use Rattle.card.specs.Layout.{machineCount, symbolCount}
 use Rattle.card.specs.Accepted.{accepted}
 use Rattle.basics.proofs.Bools.{clash}
-use Rattle.basics.proofs.Refusals.{passes-with, refuses-with}
+use Rattle.refusals.proofs.Refusals.{passes-with, refuses-with}
 use Rattle.candidate.specs.Candidates.{pairsOf, marksOf}
 use Rattle.candidate.specs.Evaluating.{marked}
 use Rattle.candidate.proofs.Pairs.{sound-shape}
@@ -49,7 +49,7 @@ returns c =
     let f = not-complete l (pairsOf (s .args .candidate .now)) (k .loop .machine) (omega (arith, k .before .before .machine-count .ensures))
     (ap (λ (part : List ℕ). marksOf (pairsOf (s .args .candidate .now)) (machineOf part)) (sym (c .before .before .before .before .part .ensures))
     ∙ sym (c .before .before .before .run .ensures) ∙ ap marked (c .before .enum-told .given .1)) in
-    record { stage = sym (refuses-with 14 f); profile = λ t. absurd (clash t f) }
+    record { checked = sym (refuses-with 14 f); profile = λ t. absurd (clash t f) }
 
 mul-counts : tie.Need-mul-counts Inv-loop μ-loop
 mul-counts c = omega arith
@@ -77,7 +77,7 @@ returns-2 c =
     let e : k .loop .machine ≡ machineCount l = omega (arith, k .before .before .machine-count .ensures) in
     let S = rw e at (k .loop .inv .2) in
     record {
-      stage = sym (passes-with 14 (all-complete l (pairsOf (s .args .candidate .now)) (k .loop .counts) S));
+      checked = sym (passes-with 14 (all-complete l (pairsOf (s .args .candidate .now)) (k .loop .counts) S));
       profile = λ _. its-profile l (pairsOf (s .args .candidate .now)) (k .loop .counts) S (omega arith);
     }
 

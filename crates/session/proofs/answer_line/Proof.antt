@@ -21,9 +21,9 @@ word-bound c =
 
 returns : tie.Need-returns
 returns c =
-    let k = c .before .before .write-bad-line in
-    let s = c .before .before .before .before .before .before .before .before .before .before .before .before .before .before .args in
-    let e = sym (c .before .before .before .before .before .before .before .before .parse .ensures .0) ∙ c .before .before .before .before .enum-told .given .1 in
+    let k = c .before .before .before .write-bad-line in
+    let s = c .before .before .before .before .before .before .before .before .before .before .before .before .before .before .before .args in
+    let e = sym (c .before .before .before .before .before .before .before .before .before .parse .ensures .0) ∙ c .before .before .before .before .before .enum-told .given .1 in
     (prints (bad-reply (s .card .now) (parsedLine (s .line .now)) e) (k .ensures .0) (k .ensures .1) (omega (arith, k .kept .0)), bad-counts (s .card .now) (parsedLine (s .line .now)) e)
 
 array-share-prefix-ranking : tie.Need-array-share-prefix-ranking

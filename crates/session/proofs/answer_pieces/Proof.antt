@@ -1,37 +1,49 @@
-use mathlib.Core.Path.{_≡_, ap}
-use mathlib.Core.Bool.{false}
-use Prim.Native.Nat.{_≤_}
-use lib.ListN.{length}
-use Rattle.basics.proofs.Bools.{left-fails}
-use Rattle.session.specs.declared.Tally.{Tally}
-use Rattle.session.specs.Tally.{Fits}
+use mathlib.Core.Path.{_≡_, refl}
+use mathlib.Core.Bool.{true, false, not}
+use native.Mathlib.Omega.{arith}
+use lib.ListN.{length, take}
+use Rattle.basics.proofs.Bools.{left-fails, right-fails}
+use Rattle.session.specs.Output.{Reads}
+use Rattle.session.proofs.Reading.{reads-none, reads-more, wrote}
 use borrow.Author.Needs.{needs}
 use Rattle.session.proofs.answer_pieces.Statement.{statement}
 use Rattle.session.proofs.answer_pieces.Tie as tie
 
 abbrev Inv-loop : tie.InvT-loop
-Inv-loop card line₀ piece₀ held₀ tally₀ turns₀ line piece held tally turns = (held ≤ 201) × (length line ≡ 201) × (length piece ≡ 4096) × Fits tally × (tally .past ≡ false)
+Inv-loop card line₀ held out₀ piece₀ bytes₀ so-far₀ turns₀ line out piece bytes so-far turns = Reads card (take held line₀) so-far₀ line bytes so-far true
+    × (length line ≡ 201)
+    × (length piece ≡ 4096)
+    × (so-far .past ≡ false)
+    × (length out ≡ length out₀)
 
 abbrev μ-loop : tie.MeasureT-loop
-μ-loop card line₀ piece₀ held₀ tally₀ turns₀ line piece held tally turns = turns
+μ-loop card line₀ held out₀ piece₀ bytes₀ so-far₀ turns₀ line out piece bytes so-far turns = turns
 
 loop-holds : tie.Need-loop-holds Inv-loop μ-loop
-loop-holds c = (search needs, c .before .before .before .pre, search needs, c .none .ensures .1, ap (λ (t : Tally). t .past) (c .none .ensures .0))
+loop-holds c = let p = c .before .before .before .pre in (reads-none _ _ _ _ (p .0) (p .2), p .1, search needs, p .3, refl)
 
 answer-piece-requires : tie.Need-answer-piece-requires Inv-loop μ-loop
-answer-piece-requires c κs = let i = c .before .before .before .before .before .before .before .loop .inv in (i .0, i .1, i .3, i .4)
+answer-piece-requires c κs = let i = c .before .before .before .before .before .before .before .before .loop .inv in (i .0 .answers .few, i .1, i .0 .answers .fits, i .3, omega (arith, i .4, c .before .before .before .before .before .before .before .before .before .before .before .before .pre .4))
 
 returns : tie.Need-returns Inv-loop μ-loop
-returns c = let a = c .before .before .before .before .before .before .answer-piece .ensures in (a .few, a .fits)
+returns c = let i = c .before .before .before .before .before .before .before .before .before .before .before .before .before .before .before .before .before .loop .inv in reads-more (i .0) (i .3) (c .before .before .before .before .before .before .before .before .answer-piece .ensures) (λ w. w)
 
 loop-again : tie.Need-loop-again Inv-loop μ-loop
-loop-again c = let a = c .before .before .before .before .before .before .answer-piece .ensures in (a .few, search needs, search needs, a .fits, left-fails _ _ (c .if2 .left))
+loop-again c =
+    let i = c .before .before .before .before .before .before .before .before .before .before .before .before .before .before .before .before .before .loop .inv in
+    let a = c .before .before .before .before .before .before .before .before .answer-piece in (
+      reads-more (i .0) (i .3) (a .ensures) (λ _. wrote (a .result .written) (right-fails (a .result .tally .past) (not (a .result .written)) (c .if2 .left))),
+      search needs,
+      search needs,
+      left-fails _ _ (c .if2 .left),
+      search needs,
+    )
 
 returns-2 : tie.Need-returns-2 Inv-loop μ-loop
-returns-2 c = let i = c .before .loop .inv in (i .0, i .3)
+returns-2 c = c .before .loop .inv .0
 
 returns-3 : tie.Need-returns-3 Inv-loop μ-loop
-returns-3 c = let i = c .before .before .before .before .before .loop .inv in (i .0, i .3)
+returns-3 c = c .before .before .before .before .before .loop .inv .0
 
 pub answer-pieces-spec : {M : Type 1} → statement M
 answer-pieces-spec =
@@ -39,7 +51,6 @@ answer-pieces-spec =
     (tie.spec
     Inv-loop
     μ-loop
-    (λ c κs. search needs)
     loop-holds
     (λ c. search needs)
     (λ c κs. search needs)
@@ -47,11 +58,14 @@ answer-pieces-spec =
     (λ c. search needs)
     answer-piece-requires
     (λ c. search needs)
+    (λ c. search needs)
     returns
     (λ c. search needs)
     (λ c. search needs)
     loop-again
     (λ c. search needs)
+    (λ c. search needs)
     returns-2
+    (λ c. search needs)
     (λ c. search needs)
     returns-3)

@@ -6,15 +6,15 @@ use Rattle.session.proofs.print_answer.Statement.{statement}
 use Rattle.session.proofs.print_answer.Tie as tie
 
 slice-aggregate-write-all : tie.Need-slice-aggregate-write-all
-slice-aggregate-write-all c = sym (length-take-le _ _ (omega (arith, c .before .before .answer-next .ensures .0 .fits)))
+slice-aggregate-write-all c = sym (length-take-le _ _ (omega (arith, c .before .before .before .answer-next .ensures .0 .fits)))
 
 pub print-answer-spec : {M : Type 1} → statement M
 print-answer-spec =
     tie.close
     (tie.spec
-    (λ c. search needs)
     (λ c κs. search needs)
     (λ c. search needs)
     slice-aggregate-write-all
     (λ c κs. search needs)
+    (λ c. search needs)
     (λ c. search needs))

@@ -1,7 +1,7 @@
 use mathlib.Core.Path.{_∙_}
 use Prim.Native.Nat.{zero-le}
 use native.Mathlib.Omega.{arith}
-use Rattle.card.proofs.Stages.{passed-number, refused-number}
+use Rattle.refusals.proofs.Refusals.{passed-number, refused-number}
 use Rattle.session.specs.Totals.{shown-few}
 use Rattle.session.proofs.Tallies.{shown-none, shown-all}
 use borrow.Author.Needs.{needs}

@@ -3,8 +3,8 @@ use mathlib.Core.Bool.{true}
 use native.Mathlib.Omega.{arith}
 use borrow.Author.Needs.{needs}
 use borrow.Author.Tests.{not-true, not-false}
-use Rattle.basics.specs.Refusals.{refuse}
-use Rattle.basics.proofs.Refusals.{refuses-with}
+use Rattle.refusals.specs.Refusals.{refuse}
+use Rattle.refusals.proofs.Refusals.{refuses-with}
 use Rattle.layout.specs.Layout.{laidOut}
 use Rattle.layout.specs.LaidOut.{layout-told}
 use Rattle.tableau.specs.Tableau.{rowCount, soundHead}

@@ -1,16 +1,14 @@
 use mathlib.Core.Path.{_≡_, refl, sym, ap, _∙_}
 use Prim.Native.Nat.{_<_}
-use native.Mathlib.Omega.{arith}
 use lib.ListN.{length}
 use borrow.Author.Needs.{needs}
 use Rattle.product.specs.Best.{best}
 use Rattle.product.specs.Optimizing.{inputRefusal}
-use Rattle.input.specs.Refusals.{stageNumber as inputStage}
+use Rattle.refusals.specs.Refusals.{checkedNumber}
 use Rattle.input.specs.AcceptedInput.{accepted-input}
-use Rattle.input.proofs.Refusals.{number-positive as input-positive}
-use Rattle.tableau.specs.Refusals.{stageNumber}
+use Rattle.refusals.proofs.Refusals.{refused-number}
 use Rattle.tableau.specs.Judging.{verdictNumbers}
-use Rattle.tableau.proofs.Answers.{number-positive, tableauRefusal, input-refused, tableau-refused, verdict-given, some-best, can-be-read, by-profile}
+use Rattle.tableau.proofs.Answers.{tableauRefusal, input-refused, tableau-refused, verdict-given, some-best, can-be-read, by-profile}
 use Rattle.tableau.proofs.judge.Statement.{statement}
 use Rattle.tableau.proofs.judge.Tie as tie
 
@@ -20,12 +18,12 @@ returns c =
     let a = k .before .before .before .before .before .before .args in
     let n = c .before .number in
     let e = n .ensures ∙ k .check-input .ensures in
-    let p : 0 < n .result = omega (arith, ap inputStage (c .before .before .enum-told2 .given .1), input-positive (c .before .before .enum-told2 .given .0 .0), n .ensures) in
+    let p : 0 < n .result = refused-number (c .before .before .enum-told2 .given .1) (sym (n .ensures)) in
     record { result = c .refused .ensures ∙ input-refused (a .card .now) (a .ranking .now) (a .word .now) (length (a .work .now)) (a .tableau .now) (n .result) e p; work-length = refl; work-kept = λ _. refl }
 
 -- the input is accepted
 passed : (c : tie.After-enum-told) → let a = c .before .before .before .before .before .before .before .before .args in inputRefusal (a .card .now) (a .ranking .now) (a .word .now) (length (a .work .now)) ≡ 0
-passed c = sym (c .before .before .check-input .ensures) ∙ ap inputStage (c .enum-told .given .1)
+passed c = sym (c .before .before .check-input .ensures) ∙ ap checkedNumber (c .enum-told .given .1)
 
 check-tableau-requires : tie.Need-check-tableau-requires
 check-tableau-requires c κs = accepted-input _ _ _ _ (passed c) .accepted
@@ -37,12 +35,12 @@ returns-2 c =
     let a = p .before .before .before .before .before .before .before .before .args in
     let n = c .before .number2 in
     let e = n .ensures ∙ k .check-tableau .ensures in
-    let h : 0 < n .result = omega (arith, ap stageNumber (c .before .before .enum-told4 .given .1), number-positive (c .before .before .enum-told4 .given .0 .0), n .ensures) in
+    let h : 0 < n .result = refused-number (c .before .before .enum-told4 .given .1) (sym (n .ensures)) in
     record { result = c .refused2 .ensures ∙ tableau-refused (a .card .now) (a .ranking .now) (a .word .now) (length (a .work .now)) (a .tableau .now) (passed p) (n .result) e h; work-length = refl; work-kept = λ z. absurd (z (passed p)) }
 
 -- the tableau is accepted
 told : (c : tie.After-enum-told3) → let a = c .before .before .before .before .before .before .before .before .before .before .before .args in tableauRefusal (a .card .now) (a .word .now) (a .tableau .now) ≡ 0
-told c = sym (c .before .before .check-tableau .ensures) ∙ ap stageNumber (c .enum-told3 .given .1)
+told c = sym (c .before .before .check-tableau .ensures) ∙ ap checkedNumber (c .enum-told3 .given .1)
 
 best-profile-requires : tie.Need-best-profile-requires
 best-profile-requires c κs =

@@ -9,7 +9,7 @@ use lib.Dec.{leb}
 use lib.ListN.{length, take, drop}
 use lib.Seq.{take-at}
 use borrow.Author.Tests.{leb-true, le-leb}
-use Rattle.basics.specs.Refusals.{refuse, firstOf, unlessRefused}
+use Rattle.refusals.specs.Refusals.{refuse, firstOf, unlessRefused}
 use Rattle.machine.specs.declared.Pair.{Pair}
 use Rattle.candidate.specs.declared.Evaluation.{Evaluation}
 use Rattle.candidate.specs.Candidates.{pairsOf, bytesOf, isSome}

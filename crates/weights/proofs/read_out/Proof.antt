@@ -6,10 +6,9 @@ use lib.ListN.{length, getD}
 use borrow.Author.Needs.{needs}
 use Rattle.card.specs.Card.{machinesOf}
 use Rattle.product.specs.ProductGraph.{cardStart}
-use Rattle.optimizer.proofs.Labels.{above-zero}
-use Rattle.weights.specs.Refusals.{stageNumber}
+use Rattle.refusals.specs.Refusals.{checkedNumber}
 use Rattle.weights.specs.Searching.{numberRefusal}
-use Rattle.weights.proofs.Checking.{number-positive}
+use Rattle.refusals.proofs.Refusals.{refused-number}
 use Rattle.weights.proofs.Reading.{start-in, start-few, refused-answered, starts, pairs-few, front-in, score-ready, best-answered}
 use Rattle.weights.proofs.read_out.Statement.{statement}
 use Rattle.weights.proofs.read_out.Tie as tie
@@ -41,7 +40,7 @@ number-is c = ap (λ (u : ℕ). getD (begun c .args .work .now) u 0) (start c)
 
 -- 10 and 12 are passed
 passes : (c : tie.After-enum-told) → numberRefusal (getD (begun (read (checked c)) .args .work .now) (read (checked c) .start-node .result) 0) (length (begun (read (checked c)) .args .answer .now)) ≡ 0
-passes c = sym (checked c .check-best .ensures) ∙ ap stageNumber (c .enum-told .given .1)
+passes c = sym (checked c .check-best .ensures) ∙ ap checkedNumber (c .enum-told .given .1)
 
 mul-number : tie.Need-mul-number
 mul-number c = omega (arith, start c, start-few (begun c .pre .0) (begun c .pre .1))
@@ -56,7 +55,7 @@ returns c =
     let m = c .before .number in
     let t = c .before .before .enum-told2 .given in
     refused-answered (s .pre .0) (s .pre .1) _ (number-is (read k)) (s .args .answer .now) (m .result) (c .refused .result) (m .ensures ∙ k .check-best .ensures)
-    (omega (arith, m .ensures, above-zero stageNumber (t .1) (number-positive (t .0 .0)))) (c .refused .ensures)
+    (refused-number (t .1) (sym (m .ensures))) (c .refused .ensures)
 
 follow-requires : tie.Need-follow-requires
 follow-requires c κs =

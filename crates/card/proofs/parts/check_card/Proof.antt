@@ -4,7 +4,7 @@ use mathlib.Core.List.{[], _∷_, map}
 use Prim.Native.Nat.{_+_, _*_}
 use lib.ListN.{length, take, drop}
 use lib.Seq.{length-take-le, getD-take}
-use Rattle.basics.specs.Refusals.{refuse, firstOf}
+use Rattle.refusals.specs.Refusals.{refuse, firstOf}
 use Rattle.card.specs.Layout.{machineCount, symbolCount, partsOf}
 use Rattle.card.specs.Card.{partsRefusal, fewStates}
 use Rattle.card.specs.Packing.{split}

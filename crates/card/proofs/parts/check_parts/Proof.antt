@@ -5,10 +5,10 @@ use mathlib.Core.List.{List, [], _∷_}
 use Prim.Native.Nat.{ℕ, _+_, _-_, _^_, _≤_}
 use lib.Dec.{lit≤}
 use lib.ListN.{length, take, drop}
-use Rattle.basics.specs.Refusals.{refuse, firstOf}
+use Rattle.refusals.specs.Refusals.{refuse, firstOf}
 use Rattle.machine.specs.Part.{partRefusal}
 use Rattle.machine.specs.Accepted.{accepted}
-use Rattle.card.proofs.Stages.{passed-number, refused-number}
+use Rattle.refusals.proofs.Refusals.{passed-number, refused-number}
 use Rattle.card.specs.Card.{partsRefusal, fewStates}
 use Rattle.card.specs.Packing.{total, split}
 use Rattle.card.specs.Laws.Parts.{total-left}
@@ -50,9 +50,9 @@ returns c =
     let v = w .before .before in
     let k = v .before .before .before in
     let a = k .before .before .before .args in
-    w .check-part .ensures
+    w .check .ensures
     ∙ check-stop (a .symbols) (k .loop .states) (a .lengths .now) (a .bytes .now) (k .loop .i) (k .loop .offset) _ (k .loop .inv .4)
-    (v .wide .result) (omega arith) (v .wide .ensures .0) (refused-number (c .enum-told2 .given .1) (w .check-part .ensures))
+    (v .wide .result) (omega arith) (v .wide .ensures .0) (refused-number (c .enum-told2 .given .1) (w .check .ensures))
 
 -- the part that passed
 abbrev part : tie.After-enum-told Inv-loop μ-loop → List ℕ
@@ -62,7 +62,7 @@ part c =
     take (k .loop .offset + v .wide .result - k .loop .offset) (drop (k .loop .offset) (k .before .before .before .args .bytes .now))
 
 passed : (c : tie.After-enum-told Inv-loop μ-loop) → partRefusal (c .before .before .before .before .before .before .before .before .before .before .args .symbols) (part c) ≡ 0
-passed c = passed-number (c .enum-told .given .1) (c .before .before .check-part .ensures)
+passed c = passed-number (c .enum-told .given .1) (c .before .before .check .ensures)
 
 -- its states, as many as are multiplied
 few : (c : tie.After-state-count Inv-loop μ-loop) → c .state-count .result ≤ 32

@@ -27,7 +27,7 @@ returns c =
     let part = s .args .part .now in
     let l = k .loop in
     all-stop (λ (b : ℕ). endsFree (endingByte b)) (stateBytes part) (l .i) _ (l .inv .2) 0 (omega (arith, states-length part (s .pre)))
-    (ap (λ (b : ℕ). endsFree (endingByte b)) (sym (c .before .state-byte .ensures)) ∙ costs-marks _ (c .if1 .taken))
+    (ap (λ (b : ℕ). endsFree (endingByte b)) (sym (c .before .state-byte .ensures)) ∙ costs-marks (c .before .state-byte .result) (omega (arith, c .if1 .taken)))
 
 loop-again : tie.Need-loop-again Inv-loop μ-loop
 loop-again c =
@@ -38,7 +38,7 @@ loop-again c =
       l .inv .0,
       omega arith,
       all-go-on (λ (b : ℕ). endsFree (endingByte b)) (stateBytes part) (l .i) _ (l .inv .2) 0 (omega (arith, states-length part (s .pre)))
-          (ap (λ (b : ℕ). endsFree (endingByte b)) (sym (c .before .state-byte .ensures)) ∙ costs-none _ (c .if1 .left)),
+          (ap (λ (b : ℕ). endsFree (endingByte b)) (sym (c .before .state-byte .ensures)) ∙ costs-none (c .before .state-byte .result) (omega (arith, c .if1 .left))),
     )
 
 returns-2 : tie.Need-returns-2 Inv-loop μ-loop

@@ -1,7 +1,8 @@
 use native.Mathlib.Omega.{arith}
-use mathlib.Core.Path.{_≡_, refl}
+use borrow.Author.Needs.{needs}
+use mathlib.Core.Path.{_≡_, refl, sym, subst}
 use mathlib.Core.Logic.{_⊎_, inl, inr, ⊎-elim}
-use mathlib.Core.Bool.{true, _||_}
+use mathlib.Core.Bool.{true, not, _||_}
 use Prim.Native.Nat.{ℕ, _^_, _<_}
 use lib.Dec.{eqb}
 use borrow.Author.Tests.{eqb-true, eqb-false}
@@ -9,6 +10,7 @@ use Rattle.basics.proofs.Bools.{either, left-fails, right-fails}
 use lib.Bits.{bitOr, and-le-r, or-lt, or-add-and}
 use Rattle.machine.proofs.SymbolSets.{least-at}
 use lib.Count.{trailingZeros}
+use Rattle.join.specs.CommonPairs.{HasPair}
 use Rattle.join.specs.Laws.CommonPairs.{none-in, any-in, same-in, unlike-in}
 use Rattle.join.proofs.arcs.has_pair.Statement.{statement}
 use Rattle.join.proofs.arcs.has_pair.Tie as tie
@@ -36,17 +38,19 @@ returns c = none-in (c .before .args .kind) (c .before .args .inputs) (c .before
 
 returns-2 : tie.Need-returns-2
 returns-2 c =
-    let e = c .before in
-    let s = e .before in
-    let a = s .args in
-    any-in (a .kind) (a .inputs) (a .outputs) (input-fits s) (output-fits s) (some-input e) (some-output e) (c .if2 .taken) (bitOr (a .inputs) (a .outputs)) (or-lt 64 (a .inputs) (a .outputs) (input-fits s) (output-fits s)) refl
-
-returns-3 : tie.Need-returns-3
-returns-3 c =
     let e = c .before .before in
     let s = e .before in
     let a = s .args in
-    same-in (a .kind) (a .inputs) (a .outputs) (input-fits s) (output-fits s) (some-input e) (some-output e) (c .if3 .taken)
+    subst (λ (w : ℕ). HasPair (a .kind) (a .inputs) (a .outputs) (not (eqb w 0))) (sym (c .without-empty .ensures))
+    (any-in (a .kind) (a .inputs) (a .outputs) (input-fits s) (output-fits s) (some-input e) (some-output e) (c .before .if2 .taken) (bitOr (a .inputs) (a .outputs)) (or-lt 64 (a .inputs) (a .outputs) (input-fits s) (output-fits s)) refl)
+
+returns-3 : tie.Need-returns-3
+returns-3 c =
+    let e = c .before .before .before in
+    let s = e .before in
+    let a = s .args in
+    subst (λ (w : ℕ). HasPair (a .kind) (a .inputs) (a .outputs) (not (eqb w 0))) (sym (c .without-empty2 .ensures))
+    (same-in (a .kind) (a .inputs) (a .outputs) (input-fits s) (output-fits s) (some-input e) (some-output e) (c .before .if3 .taken))
 
 without-least-requires : tie.Need-without-least-requires
 without-least-requires c κs = all-pos (c .before .before)
@@ -67,7 +71,9 @@ has-pair-spec =
     tie.close
     (tie.spec
     returns
+    (λ c κs. search needs)
     returns-2
+    (λ c κs. search needs)
     returns-3
     without-least-requires
     returns-4)

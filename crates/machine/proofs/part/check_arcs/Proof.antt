@@ -5,7 +5,7 @@ use lib.ListN.{length}
 use borrow.Author.Needs.{needs}
 use borrow.Author.Tests.{not-true, not-false}
 use Rattle.basics.specs.Search.{allOf}
-use Rattle.basics.specs.Refusals.{refuse}
+use Rattle.refusals.specs.Refusals.{refuse}
 use Rattle.machine.specs.Part.{arcsAt, soundArc, soundArcs}
 use Rattle.machine.specs.Accepted.{shape-facts}
 use Rattle.machine.proofs.Arcs.{all-go-on, all-stop, all-end}

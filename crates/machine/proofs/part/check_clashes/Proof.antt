@@ -5,12 +5,12 @@ use native.Mathlib.Omega.{arith}
 use lib.Dec.{lit<}
 use borrow.Author.Needs.{needs}
 use Rattle.basics.specs.Search.{pairwise, everyBelow}
-use Rattle.basics.specs.Refusals.{refuse}
+use Rattle.refusals.specs.Refusals.{refuse}
 use Rattle.basics.proofs.Below.{every-start, every-next, every-at}
 use Rattle.machine.specs.Part.{stateCount, arcsOf}
 use Rattle.machine.specs.Accepted.{shape-facts}
 use Rattle.machine.specs.Clashes.{clashFreeFrom}
-use Rattle.machine.proofs.Stages.{passed-test, refused-test}
+use Rattle.refusals.proofs.Refusals.{was-true, was-false}
 use Rattle.machine.proofs.Clashes.{state-clash, states-free}
 use Rattle.machine.proofs.part.check_clashes.Statement.{statement}
 use Rattle.machine.proofs.part.check_clashes.Tie as tie
@@ -37,14 +37,14 @@ returns : tie.Need-returns Inv-loop μ-loop
 returns c =
     let l = arcsOf (c .before .before .before .before .before .before .before .before .args .part .now) in
     let e = c .before .before .check-state .ensures in
-    let f = refused-test (c .enum-told2 .given .1) 5 _ e in
+    let f = was-false (c .enum-told2 .given .1) 5 _ e in
     e ∙ ap (refuse 5) (f ∙ sym (state-clash (c .before .before .before .before .loop .from) l f))
 
 loop-again : tie.Need-loop-again Inv-loop μ-loop
 loop-again c =
     let l = arcsOf (c .before .before .before .before .before .before .before .before .args .part .now) in
     let k = c .before .before .before .before .loop in
-    (search needs, every-next (λ s. pairwise (clashFreeFrom s) l) (k .from) (k .inv .1) (passed-test (c .enum-told .given .1) 5 _ (lit< tt) (c .before .before .check-state .ensures)))
+    (search needs, every-next (λ s. pairwise (clashFreeFrom s) l) (k .from) (k .inv .1) (was-true (c .enum-told .given .1) 5 _ (lit< tt) (c .before .before .check-state .ensures)))
 
 returns-2 : tie.Need-returns-2 Inv-loop μ-loop
 returns-2 c =

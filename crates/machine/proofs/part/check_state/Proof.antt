@@ -2,7 +2,7 @@ use borrow.Author.Needs.{needs}
 use mathlib.Core.Path.{ap, sym}
 use native.Mathlib.Omega.{arith}
 use Prim.Native.Nat.{_+_, _*_, _-_}
-use Rattle.basics.specs.Refusals.{refuse}
+use Rattle.refusals.specs.Refusals.{refuse}
 use Rattle.machine.specs.Accepted.{shape-facts}
 use Rattle.machine.proofs.Clashes.{StateChecked, state-start, state-next, state-stop, state-end}
 use Rattle.machine.proofs.part.check_state.Statement.{statement}

@@ -8,7 +8,7 @@ use lib.Seq.{slice, slice-empty}
 use borrow.Author.Needs.{needs}
 use borrow.Author.Tests.{lt-leb, le-leb}
 use Rattle.basics.specs.Search.{allOf}
-use Rattle.basics.specs.Refusals.{refuse}
+use Rattle.refusals.specs.Refusals.{refuse}
 use Rattle.basics.proofs.Search.{all-next, all-fails, all-none}
 use Rattle.machine.specs.Part.{soundStates}
 use Rattle.machine.specs.Accepted.{shape-facts}

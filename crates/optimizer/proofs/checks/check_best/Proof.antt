@@ -1,12 +1,12 @@
-use mathlib.Core.Path.{_≡_, sym, ap, _∙_}
+use mathlib.Core.Path.{_≡_, refl, sym, ap, _∙_}
 use mathlib.Core.Option.{Option, some}
 use Rattle.paths.specs.Ranked.{Ranked}
 use Rattle.labels.specs.LabelCost.{costOf}
 use Rattle.labels.specs.Work.{labelOf}
-use Rattle.optimizer.specs.Refusals.{stageNumber}
+use Rattle.refusals.specs.Refusals.{checkedNumber}
 use Rattle.optimizer.specs.Searching.{labelRefusal}
-use Rattle.optimizer.proofs.Refusals.{number-positive}
-use Rattle.optimizer.proofs.Labels.{not-there, is-there, above-zero}
+use Rattle.refusals.proofs.Refusals.{refused-number}
+use Rattle.optimizer.proofs.Labels.{not-there, is-there}
 use borrow.Author.Needs.{needs}
 use Rattle.optimizer.proofs.checks.check_best.Statement.{statement}
 use Rattle.optimizer.proofs.checks.check_best.Tie as tie
@@ -15,13 +15,13 @@ returns : tie.Need-returns
 returns c =
     let k = c .before .before in
     let s = k .before .before in
-    not-there (labelOf (s .args .work .now) (s .args .start)) (s .args .room) _ (k .check-found .ensures) (above-zero stageNumber (c .enum-told2 .given .1) (number-positive (c .enum-told2 .given .0 .0)))
+    not-there (labelOf (s .args .work .now) (s .args .start)) (s .args .room) _ (k .check-found .ensures) (refused-number (c .enum-told2 .given .1) refl)
 
 -- what the label of the start says
 loaded : (c : tie.After-load) → labelOf (c .before .before .before .before .before .args .work .now) (c .before .before .before .before .before .args .start) ≡ some (costOf (c .load .result))
 loaded c =
     let k = c .before .before .before in
-    is-there _ _ (sym (k .check-found .ensures) ∙ ap stageNumber (c .before .enum-told .given .1)) ∙ ap {B = Option (Ranked 6)} some (sym (c .load .ensures))
+    is-there _ _ (sym (k .check-found .ensures) ∙ ap checkedNumber (c .before .enum-told .given .1)) ∙ ap {B = Option (Ranked 6)} some (sym (c .load .ensures))
 
 returns-2 : tie.Need-returns-2
 returns-2 c =

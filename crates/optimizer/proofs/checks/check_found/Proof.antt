@@ -2,7 +2,7 @@ use mathlib.Core.Path.{sym, ap}
 use mathlib.Core.Option.{Option}
 use borrow.Author.Tests.{not-true, not-false}
 use borrow.Author.Needs.{needs}
-use Rattle.basics.specs.Refusals.{refuse}
+use Rattle.refusals.specs.Refusals.{refuse}
 use Rattle.candidate.specs.Candidates.{isSome}
 use Rattle.paths.specs.Ranked.{Ranked}
 use Rattle.optimizer.proofs.checks.check_found.Statement.{statement}

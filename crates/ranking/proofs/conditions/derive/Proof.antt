@@ -1,13 +1,12 @@
-use mathlib.Core.Path.{_≡_, refl, sym, _∙_}
+use mathlib.Core.Path.{_≡_, sym, _∙_}
 use Prim.Native.Nat.{_≤_}
 use native.Mathlib.Omega.{arith}
 use borrow.Author.Needs.{needs}
 use lib.Dec.{lit<}
-use Rattle.basics.specs.Refusals.{refuse}
-use Rattle.basics.proofs.Refusals.{was-true, accepts, refuses}
-use Rattle.ranking.specs.Refusals.{stageNumber, isMachineCount}
+use Rattle.refusals.specs.Refusals.{refuse}
+use Rattle.refusals.proofs.Refusals.{was-true, accepts, refuses}
+use Rattle.ranking.specs.Rankings.{isMachineCount}
 use Rattle.ranking.specs.Conditions.{conditionOf, DerivedCondition, refusedCondition}
-use Rattle.ranking.specs.Lemmas.Refusals.{number-positive}
 use Rattle.ranking.specs.Lemmas.Rankings.{machine-count}
 use Rattle.ranking.proofs.conditions.derive.Statement.{statement}
 use Rattle.ranking.proofs.conditions.derive.Tie as tie
@@ -16,7 +15,7 @@ use Rattle.ranking.proofs.conditions.derive.Tie as tie
 few : (c : tie.After-enum-told) → c .before .before .before .args .machines ≤ 6
 few c =
     let K = c .before .before .before .args .machines in
-    machine-count K (was-true stageNumber (c .enum-told .given .1) 1 (isMachineCount K) (lit< tt) (c .before .before .check-machine-count .ensures) refl) .most
+    machine-count K (was-true (c .enum-told .given .1) 1 (isMachineCount K) (lit< tt) (c .before .before .check-machine-count .ensures)) .most
 
 fewer-in-requires : tie.Need-fewer-in-requires
 fewer-in-requires c κs = omega (arith, few c)
@@ -30,7 +29,7 @@ returns c =
     let n = refuse 1 (isMachineCount (a .machines)) in
     let derived : DerivedCondition = record { number = 0; condition = conditionOf (a .machines) (a .first .counts) (a .second .counts) } in
     let e : record { number = 0; condition = record { fewer = c .before .fewer-in .result; more = c .fewer-in2 .result } } ≡ derived = cc in
-    e ∙ sym (accepts stageNumber (c .before .before .enum-told .given .1) n derived refusedCondition (c .before .before .before .before .check-machine-count .ensures) refl)
+    e ∙ sym (accepts (c .before .before .enum-told .given .1) n derived refusedCondition (c .before .before .before .before .check-machine-count .ensures))
 
 returns-2 : tie.Need-returns-2
 returns-2 c =
@@ -38,8 +37,7 @@ returns-2 c =
     let n = refuse 1 (isMachineCount (a .machines)) in
     let derived : DerivedCondition = record { number = 0; condition = conditionOf (a .machines) (a .first .counts) (a .second .counts) } in
     sym
-    (refuses stageNumber (c .before .refusal .given .1) n derived refusedCondition (c .before .before .before .check-machine-count .ensures)
-    (number-positive (c .before .refusal .given .0 .0)))
+    (refuses (c .before .refusal .given .1) n derived refusedCondition (c .before .before .before .check-machine-count .ensures))
 
 pub derive-spec : {M : Type 1} → statement M
 derive-spec =

@@ -1,12 +1,11 @@
-use mathlib.Core.Path.{refl, sym, _∙_}
+use mathlib.Core.Path.{sym, _∙_}
 use mathlib.Core.List.{[], _∷_}
 use native.Mathlib.Omega.{arith}
 use lib.Dec.{lit<}
-use Rattle.basics.specs.Refusals.{refuse}
-use Rattle.basics.proofs.Refusals.{was-true, goes-up, goes-on, last-one}
-use Rattle.ranking.specs.Refusals.{stageNumber, isMachineCount}
+use Rattle.refusals.specs.Refusals.{refuse}
+use Rattle.refusals.proofs.Refusals.{was-true, goes-up, goes-on, last-one}
+use Rattle.ranking.specs.Rankings.{isMachineCount}
 use Rattle.ranking.specs.Finder.{soundList}
-use Rattle.ranking.specs.Lemmas.Refusals.{number-positive}
 use Rattle.ranking.specs.Lemmas.Rankings.{machine-count}
 use borrow.Author.Needs.{needs}
 use Rattle.ranking.proofs.finder.check.Statement.{statement}
@@ -15,9 +14,8 @@ use Rattle.ranking.proofs.finder.check.Tie as tie
 returns : tie.Need-returns
 returns c =
     let a = c .before .before .before .before .args in
-    goes-up stageNumber (c .enum-told2 .given .1) (refuse 1 (isMachineCount (a .machines))) (refuse 15 (soundList (a .machines) (a .conditions .now)) ∷ [])
+    goes-up (c .enum-told2 .given .1) (refuse 1 (isMachineCount (a .machines))) (refuse 15 (soundList (a .machines) (a .conditions .now)) ∷ [])
     (c .before .before .check-machine-count .ensures)
-    (number-positive (c .enum-told2 .given .0 .0))
 
 check-conditions-requires : tie.Need-check-conditions-requires
 check-conditions-requires c κs =
@@ -25,7 +23,7 @@ check-conditions-requires c κs =
     omega (
       arith,
       machine-count (a .machines)
-          (was-true stageNumber (c .enum-told .given .1) 1 (isMachineCount (a .machines)) (lit< tt) (c .before .before .check-machine-count .ensures) refl),
+          (was-true (c .enum-told .given .1) 1 (isMachineCount (a .machines)) (lit< tt) (c .before .before .check-machine-count .ensures)),
     )
 
 returns-2 : tie.Need-returns-2
@@ -34,7 +32,7 @@ returns-2 c =
     let n = refuse 15 (soundList (a .machines) (a .conditions .now)) in
     c .check-conditions .ensures
     ∙ sym (last-one n)
-    ∙ sym (goes-on stageNumber (c .before .enum-told .given .1) (refuse 1 (isMachineCount (a .machines))) (n ∷ []) (c .before .before .before .check-machine-count .ensures) refl)
+    ∙ sym (goes-on (c .before .enum-told .given .1) (refuse 1 (isMachineCount (a .machines))) (n ∷ []) (c .before .before .before .check-machine-count .ensures))
 
 pub check-spec : {M : Type 1} → statement M
 check-spec =

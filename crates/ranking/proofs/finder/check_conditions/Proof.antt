@@ -5,7 +5,7 @@ use borrow.Author.Needs.{needs}
 use borrow.Author.Tests.{not-true, not-false}
 use native.Mathlib.Omega.{arith}
 use lib.ListN.{length}
-use Rattle.basics.proofs.Refusals.{passes-with, refuses-with}
+use Rattle.refusals.proofs.Refusals.{passes-with, refuses-with}
 use Rattle.ranking.specs.Finder.{soundCondition}
 use Rattle.ranking.specs.FinderSteps.{conditionAt}
 use Rattle.ranking.proofs.FinderPairs.{odd-list, long-list, listed-pairs, Reached, reached-start, reached-next, reached-fails, reached-end}

@@ -1,10 +1,10 @@
 use Prim.Native.Nat.{_≤_, _-_}
-use mathlib.Core.Path.{_≡_, sym}
+use mathlib.Core.Path.{_≡_, ap, sym}
 use mathlib.Core.Bool.{true, false}
 use mathlib.Core.Option.{none}
 use native.Mathlib.Omega.{arith}
 use Rattle.ranking.specs.Finder.{conditionsOf}
-use Rattle.ranking.specs.FinderSteps.{nextMachine}
+use Rattle.ranking.specs.FinderSteps.{nextMachine, nextOf}
 use Rattle.ranking.proofs.FinderSteps.{next, next-start, next-on, next-found}
 use borrow.Author.Needs.{needs}
 use Rattle.ranking.proofs.finder.next_machine.Statement.{statement}
@@ -25,7 +25,7 @@ returns c =
     let a = k .before .before .args in
     let cs = conditionsOf (a .conditions .now) in
     let found : next cs (a .placed) (k .loop .machine) ≡ true = cc in
-    sym (next-found cs (a .placed) (a .machines) (k .loop .machine) (omega arith) (k .loop .inv .1) found)
+    sym (ap nextOf (next-found cs (a .placed) (a .machines) (k .loop .machine) (omega arith) (k .loop .inv .1) found))
 
 loop-again : tie.Need-loop-again Inv-loop μ-loop
 loop-again c =
@@ -39,7 +39,7 @@ returns-2 : tie.Need-returns-2 Inv-loop μ-loop
 returns-2 c =
     let k = c .before in
     let e : k .loop .machine ≡ k .before .before .args .machines = omega arith in
-    cc
+    sym (ap nextOf (rw e at (k .loop .inv .1)))
 
 pub next-machine-spec : {M : Type 1} → statement M
 next-machine-spec =

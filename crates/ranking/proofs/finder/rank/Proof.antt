@@ -1,13 +1,13 @@
 use mathlib.Core.Path.{_≡_, sym, _∙_, ap}
-use mathlib.Core.Option.{some, none}
-use Rattle.ranking.specs.FinderSteps.{nextMachine, machineOf}
+use mathlib.Core.Option.{some}
+use Rattle.ranking.specs.FinderSteps.{nextMachine}
 use Rattle.ranking.proofs.FinderSets.{member-with}
 use Rattle.ranking.proofs.FinderPairs.{even-list, demotion-sound}
 use Prim.Native.Nat.{_-_}
 use borrow.Author.Needs.{needs}
 use native.Mathlib.Omega.{arith}
-use Rattle.ranking.specs.Finder.{conditionsOf, findingOf}
-use Rattle.ranking.proofs.FinderSteps.{Filled, filled-start, filled-next, filled-stops, filled-answer, next-below}
+use Rattle.ranking.specs.Finder.{conditionsOf, refusedFinding, findingOf}
+use Rattle.ranking.proofs.FinderSteps.{Filled, filled-start, filled-next, filled-stops, filled-answer, next-below, next-there, next-missing}
 use Rattle.ranking.proofs.finder.rank.Statement.{statement}
 use Rattle.ranking.proofs.finder.rank.Tie as tie
 
@@ -18,11 +18,11 @@ abbrev μ-loop : tie.MeasureT-loop
 μ-loop machines conditions ranking₀ placed₀ place₀ ranking placed place = machines - place
 
 -- the machine for the next place
-chosen : (c : tie.After-known-told Inv-loop μ-loop) →
-    let k = c .before .before .before .before .before in
+chosen : (c : tie.After-enum-told Inv-loop μ-loop) →
+    let k = c .before .before .before .before in
     let a = k .before .before .args in
-    nextMachine (a .machines) (conditionsOf (a .conditions .now)) (k .loop .placed) ≡ some (c .before .next .given .0 .0)
-chosen c = cc (ap machineOf (c .before .next .given .1))
+    nextMachine (a .machines) (conditionsOf (a .conditions .now)) (k .loop .placed) ≡ some (c .before .before .next-machine .result .machine)
+chosen c = next-there _ (c .before .before .next-machine .ensures) (c .enum-told .given .1)
 
 loop-holds : tie.Need-loop-holds Inv-loop μ-loop
 loop-holds c = filled-start _ _
@@ -37,20 +37,21 @@ returns c =
     let k = c .before .before .before .before .before in
     let s = k .before .before in
     let a = s .args in
-    let e : nextMachine (a .machines) (conditionsOf (a .conditions .now)) (k .loop .placed) ≡ none = cc (ap machineOf (c .before .enum-told .given .1)) in
+    let n = next-missing (nextMachine (a .machines) (conditionsOf (a .conditions .now)) (k .loop .placed)) (c .before .before .before .next-machine .ensures) (c .before .enum-told2 .given .1) in
     c .refused .ensures
-    ∙ sym (ap (findingOf (a .machines)) (demotion-sound (a .machines) (a .conditions .now) (s .pre .0) (s .pre .1) ∙ filled-stops (k .loop .inv) (omega arith) e))
+    ∙ ap refusedFinding (n .1)
+    ∙ sym (ap (findingOf (a .machines)) (demotion-sound (a .machines) (a .conditions .now) (s .pre .0) (s .pre .1) ∙ filled-stops (k .loop .inv) (omega arith) (n .0)))
 
 shl-placed : tie.Need-shl-placed Inv-loop μ-loop
 shl-placed c =
-    let s = c .before .before .before .before .before .before .before in
+    let s = c .before .before .before .before .before .before in
     omega (arith, next-below (s .args .machines) (conditionsOf (s .args .conditions .now)) _ (chosen c))
 
 loop-again : tie.Need-loop-again Inv-loop μ-loop
 loop-again c =
-    let k = c .before .before .before .before .before in
+    let k = c .before .before .before .before in
     let s = k .before .before in
-    let m = c .before .next .given .0 .0 in
+    let m = c .before .before .next-machine .result .machine in
     filled-next (k .loop .inv) (s .pre .0) (omega arith) m _ (chosen c)
     (λ n. member-with (k .loop .placed) m n (omega (arith, next-below (s .args .machines) (conditionsOf (s .args .conditions .now)) _ (chosen c))))
 

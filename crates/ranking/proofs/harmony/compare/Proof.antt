@@ -1,14 +1,12 @@
-use mathlib.Core.Path.{_≡_, refl, sym, _∙_, ap}
+use mathlib.Core.Path.{_≡_, sym, _∙_, ap}
 use mathlib.Core.List.{[], _∷_}
 use mathlib.Core.Option.{some}
 use borrow.Author.Needs.{needs}
 use lib.Dec.{lit<}
-use Rattle.basics.specs.Refusals.{refuse, firstOf}
-use Rattle.basics.proofs.Refusals.{passed, none-first, accepts, refuses}
-use Rattle.ranking.specs.Refusals.{stageNumber, isMachineCount}
-use Rattle.ranking.specs.Rankings.{isRanking}
+use Rattle.refusals.specs.Refusals.{refuse, firstOf, checkedNumber}
+use Rattle.refusals.proofs.Refusals.{passed, none-first, accepts, refuses}
+use Rattle.ranking.specs.Rankings.{isMachineCount, isRanking}
 use Rattle.ranking.specs.Harmony.{harmony, Compared, refusedComparison}
-use Rattle.ranking.specs.Lemmas.Refusals.{number-positive}
 use Rattle.ranking.specs.Lemmas.Rankings.{comparable}
 use Rattle.ranking.proofs.harmony.compare.Statement.{statement}
 use Rattle.ranking.proofs.harmony.compare.Tie as tie
@@ -18,7 +16,7 @@ harmony-requires c κs =
     let a = c .before .before .before .before .args in
     let n = refuse 1 (isMachineCount (a .machines)) in
     let m = refuse 7 (isRanking (a .machines) (a .ranking .now)) in
-    let none-refused : firstOf (n ∷ m ∷ []) ≡ 0 = sym (c .before .before .check .ensures) ∙ ap stageNumber (c .enum-told .given .1) in
+    let none-refused : firstOf (n ∷ m ∷ []) ≡ 0 = sym (c .before .before .check .ensures) ∙ ap checkedNumber (c .enum-told .given .1) in
     let first = none-first n (m ∷ []) none-refused in
     let second = none-first m [] (first .1) in
     comparable (a .machines) (a .ranking .now) (passed 1 (isMachineCount (a .machines)) (lit< tt) (first .0)) (passed 7 (isRanking (a .machines) (a .ranking .now)) (lit< tt) (second .0))
@@ -29,7 +27,7 @@ returns c =
     let n = firstOf (refuse 1 (isMachineCount (a .machines)) ∷ refuse 7 (isRanking (a .machines) (a .ranking .now)) ∷ []) in
     let ordered : Compared = record { number = 0; order = some (harmony (a .ranking .now) (a .first .counts) (a .second .counts)) } in
     let e : record { number = 0; order = some (c .harmony .result) } ≡ ordered = cc in
-    e ∙ sym (accepts stageNumber (c .before .enum-told .given .1) n ordered refusedComparison (c .before .before .before .check .ensures) refl)
+    e ∙ sym (accepts (c .before .enum-told .given .1) n ordered refusedComparison (c .before .before .before .check .ensures))
 
 returns-2 : tie.Need-returns-2
 returns-2 c =
@@ -37,8 +35,7 @@ returns-2 c =
     let n = firstOf (refuse 1 (isMachineCount (a .machines)) ∷ refuse 7 (isRanking (a .machines) (a .ranking .now)) ∷ []) in
     let ordered : Compared = record { number = 0; order = some (harmony (a .ranking .now) (a .first .counts) (a .second .counts)) } in
     sym
-    (refuses stageNumber (c .before .refusal .given .1) n ordered refusedComparison (c .before .before .before .check .ensures)
-    (number-positive (c .before .refusal .given .0 .0)))
+    (refuses (c .before .refusal .given .1) n ordered refusedComparison (c .before .before .before .check .ensures))
 
 pub compare-spec : {M : Type 1} → statement M
 compare-spec =

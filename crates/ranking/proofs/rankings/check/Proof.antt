@@ -1,20 +1,17 @@
-use mathlib.Core.Path.{refl, sym, _∙_}
+use mathlib.Core.Path.{sym, _∙_}
 use mathlib.Core.List.{[], _∷_}
 use borrow.Author.Needs.{needs}
-use Rattle.basics.specs.Refusals.{refuse}
-use Rattle.basics.proofs.Refusals.{goes-up, goes-on, last-one}
-use Rattle.ranking.specs.Refusals.{stageNumber, isMachineCount}
-use Rattle.ranking.specs.Rankings.{isRanking}
-use Rattle.ranking.specs.Lemmas.Refusals.{number-positive}
+use Rattle.refusals.specs.Refusals.{refuse}
+use Rattle.refusals.proofs.Refusals.{goes-up, goes-on, last-one}
+use Rattle.ranking.specs.Rankings.{isMachineCount, isRanking}
 use Rattle.ranking.proofs.rankings.check.Statement.{statement}
 use Rattle.ranking.proofs.rankings.check.Tie as tie
 
 returns : tie.Need-returns
 returns c =
     let a = c .before .before .before .before .args in
-    goes-up stageNumber (c .enum-told2 .given .1) (refuse 1 (isMachineCount (a .machines))) (refuse 7 (isRanking (a .machines) (a .ranking .now)) ∷ [])
+    goes-up (c .enum-told2 .given .1) (refuse 1 (isMachineCount (a .machines))) (refuse 7 (isRanking (a .machines) (a .ranking .now)) ∷ [])
     (c .before .before .check-machine-count .ensures)
-    (number-positive (c .enum-told2 .given .0 .0))
 
 returns-2 : tie.Need-returns-2
 returns-2 c =
@@ -22,7 +19,7 @@ returns-2 c =
     let n = refuse 7 (isRanking (a .machines) (a .ranking .now)) in
     c .check-ranking .ensures
     ∙ sym (last-one n)
-    ∙ sym (goes-on stageNumber (c .before .enum-told .given .1) (refuse 1 (isMachineCount (a .machines))) (n ∷ []) (c .before .before .before .check-machine-count .ensures) refl)
+    ∙ sym (goes-on (c .before .enum-told .given .1) (refuse 1 (isMachineCount (a .machines))) (n ∷ []) (c .before .before .before .check-machine-count .ensures))
 
 pub check-spec : {M : Type 1} → statement M
 check-spec =

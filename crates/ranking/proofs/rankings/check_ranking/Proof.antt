@@ -8,7 +8,7 @@ use lib.Dec.{eqb}
 use lib.ListN.{length}
 use Rattle.basics.specs.Search.{occurrences, everyBelow}
 use Rattle.basics.proofs.Below.{every-start, every-next}
-use Rattle.basics.proofs.Refusals.{passes-with, refuses-with}
+use Rattle.refusals.proofs.Refusals.{passes-with, refuses-with}
 use Rattle.ranking.specs.Lemmas.Rankings.{wrong-length, not-once, each-once}
 use Rattle.ranking.proofs.rankings.check_ranking.Statement.{statement}
 use Rattle.ranking.proofs.rankings.check_ranking.Tie as tie

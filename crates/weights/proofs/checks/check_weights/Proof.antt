@@ -5,7 +5,7 @@ use lib.Dec.{leb}
 use lib.ListN.{length, drop}
 use borrow.Author.Needs.{needs}
 use Rattle.basics.specs.Search.{allOf}
-use Rattle.basics.proofs.Refusals.{passes-with, refuses-with}
+use Rattle.refusals.proofs.Refusals.{passes-with, refuses-with}
 use Rattle.card.specs.Layout.{machineCount}
 use Rattle.weights.proofs.Checking.{other-count, one-above, none-above, one-passes}
 use Rattle.weights.proofs.checks.check_weights.Statement.{statement}

@@ -4,7 +4,7 @@ use native.Mathlib.Omega.{arith}
 use lib.ListN.{length}
 use borrow.Author.Tests.{le-leb, lt-leb}
 use borrow.Author.Needs.{needs}
-use Rattle.basics.proofs.Refusals.{passes-with, refuses-with}
+use Rattle.refusals.proofs.Refusals.{passes-with, refuses-with}
 use Rattle.card.specs.Card.{machinesOf}
 use Rattle.product.specs.Nodes.{nodeCount}
 use Rattle.input.proofs.Nodes.{nodes-few}

@@ -1,0 +1,141 @@
+-- Theorems on two calls with one card, ranking, word and answer slice and with work slices of their own, of any length and contents. They are of the
+-- calls' contract, so either call may be any engine's that has it. What the checks before 9 refuse is refused by both; otherwise 9 is each call's alone,
+-- by the length of its work slice; and two calls that pass 9 give one result and one answer slice.
+use mathlib.Core.Path.{_≡_, refl, sym, _∙_, ap}
+use mathlib.Core.Logic.{_≢_}
+use mathlib.Core.Bool.{Bool, true, false}
+use mathlib.Core.List.{List, [], _∷_, _++_}
+use mathlib.Core.Option.{Option, some, none}
+use Prim.Native.Nat.{ℕ, zero, suc, _*_, _<_, _≤_}
+use native.Mathlib.Omega.{arith}
+use lib.Dec.{leb}
+use lib.ListN.{length}
+use borrow.Author.Tests.{le-leb, lt-leb}
+use Rattle.refusals.specs.Refusals.{refuse, firstOf, unlessRefused}
+use Rattle.ranking.specs.Rankings.{isRanking}
+use Rattle.card.specs.Layout.{machineCount, symbolCount}
+use Rattle.card.specs.Card.{cardRefusal, machinesOf}
+use Rattle.candidate.specs.declared.Evaluation.{Evaluation}
+use Rattle.candidate.specs.Candidates.{isSome}
+use Rattle.candidate.specs.Evaluating.{refused}
+use Rattle.product.specs.Nodes.{nodeCount}
+use Rattle.product.specs.Best.{Contender, best}
+use Rattle.product.specs.Sets.{bestOfSets}
+use Rattle.product.specs.Optimizing.{soundWord, inputRefusal, optimizerRefusal, answerFits, evaluationOf, filled, optimized, optimizedAnswer}
+use Rattle.product.specs.OptimizingSets.{setsRefusal, setsInputRefusal, optimizerSetsRefusal, optimizedSets, optimizedSetsAnswer}
+use Rattle.optimizer.specs.Searching.{searchRefusal}
+use Rattle.optimizer.specs.Optimizes.{Optimizes}
+use Rattle.optimizer.specs.OptimizesSets.{OptimizesSets}
+
+-- ---- what holds of a call and of two, by the number that the checks before 9 give and the room that 9 asks for
+
+-- refusal n: the lent slices stay as they were
+pub record RefusedBy {A : Type 0} (refusal : ℕ → A) (n : ℕ) (work workAfter answer answerAfter : List ℕ) (r : A) : Type 0 where
+  pub result : r ≡ refusal n
+  pub answer-slice : answerAfter ≡ answer
+  pub work-slice : workAfter ≡ work
+
+pub record OneCall {A : Type 0} (refusal : ℕ → A) (before need : ℕ) (work workAfter answer answerAfter : List ℕ) (r : A) : Type 0 where
+  -- refused before 9
+  pub refused-before : before ≢ 0 → RefusedBy refusal before work workAfter answer answerAfter r
+  -- otherwise by 9 exactly if its work slice is short
+  pub refused-by-9 : before ≡ 0 → length work < need → RefusedBy refusal 9 work workAfter answer answerAfter r
+  pub not-by-9 : before ≡ 0 → need ≤ length work → r ≢ refusal 9
+
+pub record TwoCalls {A : Type 0} (refusal : ℕ → A) (before need : ℕ) (work workAfter work′ workAfter′ answer answerAfter answerAfter′ : List ℕ) (r r′ : A) : Type 0 where
+  pub first : OneCall refusal before need work workAfter answer answerAfter r
+  pub second : OneCall refusal before need work′ workAfter′ answer answerAfter′ r′
+  -- where neither work slice is short
+  pub same : before ≡ 0 → need ≤ length work → need ≤ length work′ → (r ≡ r′) × (answerAfter ≡ answerAfter′)
+  -- and where they are of one length, whatever is refused
+  pub same-length : length work ≡ length work′ → (r ≡ r′) × (answerAfter ≡ answerAfter′)
+
+-- ---- from any contract in which 9 alone looks at the length of the work slice
+
+-- a call by the numbers of the checks before 9, the room that 9 asks for, the numbers of the checks after it, and what it gives where nothing is refused
+pub record Call {A : Type 0} (refusal : ℕ → A) (checks : List ℕ) (need : ℕ) (later : List ℕ) (accepted : A) (filled work workAfter answer answerAfter : List ℕ) (r : A) : Type 0 where
+  pub result : r ≡ unlessRefused (firstOf (firstOf (checks ++ (refuse 9 (leb need (length work)) ∷ [])) ∷ later)) accepted refusal
+  pub answer-slice : answerAfter ≡ unlessRefused (firstOf (firstOf (checks ++ (refuse 9 (leb need (length work)) ∷ [])) ∷ later)) filled (λ n. answer)
+  pub work-kept : firstOf (checks ++ (refuse 9 (leb need (length work)) ∷ [])) ≢ 0 → workAfter ≡ work
+
+first-before : (ns ms : List ℕ) → firstOf (ns ++ ms) ≡ firstOf (firstOf ns ∷ ms)
+first-before [] ms = refl
+first-before (zero ∷ ns) ms = first-before ns ms
+first-before (suc n ∷ ns) ms = refl
+
+module _ {A : Type 0} {refusal : ℕ → A} {checks : List ℕ} {need : ℕ} {later : List ℕ} {accepted : A} (searched : unlessRefused (firstOf later) accepted refusal ≢ refusal 9) where
+  one-call : {filled work workAfter answer answerAfter : List ℕ} {r : A} (before : ℕ) → firstOf checks ≡ before
+      → Call refusal checks need later accepted filled work workAfter answer answerAfter r → OneCall refusal before need work workAfter answer answerAfter r
+  one-call {filled} {work} {workAfter} {answer} {answerAfter} {r} before e c = go before e
+    where
+      refuses : (n : ℕ) → firstOf (checks ++ (refuse 9 (leb need (length work)) ∷ [])) ≡ suc n → RefusedBy refusal (suc n) work workAfter answer answerAfter r
+      refuses n q = record {
+        result = c .result ∙ ap (λ (m : ℕ). unlessRefused (firstOf (m ∷ later)) accepted refusal) q;
+        answer-slice = c .answer-slice ∙ ap (λ (m : ℕ). unlessRefused (firstOf (m ∷ later)) filled (λ n. answer)) q;
+        work-slice = c .work-kept (λ z. omega (arith, q));
+      }
+
+      at-9 : (t : Bool) → firstOf checks ≡ 0 → leb need (length work) ≡ t → firstOf (checks ++ (refuse 9 (leb need (length work)) ∷ [])) ≡ refuse 9 t
+      at-9 true z t = first-before checks (refuse 9 (leb need (length work)) ∷ []) ∙ rw (z, t)
+      at-9 false z t = first-before checks (refuse 9 (leb need (length work)) ∷ []) ∙ rw (z, t)
+
+      go : (before : ℕ) → firstOf checks ≡ before → OneCall refusal before need work workAfter answer answerAfter r
+      go (suc n) e = record {
+        refused-before = λ h. refuses n (first-before checks (refuse 9 (leb need (length work)) ∷ []) ∙ rw e);
+        refused-by-9 = λ z. absurd (omega arith);
+        not-by-9 = λ z. absurd (omega arith);
+      }
+      go zero e = record {
+        refused-before = λ h. absurd (h refl);
+        refused-by-9 = λ z h. refuses 8 (at-9 false e (lt-leb need (length work) h));
+        not-by-9 = λ z h q. searched (sym (c .result ∙ ap (λ (m : ℕ). unlessRefused (firstOf (m ∷ later)) accepted refusal) (at-9 true e (le-leb need (length work) h))) ∙ q);
+      }
+
+  pub both-calls : {filled work workAfter work′ workAfter′ answer answerAfter answerAfter′ : List ℕ} {r r′ : A}
+      → Call refusal checks need later accepted filled work workAfter answer answerAfter r → Call refusal checks need later accepted filled work′ workAfter′ answer answerAfter′ r′
+      → TwoCalls refusal (firstOf checks) need work workAfter work′ workAfter′ answer answerAfter answerAfter′ r r′
+  both-calls {filled} {work} {work′ = work′} {answer = answer} {answerAfter = answerAfter} {answerAfter′ = answerAfter′} {r = r} {r′ = r′} a b = record {
+    first = one-call (firstOf checks) refl a;
+    second = one-call (firstOf checks) refl b;
+    same = λ e h k. alike (le-leb need (length work) h ∙ sym (le-leb need (length work′) k));
+    same-length = λ e. alike (ap (leb need) e);
+  }
+    where
+      alike : leb need (length work) ≡ leb need (length work′) → (r ≡ r′) × (answerAfter ≡ answerAfter′)
+      alike e = (
+        a .result ∙ ap (λ (t : Bool). unlessRefused (firstOf (firstOf (checks ++ (refuse 9 t ∷ [])) ∷ later)) accepted refusal) e ∙ sym (b .result),
+        a .answer-slice ∙ ap (λ (t : Bool). unlessRefused (firstOf (firstOf (checks ++ (refuse 9 t ∷ [])) ∷ later)) filled (λ n. answer)) e ∙ sym (b .answer-slice),
+      )
+
+-- ---- the calls under a ranking
+
+-- a search does not answer 9
+pub not-9 : (o : Option Contender) (word : List ℕ) (room : ℕ) → unlessRefused (searchRefusal o room) (evaluationOf o word) refused ≢ refused 9
+not-9 none word room e = omega (arith, ap (λ (v : Evaluation). v .number) e)
+not-9 (some b) word room e = fits (leb (2 * length (b .candidate)) room) e
+  where
+    fits : (t : Bool) → unlessRefused (firstOf (refuse 12 t ∷ [])) (evaluationOf (some b) word) refused ≢ refused 9
+    fits true e = omega (arith, ap (λ (v : Evaluation). v .number) e)
+    fits false e = omega (arith, ap (λ (v : Evaluation). v .number) e)
+
+-- the checks 1 to 8 of a word, and those of sets
+abbrev pub checksOfWord : (card ranking word : List ℕ) → List ℕ
+checksOfWord card ranking word = cardRefusal card ∷ refuse 7 (isRanking (machineCount card) ranking) ∷ refuse 8 (soundWord (symbolCount card) word) ∷ []
+
+abbrev pub checksOfSets : (card ranking sets : List ℕ) → List ℕ
+checksOfSets card ranking sets = cardRefusal card ∷ refuse 7 (isRanking (machineCount card) ranking) ∷ setsRefusal (symbolCount card) sets ∷ []
+
+module _ {card ranking word work workAfter work′ workAfter′ answer answerAfter answerAfter′ : List ℕ} {r r′ : Evaluation} where
+  pub two-calls : Optimizes card ranking word work workAfter answer answerAfter r → Optimizes card ranking word work′ workAfter′ answer answerAfter′ r′
+      → TwoCalls refused (firstOf (checksOfWord card ranking word)) (8 * nodeCount (machinesOf card) (length word)) work workAfter work′ workAfter′ answer answerAfter answerAfter′ r r′
+  unfolding optimized optimizedAnswer optimizerRefusal inputRefusal
+  two-calls a b =
+      both-calls {checks = checksOfWord card ranking word} {later = refuse 10 (isSome (best card ranking word)) ∷ refuse 12 (answerFits (best card ranking word) (length answer)) ∷ []} (not-9 (best card ranking word) word (length answer)) {filled = filled (best card ranking word) answer}
+      (record { result = a .result; answer-slice = a .answer-slice; work-kept = a .work-kept }) (record { result = b .result; answer-slice = b .answer-slice; work-kept = b .work-kept })
+
+  pub two-calls-sets : OptimizesSets card ranking word work workAfter answer answerAfter r → OptimizesSets card ranking word work′ workAfter′ answer answerAfter′ r′
+      → TwoCalls refused (firstOf (checksOfSets card ranking word)) (8 * nodeCount (machinesOf card) (length word)) work workAfter work′ workAfter′ answer answerAfter answerAfter′ r r′
+  unfolding optimizedSets optimizedSetsAnswer optimizerSetsRefusal setsInputRefusal
+  two-calls-sets a b =
+      both-calls {checks = checksOfSets card ranking word} {later = refuse 10 (isSome (bestOfSets card ranking word)) ∷ refuse 12 (answerFits (bestOfSets card ranking word) (length answer)) ∷ []} (not-9 (bestOfSets card ranking word) word (length answer)) {filled = filled (bestOfSets card ranking word) answer}
+      (record { result = a .result; answer-slice = a .answer-slice; work-kept = a .work-kept }) (record { result = b .result; answer-slice = b .answer-slice; work-kept = b .work-kept })

@@ -1,0 +1,48 @@
+use mathlib.Core.Path.{sym, _∙_}
+use mathlib.Core.List.{[]}
+use Prim.Native.Nat.{zero-le}
+use native.Mathlib.Omega.{arith}
+use lib.Seq.{length-take-le}
+use Rattle.session.proofs.Replies.{front}
+use Rattle.session.proofs.Reading.{wrote, reads-full, reads-text}
+use borrow.Author.Needs.{needs}
+use Rattle.session.proofs.answer_rest.Statement.{statement}
+use Rattle.session.proofs.answer_rest.Tie as tie
+
+-- a write failed
+returns : tie.Need-returns
+returns c = record { read = []; fits = zero-le; text = λ h. absurd (omega arith) }
+
+slice-aggregate-finish : tie.Need-slice-aggregate-finish
+slice-aggregate-finish c = sym (length-take-le _ _ (omega (arith, c .before .before .before .before .before .before .before .answer-pieces .ensures .answers .few, c .before .before .before .before .before .before .before .answer-pieces .kept .1 .0, c .before .before .before .before .before .before .before .before .before .before .before .before .before .pre .1)))
+
+finish-requires : tie.Need-finish-requires
+finish-requires c κs =
+    let s = c .before .before .before .before .before .before .before .before .before .before .before .before .before .before in
+    let k = c .before .before .before .before .before .before .before .before .answer-pieces in
+    (omega (arith, k .kept .1 .1 .1 .1 .0, s .pre .4), k .ensures .answers .fits, reads-full (k .ensures) (wrote _ (c .before .before .if1 .left)) (s .pre .3))
+
+returns-2 : tie.Need-returns-2
+returns-2 c =
+    let k = c .before .before .before .before .before .before .before .before .before .before .before .answer-pieces in
+    let f = c .before .before .finish .ensures in
+    record {
+      read = k .ensures .read;
+      fits = f .fits;
+      text = λ h. front _ _ _ _ (f .size) (f .bytes) ∙ reads-text (k .ensures) (wrote _ (c .before .before .before .before .before .if1 .left)) (c .before .before .before .before .before .before .before .before .before .before .before .before .before .before .before .before .before .pre .3);
+    }
+
+pub answer-rest-spec : {M : Type 1} → statement M
+answer-rest-spec =
+    tie.close
+    (tie.spec
+    (λ c κs. search needs)
+    (λ c. search needs)
+    (λ c. search needs)
+    returns
+    (λ c. search needs)
+    slice-aggregate-finish
+    finish-requires
+    (λ c. search needs)
+    (λ c. search needs)
+    returns-2)

@@ -1,0 +1,1 @@
+"""The desk's program: what its commands show, from what the engine answers."""
