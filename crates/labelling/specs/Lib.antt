@@ -1,0 +1,3 @@
+pub mod CountsPacking
+pub mod Closing
+pub mod Labelling
