@@ -1,2 +1,3 @@
 pub mod CountsPacking
 pub mod Closing
+pub mod Laws
