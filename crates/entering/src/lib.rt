@@ -1,1 +1,1 @@
-// Entering.
+// Entering a position: by the symbols of its set, or, at the last one, by the endings.

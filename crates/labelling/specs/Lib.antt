@@ -1,3 +1,4 @@
 pub mod CountsPacking
 pub mod Closing
 pub mod Labelling
+pub mod Laws
