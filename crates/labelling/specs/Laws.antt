@@ -2,3 +2,4 @@
 pub mod WeighedBy
 pub mod Packed
 pub mod Ranked
+pub mod LabelRoom
