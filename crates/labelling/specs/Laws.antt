@@ -1,0 +1,3 @@
+-- Laws of labelling.
+pub mod Settled
+pub mod Tied

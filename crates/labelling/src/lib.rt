@@ -1,0 +1,1 @@
+// The labels of all positions.
