@@ -1,6 +1,6 @@
 -- Laws of labelling.
-pub mod WeighedBy
 pub mod Packed
 pub mod Ranked
+pub mod LabelRoom
 pub mod Settled
 pub mod Tied
