@@ -1,5 +1,5 @@
 -- Attained labels of two numbers leave room for 128 pairs more.
-use mathlib.Core.Path.{_≡_}
+use mathlib.Core.Path.{_≡_, refl}
 use mathlib.Core.List.{List}
 use mathlib.Core.Option.{some}
 use Prim.Native.Nat.{ℕ, zero, suc, _+_, _*_, _/_, _^_, _≤_, _<_}
@@ -26,10 +26,10 @@ use Rattle.cells.specs.Columns.{weighed, WeightsOf}
 use Rattle.cells.specs.Trying.{cellPrice}
 use Rattle.cells.specs.Laws.Weighed.{weighed-whole}
 use Rattle.insertions.specs.RankedWeights.{RankedWeights}
+use Rattle.insertions.specs.Laws.Ranked.{ranked-high, ranked-low}
 use Rattle.entering.specs.Entering.{cellGraph, mostOf}
 use Rattle.entering.specs.Laws.Most.{weighed-most}
-use Rattle.labelling.specs.Laws.WeighedBy.{sumBy}
-use Rattle.labelling.specs.Laws.Packed.{ranked-high, ranked-low, move-length, ending-length}
+use Rattle.labelling.specs.Laws.Packed.{move-length, ending-length}
 
 -- a label with 128 pairs more: its high number, whose last byte is 255, is below `top`, and its low one leaves room; the marks of a pair add at
 -- most these to either
@@ -101,12 +101,12 @@ module _ (ranking : List ℕ) {ws : List ℕ} (R : RankedWeights (sixPlaces rank
   at-most i = fifteen-most K (getD ranking i 6)
 
   pub ranked-most-high : mostOf (highOf ws) K ≤ mostPrice rankedHighs
-  unfolding sumBy mostPrice
-  ranked-most-high = omega (arith, ranked-high R (replicate K 15) few-marks, at-most 0, at-most 1, at-most 2)
+  unfolding mostPrice
+  ranked-most-high = omega (arith, ranked-high R refl (replicate K 15) few-marks, at-most 0, at-most 1, at-most 2)
 
   pub ranked-most-low : mostOf (lowOf ws) K ≤ mostPrice rankedLows
-  unfolding sumBy mostPrice
-  ranked-most-low = omega (arith, ranked-low R (replicate K 15) few-marks, at-most 3, at-most 4, at-most 5)
+  unfolding mostPrice
+  ranked-most-low = omega (arith, ranked-low R refl (replicate K 15) few-marks, at-most 3, at-most 4, at-most 5)
 
 module _ {card sets : List ℕ} {P : ℕ} (s : Setting card sets P) (ranking : List ℕ) {ws : List ℕ} (W : WeightsOf (stateCounts (machinesOf card)) ws) (R : RankedWeights (sixPlaces ranking) ws) where
   pub ranked-room : {M : Labels (rankedCosts 1)} → Attained (cellGraph ws card sets) M → (u : ℕ) (c : Ranked 1) → u < (length sets + 1) * P → M u ≡ some c
