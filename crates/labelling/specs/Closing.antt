@@ -50,7 +50,7 @@ pub record LabelStored (work work′ : List ℕ) (node high low : ℕ) : Type 0 
   pub short : (k : Ranked 6) → labelOf work′ node ≡ some k → AllShort 6 k
   pub others : (w : ℕ) → w ≢ node → AlikeAt work work′ w
 
--- a cell that stands for no label is made the one of those that the order of cells is right for
+-- the cell, or noLabel and 0 where it stands for no label
 unfoldable pub orNone : Cell → Cell
 orNone x = cond (ltb (x .high) nowhere) x (record { high = noLabel; low = 0 })
 

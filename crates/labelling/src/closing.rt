@@ -38,10 +38,7 @@ fn or_none(high: u64, low: u64) -> Cell
     ensures { λ r. ⌜ r ≡ orNone (record { high = high; low = low }) ⌝ }
 {
     if high < NOWHERE {
-        return Cell {
-            high,
-            low,
-        };
+        return Cell { high, low };
     }
     Cell {
         high: NO_LABEL,
@@ -63,7 +60,13 @@ fn pass_on(own: &mut [u64; 256], next: &mut [u64; 256], code: usize)
 }
 
 // Closes the position of the size nodes from base on.
-pub fn close(work: &mut [u16], base: usize, size: usize, own: &mut [u64; 256], next: &mut [u64; 256])
+pub fn close(
+    work: &mut [u16],
+    base: usize,
+    size: usize,
+    own: &mut [u64; 256],
+    next: &mut [u64; 256],
+)
     requires { ⌜ ClosePre (now work) (now own) (now next) base size ⌝ }
     ensures { λ _. ⌜ ClosedAt (now (work .entry)) (now (work .exit)) (now (own .entry)) (now (own .exit)) (now (next .entry)) (now (next .exit)) base size ⌝ }
 {
