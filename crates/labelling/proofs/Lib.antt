@@ -1,2 +1,3 @@
+pub mod ClosingCodes
 pub mod Labelled
 pub mod Ends

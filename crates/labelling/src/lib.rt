@@ -8,10 +8,11 @@ ghost use Rattle.basics.specs.Sets.{member};
 ghost use Rattle.basics.specs.Products.{product};
 ghost use Rattle.card.specs.Layout.{symbolCount};
 ghost use Rattle.entering.specs.Entering.{Ready, Blank, NextRoom, SymbolsEntered, EndingsEntered};
-ghost use Rattle.labelling.specs.Closing.{ClosePre, ClosedAt};
 ghost use Prim.Native.Nat.{ℕ};
 ghost use Rattle.labelling.specs.Labelling.{LabelPre, PositionsDone, SearchPre, ListsPre, AllLabelled, FinishPre, Finished};
 use cells::Groups;
+
+mod closing; // closing.rt: a settled position is stored, and is the next one's
 
 // One mark at each place of the ranking: what it counts in high, and in low.
 const HIGHS: [u64; 6] = [1099511627776, 16777216, 256, 0, 0, 0];
@@ -33,7 +34,7 @@ fn finish(
     let highs = HIGHS;
     let lows = LOWS;
     settling::settle(own, entries, ends, &highs, &lows, true, size);
-    close(work, base, size, own, next);
+    closing::close(work, base, size, own, next);
 }
 
 // Labels the nodes of all positions, by insertions in lists.
@@ -84,11 +85,5 @@ fn enter_symbols(own: &mut [u64; 256], next: &[u64; 256], steps: &mut [u16], car
 fn enter_endings(own: &mut [u64; 256], steps: &mut [u16], card: &[u8], counts: &[u8], weights: &[u64], width: usize, g: Groups)
     requires { ⌜ Ready (now card) (now counts) (now weights) (now own) (now steps) width g ⌝ }
     ensures { λ _. ⌜ EndingsEntered (now (card .entry)) (now (weights .entry)) (now (own .exit)) ⌝ }
-{
-}
-
-fn close(work: &mut [u16], base: usize, size: usize, own: &mut [u64; 256], next: &mut [u64; 256])
-    requires { ⌜ ClosePre (now work) (now own) (now next) base size ⌝ }
-    ensures { λ _. ⌜ ClosedAt (now (work .entry)) (now (work .exit)) (now (own .entry)) (now (own .exit)) (now (next .entry)) (now (next .exit)) base size ⌝ }
 {
 }
