@@ -1,3 +1,4 @@
 pub mod ClosingCodes
 pub mod Labelled
 pub mod Ends
+pub mod Finishing

@@ -16,7 +16,7 @@ use Rattle.product.specs.Setting.{placeOf, Setting}
 use Rattle.labels.specs.Work.{labelOf}
 use Rattle.labels.specs.LabelCost.{AllShort}
 use Rattle.tables.specs.Engine.{engineGraph}
-use Rattle.tables.specs.Places.{SixPlaces}
+use Rattle.tables.specs.Places.{sixPlaces}
 use Rattle.settling.specs.Packing.{packedPath}
 use Rattle.settling.specs.Prices.{rankedHighs, rankedLows}
 use Rattle.settling.specs.Insertions.{Lists, listsOf}
@@ -61,6 +61,7 @@ pub record FinishPre (work own next entries ends : List ℕ) (base P : ℕ) : Ty
 -- it was settled, and closed
 pub record Finished (work work′ own own′ next next′ entries ends : List ℕ) (base P : ℕ) : Type 0 where
   pub labels : List ℕ
+  pub size : length labels ≡ 256
   pub settled : Settled (rankedLists entries ends) own labels
   pub closed : ClosedAt work work′ labels own′ next next′ base P
 
@@ -76,14 +77,13 @@ pub record SearchPre (work card counts ws sets steps : List ℕ) (g : Groups) : 
 
 -- the weights are those of a ranked order, and the lists have the insertions of outputs that tell of all others
 pub record ListsPre (card ws entries ends : List ℕ) : Type 0 where
-  pub order : List ℕ
-  pub six : SixPlaces order
-  pub ranked : RankedWeights order ws
+  pub ranking : List ℕ
+  pub ranked : RankedWeights (sixPlaces ranking) ws
   pub width : ℕ
   pub steps : List ℕ
   pub kept : ℕ
   pub prepared : Prepared (machinesOf card) 0 width steps kept
-  pub listed : Listed (machinesOf card) order kept entries ends
+  pub listed : Listed (machinesOf card) (sixPlaces ranking) kept entries ends
 
 pub record AllLabelled (card ws sets work work′ : List ℕ) : Type 0 where
   pub size : length work′ ≡ length work

@@ -1,26 +1,19 @@
+use mathlib.Core.Path.{_∙_}
 use borrow.Author.Needs.{needs}
 use Rattle.labelling.proofs.finish.Statement.{statement}
 use Rattle.labelling.proofs.finish.Tie as tie
-use Rattle.labelling.proofs.finish.Reads as reads
-use Rattle.labelling.proofs.finish.Lts as lts
-use Rattle.labelling.proofs.close.Reads as close-reads
-use Rattle.settling.proofs.settle.Reads as settle-reads
 
--- src/lib.rt:35:5
-settle-requires : tie.Need-settle-requires
-settle-requires c κs = search needs
-
--- src/lib.rt:36:5
 close-requires : tie.Need-close-requires
-close-requires c κs = search needs
+close-requires c κs =
+    let t = c .before .before .before in
+    let q = t .before .before .before .before .before .before .pre in
+    q .close _ (t .settle .kept .0 ∙ q .settle .size) (t .settle .ensures)
 
--- src/lib.rt:21:1
-same-length : tie.Need-same-length
-same-length c = search needs
-
--- src/lib.rt:21:1
 returns : tie.Need-returns
-returns c = search needs
+returns c =
+    let t = c .before .before .before .before .before .before in
+    let q = t .before .before .before .before .before .before .pre in
+    record { labels = _; size = t .settle .kept .0 ∙ q .settle .size; settled = t .settle .ensures; closed = c .before .before .close .ensures }
 
 pub finish-spec : {M : Type 1} → statement M
-finish-spec = tie.close (tie.spec settle-requires close-requires same-length returns)
+finish-spec = tie.close (tie.spec (λ c κs. search needs) close-requires (λ c. search needs) returns)

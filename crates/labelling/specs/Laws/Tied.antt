@@ -4,7 +4,7 @@ use mathlib.Core.Logic.{_⊎_, inl, inr, _≢_}
 use mathlib.Core.Bool.{Bool, true, false, cond, _&&_}
 use mathlib.Core.Option.{Option, none, some, Option·none-ne-some}
 use mathlib.Core.List.{List, [], _∷_, map}
-use Prim.Native.Nat.{ℕ, zero, suc, _+_, _*_, _-_, _/_, _%_, _<_, _≤_}
+use Prim.Native.Nat.{ℕ, zero, suc, _+_, _*_, _-_, _/_, _%_, _^_, _<_, _≤_}
 use native.Mathlib.Decide.{ℕ-discrete}
 use native.Mathlib.Omega.{arith}
 use lib.Dec.{eqb}
@@ -16,8 +16,10 @@ use Rattle.machine.specs.declared.Pair.{Pair}
 use Rattle.machine.specs.Symbols.{emptySymbol, isPair, pairOf}
 use Rattle.machine.specs.Machine.{Machine}
 use Rattle.card.specs.Card.{machinesOf}
+use Rattle.paths.specs.Costs.{Labels}
 use Rattle.paths.specs.Ranked.{Ranked, rankedCosts}
 use Rattle.paths.specs.Graph.{Edge}
+use Rattle.paths.specs.Labels.{Attained}
 use Rattle.paths.specs.Cheapest.{EdgeTo}
 use Rattle.product.specs.Nodes.{stateCounts, product, statesAt}
 use Rattle.product.specs.ProductGraph.{Move, move, pricedMove}
@@ -26,27 +28,33 @@ use Rattle.product.specs.Setting.{placeOf, Setting}
 use Rattle.product.specs.Laws.Codes.{insertion-move}
 use Rattle.product.specs.Laws.Edges.{moved, step-marks-bound}
 use Rattle.product.specs.Laws.Letters.{LetterAt, letter-at}
-use Rattle.product.specs.Laws.Setting.{machines-sound, symbols-few, node-place, place-low, place-high}
+use Rattle.product.specs.Laws.Setting.{machines-sound, symbols-few, few-codes, node-below, node-place, place-low, place-high}
 use Rattle.tables.specs.Places.{sixPlaces, markNumber}
 use Rattle.tables.specs.Laws.Cards.{card-machines}
 use Rattle.tables.specs.Laws.Packing.{six-number}
-use Rattle.cells.specs.Cells.{highOf, lowOf}
+use Rattle.cells.specs.Cells.{nowhere, highOf, lowOf}
 use Rattle.cells.specs.Columns.{weighed, WeightsOf}
-use Rattle.cells.specs.Trying.{cellPrice}
+use Rattle.cells.specs.Labels.{cellAt}
+use Rattle.cells.specs.Trying.{labelFrom, cellPrice}
 use Rattle.cells.specs.Laws.Weighed.{weighed-whole}
+use Rattle.cells.specs.Laws.Position.{placed, placed-in}
 use Rattle.columns.specs.Prepared.{NoSteps, Covered, Prepared}
-use Rattle.settling.specs.Prices.{marksPrice, insertionCost, rankedHighs, rankedLows}
+use Rattle.settling.specs.Prices.{SixWeights, RankedIf, marksPrice, mostPrice, insertionCost, rankedHighs, rankedLows}
 use Rattle.settling.specs.Insertions.{codeIn, marksIn, isListed, listsOf}
+use Rattle.settling.specs.Labels.{labelOf}
+use Rattle.settling.specs.Settling.{Fits, SettlePre}
 use Rattle.settling.specs.Packing.{packedEdge}
 use Rattle.settling.specs.WeightedPacking.{weightedPacking}
+use Rattle.settling.proofs.Prices.{ranked-highs-few, ranked-lows-few}
 use Rattle.settling.proofs.Insertions.{edgeOf}
 use Rattle.settling.proofs.PositionDone.{Entry, Tied}
 use Rattle.insertions.specs.Listed.{insertionStep, Inserts, Place, Listed}
-use Rattle.insertions.specs.RankedWeights.{weightBy, RankedWeights}
-use Rattle.entering.specs.Entering.{cellGraph}
-use Rattle.labelling.specs.Laws.WeighedBy.{sumBy}
-use Rattle.labelling.specs.Laws.Packed.{ranked-high, ranked-low, move-length}
-use Rattle.labelling.specs.Laws.Settled.{numberGraph, number-over, packed-from}
+use Rattle.insertions.specs.RankedWeights.{RankedWeights}
+use Rattle.insertions.specs.Laws.Ranked.{ranked-high, ranked-low}
+use Rattle.entering.specs.Entering.{cellGraph, Position}
+use Rattle.labelling.specs.Laws.Packed.{move-length}
+use Rattle.labelling.specs.Laws.LabelRoom.{LabelRoom, ranked-room}
+use Rattle.labelling.specs.Laws.Settled.{numberGraph, number-over, path-of, cell-numbers, label-cell}
 
 -- marks, as a number by their places, are priced as their machines weigh them
 pub record SamePrices (places highs lows ws : List ℕ) : Type 0 where
@@ -68,21 +76,21 @@ six-price ws a b c d e f n ha hb hc hd he hf q =
     let zf : n % 16 ≡ f = omega arith in
     rw (za, zb, zc, zd, ze, zf) refl
 
--- the ranked weights
-pub ranked-tie : (ranking : List ℕ) {ws : List ℕ} → RankedWeights (sixPlaces ranking) ws → SamePrices (sixPlaces ranking) rankedHighs rankedLows ws
-unfolding sumBy
-ranked-tie ranking R = record {
-  high = λ marks few most. omega (arith, at-places rankedHighs marks most, ranked-high R marks few);
-  low = λ marks few most. omega (arith, at-places rankedLows marks most, ranked-low R marks few);
+pub ranked-tie : {places ws : List ℕ} → RankedWeights places ws → length places ≡ 6 → SamePrices places rankedHighs rankedLows ws
+ranked-tie {places} R six = record {
+  high = λ marks few most. omega (arith, priced rankedHighs marks most, ranked-high R six marks few);
+  low = λ marks few most. omega (arith, priced rankedLows marks most, ranked-low R six marks few);
 }
   where
-    at-places : (numbers marks : List ℕ) → ((m : ℕ) → getD marks m 0 ≤ 15)
-        → marksPrice numbers (markNumber (sixPlaces ranking) marks)
-        ≡ getD numbers 0 0 * getD marks (getD ranking 0 6) 0 + (getD numbers 1 0 * getD marks (getD ranking 1 6) 0 + (getD numbers 2 0 * getD marks (getD ranking 2 6) 0
-        + (getD numbers 3 0 * getD marks (getD ranking 3 6) 0 + (getD numbers 4 0 * getD marks (getD ranking 4 6) 0 + getD numbers 5 0 * getD marks (getD ranking 5 6) 0))))
-    at-places numbers marks most =
-        six-price numbers _ _ _ _ _ _ (markNumber (sixPlaces ranking) marks) (most (getD ranking 0 6)) (most (getD ranking 1 6)) (most (getD ranking 2 6)) (most (getD ranking 3 6)) (most (getD ranking 4 6)) (most (getD ranking 5 6))
-        (six-number (sixPlaces ranking) marks refl)
+    marksAt : List ℕ → ℕ → ℕ
+    marksAt marks k = getD marks (getD places k 0) 0
+
+    priced : (weights marks : List ℕ) → ((m : ℕ) → getD marks m 0 ≤ 15)
+        → marksPrice weights (markNumber places marks)
+        ≡ getD weights 0 0 * marksAt marks 0 + (getD weights 1 0 * marksAt marks 1 + (getD weights 2 0 * marksAt marks 2 + (getD weights 3 0 * marksAt marks 3 + (getD weights 4 0 * marksAt marks 4 + getD weights 5 0 * marksAt marks 5))))
+    priced weights marks most =
+        six-price weights (marksAt marks 0) (marksAt marks 1) (marksAt marks 2) (marksAt marks 3) (marksAt marks 4) (marksAt marks 5) (markNumber places marks)
+        (most (getD places 0 0)) (most (getD places 1 0)) (most (getD places 2 0)) (most (getD places 3 0)) (most (getD places 4 0)) (most (getD places 5 0)) (six-number places marks six)
 
 -- ---- the marks of a move: 15 a machine at most
 
@@ -194,3 +202,44 @@ module _ {card sets : List ℕ} {P : ℕ} (s : Setting card sets P) (i : ℕ) (i
       edges = edges;
       all = all;
     }
+
+-- ---- what settling asks
+
+module _ {highs lows own : List ℕ} {P : ℕ} (ranked : Bool) (few : P ≤ 128) (A : Position own P) where
+  -- the lists, their weights, and labels with room
+  pub settle-ready : {ms : List Machine} {places entries ends : List ℕ} {kept : ℕ} → Listed ms places kept entries ends → P ≡ product (stateCounts ms) → SixWeights highs → SixWeights lows → RankedIf ranked highs lows
+      → ((c : ℕ) (x : Ranked 1) → c < P → labelOf own c ≡ some x → Fits (listsOf entries ends highs lows ranked) 128 x) → SettlePre (listsOf entries ends highs lows ranked) own P
+  settle-ready Y states h l r fits = record {
+    size = A .size;
+    sound = record {
+      rising = Y .rising;
+      sorted = Y .sorted;
+      within = Y .within;
+      from = λ v at p. omega (arith, Y .from v at p);
+      highs-few = h;
+      lows-few = l;
+      if-ranked = r;
+    };
+    few = few;
+    below = λ v at p. omega (arith, Y .to v at p);
+    from-below = λ v at p. omega (arith, Y .from v at p);
+    fits = fits;
+  }
+
+  -- the numbers of a label with room
+  pub settle-fits : (entries ends : List ℕ) {top : ℕ} → top ≤ nowhere → ((c : ℕ) (x : Ranked 1) → c < P → labelFrom (cellAt own c) ≡ some x → LabelRoom (mostPrice highs) (mostPrice lows) top x)
+      → (c : ℕ) (x : Ranked 1) → c < P → labelOf own c ≡ some x → Fits (listsOf entries ends highs lows ranked) 128 x
+  unfolding weightedPacking
+  settle-fits entries ends t room c x b l =
+      let k = path-of weightedPacking (labelFrom (cellAt own c)) x (cell-numbers (cellAt own c) (λ _. A .labels c b .last) ∙ sym (label-cell own c (A .size) (omega arith)) ∙ l) in
+      let r = room c (k .cost) b (k .is) in
+      subst (λ (x : Ranked 1). Fits (listsOf entries ends highs lows ranked) 128 x) (k .packed-is) (record { high = omega (arith, r .high); low = omega (arith, r .low) })
+
+-- in ranked order, where the labels are attained
+pub ranked-ready : (ranking : List ℕ) {card sets own entries ends ws : List ℕ} {P i kept : ℕ} (s : Setting card sets P) → i ≤ length sets → WeightsOf (stateCounts (machinesOf card)) ws → RankedWeights (sixPlaces ranking) ws
+    → Listed (machinesOf card) (sixPlaces ranking) kept entries ends → Position own P → (L : Labels (rankedCosts 1)) → Attained (cellGraph ws card sets) (placed (i * P) P L (cellAt own))
+    → SettlePre (listsOf entries ends rankedHighs rankedLows true) own P
+ranked-ready ranking {own = own} {entries = entries} {ends = ends} {P = P} {i = i} s inside Z R Y A L T =
+    settle-ready true (few-codes s) A Y (s .states) ranked-highs-few ranked-lows-few (record { high = λ _. refl; low = λ _. refl })
+    (settle-fits true (few-codes s) A entries ends {top = 2 ^ 56} (omega arith)
+    (λ c x b l. ranked-room s ranking Z R T (i * P + c) x (node-below s i (i * P + c) inside (omega arith)) (placed-in (i * P) P L (cellAt own) c b ∙ l)))
