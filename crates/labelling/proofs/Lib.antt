@@ -1,1 +1,2 @@
 pub mod ClosingCodes
+pub mod ClosingExample
