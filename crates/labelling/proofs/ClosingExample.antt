@@ -1,9 +1,9 @@
 -- What `close` asks can be met: two codes, one of them with a label. Assumes nothing.
 use mathlib.Core.Path.{_≡_, refl}
-use mathlib.Core.List.{List, [], _∷_}
+use mathlib.Core.List.{List, _∷_}
 use Prim.Native.Nat.{ℕ, zero, suc, _+_, _%_, _^_, _<_, _≤_}
 use native.Mathlib.Omega.{arith}
-use lib.ListN.{length, getD, replicate, length-replicate}
+use lib.ListN.{replicate, length-replicate}
 use Rattle.cells.specs.Cells.{nowhere}
 use Rattle.cells.specs.Labels.{cellAt}
 use Rattle.labelling.specs.Closing.{ClosePre}
