@@ -1,9 +1,8 @@
 -- What closing a position does: a label taken apart into counts, passed on, and the loop over the codes.
 use mathlib.Core.Path.{_≡_, refl, sym, _∙_, ap, subst}
 use mathlib.Core.Logic.{_⊎_, inl, inr, _≢_}
-use mathlib.Core.Bool.{Bool, cond}
-use mathlib.Core.List.{List, [], _∷_}
-use mathlib.Core.Option.{Option, some, none, Option·none-ne-some}
+use mathlib.Core.List.{List}
+use mathlib.Core.Option.{some, none, Option·none-ne-some}
 use Prim.Native.Nat.{ℕ, _+_, _-_, _*_, _/_, _%_, _^_, _<_, _≤_}
 use native.Mathlib.Decide.{decLt, ℕ-discrete}
 use native.Mathlib.Omega.{arith}
@@ -11,7 +10,7 @@ use borrow.Author.Tests.{le-ltb, lt-ltb}
 use lib.ListN.{length, getD, set, length-set}
 use lib.Seq.{getD-set-same, getD-set-other}
 use Rattle.paths.specs.Ranked.{Ranked}
-use Rattle.labels.specs.Work.{stateOf, labelOf, AlikeAt, Stored}
+use Rattle.labels.specs.Work.{labelOf, AlikeAt, Stored}
 use Rattle.labels.specs.LabelCost.{AllShort}
 use Rattle.labels.proofs.Work.{labelled, unlabelled, label-alike, alike-trans, alike-numbers}
 use Rattle.settling.specs.Packing.{packedPath}
@@ -134,7 +133,7 @@ module _ (x : Cell) where
       go (no k) = let e : orNone x .low ≡ 0 = ap (λ (y : Cell). y .low) (or-gone (omega arith)) in omega arith
 
 -- a code is taken off a label
-pub code-fits : (x : Cell) (c : ℕ) → OwnCell x → c < 128 → c ≤ x .high
+code-fits : (x : Cell) (c : ℕ) → OwnCell x → c < 128 → c ≤ x .high
 code-fits x c o k = omega (arith, o .last)
 
 -- ---- passed on
