@@ -1,4 +1,4 @@
--- The lists of insertions are the edges between the codes of a position.
+-- The lists of insertions are the edges between the codes of a position; what settling it asks, and what it gives in ranked order.
 use mathlib.Core.Path.{_≡_, refl, sym, _∙_, ap, subst}
 use mathlib.Core.Logic.{_⊎_, inl, inr, _≢_}
 use mathlib.Core.Bool.{Bool, true}
@@ -18,6 +18,7 @@ use Rattle.paths.specs.Costs.{Labels}
 use Rattle.paths.specs.Ranked.{Ranked, rankedCosts}
 use Rattle.paths.specs.Graph.{Edge}
 use Rattle.paths.specs.Labels.{Attained}
+use Rattle.paths.specs.Positions.{Entered, Done}
 use Rattle.paths.specs.Cheapest.{EdgeTo}
 use Rattle.product.specs.Nodes.{stateCounts, product, statesAt}
 use Rattle.product.specs.ProductGraph.{Move, move, pricedMove}
@@ -42,7 +43,7 @@ use Rattle.columns.specs.Prepared.{NoSteps, Covered, Prepared}
 use Rattle.settling.specs.Prices.{SixWeights, RankedIf, marksPrice, mostPrice, insertionCost, rankedHighs, rankedLows}
 use Rattle.settling.specs.Insertions.{codeIn, isListed, listsOf}
 use Rattle.settling.specs.Labels.{labelOf}
-use Rattle.settling.specs.Settling.{Fits, SettlePre}
+use Rattle.settling.specs.Settling.{Fits, SettlePre, Settled}
 use Rattle.settling.specs.Packing.{packedEdge}
 use Rattle.settling.specs.WeightedPacking.{weightedPacking}
 use Rattle.settling.proofs.Prices.{ranked-highs-few, ranked-lows-few}
@@ -54,7 +55,7 @@ use Rattle.insertions.specs.Laws.Ranked.{ranked-high, ranked-low}
 use Rattle.entering.specs.Entering.{cellGraph, Position}
 use Rattle.labelling.specs.Laws.Packed.{move-length}
 use Rattle.labelling.specs.Laws.LabelRoom.{LabelRoom, ranked-room}
-use Rattle.labelling.specs.Laws.Settled.{numberGraph, number-over, path-of, cell-numbers, label-cell}
+use Rattle.labelling.specs.Laws.Settled.{numberGraph, number-over, path-of, cell-numbers, label-cell, settled-last, settled-position}
 
 -- marks, as a number by their places, are priced as their machines weigh them
 pub record SamePrices (places highs lows ws : List ℕ) : Type 0 where
@@ -260,3 +261,13 @@ module _ (ranking : List ℕ) {card sets ws : List ℕ} {P i : ℕ} (s : Setting
   pub ranked-ready : {entries ends : List ℕ} {kept : ℕ} → Listed (machinesOf card) (sixPlaces ranking) kept entries ends → Position own P → SettlePre (listsOf entries ends rankedHighs rankedLows true) own P
   ranked-ready {entries} {ends} Y A =
       settle-ready true (few-codes s) A Y (s .states) ranked-highs-few ranked-lows-few (record { high = λ _. refl; low = λ _. refl }) (settle-fits true (few-codes s) A entries ends {top = 2 ^ 56} (omega arith) label-room)
+
+-- a position that was entered and settled is done
+module _ (ranking : List ℕ) {card sets ws entries ends steps own own′ : List ℕ} {P i W kept : ℕ} (s : Setting card sets P) (inside : i ≤ length sets) (Z : WeightsOf (stateCounts (machinesOf card)) ws) (R : RankedWeights (sixPlaces ranking) ws)
+    (X : Prepared (machinesOf card) 0 W steps kept) (Y : Listed (machinesOf card) (sixPlaces ranking) kept entries ends) (A : Position own P) (size : length own′ ≡ 256)
+    (S : Settled (listsOf entries ends rankedHighs rankedLows true) own own′) where
+  pub ranked-last : (c : ℕ) → c < P → cellAt own′ c .high < nowhere → cellAt own′ c .high % 256 ≡ 255
+  ranked-last = settled-last ws s (tied s i inside ws true Z (ranked-tie R refl) X Y) A size S
+
+  pub ranked-settled : (L : Labels (rankedCosts 1)) → Entered (cellGraph ws card sets) (placeOf card) (placed (i * P) P L (cellAt own)) i → Done (cellGraph ws card sets) (placeOf card) (placed (i * P) P L (cellAt own′)) i
+  ranked-settled = settled-position ws s (tied s i inside ws true Z (ranked-tie R refl) X Y) A size S
