@@ -56,12 +56,11 @@ rankedLists entries ends = listsOf entries ends rankedHighs rankedLows true
 -- a position that may be settled, and closed then
 pub record FinishPre (work own next entries ends : List ℕ) (base P : ℕ) : Type 0 where
   pub settle : SettlePre (rankedLists entries ends) own P
-  pub close : (ys : List ℕ) → length ys ≡ 256 → Settled (rankedLists entries ends) own ys → ClosePre work ys next base P
+  pub close : (ys : List ℕ) → Settled (rankedLists entries ends) own ys → ClosePre work ys next base P
 
 -- it was settled, and closed
 pub record Finished (work work′ own own′ next next′ entries ends : List ℕ) (base P : ℕ) : Type 0 where
   pub labels : List ℕ
-  pub size : length labels ≡ 256
   pub settled : Settled (rankedLists entries ends) own labels
   pub closed : ClosedAt work work′ labels own′ next next′ base P
 
