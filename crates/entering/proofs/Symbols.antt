@@ -1,6 +1,5 @@
 -- Entering a position, a symbol of its set after the other.
 use mathlib.Core.Path.{_≡_, refl, sym, _∙_, ap, subst}
-use mathlib.Core.Logic.{_⊎_, inl, inr, _≢_}
 use mathlib.Core.Bool.{true, not, _&&_}
 use mathlib.Core.List.{List}
 use mathlib.Core.Option.{none}
@@ -11,20 +10,22 @@ use lib.Dec.{eqb}
 use lib.ListN.{length, getD}
 use Rattle.basics.specs.Sets.{member}
 use Rattle.basics.proofs.Bools.{left as left-passes}
-use Rattle.card.specs.Card.{machinesOf, cardRefusal}
+use Rattle.card.specs.Card.{cardRefusal}
 use Rattle.paths.specs.Costs.{Labels}
 use Rattle.paths.specs.Ranked.{rankedCosts}
 use Rattle.paths.specs.Positions.{Done, Entering, Entered}
+use Rattle.product.specs.Nodes.{product}
 use Rattle.product.specs.Setting.{placeOf, Setting}
 use Rattle.product.specs.Laws.Setting.{place-inside}
 use Rattle.product.specs.Laws.Letters.{OverSets, priced-over}
 use Rattle.product.specs.Laws.Entering.{NotLeft, symbol-tried, symbols-begun, symbols-entered}
 use Rattle.cells.specs.declared.Cell.{Cell}
+use Rattle.cells.specs.declared.Groups.{Groups}
 use Rattle.cells.specs.Labels.{noLabel, cellAt, OwnCell, nextCell}
 use Rattle.cells.specs.Trying.{labelFrom, cellPrice}
 use Rattle.cells.specs.Laws.Trying.{label-none}
 use Rattle.cells.specs.Laws.Position.{placed, placed-in, placed-before, placed-after}
-use Rattle.entering.specs.Entering.{cellGraph, Blank, Position, SymbolsEntered}
+use Rattle.entering.specs.Entering.{cellGraph, Blank, Ready, Position, SymbolsEntered}
 use Rattle.entering.specs.Symbols.{codes, Ahead, EnteringBy, InputTried}
 
 -- ---- a blank position
@@ -34,6 +35,14 @@ no-label-own e = record { last = rw e refl; most = rw e (omega arith); empty = �
 
 pub blank-position : {own : List ℕ} {P : ℕ} → length own ≡ 256 → Blank own P → Position own P
 blank-position e b = record { size = e; labels = λ c h. no-label-own (b c h) }
+
+-- what is asked, by what entering is given
+module _ {card counts ws own steps : List ℕ} {W : ℕ} {g : Groups} (R : Ready card counts ws own steps W g) where
+  pub still-ready : {own′ steps′ : List ℕ} → length own′ ≡ 256 → length steps′ ≡ length steps → Ready card counts ws own′ steps′ W g
+  still-ready e f = record { accepted = R .accepted; counts-are = R .counts-are; width = R .width; weights = R .weights; groups = R .groups; few = R .few; room = omega (arith, R .room); size = e }
+
+  pub blank-codes : Blank own (product counts) → Blank own (codes card)
+  blank-codes b = subst (λ (l : List ℕ). Blank own (product l)) (R .counts-are) b
 
 -- its labels are those at hand
 blank-same : (own : List ℕ) {P : ℕ} (base : ℕ) (L : Labels (rankedCosts 1)) → Blank own P → ((w : ℕ) → base ≤ w → w < base + P → L w ≡ none) → L ≡ placed base P L (cellAt own)
