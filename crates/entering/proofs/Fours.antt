@@ -3,8 +3,8 @@ use mathlib.Core.Path.{_≡_, refl, sym, _∙_, ap, subst}
 use mathlib.Core.Logic.{_⊎_, inl, inr}
 use mathlib.Core.Bool.{Bool, true, false}
 use mathlib.Core.List.{List, [], _∷_}
-use mathlib.Core.Option.{Option, some, none, Option·none-ne-some}
-use Prim.Native.Nat.{ℕ, suc, _+_, _-_, _*_, _^_, _<_, _≤_}
+use mathlib.Core.Option.{Option, some, Option·none-ne-some}
+use Prim.Native.Nat.{ℕ, _+_, _-_, _*_, _^_, _<_, _≤_}
 use native.Mathlib.Omega.{arith}
 use lib.ListN.{length, getD}
 use borrow.Author.Tests.{eq-eqb}
@@ -194,6 +194,8 @@ fours-end {card} {ws} {next = next} {x = x} {kept = kept} {left = left} ok reads
         go (inl n) = absurd (omega (arith, n .0))
         go (inr (inl n)) = absurd (Option·none-ne-some e (ap (pricedStep (cellPrice ws) ((i + 1) * codes card)) (sym (n (u - i * codes card))) ∙ its))
         go (inr (inr v)) =
-            let l : left ≡ 0 = omega arith in
-            (record { input = x; output = v .other }, inr (refl, v .is-kept, rw l (no-member (v .other))),
-            edge-is (v .other) ∙ ap (pricedStep (cellPrice ws) ((i + 1) * codes card)) (v .same (u - i * codes card) (omega (arith, place-low (B .setting) u i a, place-high (B .setting) u i a))) ∙ its)
+            let l : left ≡ 0 = omega arith in (
+              record { input = x; output = v .other },
+              inr (refl, v .is-kept, rw l (no-member (v .other))),
+              edge-is (v .other) ∙ ap (pricedStep (cellPrice ws) ((i + 1) * codes card)) (v .same (u - i * codes card) (omega (arith, place-low (B .setting) u i a, place-high (B .setting) u i a))) ∙ its,
+            )
