@@ -3,3 +3,4 @@ pub mod ClosingExample
 pub mod Labelled
 pub mod Ends
 pub mod Finishing
+pub mod Looping

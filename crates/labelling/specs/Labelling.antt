@@ -25,6 +25,7 @@ use Rattle.cells.specs.declared.Groups.{Groups}
 use Rattle.cells.specs.Cells.{places}
 use Rattle.cells.specs.Columns.{WeightsOf}
 use Rattle.cells.specs.Groups.{GroupsOf}
+use Rattle.columns.specs.Filling.{Small}
 use Rattle.columns.specs.Prepared.{Prepared}
 use Rattle.insertions.specs.RankedWeights.{RankedWeights}
 use Rattle.insertions.specs.Listed.{Listed}
@@ -73,6 +74,7 @@ pub record SearchPre (work card counts ws sets steps : List ℕ) (g : Groups) : 
   pub few : g .front + g .back ≤ 66
   pub room : length work ≡ (length sets + 1) * product counts * 8
   pub columns : 65 * places counts ≤ length steps
+  pub small : Small steps
 
 -- the weights are those of a ranked order, and the lists have the insertions of outputs that tell of all others
 pub record ListsPre (card ws entries ends : List ℕ) : Type 0 where

@@ -7,7 +7,8 @@ ghost use mathlib.Core.Bool.{true};
 ghost use Rattle.basics.specs.Sets.{member};
 ghost use Rattle.basics.specs.Products.{product};
 ghost use Rattle.card.specs.Layout.{symbolCount};
-ghost use Rattle.entering.specs.Entering.{Ready, Blank, NextRoom, SymbolsEntered, EndingsEntered};
+ghost use Rattle.entering.specs.Entering.{Ready, EndingsEntered};
+ghost use Rattle.columns.specs.Filling.{Small};
 ghost use Prim.Native.Nat.{ℕ};
 ghost use Rattle.labelling.specs.Labelling.{LabelPre, PositionsDone, SearchPre, ListsPre, AllLabelled, FinishPre, Finished};
 use cells::Groups;
@@ -61,7 +62,7 @@ fn label_positions(
     finish(work, position * size, size, &mut own, &mut next, entries, ends);
     while position > 0 {
         position -= 1;
-        enter_symbols(
+        entering::enter_symbols(
             &mut own,
             &next,
             steps,
@@ -76,14 +77,8 @@ fn label_positions(
     }
 }
 
-fn enter_symbols(own: &mut [u64; 256], next: &[u64; 256], steps: &mut [u16], card: &[u8], counts: &[u8], weights: &[u64], width: usize, g: Groups, symbols: u64)
-    requires { ⌜ Ready (now card) (now counts) (now weights) (now own) (now steps) width g × Blank (now own) (product (now counts)) × NextRoom (now next) (now weights) (length (now counts)) (product (now counts)) × ((x : ℕ) → member symbols x ≡ true → (1 ≤ x) × (x ≤ symbolCount (now card))) ⌝ }
-    ensures { λ _. ⌜ SymbolsEntered (now (card .entry)) (now (weights .entry)) (now (own .exit)) (now (next .entry)) symbols ⌝ }
-{
-}
-
-fn enter_endings(own: &mut [u64; 256], steps: &mut [u16], card: &[u8], counts: &[u8], weights: &[u64], width: usize, g: Groups)
-    requires { ⌜ Ready (now card) (now counts) (now weights) (now own) (now steps) width g ⌝ }
+fn enter_endings(own: &mut [u64], steps: &mut [u16], card: &[u8], counts: &[u8], weights: &[u64], width: usize, g: Groups)
+    requires { ⌜ Ready (now card) (now counts) (now weights) (now own) (now steps) width g × Small (now steps) ⌝ }
     ensures { λ _. ⌜ EndingsEntered (now (card .entry)) (now (weights .entry)) (now (own .exit)) ⌝ }
 {
 }

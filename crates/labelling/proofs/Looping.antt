@@ -1,0 +1,106 @@
+-- One position after the other.
+use mathlib.Core.Path.{_≡_, refl, sym, _∙_, ap, subst}
+use mathlib.Core.Bool.{true}
+use mathlib.Core.List.{List}
+use mathlib.Core.Option.{none}
+use Prim.Native.Nat.{ℕ, suc, _+_, _*_, _<_, _≤_}
+use native.Mathlib.Nat.{suc-mul, mul-le-mul-right}
+use native.Mathlib.Omega.{arith}
+use lib.ListN.{length, getD, replicate, getD-replicate, length-map, List·getD-eq-default}
+use Rattle.basics.specs.Sets.{member}
+use Rattle.basics.specs.Products.{product}
+use Rattle.card.specs.Layout.{symbolCount}
+use Rattle.card.specs.Card.{machinesOf}
+use Rattle.product.specs.Nodes.{stateCounts, stateCountOf}
+use Rattle.product.specs.Setting.{placeOf, Setting}
+use Rattle.product.specs.Laws.Setting.{node-below}
+use Rattle.tables.specs.Laws.Cards.{card-machines}
+use Rattle.labels.specs.Work.{HasNodes, labelOf}
+use Rattle.cells.specs.declared.Groups.{Groups}
+use Rattle.cells.specs.Cells.{places}
+use Rattle.cells.specs.Columns.{WeightsOf}
+use Rattle.cells.specs.Labels.{NextFits}
+use Rattle.cells.specs.Laws.Groups.{all-codes}
+use Rattle.entering.specs.Entering.{Ready, Blank, Position, NextRoom, SymbolsEntered, EndingsEntered}
+use Rattle.labelling.specs.Labelling.{Labelled, SearchPre, ListsPre, FinishPre, Finished, AllLabelled}
+use Rattle.labelling.proofs.Labelled.{labelled-start}
+use Rattle.labelling.proofs.Finishing.{PositionClosed, finish-ready, finished}
+
+module _ {work card counts ws sets steps : List ℕ} {g : Groups} (Q : SearchPre work card counts ws sets steps g) where
+  codes : g .front * g .back ≡ product counts
+  codes = all-codes (Q .groups)
+
+  counts-of : product counts ≡ product (stateCounts (machinesOf card))
+  counts-of = ap product (Q .counts-are)
+
+  pub at-hand : Setting card sets (g .front * g .back)
+  at-hand = record { accepted = Q .setting .accepted; few = Q .setting .few; symbols = Q .setting .symbols; states = codes ∙ counts-of }
+
+  weights-of : WeightsOf (stateCounts (machinesOf card)) ws
+  weights-of = subst (λ (l : List ℕ). WeightsOf l ws) (Q .counts-are) (Q .weights)
+
+  few-machines : length counts ≤ 6
+  few-machines = omega (arith, ap length (Q .counts-are), length-map (machinesOf card) stateCountOf, card-machines card (Q .setting .accepted) .machines)
+
+  pub enter-ready : {own steps′ : List ℕ} {W : ℕ} → W ≡ places counts → length steps′ ≡ length steps → length own ≡ 256 → Ready card counts ws own steps′ W g
+  enter-ready {W = W} w e z = record {
+    accepted = Q .setting .accepted;
+    counts-are = Q .counts-are;
+    width = w;
+    weights = Q .weights;
+    groups = Q .groups;
+    few = Q .few;
+    room = omega (arith, Q .columns, ap (λ (n : ℕ). 65 * n) w);
+    size = z;
+  }
+
+  -- the work slice has the nodes of a position
+  there : {work′ : List ℕ} → length work′ ≡ length work → (i : ℕ) → i ≤ length sets → HasNodes work′ (i * (g .front * g .back) + g .front * g .back)
+  there e i h =
+      let m : suc i * (g .front * g .back) ≤ (length sets + 1) * (g .front * g .back) = mul-le-mul-right (g .front * g .back) (omega arith) in
+      let q : (length sets + 1) * product counts ≡ (length sets + 1) * (g .front * g .back) = ap (λ (n : ℕ). (length sets + 1) * n) (sym codes) in
+      omega (arith, Q .room, suc-mul i (g .front * g .back))
+
+  position-of : {own : List ℕ} → Position own (product (stateCounts (machinesOf card))) → Position own (g .front * g .back)
+  position-of A = subst (λ (n : ℕ). Position _ n) (sym (codes ∙ counts-of)) A
+
+  -- nothing is past the last position
+  past-none : (u : ℕ) → (length sets + 1) * (g .front * g .back) ≤ u → labelOf work u ≡ none
+  past-none u h = ?
+
+  module _ {entries ends : List ℕ} (Z : ListsPre card ws entries ends) {own next : List ℕ} where
+    -- ---- the last position
+    module _ (E : EndingsEntered card ws own) where
+      pub last-ready : length next ≡ 256 → FinishPre work own next entries ends (length sets * (g .front * g .back)) (g .front * g .back)
+      last-ready e = finish-ready at-hand weights-of Z (omega arith) (λ _. none) (position-of (E .position)) (E .entered sets (g .front * g .back) at-hand) (there refl (length sets) (omega arith)) e
+
+      pub last-closed : {work′ own′ next′ : List ℕ} → NextFits next → Finished work work′ own own′ next next′ entries ends (length sets * (g .front * g .back)) (g .front * g .back)
+          → PositionClosed card ws sets work′ own′ next′ (length counts) (g .front * g .back) (length sets)
+      last-closed N F =
+          finished at-hand weights-of Z (omega arith) (λ _. none) (position-of (E .position)) (E .entered sets (g .front * g .back) at-hand) (length counts) few-machines
+          (labelled-start at-hand past-none) N F
+
+    -- ---- another one
+    module _ {work′ : List ℕ} {i : ℕ} (below : i < length sets) (B : PositionClosed card ws sets work′ own next (length counts) (g .front * g .back) (suc i)) where
+      pub blank-there : Blank own (product counts)
+      blank-there c h = B .blank c (omega (arith, codes))
+
+      pub next-there : NextRoom next ws (length counts) (product counts)
+      next-there = subst (λ (n : ℕ). NextRoom next ws (length counts) n) codes (B .room)
+
+      module _ {own′ : List ℕ} (E : SymbolsEntered card ws own′ next (getD sets i 0)) where
+        pub symbols-ready : length work′ ≡ length work → FinishPre work′ own′ next entries ends (i * (g .front * g .back)) (g .front * g .back)
+        symbols-ready e =
+            finish-ready at-hand weights-of Z (omega arith) (B .labels) (position-of (E .position)) (E .entered sets (g .front * g .back) i (B .labels) at-hand below refl (B .labelled .done) (followed)) (there e i (omega arith)) (B .next-size)
+          where
+            followed = ?
+
+        pub symbols-closed : {work″ own″ next″ : List ℕ} → Finished work′ work″ own′ own″ next next″ entries ends (i * (g .front * g .back)) (g .front * g .back)
+            → PositionClosed card ws sets work″ own″ next″ (length counts) (g .front * g .back) i
+        symbols-closed F =
+            finished at-hand weights-of Z (omega arith) (B .labels) (position-of (E .position)) (E .entered sets (g .front * g .back) i (B .labels) at-hand below refl (B .labelled .done) ?) (length counts) few-machines
+            (B .labelled) (B .room .fits) F
+
+-- a new array of labels
+pub zeros-fit : NextFits (replicate 256 0)
+zeros-fit = ?
