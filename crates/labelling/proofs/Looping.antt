@@ -5,8 +5,9 @@ use mathlib.Core.List.{List}
 use mathlib.Core.Option.{none}
 use Prim.Native.Nat.{ℕ, suc, _+_, _*_, _<_, _≤_}
 use native.Mathlib.Nat.{suc-mul, mul-le-mul-right}
+use native.Mathlib.Decide.{decLt}
 use native.Mathlib.Omega.{arith}
-use lib.ListN.{length, getD, replicate, getD-replicate, length-map, List·getD-eq-default}
+use lib.ListN.{length, getD, replicate, getD-replicate, length-replicate, length-map, List·getD-eq-default}
 use Rattle.basics.specs.Sets.{member}
 use Rattle.basics.specs.Products.{product}
 use Rattle.card.specs.Layout.{symbolCount}
@@ -16,12 +17,15 @@ use Rattle.product.specs.Setting.{placeOf, Setting}
 use Rattle.product.specs.Laws.Setting.{node-below}
 use Rattle.tables.specs.Laws.Cards.{card-machines}
 use Rattle.labels.specs.Work.{HasNodes, labelOf}
+use Rattle.labels.proofs.Work.{past-end}
 use Rattle.cells.specs.declared.Groups.{Groups}
 use Rattle.cells.specs.Cells.{places}
 use Rattle.cells.specs.Columns.{WeightsOf}
-use Rattle.cells.specs.Labels.{NextFits}
+use Rattle.paths.specs.Positions.{Entered}
+use Rattle.cells.specs.Labels.{cellAt, NextFits}
+use Rattle.cells.specs.Laws.Position.{placed}
 use Rattle.cells.specs.Laws.Groups.{all-codes}
-use Rattle.entering.specs.Entering.{Ready, Blank, Position, NextRoom, SymbolsEntered, EndingsEntered}
+use Rattle.entering.specs.Entering.{cellGraph, Ready, Blank, Position, NextRoom, SymbolsEntered, EndingsEntered}
 use Rattle.labelling.specs.Labelling.{Labelled, SearchPre, ListsPre, FinishPre, Finished, AllLabelled}
 use Rattle.labelling.proofs.Labelled.{labelled-start}
 use Rattle.labelling.proofs.Finishing.{PositionClosed, finish-ready, finished}
@@ -55,24 +59,26 @@ module _ {work card counts ws sets steps : List ℕ} {g : Groups} (Q : SearchPre
   }
 
   -- the work slice has the nodes of a position
-  there : {work′ : List ℕ} → length work′ ≡ length work → (i : ℕ) → i ≤ length sets → HasNodes work′ (i * (g .front * g .back) + g .front * g .back)
-  there e i h =
+  there : (work′ : List ℕ) → length work′ ≡ length work → (i : ℕ) → i ≤ length sets → HasNodes work′ (i * (g .front * g .back) + g .front * g .back)
+  there work′ e i h =
       let m : suc i * (g .front * g .back) ≤ (length sets + 1) * (g .front * g .back) = mul-le-mul-right (g .front * g .back) (omega arith) in
       let q : (length sets + 1) * product counts ≡ (length sets + 1) * (g .front * g .back) = ap (λ (n : ℕ). (length sets + 1) * n) (sym codes) in
       omega (arith, Q .room, suc-mul i (g .front * g .back))
 
   position-of : {own : List ℕ} → Position own (product (stateCounts (machinesOf card))) → Position own (g .front * g .back)
-  position-of A = subst (λ (n : ℕ). Position _ n) (sym (codes ∙ counts-of)) A
+  position-of {own} A = subst (λ (n : ℕ). Position own n) (sym (codes ∙ counts-of)) A
 
   -- nothing is past the last position
   past-none : (u : ℕ) → (length sets + 1) * (g .front * g .back) ≤ u → labelOf work u ≡ none
-  past-none u h = ?
+  past-none u h =
+      let q : (length sets + 1) * product counts ≡ (length sets + 1) * (g .front * g .back) = ap (λ (n : ℕ). (length sets + 1) * n) (sym codes) in
+      past-end work u (omega (arith, Q .room))
 
   module _ {entries ends : List ℕ} (Z : ListsPre card ws entries ends) {own next : List ℕ} where
     -- ---- the last position
     module _ (E : EndingsEntered card ws own) where
       pub last-ready : length next ≡ 256 → FinishPre work own next entries ends (length sets * (g .front * g .back)) (g .front * g .back)
-      last-ready e = finish-ready at-hand weights-of Z (omega arith) (λ _. none) (position-of (E .position)) (E .entered sets (g .front * g .back) at-hand) (there refl (length sets) (omega arith)) e
+      last-ready e = finish-ready at-hand weights-of Z (omega arith) (λ _. none) (position-of (E .position)) (E .entered sets (g .front * g .back) at-hand) (there work refl (length sets) (omega arith)) e
 
       pub last-closed : {work′ own′ next′ : List ℕ} → NextFits next → Finished work work′ own own′ next next′ entries ends (length sets * (g .front * g .back)) (g .front * g .back)
           → PositionClosed card ws sets work′ own′ next′ (length counts) (g .front * g .back) (length sets)
@@ -89,18 +95,25 @@ module _ {work card counts ws sets steps : List ℕ} {g : Groups} (Q : SearchPre
       next-there = subst (λ (n : ℕ). NextRoom next ws (length counts) n) codes (B .room)
 
       module _ {own′ : List ℕ} (E : SymbolsEntered card ws own′ next (getD sets i 0)) where
+        entered : Entered (cellGraph ws card sets) (placeOf card) (placed (i * (g .front * g .back)) (g .front * g .back) (B .labels) (cellAt own′)) i
+        entered =
+            let q : i + 1 ≡ suc i = omega arith in
+            E .entered sets (g .front * g .back) i (B .labels) at-hand below refl (B .labelled .done) (λ t h. ap (λ (n : ℕ). B .labels (n * (g .front * g .back) + t)) q ∙ B .followed .labels t h)
+
         pub symbols-ready : length work′ ≡ length work → FinishPre work′ own′ next entries ends (i * (g .front * g .back)) (g .front * g .back)
         symbols-ready e =
-            finish-ready at-hand weights-of Z (omega arith) (B .labels) (position-of (E .position)) (E .entered sets (g .front * g .back) i (B .labels) at-hand below refl (B .labelled .done) (followed)) (there e i (omega arith)) (B .next-size)
-          where
-            followed = ?
+            finish-ready at-hand weights-of Z (omega arith) (B .labels) (position-of (E .position)) entered (there work′ e i (omega arith)) (B .next-size)
 
         pub symbols-closed : {work″ own″ next″ : List ℕ} → Finished work′ work″ own′ own″ next next″ entries ends (i * (g .front * g .back)) (g .front * g .back)
             → PositionClosed card ws sets work″ own″ next″ (length counts) (g .front * g .back) i
         symbols-closed F =
-            finished at-hand weights-of Z (omega arith) (B .labels) (position-of (E .position)) (E .entered sets (g .front * g .back) i (B .labels) at-hand below refl (B .labelled .done) ?) (length counts) few-machines
+            finished at-hand weights-of Z (omega arith) (B .labels) (position-of (E .position)) entered (length counts) few-machines
             (B .labelled) (B .room .fits) F
 
 -- a new array of labels
 pub zeros-fit : NextFits (replicate 256 0)
-zeros-fit = ?
+zeros-fit = record { highs = λ i. omega (arith, zero-at (i * 2) (decLt (i * 2) 256)); lows = λ i. omega (arith, zero-at (i * 2 + 1) (decLt (i * 2 + 1) 256)) }
+  where
+    zero-at : (i : ℕ) → Dec (i < 256) → getD (replicate {A = ℕ} 256 0) i 0 ≡ 0
+    zero-at i (yes h) = getD-replicate {A = ℕ} 256 i 0 0 h
+    zero-at i (no h) = List·getD-eq-default (replicate {A = ℕ} 256 0) 0 {n = i} (omega (arith, length-replicate {A = ℕ} 256 0))
