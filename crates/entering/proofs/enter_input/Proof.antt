@@ -44,7 +44,7 @@ try-four-requires c κs = let s = c .before .before .before .before .before .bef
     try-ready (s .pre .0) (c .before .before .before .before .before .before .before .before .before .before .before .before .before .before .before .prepare .ensures) (four-few (l .outputs) (c .before .before .before .before .before .before .before .before .before .before .next-four .ensures)) (j .kept .1 .1 .1 .1 .1 .1 .0 ∙ l .inv .2) (j .kept .1 .1 .1 .1 .1 .1 .1 .0 ∙ l .inv .3) (s .pre .2) (l .inv .0 .position) (j .ensures)
 
 loop-less : tie.Need-loop-less Inv-loop μ-loop
-loop-less c = let l = c .before .before .before .before .before .before .before .before .before .before .before .before .before .before .before .before .loop in omega (arith, c .without-four .ensures, without-less (l .outputs) (l .inv .1) (c .before .before .before .before .before .before .before .before .before .before .before .before .before .before .before .loop-test .taken))
+loop-less c = let l = c .before .before .before .before .before .before .before .before .before .before .before .before .before .before .before .before .loop in omega (arith, c .without-four .ensures, without-less (l .outputs) (l .inv .1) (omega (arith, c .before .before .before .before .before .before .before .before .before .before .before .before .before .before .before .loop-test .taken)))
 
 loop-again : tie.Need-loop-again Inv-loop μ-loop
 loop-again c = let s = c .before .before .before .before .before .before .before .before .before .before .before .before .before .before .before .before .before .before .before .before .before .before .before .before .before .before in
@@ -66,7 +66,7 @@ same-length-2 : tie.Need-same-length-2 Inv-loop μ-loop
 same-length-2 c = c .before .before .before .before .prepare .kept .0
 
 returns : tie.Need-returns Inv-loop μ-loop
-returns c = let s = c .before .before .before .before .before .before .before .before .before .before .before in fours-end (s .pre .0 .accepted) (s .pre .3) (c .before .before .before .before .prepare .ensures) (c .loop-test .left) (c .before .loop .inv .0)
+returns c = let s = c .before .before .before .before .before .before .before .before .before .before .before in fours-end (s .pre .0 .accepted) (s .pre .3) (c .before .before .before .before .prepare .ensures) (omega (arith, c .loop-test .left)) (c .before .loop .inv .0)
 
 pub enter-input-spec : {M : Type 1} → statement M
 enter-input-spec =

@@ -47,7 +47,7 @@ same-length-2 : tie.Need-same-length-2 Inv-loop μ-loop
 same-length-2 c = c .before .loop .inv .1
 
 returns : tie.Need-returns Inv-loop μ-loop
-returns c = let s = c .before .before .before .before .before .before .before in symbols-end (s .args .card .now) (s .pre .0 .accepted) (c .loop-test .left) (blank-codes (s .pre .0) (s .pre .1)) (c .before .loop .inv .0)
+returns c = let s = c .before .before .before .before .before .before .before in symbols-end (s .args .card .now) (s .pre .0 .accepted) (omega (arith, c .loop-test .left)) (blank-codes (s .pre .0) (s .pre .1)) (c .before .loop .inv .0)
 
 pub enter-symbols-spec : {M : Type 1} → statement M
 enter-symbols-spec =
