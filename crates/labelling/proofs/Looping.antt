@@ -3,7 +3,7 @@ use mathlib.Core.Path.{_≡_, refl, sym, _∙_, ap, subst}
 use mathlib.Core.Bool.{true}
 use mathlib.Core.List.{List}
 use mathlib.Core.Option.{none}
-use Prim.Native.Nat.{ℕ, suc, _+_, _*_, _<_, _≤_}
+use Prim.Native.Nat.{ℕ, suc, _+_, _-_, _*_, _<_, _≤_}
 use native.Mathlib.Nat.{suc-mul, mul-le-mul-right}
 use native.Mathlib.Decide.{decLt}
 use native.Mathlib.Omega.{arith}
@@ -14,8 +14,9 @@ use Rattle.card.specs.Layout.{symbolCount}
 use Rattle.card.specs.Card.{machinesOf}
 use Rattle.product.specs.Nodes.{stateCounts, stateCountOf}
 use Rattle.product.specs.Setting.{placeOf, Setting}
-use Rattle.product.specs.Laws.Setting.{node-below}
-use Rattle.tables.specs.Laws.Cards.{card-machines}
+use Rattle.product.specs.Laws.Setting.{few-codes, few-nodes}
+use Rattle.tables.specs.Laws.Cards.{card-machines, card-counts}
+use Rattle.tables.specs.Tables.{CountsOfSome}
 use Rattle.labels.specs.Work.{HasNodes, labelOf}
 use Rattle.labels.proofs.Work.{past-end}
 use Rattle.cells.specs.declared.Groups.{Groups}
@@ -65,6 +66,17 @@ module _ {work card counts ws sets steps : List ℕ} {g : Groups} (Q : SearchPre
       let q : (length sets + 1) * product counts ≡ (length sets + 1) * (g .front * g .back) = ap (λ (n : ℕ). (length sets + 1) * n) (sym codes) in
       omega (arith, Q .room, suc-mul i (g .front * g .back))
 
+  pub base-few : (i : ℕ) → i ≤ length sets → i * (g .front * g .back) ≤ 3200
+  base-few i h =
+      let m : i * (g .front * g .back) ≤ (length sets + 1) * (g .front * g .back) = mul-le-mul-right (g .front * g .back) (omega arith) in
+      omega (arith, few-nodes at-hand)
+
+  pub codes-few : g .front * g .back ≤ 128
+  codes-few = few-codes at-hand
+
+  pub counts-known : CountsOfSome counts
+  counts-known = card-counts card (Q .setting .accepted) (Q .counts-are)
+
   position-of : {own : List ℕ} → Position own (product (stateCounts (machinesOf card))) → Position own (g .front * g .back)
   position-of {own} A = subst (λ (n : ℕ). Position own n) (sym (codes ∙ counts-of)) A
 
@@ -109,6 +121,16 @@ module _ {work card counts ws sets steps : List ℕ} {g : Groups} (Q : SearchPre
         symbols-closed F =
             finished at-hand weights-of Z (omega arith) (B .labels) (position-of (E .position)) entered (length counts) few-machines
             (B .labelled) (B .room .fits) F
+
+-- all positions are closed
+pub all-closed : {card ws sets work work′ own next : List ℕ} {K P i : ℕ} → i ≤ 0 → length work′ ≡ length work → PositionClosed card ws sets work′ own next K P i → AllLabelled card ws sets work work′
+all-closed {card} {ws} {sets} {work′ = work′} {i = i} h e B =
+    let q : i ≡ 0 = omega arith in
+    record { size = e; labels = B .labels; labelled = subst (λ (n : ℕ). Labelled card ws sets work′ n (B .labels)) q (B .labelled) }
+
+-- a position before another one
+pub one-before : {card ws sets work own next : List ℕ} {K P i : ℕ} → 0 < i → PositionClosed card ws sets work own next K P i → PositionClosed card ws sets work own next K P (suc (i - 1))
+one-before {card} {ws} {sets} {work} {own} {next} {K} {P} {i} h B = let q : i ≡ suc (i - 1) = omega arith in subst (λ (n : ℕ). PositionClosed card ws sets work own next K P n) q B
 
 -- a new array of labels
 pub zeros-fit : NextFits (replicate 256 0)
