@@ -1,0 +1,2 @@
+// Entering a position: by the symbols of its set, or, at the last one, by the endings.
+pub mod endings; // endings.rt: the labels of the last position
