@@ -1,5 +1,5 @@
 -- Entering the last position: its labels are its endings. Assumes nothing.
-use mathlib.Core.Path.{_≡_, refl, sym, _∙_, subst}
+use mathlib.Core.Path.{_≡_, refl, sym, _∙_, ap, subst}
 use mathlib.Core.Logic.{_⊎_, inl, inr, _≢_}
 use mathlib.Core.List.{List, [], _∷_}
 use mathlib.Core.Option.{Option, some, none, Option·none-ne-some}
@@ -30,7 +30,7 @@ use Rattle.tables.specs.Tables.{CardMachines}
 use Rattle.tables.specs.Laws.Cards.{card-machines}
 use Rattle.cells.specs.declared.Cell.{Cell}
 use Rattle.cells.specs.declared.Groups.{Groups}
-use Rattle.cells.specs.Cells.{nowhere, highOf, lowOf, highAt, lowAt}
+use Rattle.cells.specs.Cells.{nowhere, highOf, lowOf, highAt, lowAt, cellSum, places}
 use Rattle.cells.specs.Columns.{weighed, WeightsOf}
 use Rattle.cells.specs.Groups.{GroupsOf, sumAt, FourPre, FourJoined}
 use Rattle.cells.specs.Labels.{noLabel, cellAt, OwnCell}
@@ -42,9 +42,10 @@ use Rattle.cells.specs.Laws.Labels.{written, written-here, written-other}
 use Rattle.cells.specs.Laws.Trying.{label-there, label-none}
 use Rattle.cells.specs.Laws.Position.{placed, placed-in, placed-before, placed-after}
 use Rattle.cells.specs.Laws.Weighed.{weighed-whole}
-use Rattle.columns.specs.Endings.{EndingsFilled}
-use Rattle.columns.specs.Laws.Endings.{EndingCell, ending-sum}
-use Rattle.entering.specs.Entering.{cellGraph, Position, EndingsEntered}
+use Rattle.columns.specs.Filling.{Small}
+use Rattle.columns.specs.Endings.{EndingsPre, EndingsFilled}
+use Rattle.columns.specs.Laws.Endings.{EndingCell, endings-four-pre, ending-sum}
+use Rattle.entering.specs.Entering.{cellGraph, Ready, EndingsEntered}
 use Rattle.entering.specs.Endings.{endingCell, firstSum, endingAt, WritePre, EndingsWritten}
 
 -- ---- the label of an ending
@@ -85,23 +86,31 @@ first-sum table front a b =
     let q : (front + b) * 4 ≡ (front + b) * 4 + 0 = omega arith in
     λ i. getD table (p i) 0 + getD table (q i) 0
 
-module _ {steps four counts ws high low : List ℕ} {W : ℕ} {g : Groups} (Q : FourPre steps four counts ws high low W g) where
-  pub write-pre : {own high′ low′ : List ℕ} → FourJoined steps four counts ws high′ low′ W g → length own ≡ 256 → length high′ ≡ length high → length low′ ≡ length low → 0 < product counts → g .front + g .back ≤ 66
-      → WritePre own high′ low′ (g .front) (g .back)
-  write-pre {high′ = high′} {low′ = low′} J size eh el codes few = record {
-    size = size;
-    few = omega (arith, all-codes (Q .groups), Q .few);
-    small = few;
-    some-back = positive (g .back) (g .front) (rw (mul-comm (g .back) (g .front)) (omega (arith, all-codes (Q .groups))));
-    high-room = omega (arith, Q .high-room);
-    low-room = omega (arith, Q .low-room);
-    high-few = λ a b h k. omega (arith, first-sum high′ (g .front) a b, J .highs a b 0 h k (omega arith), Q .machines, mul-le-mul-right nowhere (Q .machines), sum-small nowhere (highAt steps ws W (getD four 0 0)) (λ m p. high-small _ _ _ (Q .columns .small _) (Q .weights m .scale-few) (Q .weights m .high-few)) 0 0 counts (a * g .back + b));
-    low-few = λ a b h k. omega (arith, first-sum low′ (g .front) a b, J .lows a b 0 h k (omega arith), Q .machines, mul-le-mul-right nowhere (Q .machines), sum-small nowhere (lowAt steps ws W (getD four 0 0)) (λ m p. low-small _ _ (Q .weights m .low-few)) 0 0 counts (a * g .back + b));
-  }
-    where
-      positive : (m n : ℕ) → 0 < m * n → 0 < m
-      positive zero n h = absurd (omega arith)
-      positive (suc m) n h = omega arith
+back-some : {counts : List ℕ} {g : Groups} → GroupsOf counts g → 0 < product counts → 0 < g .back
+back-some {g = g} G h = positive (g .back) (g .front) (rw (mul-comm (g .back) (g .front)) (omega (arith, all-codes G)))
+  where
+    positive : (m n : ℕ) → 0 < m * n → 0 < m
+    positive zero n h = absurd (omega arith)
+    positive (suc m) n h = omega arith
+
+write-pre : {steps four counts ws own high low : List ℕ} {W : ℕ} {g : Groups} → FourPre steps four counts ws high low W g → FourJoined steps four counts ws high low W g
+    → length own ≡ 256 → 0 < product counts → g .front + g .back ≤ 66 → WritePre own high low (g .front) (g .back)
+write-pre {steps} {four} {counts} {ws} {high = high} {low = low} {W = W} {g = g} Q J size codes few = record {
+  size = size;
+  few = omega (arith, all-codes (Q .groups), Q .few);
+  small = few;
+  some-back = back-some (Q .groups) codes;
+  high-room = Q .high-room;
+  low-room = Q .low-room;
+  high-few = λ a b h k. omega (arith, first-sum high (g .front) a b, J .highs a b 0 h k (omega arith), mul-le-mul-right nowhere (Q .machines), highs a b);
+  low-few = λ a b h k. omega (arith, first-sum low (g .front) a b, J .lows a b 0 h k (omega arith), mul-le-mul-right nowhere (Q .machines), lows a b);
+}
+  where
+    highs : (a b : ℕ) → cellSum (highAt steps ws W (getD four 0 0)) 0 0 counts (a * g .back + b) ≤ length counts * nowhere
+    highs a b = sum-small nowhere (highAt steps ws W (getD four 0 0)) (λ m p. high-small _ _ _ (Q .columns .small _) (Q .weights m .scale-few) (Q .weights m .high-few)) 0 0 counts (a * g .back + b)
+
+    lows : (a b : ℕ) → cellSum (lowAt steps ws W (getD four 0 0)) 0 0 counts (a * g .back + b) ≤ length counts * nowhere
+    lows a b = sum-small nowhere (lowAt steps ws W (getD four 0 0)) (λ m p. low-small _ _ (Q .weights m .low-few)) 0 0 counts (a * g .back + b)
 
 -- ---- the cell of a code's ending
 
@@ -204,29 +213,61 @@ module _ {card sets : List ℕ} {P : ℕ} (s : Setting card sets P) (ws : List �
 
 -- ---- all together
 
-module _ (card : List ℕ) {ws : List ℕ} (ok : cardRefusal card ≡ 0) (Z : WeightsOf (stateCounts (machinesOf card)) ws) {g : Groups} (G : GroupsOf (stateCounts (machinesOf card)) g) where
+module _ {card counts ws own steps : List ℕ} {W : ℕ} {g : Groups} (R : Ready card counts ws own steps W g) where
   M : CardMachines (symbolCount card) (machinesOf card)
-  M = card-machines card ok
+  M = card-machines card (R .accepted)
 
-  pub some-codes : 0 < product (stateCounts (machinesOf card))
-  some-codes = product-positive (stateCounts (machinesOf card)) (counts-positive (M .sound))
+  Z : WeightsOf (stateCounts (machinesOf card)) ws
+  Z = rw (R .counts-are) at (R .weights)
 
-  pub entered-by : {xs ys high low own : List ℕ} {W : ℕ} → EndingsFilled (machinesOf card) xs ys → FourJoined ys (0 ∷ 64 ∷ 64 ∷ 64 ∷ []) (stateCounts (machinesOf card)) ws high low W g → 0 < g .back
-      → EndingsWritten own high low (g .front) (g .back) (g .front * g .back) → EndingsEntered card ws own
-  entered-by {high = high} {low = low} {own = own} E J back Y = record {
+  G : GroupsOf (stateCounts (machinesOf card)) g
+  G = rw (R .counts-are) at (R .groups)
+
+  -- what filling asks
+  pub fill-ready : EndingsPre card counts steps
+  fill-ready = record { accepted = R .accepted; counts-are = R .counts-are; room = omega (arith, R .room, R .width) }
+
+  -- what joining asks
+  pub join-ready : {ys : List ℕ} → Small steps → EndingsFilled (machinesOf card) steps ys → (high low : List ℕ) → length high ≡ 264 → length low ≡ 264 → FourPre ys (0 ∷ 64 ∷ 64 ∷ 64 ∷ []) counts ws high low W g
+  join-ready small E high low eh el =
+      let w : W ≡ places (stateCounts (machinesOf card)) = R .width ∙ ap places (R .counts-are) in
+      let p = endings-four-pre M E Z G (0 ∷ 64 ∷ 64 ∷ 64 ∷ []) high low small w (omega (arith, R .room, E .size)) (R .few) outputs eh el in
+      rw (R .counts-are) p
+    where
+      outputs : (j : ℕ) → getD (0 ∷ 64 ∷ 64 ∷ 64 ∷ []) j 0 ≤ 64
+      outputs zero = omega arith
+      outputs (suc zero) = omega arith
+      outputs (suc (suc zero)) = omega arith
+      outputs (suc (suc (suc zero))) = omega arith
+      outputs (suc (suc (suc (suc j)))) = omega arith
+
+  codes-some : 0 < product counts
+  codes-some = rw (R .counts-are) (product-positive (stateCounts (machinesOf card)) (counts-positive (M .sound)))
+
+  -- what writing asks
+  pub write-ready : {ys high low : List ℕ} → Small steps → EndingsFilled (machinesOf card) steps ys → FourJoined ys (0 ∷ 64 ∷ 64 ∷ 64 ∷ []) counts ws high low W g → length high ≡ 264 → length low ≡ 264
+      → WritePre own high low (g .front) (g .back)
+  write-ready {high = high} {low = low} small E J eh el = write-pre (join-ready small E high low eh el) J (R .size) codes-some (R .few)
+
+  pub last-entered : {ys high low own′ : List ℕ} → EndingsFilled (machinesOf card) steps ys → FourJoined ys (0 ∷ 64 ∷ 64 ∷ 64 ∷ []) counts ws high low W g
+      → EndingsWritten own′ high low (g .front) (g .back) (g .front * g .back) → EndingsEntered card ws own′
+  last-entered {high = high} {low = low} {own′ = own′} E J Y = record {
     position = record { size = Y .size; labels = λ c h. ended-own (codeEnding (machinesOf card) c) (ended c h) };
-    entered = λ sets P s. all-entered s ws (cellAt own) (λ c h. labelled sets P s c h);
+    entered = λ sets P s. all-entered s ws (cellAt own′) (λ c h. labelled sets P s c h);
   }
     where
-      ended : (c : ℕ) → c < product (stateCounts (machinesOf card)) → EndedAs ws (codeEnding (machinesOf card) c) (cellAt own c)
+      back : 0 < g .back
+      back = back-some (R .groups) codes-some
+
+      ended : (c : ℕ) → c < product (stateCounts (machinesOf card)) → EndedAs ws (codeEnding (machinesOf card) c) (cellAt own′ c)
       ended c h =
           let a : c / g .back < g .front = div-lt-iff-lt-mul back .1 (omega (arith, all-codes G)) in
           let e : c / g .back * g .back + c % g .back ≡ c = div-add-mod' c (g .back) in
-          let z = ending-sum M E Z G J (c / g .back) (c % g .back) 0 a (mod-lt c back) (omega arith) refl in
+          let z = ending-sum M E Z G (rw (R .counts-are) at J) (c / g .back) (c % g .back) 0 a (mod-lt c back) (omega arith) refl in
           let y = rw e at z in
           rw (Y .label c (omega (arith, all-codes G)), first-sum high (g .front) (c / g .back) (c % g .back), first-sum low (g .front) (c / g .back) (c % g .back)) (ended-as (Z .whole) y)
 
-      labelled : (sets : List ℕ) (P : ℕ) → Setting card sets P → (c : ℕ) → c < P → labelFrom (cellAt own c) ≡ cellGraph ws card sets .ending (length sets * P + c)
+      labelled : (sets : List ℕ) (P : ℕ) → Setting card sets P → (c : ℕ) → c < P → labelFrom (cellAt own′ c) ≡ cellGraph ws card sets .ending (length sets * P + c)
       labelled sets P s c h =
           let k : c < product (stateCounts (machinesOf card)) = omega (arith, s .states) in
           rw (s .states) (ended-label (codeEnding (machinesOf card) c) (ended c k) sets (machinesOf card) ∙ sym (ending-edge (cellPrice ws) sets (machinesOf card) c k))

@@ -1,0 +1,1 @@
+// Insertions in lists by the code that they lead to.
