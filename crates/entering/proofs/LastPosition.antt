@@ -1,21 +1,19 @@
 -- Entering the last position: its labels are its endings. Assumes nothing.
 use mathlib.Core.Path.{_≡_, refl, sym, _∙_, ap, subst}
-use mathlib.Core.Logic.{_⊎_, inl, inr, _≢_}
+use mathlib.Core.Logic.{_≢_}
 use mathlib.Core.List.{List, [], _∷_}
 use mathlib.Core.Option.{Option, some, none, Option·none-ne-some}
-use Prim.Native.Nat.{ℕ, zero, suc, _+_, _-_, _*_, _/_, _%_, _<_, _≤_}
+use Prim.Native.Nat.{ℕ, zero, suc, _+_, _-_, _*_, _/_, _%_, _^_, _<_, _≤_}
 use native.Mathlib.Nat.{mod-lt, div-lt-iff-lt-mul, div-add-mod', mul-comm, mul-le-mul-right}
-use native.Mathlib.Numerals.{add-one}
 use native.Mathlib.Decide.{decLt, ℕ-discrete}
 use native.Mathlib.Omega.{arith}
-use lib.ListN.{length, getD, set, length-set}
+use lib.ListN.{length, getD, length-set}
 use borrow.Author.Tests.{lt-ltb, le-ltb}
 use Rattle.machine.specs.Machine.{Machine}
 use Rattle.card.specs.Layout.{symbolCount}
-use Rattle.card.specs.Card.{machinesOf, cardRefusal}
+use Rattle.card.specs.Card.{machinesOf}
 use Rattle.paths.specs.Costs.{Labels, lowered}
-use Rattle.paths.specs.Ranked.{Ranked, rankedCosts, Less}
-use Rattle.paths.specs.Improvement.{Improves}
+use Rattle.paths.specs.Ranked.{Ranked, rankedCosts}
 use Rattle.paths.specs.Positions.{Done, Entering, Entered, done-start}
 use Rattle.product.specs.Nodes.{stateCounts, product}
 use Rattle.product.specs.ProductGraph.{pricedEnding}
@@ -60,10 +58,28 @@ ending-none h l k = rw (le-ltb h nowhere k)
 
 -- ---- the loop over the codes
 
+-- where the numbers of a code are, and that they can be added
+pub record CodePlaces (high low : List ℕ) (front back code : ℕ) : Type 0 where
+  pub code-few : code < 128
+  pub places-few : (code / back < 66) × (front + code % back < 66)
+  pub in-high : (code / back * 4 < length high) × ((front + code % back) * 4 < length high)
+  pub in-low : (code / back * 4 < length low) × ((front + code % back) * 4 < length low)
+  pub high-fits : firstSum high front (code / back) (code % back) < 2 ^ 64
+  pub low-fits : firstSum low front (code / back) (code % back) < 2 ^ 64
+
 module _ {own high low : List ℕ} {front back : ℕ} (R : WritePre own high low front back) where
-  -- the front code and the back code of a code
-  pub code-parts : (code : ℕ) → code < front * back → (code / back < front) × (code % back < back)
-  code-parts code h = (div-lt-iff-lt-mul (R .some-back) .1 h, mod-lt code (R .some-back))
+  pub code-places : {code : ℕ} → code < front * back → CodePlaces high low front back code
+  code-places {code} h =
+      let p : code / back < front = div-lt-iff-lt-mul (R .some-back) .1 h in
+      let q : code % back < back = mod-lt code (R .some-back) in
+      record {
+        code-few = omega (arith, R .few);
+        places-few = omega (arith, R .small);
+        in-high = omega (arith, R .high-room);
+        in-low = omega (arith, R .low-room);
+        high-fits = omega (arith, R .high-few (code / back) (code % back) p q);
+        low-fits = omega (arith, R .low-few (code / back) (code % back) p q);
+      }
 
   pub written-start : EndingsWritten own high low front back 0
   written-start = record { size = R .size; label = λ c h. absurd (omega arith) }

@@ -12,13 +12,13 @@ use cells::NOWHERE;
 const NO_LABEL: u64 = NOWHERE + 255;
 
 // The label of an ending, by its two numbers.
-fn ending_label(high: u64, low: u64) -> Cell
-    ensures { λ r. ⌜ r ≡ endingCell high low ⌝ }
+fn ending_label(ending: u64, rest: u64) -> Cell
+    ensures { λ r. ⌜ r ≡ endingCell ending rest ⌝ }
 {
-    if high < NOWHERE {
+    if ending < NOWHERE {
         return Cell {
-            high: high + 255,
-            low,
+            high: ending + 255,
+            low: rest,
         };
     }
     Cell {
@@ -62,8 +62,6 @@ pub fn enter_endings(
     let four = [0u8, 64, 64, 64];
     let mut high = [0u64; 264];
     let mut low = [0u64; 264];
-    cells::join_four(
-        steps, width, &four, counts, weights, g, &mut high, &mut low,
-    );
+    cells::join_four(steps, width, &four, counts, weights, g, &mut high, &mut low);
     write_endings(own, g.front, g.back, &high, &low);
 }

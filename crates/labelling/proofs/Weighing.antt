@@ -11,7 +11,7 @@ use native.Mathlib.Omega.{arith}
 use lib.Dec.{eqb}
 use lib.ListN.{length, getD, take, drop, set, replicate, length-set, drop-of-length-le, List·getD-eq-default}
 use lib.Seq.{drop-cons, getD-take, length-take-le, getD-set-same, getD-set-other}
-use borrow.Author.Tests.{eqb-true, eqb-false, eq-eqb, ne-eqb}
+use borrow.Author.Tests.{eq-eqb, ne-eqb}
 use Rattle.basics.specs.Search.{occurrences}
 use Rattle.basics.specs.Products.{product}
 use Rattle.basics.proofs.Occurrences.{its-place, occurs-here, occurs-later, occurrences-append}
@@ -200,50 +200,50 @@ module _ (xs : List ℕ) (m a b c : ℕ) (h : 3 * m + 2 < length xs) where
   others-are i p q r =
       getD-set-other (set (set xs (3 * m) a) (3 * m + 1) b) (3 * m + 2) i c 0 r ∙ getD-set-other (set xs (3 * m) a) (3 * m + 1) i b 0 q ∙ getD-set-other xs (3 * m) i a 0 p
 
-module _ {counts places xs : List ℕ} {m scale : ℕ} (few : length counts ≤ 6) (W : WeightsFrom counts places xs (suc m) scale) (h l : ℕ) (eh : h ≡ weightBy places rankedHighs m) (el : l ≡ weightBy places rankedLows m) where
-  room : 3 * m + 2 < length xs
-  room = omega (arith, W .within, W .size)
+module _ {counts places xs : List ℕ} {m scale : ℕ} where
+  pub machine-few : CountsOfSome counts → WeightsFrom counts places xs m scale → m ≤ 6
+  machine-few C W = omega (arith, W .within, few-counts C)
 
-  weights-next : WeightsFrom counts places (three xs m scale h l) m (scale * getD counts m 0)
-  weights-next = record {
-    within = omega (arith, W .within);
-    size = (simp length-set) ∙ W .size;
-    scale-is = ap (λ (n : ℕ). n * getD counts m 0) (W .scale-is) ∙ mul-comm (product (drop (suc m) counts)) (getD counts m 0) ∙ sym (product-next counts m (W .within));
-    scales = λ n a b. scales n a b (ℕ-discrete n m);
-    highs = λ n a b. highs n a b (ℕ-discrete n m);
-    lows = λ n a b. lows n a b (ℕ-discrete n m);
-  }
-    where
-      scales : (n : ℕ) → m ≤ n → n < length counts → Dec (n ≡ m) → scaleOf (three xs m scale h l) n ≡ product (drop (suc n) counts)
-      scales n a b (yes q) = rw q (first-is xs m scale h l room ∙ W .scale-is)
-      scales n a b (no q) = others-are xs m scale h l room (3 * n) (λ e. omega arith) (λ e. omega arith) (λ e. omega arith) ∙ W .scales n (omega arith) b
+  pub machine-at : WeightsFrom counts places xs m scale → 0 < m → m - 1 < length counts
+  machine-at W h = omega (arith, W .within)
 
-      highs : (n : ℕ) → m ≤ n → n < length counts → Dec (n ≡ m) → highOf (three xs m scale h l) n ≡ weightBy places rankedHighs n
-      highs n a b (yes q) = rw q (second-is xs m scale h l room ∙ eh)
-      highs n a b (no q) = others-are xs m scale h l room (3 * n + 1) (λ e. omega arith) (λ e. omega arith) (λ e. omega arith) ∙ W .highs n (omega arith) b
-
-      lows : (n : ℕ) → m ≤ n → n < length counts → Dec (n ≡ m) → lowOf (three xs m scale h l) n ≡ weightBy places rankedLows n
-      lows n a b (yes q) = rw q (third-is xs m scale h l room ∙ el)
-      lows n a b (no q) = others-are xs m scale h l room (3 * n + 2) (λ e. omega arith) (λ e. omega arith) (λ e. omega arith) ∙ W .lows n (omega arith) b
-
-module _ {counts places xs : List ℕ} {m scale : ℕ} (C : CountsOfSome counts) (W : WeightsFrom counts places xs m scale) (some : 0 < m) where
-  pub machine-few : m - 1 < length counts
-  machine-few = omega (arith, W .within)
-
-  -- the scale of the machine before
-  scale-next : scale * getD counts (m - 1) 0 ≡ product (drop (m - 1) counts)
-  scale-next =
+  -- one machine more
+  scale-next : WeightsFrom counts places xs m scale → 0 < m → scale * getD counts (m - 1) 0 ≡ product (drop (m - 1) counts)
+  scale-next W h =
       let e : m ≡ suc (m - 1) = omega arith in
       let z : scale ≡ product (drop (suc (m - 1)) counts) = W .scale-is ∙ ap (λ (n : ℕ). product (drop n counts)) e in
-      ap (λ (n : ℕ). n * getD counts (m - 1) 0) z ∙ mul-comm (product (drop (suc (m - 1)) counts)) (getD counts (m - 1) 0) ∙ sym (product-next counts (m - 1) machine-few)
+      ap (λ (n : ℕ). n * getD counts (m - 1) 0) z ∙ mul-comm (product (drop (suc (m - 1)) counts)) (getD counts (m - 1) 0) ∙ sym (product-next counts (m - 1) (machine-at W h))
 
-  pub scale-few : scale * getD counts (m - 1) 0 ≤ 128
-  scale-few = omega (arith, scale-next, product-drop (m - 1) counts (all-positive C), few-states C)
+  pub scale-few : CountsOfSome counts → WeightsFrom counts places xs m scale → 0 < m → scale * getD counts (m - 1) 0 ≤ 128
+  scale-few C W h = omega (arith, scale-next W h, product-drop (m - 1) counts (all-positive C), few-states C)
 
-  pub weights-step : (h l q : ℕ) → h ≡ weightBy places rankedHighs (m - 1) → l ≡ weightBy places rankedLows (m - 1) → q ≡ getD counts (m - 1) 0 → WeightsFrom counts places (three xs (m - 1) scale h l) (m - 1) (scale * q)
-  weights-step h l q eh el eq =
-      let e : m ≡ suc (m - 1) = omega arith in
-      rw eq (weights-next (few-counts C) (rw e at W) h l eh el)
+  pub weights-next : CountsOfSome counts → WeightsFrom counts places xs m scale → 0 < m → {upper lower q : ℕ} → upper ≡ weightBy places rankedHighs (m - 1) → lower ≡ weightBy places rankedLows (m - 1) → q ≡ getD counts (m - 1) 0
+      → WeightsFrom counts places (three xs (m - 1) scale upper lower) (m - 1) (scale * q)
+  weights-next C W h {upper} {lower} {q} eh el eq = record {
+    within = omega (arith, W .within);
+    size = (simp length-set) ∙ W .size;
+    scale-is = ap (λ (n : ℕ). scale * n) eq ∙ scale-next W h;
+    scales = λ n a b. scales n a b (ℕ-discrete n (m - 1));
+    highs = λ n a b. highs n a b (ℕ-discrete n (m - 1));
+    lows = λ n a b. lows n a b (ℕ-discrete n (m - 1));
+  }
+    where
+      room : 3 * (m - 1) + 2 < length xs
+      room = omega (arith, W .within, W .size, few-counts C)
+
+      scales : (n : ℕ) → m - 1 ≤ n → n < length counts → Dec (n ≡ m - 1) → scaleOf (three xs (m - 1) scale upper lower) n ≡ product (drop (suc n) counts)
+      scales n a b (yes q) =
+          let e : m ≡ suc (m - 1) = omega arith in
+          rw q (first-is xs (m - 1) scale upper lower room ∙ W .scale-is ∙ ap (λ (k : ℕ). product (drop k counts)) e)
+      scales n a b (no q) = others-are xs (m - 1) scale upper lower room (3 * n) (λ e. omega arith) (λ e. omega arith) (λ e. omega arith) ∙ W .scales n (omega arith) b
+
+      highs : (n : ℕ) → m - 1 ≤ n → n < length counts → Dec (n ≡ m - 1) → highOf (three xs (m - 1) scale upper lower) n ≡ weightBy places rankedHighs n
+      highs n a b (yes q) = rw q (second-is xs (m - 1) scale upper lower room ∙ eh)
+      highs n a b (no q) = others-are xs (m - 1) scale upper lower room (3 * n + 1) (λ e. omega arith) (λ e. omega arith) (λ e. omega arith) ∙ W .highs n (omega arith) b
+
+      lows : (n : ℕ) → m - 1 ≤ n → n < length counts → Dec (n ≡ m - 1) → lowOf (three xs (m - 1) scale upper lower) n ≡ weightBy places rankedLows n
+      lows n a b (yes q) = rw q (third-is xs (m - 1) scale upper lower room ∙ el)
+      lows n a b (no q) = others-are xs (m - 1) scale upper lower room (3 * n + 2) (λ e. omega arith) (λ e. omega arith) (λ e. omega arith) ∙ W .lows n (omega arith) b
 
 module _ {counts : List ℕ} (C : CountsOfSome counts) (ranking : List ℕ) (is : isRanking (length counts) ranking ≡ true) {xs : List ℕ} {scale : ℕ} (W : WeightsFrom counts (sixPlaces ranking) xs 0 scale) where
   taken : (i : ℕ) → i < 3 * length counts → getD (take (3 * length counts) xs) i 0 ≡ getD xs i 0

@@ -1,2 +1,2 @@
 // The labels of all nodes, position by position, from the last to the first.
-pub mod weights; // weights.rt: what states and marks count, in ranked order
+mod weights; // weights.rt: what states and marks count, in ranked order

@@ -1,28 +1,40 @@
 use borrow.Author.Needs.{needs}
-use mathlib.Core.Path.{_≡_, refl, sym, _∙_}
-use native.Mathlib.Omega.{arith}
+use mathlib.Core.Path.{refl}
 use Rattle.entering.proofs.LastPosition.{fill-ready, join-ready, write-ready, last-entered}
 use Rattle.entering.proofs.endings.enter_endings.Statement.{statement}
 use Rattle.entering.proofs.endings.enter_endings.Tie as tie
+
+-- ---- the places on the way
+
+abbrev start : tie.After-fill-endings → tie.Start
+start c = c .before .before .before .before .before .before .before
+
+abbrev filled : tie.After-low → tie.After-fill-endings
+filled c = c .before .before .before .before .before .before
+
+abbrev joined : tie.After-low3 → tie.After-join-four
+joined c = c .before .before .before .before .before
 
 fill-endings-requires : tie.Need-fill-endings-requires
 fill-endings-requires c κs = fill-ready (c .before .before .before .before .before .before .pre .0)
 
 join-four-requires : tie.Need-join-four-requires
 join-four-requires c κs =
-    let s = c .before .before .before .before .before .before .before .before .before .before .before .before .before in
-    join-ready (s .pre .0) (s .pre .1) (c .before .before .before .before .before .before .fill-endings .ensures) _ _ refl refl
+    let f = filled c in
+    join-ready (start f .pre .0) (start f .pre .1) (f .fill-endings .ensures) _ _ refl refl
 
 write-endings-requires : tie.Need-write-endings-requires
 write-endings-requires c κs =
-    let s = c .before .before .before .before .before .before .before .before .before .before .before .before .before .before .before .before .before .before .before in
-    let j = c .before .before .before .before .before .join-four in
-    write-ready (s .pre .0) (s .pre .1) (c .before .before .before .before .before .before .before .before .before .before .before .before .fill-endings .ensures) (j .ensures) (j .kept .1 .1 .1 .1 .1 .1 .0) (j .kept .1 .1 .1 .1 .1 .1 .1 .0)
+    let j = joined c in
+    let f = filled (j .before) in
+    write-ready (start f .pre .0) (start f .pre .1) (f .fill-endings .ensures) (j .join-four .ensures) (j .join-four .kept .1 .1 .1 .1 .1 .1 .0) (j .join-four .kept .1 .1 .1 .1 .1 .1 .1 .0)
 
 returns : tie.Need-returns
 returns c =
-    let s = c .before .before .before .before .before .before .before .before .before .before .before .before .before .before .before .before .before .before .before .before .before .before in
-    last-entered (s .pre .0) (c .before .before .before .before .before .before .before .before .before .before .before .before .before .before .before .fill-endings .ensures) (c .before .before .before .before .before .before .before .before .join-four .ensures) (c .before .before .write-endings .ensures)
+    let w = c .before .before in
+    let j = joined (w .before) in
+    let f = filled (j .before) in
+    last-entered (start f .pre .0) (f .fill-endings .ensures) (j .join-four .ensures) (w .write-endings .ensures)
 
 pub enter-endings-spec : {M : Type 1} → statement M
 enter-endings-spec =

@@ -1,10 +1,10 @@
 use borrow.Author.Needs.{needs}
-use mathlib.Core.Path.{_≡_, refl, sym, _∙_}
-use Prim.Native.Nat.{ℕ, _+_, _-_, _*_, _/_, _%_, _≤_}
+use mathlib.Core.Path.{sym, _∙_}
+use Prim.Native.Nat.{_-_, _≤_}
 use native.Mathlib.Omega.{arith}
 use lib.ListN.{length-set}
 use Rattle.entering.specs.Endings.{EndingsWritten}
-use Rattle.entering.proofs.LastPosition.{code-parts, written-start, written-next, written-end}
+use Rattle.entering.proofs.LastPosition.{CodePlaces, code-places, written-start, written-next, written-end}
 use Rattle.entering.proofs.endings.write_endings.Statement.{statement}
 use Rattle.entering.proofs.endings.write_endings.Tie as tie
 
@@ -14,75 +14,74 @@ Inv-loop own₀ front back high low size code₀ own code = (code ≤ size) × E
 abbrev μ-loop : tie.MeasureT-loop
 μ-loop own₀ front back high low size code₀ own code = size - code
 
+-- ---- the places on the way
+
+abbrev start : tie.In-loop Inv-loop μ-loop → tie.Start Inv-loop μ-loop
+start c = c .before .before .before .before .before
+
+abbrev looped : tie.After-ending-label Inv-loop μ-loop → tie.In-loop Inv-loop μ-loop
+looped c = c .before .before .before .before .before
+
+-- the code that is written
+its-places : (c : tie.In-loop Inv-loop μ-loop) → CodePlaces (start c .args .high .now) (start c .args .low .now) (start c .args .front) (start c .args .back) (c .before .loop .code)
+its-places c = code-places (start c .pre) (c .loop-test .taken)
+
 loop-holds : tie.Need-loop-holds Inv-loop μ-loop
 loop-holds c = (omega arith, written-start (c .before .before .before .pre))
 
 mul-a : tie.Need-mul-a Inv-loop μ-loop
-mul-a c = let s = c .before .before .before .before .before in omega (arith, s .pre .small, code-parts (s .pre) (c .before .loop .code) (c .loop-test .taken))
+mul-a c = omega (arith, its-places c)
 
 add-b : tie.Need-add-b Inv-loop μ-loop
-add-b c = let s = c .before .before .before .before .before in omega (arith, s .pre .small, code-parts (s .pre) (c .before .loop .code) (c .loop-test .taken))
+add-b c = omega (arith, its-places c)
 
 mul-b : tie.Need-mul-b Inv-loop μ-loop
-mul-b c = let s = c .before .before .before .before .before in omega (arith, s .pre .small, code-parts (s .pre) (c .before .loop .code) (c .loop-test .taken))
+mul-b c = omega (arith, its-places c)
 
 mul-ending-label : tie.Need-mul-ending-label Inv-loop μ-loop
-mul-ending-label c = let s = c .before .before .before .before .before in omega (arith, s .pre .small, code-parts (s .pre) (c .before .loop .code) (c .loop-test .taken))
+mul-ending-label c = omega (arith, its-places c)
 
 shared-slice-read-ending-label : tie.Need-shared-slice-read-ending-label Inv-loop μ-loop
-shared-slice-read-ending-label c = let s = c .before .before .before .before .before .before in omega (arith, s .pre .high-room, code-parts (s .pre) (c .before .before .loop .code) (c .before .loop-test .taken))
+shared-slice-read-ending-label c = its-places (c .before) .in-high .0
 
 mul-ending-label-2 : tie.Need-mul-ending-label-2 Inv-loop μ-loop
-mul-ending-label-2 c = let s = c .before .before .before .before .before .before in omega (arith, s .pre .small, code-parts (s .pre) (c .before .before .loop .code) (c .before .loop-test .taken))
+mul-ending-label-2 c = omega (arith, its-places (c .before))
 
 shared-slice-read-ending-label-2 : tie.Need-shared-slice-read-ending-label-2 Inv-loop μ-loop
-shared-slice-read-ending-label-2 c = let s = c .before .before .before .before .before .before .before in omega (arith, s .pre .high-room, code-parts (s .pre) (c .before .before .before .loop .code) (c .before .before .loop-test .taken))
+shared-slice-read-ending-label-2 c = its-places (c .before .before) .in-high .1
 
 add-ending-label : tie.Need-add-ending-label Inv-loop μ-loop
-add-ending-label c =
-    let s = c .before .before .before .before .before .before .before in
-    let p = code-parts (s .pre) (c .before .before .before .loop .code) (c .before .before .loop-test .taken) in
-    omega (arith, s .pre .high-few _ _ (p .0) (p .1))
+add-ending-label c = omega (arith, its-places (c .before .before) .high-fits)
 
 mul-ending-label-3 : tie.Need-mul-ending-label-3 Inv-loop μ-loop
-mul-ending-label-3 c = let s = c .before .before .before .before .before .before .before in omega (arith, s .pre .small, code-parts (s .pre) (c .before .before .before .loop .code) (c .before .before .loop-test .taken))
+mul-ending-label-3 c = omega (arith, its-places (c .before .before))
 
 shared-slice-read-ending-label-3 : tie.Need-shared-slice-read-ending-label-3 Inv-loop μ-loop
-shared-slice-read-ending-label-3 c = let s = c .before .before .before .before .before .before .before .before in omega (arith, s .pre .low-room, code-parts (s .pre) (c .before .before .before .before .loop .code) (c .before .before .before .loop-test .taken))
+shared-slice-read-ending-label-3 c = its-places (c .before .before .before) .in-low .0
 
 mul-ending-label-4 : tie.Need-mul-ending-label-4 Inv-loop μ-loop
-mul-ending-label-4 c = let s = c .before .before .before .before .before .before .before .before in omega (arith, s .pre .small, code-parts (s .pre) (c .before .before .before .before .loop .code) (c .before .before .before .loop-test .taken))
+mul-ending-label-4 c = omega (arith, its-places (c .before .before .before))
 
 shared-slice-read-ending-label-4 : tie.Need-shared-slice-read-ending-label-4 Inv-loop μ-loop
-shared-slice-read-ending-label-4 c = let s = c .before .before .before .before .before .before .before .before .before in omega (arith, s .pre .low-room, code-parts (s .pre) (c .before .before .before .before .before .loop .code) (c .before .before .before .before .loop-test .taken))
+shared-slice-read-ending-label-4 c = its-places (c .before .before .before .before) .in-low .1
 
 add-ending-label-2 : tie.Need-add-ending-label-2 Inv-loop μ-loop
-add-ending-label-2 c =
-    let s = c .before .before .before .before .before .before .before .before .before in
-    let p = code-parts (s .pre) (c .before .before .before .before .before .loop .code) (c .before .before .before .before .loop-test .taken) in
-    omega (arith, s .pre .low-few _ _ (p .0) (p .1))
+add-ending-label-2 c = omega (arith, its-places (c .before .before .before .before) .low-fits)
 
 slice-write-own : tie.Need-slice-write-own Inv-loop μ-loop
-slice-write-own c =
-    let s = c .before .before .before .before .before .before .before .before .before .before in
-    let l = c .before .before .before .before .before .before .loop in
-    omega (arith, s .pre .few, l .inv .1 .size, c .before .before .before .before .before .loop-test .taken)
+slice-write-own c = omega (arith, looped c .before .loop .inv .1 .size, its-places (looped c) .code-few)
 
 slice-write-own-2 : tie.Need-slice-write-own-2 Inv-loop μ-loop
-slice-write-own-2 c =
-    let s = c .before .before .before .before .before .before .before .before .before .before in
-    let l = c .before .before .before .before .before .before .loop in
-    simp length-set (omega (arith, s .pre .few, l .inv .1 .size, c .before .before .before .before .before .loop-test .taken))
+slice-write-own-2 c = simp length-set (omega (arith, looped c .before .loop .inv .1 .size, its-places (looped c) .code-few))
 
 loop-less : tie.Need-loop-less Inv-loop μ-loop
-loop-less c = omega (arith, c .before .before .before .before .before .loop-test .taken)
+loop-less c = omega (arith, looped c .loop-test .taken)
 
 loop-again : tie.Need-loop-again Inv-loop μ-loop
 loop-again c =
-    let s = c .before .before .before .before .before .before .before .before .before .before in
-    let l = c .before .before .before .before .before .before .loop in
-    let h = c .before .before .before .before .before .loop-test .taken in
-    (omega arith, written-next (s .pre) (l .inv .1) h (c .ending-label .result) (c .ending-label .ensures))
+    let i = looped c in
+    let h = i .loop-test .taken in
+    (omega arith, written-next (start i .pre) (i .before .loop .inv .1) h (c .ending-label .result) (c .ending-label .ensures))
 
 same-length : tie.Need-same-length Inv-loop μ-loop
 same-length c = c .before .loop .inv .1 .size ∙ sym (c .before .before .before .before .before .pre .size)
