@@ -140,11 +140,14 @@ record EndedAs (ws : List ℕ) (o : Option (List ℕ)) (x : Cell) : Type 0 where
 module _ {ws : List ℕ} (whole : (m : ℕ) → highOf ws m % 256 ≡ 0) {o : Option (List ℕ)} where
   ended-as : {h l : ℕ} → EndingCell ws o h l → EndedAs ws o (endingCell h l)
   ended-as {h} {l} E = record {
-    high-is = λ v e. let q : endingCell h l ≡ record { high = h + 255; low = l } = ending-there h l (E .there v e) in rw q (omega (arith, E .high v e, weighed-whole (highOf ws) whole 0 v));
-    low-is = λ v e. let q : endingCell h l ≡ record { high = h + 255; low = l } = ending-there h l (E .there v e) in rw q (E .low v e);
-    there = λ v e. let q : endingCell h l ≡ record { high = h + 255; low = l } = ending-there h l (E .there v e) in rw q (omega (arith, E .there v e, E .high v e, weighed-whole (highOf ws) whole 0 v));
+    high-is = λ v e. rw (is v e) (omega (arith, E .high v e, weighed-whole (highOf ws) whole 0 v));
+    low-is = λ v e. rw (is v e) (E .low v e);
+    there = λ v e. rw (is v e) (omega (arith, E .there v e, E .high v e, weighed-whole (highOf ws) whole 0 v));
     nothing = λ e. ending-none h l (E .nothing e);
   }
+    where
+      is : (v : List ℕ) → o ≡ some v → endingCell h l ≡ record { high = h + 255; low = l }
+      is v e = ending-there h l (E .there v e)
 
 module _ {ws : List ℕ} {x : Cell} where
   ended-own : (o : Option (List ℕ)) → EndedAs ws o x → OwnCell x
