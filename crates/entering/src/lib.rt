@@ -11,6 +11,8 @@ ghost use Rattle.entering.specs.Symbols.{codes, InputTried};
 use cells::Groups;
 use machine::sets;
 
+pub mod endings; // endings.rt: the labels of the last position
+
 // Tries every code of a position by the pairs with one input: the outputs worth trying, four at a time.
 fn enter_input(
     own: &mut [u64],

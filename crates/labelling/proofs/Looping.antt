@@ -71,6 +71,9 @@ module _ {work card counts ws sets steps : List ℕ} {g : Groups} (Q : SearchPre
       let m : i * (g .front * g .back) ≤ (length sets + 1) * (g .front * g .back) = mul-le-mul-right (g .front * g .back) (omega arith) in
       omega (arith, few-nodes at-hand)
 
+  pub last-few : length sets * (g .front * g .back) ≤ 3200
+  last-few = base-few (length sets) (omega arith)
+
   pub codes-few : g .front * g .back ≤ 128
   codes-few = few-codes at-hand
 

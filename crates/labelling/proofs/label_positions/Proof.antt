@@ -4,7 +4,7 @@ use Prim.Native.Nat.{ℕ, _-_, _*_, _<_, _≤_}
 use native.Mathlib.Omega.{arith}
 use lib.ListN.{length, length-replicate}
 use Rattle.labelling.proofs.Finishing.{PositionClosed}
-use Rattle.labelling.proofs.Looping.{enter-ready, base-few, codes-few, counts-known, last-ready, last-closed, blank-there, next-there, symbols-ready, symbols-closed, all-closed, one-before, zeros-fit}
+use Rattle.labelling.proofs.Looping.{enter-ready, base-few, last-few, codes-few, counts-known, last-ready, last-closed, blank-there, next-there, symbols-ready, symbols-closed, all-closed, one-before, zeros-fit}
 use Rattle.labelling.proofs.label_positions.Statement.{statement}
 use Rattle.labelling.proofs.label_positions.Tie as tie
 
@@ -22,13 +22,13 @@ mul-size : tie.Need-mul-size Inv-loop μ-loop
 mul-size c = omega (arith, codes-few (c .before .before .before .before .before .before .before .before .before .pre .0))
 
 slice-aggregate-enter-endings : tie.Need-slice-aggregate-enter-endings Inv-loop μ-loop
-slice-aggregate-enter-endings c = ?
+slice-aggregate-enter-endings c = refl
 
 enter-endings-requires : tie.Need-enter-endings-requires Inv-loop μ-loop
 enter-endings-requires c κs = let q = c .before .before .before .before .before .before .before .before .before .before .before .pre .0 in (enter-ready q (c .before .before .before .width-of .ensures .0) refl (length-replicate {A = ℕ} 256 0), q .small)
 
 mul-finish : tie.Need-mul-finish Inv-loop μ-loop
-mul-finish c = omega (arith, base-few (c .before .before .before .before .before .before .before .before .before .before .before .before .before .before .before .before .pre .0) _ (omega arith))
+mul-finish c = omega (arith, last-few (c .before .before .before .before .before .before .before .before .before .before .before .before .before .before .before .before .pre .0))
 
 finish-requires : tie.Need-finish-requires Inv-loop μ-loop
 finish-requires c κs = let p = c .before .before .before .before .before .before .before .before .before .before .before .before .before .before .before .before .before .before .pre in last-ready (p .0) (p .1) (c .before .before .before .before .before .before .enter-endings .ensures) (length-replicate {A = ℕ} 256 0)
@@ -40,10 +40,10 @@ sub-position : tie.Need-sub-position Inv-loop μ-loop
 sub-position c = omega arith
 
 slice-aggregate-enter-symbols : tie.Need-slice-aggregate-enter-symbols Inv-loop μ-loop
-slice-aggregate-enter-symbols c = ?
+slice-aggregate-enter-symbols c = sym (c .before .before .loop .inv .1 .own-size)
 
 mul-enter-symbols : tie.Need-mul-enter-symbols Inv-loop μ-loop
-mul-enter-symbols c = ?
+mul-enter-symbols c = omega (arith, c .before .before .before .before .loop .inv .0, c .before .before .before .before .before .before .before .before .before .before .before .before .before .before .before .before .before .before .before .before .before .before .before .before .before .before .pre .0 .setting .few)
 
 shared-slice-read-enter-symbols : tie.Need-shared-slice-read-enter-symbols Inv-loop μ-loop
 shared-slice-read-enter-symbols c = omega (arith, c .before .before .before .before .before .loop .inv .0)
@@ -53,10 +53,10 @@ enter-symbols-requires c κs =
     let p = c .before .before .before .before .before .before .before .before .before .before .before .before .before .before .before .before .before .before .before .before .before .before .before .before .before .before .before .pre .0 in
     let l = c .before .before .before .before .before .loop .inv in
     let B = one-before (omega arith) (l .1) in
-    (enter-ready p (c .before .before .before .before .before .before .before .before .before .before .before .before .before .before .before .before .before .before .before .width-of .ensures .0) ? (l .1 .own-size), blank-there p (c .before .before .before .before .before .before .before .before .before .before .before .before .before .before .before .before .before .before .before .before .before .before .before .before .before .before .before .pre .1) (omega (arith, l .0)) B, next-there p (c .before .before .before .before .before .before .before .before .before .before .before .before .before .before .before .before .before .before .before .before .before .before .before .before .before .before .before .pre .1) (omega (arith, l .0)) B, p .setting .symbols _)
+    (enter-ready p (c .before .before .before .before .before .before .before .before .before .before .before .before .before .before .before .before .before .before .before .width-of .ensures .0) (l .3 ∙ c .before .before .before .before .before .before .before .before .before .before .before .before .before .before .before .enter-endings .kept .1 .0) (l .1 .own-size), blank-there p (c .before .before .before .before .before .before .before .before .before .before .before .before .before .before .before .before .before .before .before .before .before .before .before .before .before .before .before .pre .1) (omega (arith, l .0)) B, next-there p (c .before .before .before .before .before .before .before .before .before .before .before .before .before .before .before .before .before .before .before .before .before .before .before .before .before .before .before .pre .1) (omega (arith, l .0)) B, p .setting .symbols _)
 
 mul-finish-2 : tie.Need-mul-finish-2 Inv-loop μ-loop
-mul-finish-2 c = omega (arith, base-few (c .before .before .before .before .before .before .before .before .before .before .before .before .before .before .before .before .before .before .before .before .before .before .before .before .before .before .before .before .before .before .before .before .pre .0) _ (omega (arith, c .before .before .before .before .before .before .before .before .before .before .loop .inv .0)))
+mul-finish-2 c = omega (arith, base-few (c .before .before .before .before .before .before .before .before .before .before .before .before .before .before .before .before .before .before .before .before .before .before .before .before .before .before .before .before .before .before .before .before .pre .0) (c .before .before .before .before .before .before .before .before .before .before .loop .position - 1) (omega (arith, c .before .before .before .before .before .before .before .before .before .before .loop .inv .0)))
 
 finish-requires-2 : tie.Need-finish-requires-2 Inv-loop μ-loop
 finish-requires-2 c κs =
