@@ -5,3 +5,4 @@ pub mod Labelled
 pub mod Finishing
 pub mod Looping
 pub mod Ends
+pub mod Preparing
