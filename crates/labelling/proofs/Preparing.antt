@@ -109,9 +109,9 @@ module _ {card ranking sets work : List ℕ} {P : ℕ} (Q : LabelPre card rankin
   three : (numbers : List ℕ) → take (3 * length (take k r)) numbers ≡ take (3 * k) numbers
   three numbers = ap (λ (n : ℕ). take (3 * n) numbers) (sym counts-length)
 
-  pub search-ready : {numbers steps : List ℕ} {g : Groups} → WeightsOf (take k r) (take (3 * length (take k r)) numbers) → GroupsOf (take k r) g → g .front + g .back ≤ 66 → 65 * places (take k r) ≤ length steps → Small steps
+  pub search-ready : (numbers : List ℕ) {steps : List ℕ} {g : Groups} → WeightsOf (take k r) (take (3 * length (take k r)) numbers) → GroupsOf (take k r) g → g .front + g .back ≤ 66 → 65 * places (take k r) ≤ length steps → Small steps
       → SearchPre work card (take k r) (take (3 * k) numbers) sets steps g
-  search-ready {numbers} W G few room small = record {
+  search-ready numbers W G few room small = record {
     setting = subst (λ (n : ℕ). Setting card sets n) counts-size (Q .setting);
     counts-are = front-is card (Q .setting .accepted) r k q e;
     weights = subst (λ (ws : List ℕ). WeightsOf (take k r) ws) (three numbers) W;
@@ -122,13 +122,13 @@ module _ {card ranking sets work : List ℕ} {P : ℕ} (Q : LabelPre card rankin
     small = small;
   }
 
-  pub ranked-by : {numbers : List ℕ} → RankedWeights (sixPlaces ranking) (take (3 * length (take k r)) numbers) → RankedBy (take (3 * k) numbers)
-  ranked-by {numbers} R = record { ranking = ranking; ranked = subst (λ (ws : List ℕ). RankedWeights (sixPlaces ranking) ws) (three numbers) R; six = places-six card (Q .setting .accepted) ranking refl (Q .ranks) }
+  pub ranked-by : (numbers : List ℕ) → RankedWeights (sixPlaces ranking) (take (3 * length (take k r)) numbers) → RankedBy (take (3 * k) numbers)
+  ranked-by numbers R = record { ranking = ranking; ranked = subst (λ (ws : List ℕ). RankedWeights (sixPlaces ranking) ws) (three numbers) R; six = places-six card (Q .setting .accepted) ranking refl (Q .ranks) }
 
   -- all nodes are labelled, in the order of the ranking
-  pub label-done : {numbers work′ : List ℕ} → WeightsOf (take k r) (take (3 * length (take k r)) numbers) → RankedWeights (sixPlaces ranking) (take (3 * length (take k r)) numbers) → AllLabelled card (take (3 * k) numbers) sets work work′
+  pub label-done : (numbers : List ℕ) {work′ : List ℕ} → WeightsOf (take k r) (take (3 * length (take k r)) numbers) → RankedWeights (sixPlaces ranking) (take (3 * length (take k r)) numbers) → AllLabelled card (take (3 * k) numbers) sets work work′
       → PositionsDone card ranking sets work work′ 0
-  label-done {numbers} W R A =
+  label-done numbers W R A =
       all-done Q (subst (λ (l : List ℕ). WeightsOf l (take (3 * k) numbers)) (front-is card (Q .setting .accepted) r k q e) (subst (λ (ws : List ℕ). WeightsOf (take k r) ws) (three numbers) W))
       (subst (λ (ws : List ℕ). RankedWeights (sixPlaces ranking) ws) (three numbers) R) A
 

@@ -39,12 +39,12 @@ label-by-requires c κs =
     let w = c .before .before .before .before .before .ranked-weights .ensures in
     let g = c .before .before .before .grouped .ensures in
     let x = c .before .before .before .before .width-of in (
-      search-ready (c .before .before .before .before .before .before .before .before .before .before .before .before .before .pre) (c .before .before .before .before .before .before .before .before .state-counts .result) (c .before .before .before .before .before .before .before .machine-count .result) (c .before .before .before .before .before .before .before .machine-count .ensures) (c .before .before .before .before .before .before .before .before .state-counts .ensures) (w .0) (g .0) (g .1) (omega (arith, columns-length (x .result * 65) (omega (arith, x .ensures .1)), x .ensures .0)) (columns-small (x .result * 65)),
-      ranked-by (c .before .before .before .before .before .before .before .before .before .before .before .before .before .pre) (c .before .before .before .before .before .before .before .before .state-counts .result) (c .before .before .before .before .before .before .before .machine-count .result) (c .before .before .before .before .before .before .before .machine-count .ensures) (c .before .before .before .before .before .before .before .before .state-counts .ensures) (w .1),
+      search-ready (c .before .before .before .before .before .before .before .before .before .before .before .before .before .pre) (c .before .before .before .before .before .before .before .before .state-counts .result) (c .before .before .before .before .before .before .before .machine-count .result) (c .before .before .before .before .before .before .before .machine-count .ensures) (c .before .before .before .before .before .before .before .before .state-counts .ensures) (c .before .before .before .before .before .ranked-weights .result) (w .0) (g .0) (g .1) (omega (arith, columns-length (x .result * 65) (omega (arith, x .ensures .1)), x .ensures .0)) (columns-small (x .result * 65)),
+      ranked-by (c .before .before .before .before .before .before .before .before .before .before .before .before .before .pre) (c .before .before .before .before .before .before .before .before .state-counts .result) (c .before .before .before .before .before .before .before .machine-count .result) (c .before .before .before .before .before .before .before .machine-count .ensures) (c .before .before .before .before .before .before .before .before .state-counts .ensures) (c .before .before .before .before .before .ranked-weights .result) (w .1),
     )
 
 returns : tie.Need-returns
-returns c = let w = c .before .before .before .before .before .before .before .before .before .ranked-weights .ensures in label-done (c .before .before .before .before .before .before .before .before .before .before .before .before .before .before .before .before .before .pre) (c .before .before .before .before .before .before .before .before .before .before .before .before .state-counts .result) (c .before .before .before .before .before .before .before .before .before .before .before .machine-count .result) (c .before .before .before .before .before .before .before .before .before .before .before .machine-count .ensures) (c .before .before .before .before .before .before .before .before .before .before .before .before .state-counts .ensures) (w .0) (w .1) (c .before .before .before .label-by .ensures)
+returns c = let w = c .before .before .before .before .before .before .before .before .before .ranked-weights .ensures in label-done (c .before .before .before .before .before .before .before .before .before .before .before .before .before .before .before .before .before .pre) (c .before .before .before .before .before .before .before .before .before .before .before .before .state-counts .result) (c .before .before .before .before .before .before .before .before .before .before .before .machine-count .result) (c .before .before .before .before .before .before .before .before .before .before .before .machine-count .ensures) (c .before .before .before .before .before .before .before .before .before .before .before .before .state-counts .ensures) (c .before .before .before .before .before .before .before .before .before .ranked-weights .result) (w .0) (w .1) (c .before .before .before .label-by .ensures)
 
 pub label-spec : {M : Type 1} → statement M
 label-spec =
