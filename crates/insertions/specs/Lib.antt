@@ -1,0 +1,3 @@
+pub mod RankedWeights
+pub mod Listed
+pub mod Laws
