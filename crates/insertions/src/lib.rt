@@ -1,4 +1,11 @@
 // The insertions of the outputs worth trying, in lists by the code that they lead to: counted first, then written, both times in the same order.
+ghost use mathlib.Core.Path.{_≡_};
+ghost use mathlib.Core.List.{[]};
+ghost use Prim.Native.Nat.{_*_, _^_, _<_, _≤_};
+ghost use lib.ListN.{length, getD, replicate};
+ghost use Rattle.insertions.specs.Lanes.{laneOf, isMove, listOf, narrowed, entryOf, bump, put, bumped, placed};
+ghost use Rattle.insertions.specs.Tables.{codeLane, fourLane, lanesFrom, CountRoom, EntryRoom, LanesPre, TablePre};
+ghost use Rattle.insertions.specs.Listing.{AddPre, AddedUp, ListPre, Counted, ListedBy};
 use cells::Groups;
 use cells::NOWHERE;
 use cells::fours;
@@ -11,34 +18,42 @@ const FIRST: u64 = 1099511627776;
 
 // Three counts below 16 from 16 bits each to four bits each.
 fn narrow(three: u64) -> u64
+    requires { ⌜ three < 2 ^ 56 ⌝ }
+    ensures { λ r. ⌜ r ≡ narrowed three ⌝ }
 {
     (three + three / 4096 + three / 16777216) % 4096
 }
 
 // Whether a step is one, and leads from the code to another one.
 fn moves(code: usize, step: u64) -> bool
+    ensures { λ r. ⌜ r ≡ isMove code step ⌝ }
 {
     (step < NOWHERE) & (step % 128 != code as u64)
 }
 
 // The list of an insertion: by the code led to, and by the marks of the first place, three or more in one.
 fn list_of(step: u64) -> usize
+    ensures { λ r. ⌜ (r ≡ listOf step) × (r < 512) ⌝ }
 {
-    let mut first = step / FIRST;
+    let first = step / FIRST;
     if first > 3 {
-        first = 3;
+        return (step % 128 * 4 + 3) as usize;
     }
     (step % 128 * 4 + first) as usize
 }
 
 // An insertion as an entry of a list.
 fn entry_of(code: usize, step: u64, rest: u64) -> u32
+    requires { ⌜ code < 128 ⌝ }
+    ensures { λ r. ⌜ r ≡ entryOf code step rest ⌝ }
 {
     code as u32 * MARKS + (narrow(step / 256) * 4096 + narrow(rest / 65536)) as u32
 }
 
 // Counts a step, if it is an insertion to be listed, two places behind its list.
 fn count_lane(ends: &mut [u16; 514], code: usize, step: u64)
+    requires { ⌜ CountRoom (now ends) 1 ⌝ }
+    ensures { λ _. ⌜ now (ends .exit) ≡ bump 2 (laneOf code step 0) (now (ends .entry)) ⌝ }
 {
     if moves(code, step) {
         let at = list_of(step) + 2;
@@ -48,6 +63,8 @@ fn count_lane(ends: &mut [u16; 514], code: usize, step: u64)
 
 // Counts the insertions from a code with four outputs. The steps are the sums of those at a place of either group.
 fn count_code(ends: &mut [u16; 514], code: usize, high: &[u64], a: usize, b: usize)
+    requires { ⌜ CountRoom (now ends) 4 × LanesPre (now high) a b ⌝ }
+    ensures { λ _. ⌜ now (ends .exit) ≡ bumped 2 (codeLane (now (high .entry)) [] code a b) 4 (now (ends .entry)) ⌝ }
 {
     let mut j = 0;
     while j < 4 {
@@ -58,6 +75,8 @@ fn count_code(ends: &mut [u16; 514], code: usize, high: &[u64], a: usize, b: usi
 
 // Counts the insertions of a front code with four outputs.
 fn count_row(ends: &mut [u16; 514], front: usize, back: usize, high: &[u64], a: usize)
+    requires { ⌜ CountRoom (now ends) (back * 4) × TablePre (now high) front back × (a < front) ⌝ }
+    ensures { λ _. ⌜ now (ends .exit) ≡ bumped 2 (lanesFrom (now (high .entry)) [] front back (a * back)) (back * 4) (now (ends .entry)) ⌝ }
 {
     let first = a * back;
     let mut b = 0;
@@ -69,6 +88,8 @@ fn count_row(ends: &mut [u16; 514], front: usize, back: usize, high: &[u64], a: 
 
 // Counts the insertions with four outputs.
 fn count_four(ends: &mut [u16; 514], front: usize, back: usize, high: &[u64])
+    requires { ⌜ CountRoom (now ends) (front * back * 4) × TablePre (now high) front back ⌝ }
+    ensures { λ _. ⌜ now (ends .exit) ≡ bumped 2 (fourLane (now (high .entry)) [] front back) (front * back * 4) (now (ends .entry)) ⌝ }
 {
     let mut a = 0;
     while a < front {
@@ -79,6 +100,8 @@ fn count_four(ends: &mut [u16; 514], front: usize, back: usize, high: &[u64])
 
 // Clears the lists.
 fn clear(ends: &mut [u16; 514])
+    requires { ⌜ length (now ends) ≡ 514 ⌝ }
+    ensures { λ r. ⌜ now (ends .exit) ≡ replicate (length (now (ends .entry))) 0 ⌝ }
 {
     let mut i = 0;
     while i < 514 {
@@ -89,6 +112,8 @@ fn clear(ends: &mut [u16; 514])
 
 // Adds up the counts: where a list starts, one place behind it.
 fn add_up(ends: &mut [u16; 514])
+    requires { ⌜ AddPre (now ends) ⌝ }
+    ensures { λ _. ⌜ AddedUp (now (ends .entry)) (now (ends .exit)) ⌝ }
 {
     let mut i = 1;
     while i < 514 {
@@ -107,6 +132,8 @@ pub fn count(
     weights: &[u64],
     g: Groups,
 ) -> usize
+    requires { ⌜ (length (now ends) ≡ 514) × ListPre (now steps) (now counts) (now weights) width kept g ⌝ }
+    ensures { λ r. ⌜ Counted (now (steps .entry)) (now (counts .entry)) (now (weights .entry)) width kept (now (ends .exit)) × (r ≡ getD (now (ends .exit)) 513 0) ⌝ }
 {
     clear(ends);
     let front = g.front;
@@ -126,6 +153,8 @@ pub fn count(
 
 // Writes a step, if it is an insertion to be listed, behind those of its list.
 fn list_lane(entries: &mut [u32], ends: &mut [u16; 514], code: usize, step: u64, rest: u64)
+    requires { ⌜ EntryRoom (λ _. laneOf code step rest) 1 (now entries) (now ends) ⌝ }
+    ensures { λ r. ⌜ (now (entries .exit) ≡ put (laneOf code step rest) (now (entries .entry)) (now (ends .entry))) × (now (ends .exit) ≡ bump 1 (laneOf code step rest) (now (ends .entry))) ⌝ }
 {
     if moves(code, step) {
         let at = list_of(step) + 1;
@@ -145,6 +174,8 @@ fn list_code(
     a: usize,
     b: usize,
 )
+    requires { ⌜ EntryRoom (codeLane (now high) (now low) code a b) 4 (now entries) (now ends) × LanesPre (now high) a b × LanesPre (now low) a b ⌝ }
+    ensures { λ _. ⌜ (now (entries .exit) ≡ placed (codeLane (now (high .entry)) (now (low .entry)) code a b) 4 (now (entries .entry)) (now (ends .entry))) × (now (ends .exit) ≡ bumped 1 (codeLane (now (high .entry)) (now (low .entry)) code a b) 4 (now (ends .entry))) ⌝ }
 {
     let mut j = 0;
     while j < 4 {
@@ -163,6 +194,8 @@ fn list_row(
     low: &[u64],
     a: usize,
 )
+    requires { ⌜ EntryRoom (lanesFrom (now high) (now low) front back (a * back)) (back * 4) (now entries) (now ends) × TablePre (now high) front back × TablePre (now low) front back × (a < front) ⌝ }
+    ensures { λ _. ⌜ (now (entries .exit) ≡ placed (lanesFrom (now (high .entry)) (now (low .entry)) front back (a * back)) (back * 4) (now (entries .entry)) (now (ends .entry))) × (now (ends .exit) ≡ bumped 1 (lanesFrom (now (high .entry)) (now (low .entry)) front back (a * back)) (back * 4) (now (ends .entry))) ⌝ }
 {
     let first = a * back;
     let mut b = 0;
@@ -181,6 +214,8 @@ fn list_four(
     high: &[u64],
     low: &[u64],
 )
+    requires { ⌜ EntryRoom (fourLane (now high) (now low) front back) (front * back * 4) (now entries) (now ends) × TablePre (now high) front back × TablePre (now low) front back ⌝ }
+    ensures { λ _. ⌜ (now (entries .exit) ≡ placed (fourLane (now (high .entry)) (now (low .entry)) front back) (front * back * 4) (now (entries .entry)) (now (ends .entry))) × (now (ends .exit) ≡ bumped 1 (fourLane (now (high .entry)) (now (low .entry)) front back) (front * back * 4) (now (ends .entry))) ⌝ }
 {
     let mut a = 0;
     while a < front {
@@ -200,6 +235,8 @@ pub fn list(
     weights: &[u64],
     g: Groups,
 )
+    requires { ⌜ ListPre (now steps) (now counts) (now weights) width kept g × Counted (now steps) (now counts) (now weights) width kept (now ends) × (getD (now ends) 513 0 ≤ length (now entries)) ⌝ }
+    ensures { λ _. ⌜ ListedBy (now (steps .entry)) (now (counts .entry)) (now (weights .entry)) width kept (now (entries .exit)) (now (ends .exit)) ⌝ }
 {
     let front = g.front;
     let back = g.back;
