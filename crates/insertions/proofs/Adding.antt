@@ -9,6 +9,10 @@ use lib.ListN.{length, getD, set, length-set}
 use lib.Seq.{getD-set-same, getD-set-other}
 use Rattle.insertions.specs.Listing.{sumTo, AddPre, AddedUp}
 
+pub sum-none : (xs : List ℕ) → sumTo xs 0 ≡ 0
+unfolding sumTo
+sum-none xs = refl
+
 pub sum-next : (xs : List ℕ) (n : ℕ) → sumTo xs (n + 1) ≡ sumTo xs n + getD xs n 0
 unfolding sumTo
 sum-next xs n = rw (add-one n)

@@ -5,3 +5,6 @@ pub mod Sorting
 pub mod Steps
 pub mod Fours
 pub mod Totals
+pub mod Blocks
+pub mod Loops
+pub mod Theorem

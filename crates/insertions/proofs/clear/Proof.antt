@@ -7,8 +7,6 @@ use Prim.Native.Nat.{_-_, _≤_}
 use lib.ListN.{length, set, length-set, drop, replicate, drop-of-length-le}
 use Rattle.insertions.proofs.clear.Statement.{statement}
 use Rattle.insertions.proofs.clear.Tie as tie
-use Rattle.insertions.proofs.clear.Reads as reads
-use Rattle.insertions.proofs.clear.Lts as lts
 
 abbrev Inv-loop : tie.InvT-loop
 Inv-loop ends₀ i₀ ends i = (i ≤ length ends₀) × (ends ≡ replicate i 0 ++ drop i ends₀) × (length ends ≡ length ends₀)
@@ -16,33 +14,11 @@ Inv-loop ends₀ i₀ ends i = (i ≤ length ends₀) × (ends ≡ replicate i 0
 abbrev μ-loop : tie.MeasureT-loop
 μ-loop ends₀ i₀ ends i = length ends₀ - i
 
--- src/lib.rt:107:5
-loop-holds : tie.Need-loop-holds Inv-loop μ-loop
-loop-holds c = search needs
-
--- src/lib.rt:108:9
-mul-ends : tie.Need-mul-ends Inv-loop μ-loop
-mul-ends c = search needs
-
--- src/lib.rt:108:9
-element-write-ends : tie.Need-element-write-ends Inv-loop μ-loop
-element-write-ends c = search needs
-
--- src/lib.rt:109:9
-add-i : tie.Need-add-i Inv-loop μ-loop
-add-i c = search needs
-
--- src/lib.rt:107:5
-loop-less : tie.Need-loop-less Inv-loop μ-loop
-loop-less c = search needs
-
--- src/lib.rt:107:5
 loop-again : tie.Need-loop-again Inv-loop μ-loop
 loop-again c = let k = c .before in
     let s = k .before .args .ends .now in
     (search needs, ap (λ l. set l (k .loop .i) 0) (k .loop .inv .1) ∙ fill-more (k .loop .i) 0 s (omega (arith, k .before .pre)), simp length-set (k .loop .inv .2))
 
--- src/lib.rt:102:1
 returns : tie.Need-returns Inv-loop μ-loop
 returns c = let k = c .before in
     let s = k .before .args .ends .now in
@@ -55,10 +31,10 @@ clear-spec =
     (tie.spec
     Inv-loop
     μ-loop
-    loop-holds
-    mul-ends
-    element-write-ends
-    add-i
-    loop-less
+    (λ c. search needs)
+    (λ c. search needs)
+    (λ c. search needs)
+    (λ c. search needs)
+    (λ c. search needs)
     loop-again
     returns)

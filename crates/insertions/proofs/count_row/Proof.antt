@@ -9,9 +9,6 @@ use Rattle.insertions.proofs.Lanes.{bumped-start, bumped-on, equal-alik
 use Rattle.insertions.proofs.Rows.{code-lanes, front-few, back-few, row-last, lanes-pre, code-next}
 use Rattle.insertions.proofs.count_row.Statement.{statement}
 use Rattle.insertions.proofs.count_row.Tie as tie
-use Rattle.insertions.proofs.count_row.Reads as reads
-use Rattle.insertions.proofs.count_row.Lts as lts
-use Rattle.insertions.proofs.count_code.Reads as count-code-reads
 
 abbrev Inv-loop : tie.InvT-loop
 Inv-loop ends₀ front back high a first b₀ ends b = (b ≤ back) × (ends ≡ bumped 2 (lanesFrom high [] front back (a * back)) (b * 4) ends₀)
@@ -19,47 +16,31 @@ Inv-loop ends₀ front back high a first b₀ ends b = (b ≤ back) × (ends ≡
 abbrev μ-loop : tie.MeasureT-loop
 μ-loop ends₀ front back high a first b₀ ends b = back - b
 
--- src/lib.rt:81:17
 mul-first : tie.Need-mul-first Inv-loop μ-loop
 mul-first c = let s = c .before in omega (arith, row-last (s .pre .1) (s .args .a) (s .pre .2), s .pre .1 .few)
 
--- src/lib.rt:83:5
 loop-holds : tie.Need-loop-holds Inv-loop μ-loop
 loop-holds c = let s = c .before in
     (omega arith, bumped-start 2 (lanesFrom (s .args .high .now) [] (s .args .front) (s .args .back) (s .args .a * s .args .back)) (s .args .ends .now) _ (omega arith))
 
--- src/lib.rt:84:26
 add-count-code : tie.Need-add-count-code Inv-loop μ-loop
 add-count-code c = let s = c .before .before .before .before in omega (arith, row-last (s .pre .1) (s .args .a) (s .pre .2), s .pre .1 .few, c .before .loop-test .taken)
 
--- src/lib.rt:84:43
 mul-count-code : tie.Need-mul-count-code Inv-loop μ-loop
 mul-count-code c = let s = c .before .before .before .before in omega (arith, front-few (s .pre .1), s .pre .2)
 
--- src/lib.rt:84:51
 add-count-code-2 : tie.Need-add-count-code-2 Inv-loop μ-loop
 add-count-code-2 c = let s = c .before .before .before .before in omega (arith, front-few (s .pre .1), back-few (s .pre .1), c .before .loop-test .taken)
 
--- src/lib.rt:84:50
 mul-count-code-2 : tie.Need-mul-count-code-2 Inv-loop μ-loop
 mul-count-code-2 c = let s = c .before .before .before .before in omega (arith, front-few (s .pre .1), back-few (s .pre .1), c .before .loop-test .taken)
 
--- src/lib.rt:84:9
 count-code-requires : tie.Need-count-code-requires Inv-loop μ-loop
 count-code-requires c κs = let s = c .before .before .before .before in
     let l = c .before .before .loop in
     let t = c .before .loop-test .taken in
     (count-next 2 (lanesFrom (s .args .high .now) [] (s .args .front) (s .args .back) (s .args .a * s .args .back)) (l .b * 4) 4 (s .args .back * 4) (omega arith) (omega (arith, t)) (l .inv .1) (s .pre .0), lanes-pre (s .pre .1) (s .args .a) (l .b) (s .pre .2) t)
 
--- src/lib.rt:85:9
-add-b : tie.Need-add-b Inv-loop μ-loop
-add-b c = search needs
-
--- src/lib.rt:83:5
-loop-less : tie.Need-loop-less Inv-loop μ-loop
-loop-less c = search needs
-
--- src/lib.rt:83:5
 loop-again : tie.Need-loop-again Inv-loop μ-loop
 loop-again c = let s = c .before .before .before .before .before in
     let l = c .before .before .before .loop in
@@ -70,7 +51,6 @@ loop-again c = let s = c .before .before .before .before .before in
     let g = codeLane high [] (s .args .a * s .args .back + l .b) (s .args .a * 4) ((s .args .front + l .b) * 4) in
     (omega (arith, t), c .count-code .ensures ∙ ap (bumped 2 g 4) (l .inv .1) ∙ bumped-on 2 f g ns (l .b * 4) 4 (equal-alike f g (l .b * 4) 4 (code-lanes high [] (s .args .front) (s .args .back) (s .args .a) (l .b) t)) ∙ ap (λ (n : ℕ). bumped 2 f n ns) (code-next (l .b)))
 
--- src/lib.rt:77:1
 returns : tie.Need-returns Inv-loop μ-loop
 returns c = let s = c .before .before .before in
     let l = c .before .loop in
@@ -90,7 +70,7 @@ count-row-spec =
     add-count-code-2
     mul-count-code-2
     count-code-requires
-    add-b
-    loop-less
+    (λ c. search needs)
+    (λ c. search needs)
     loop-again
     returns)

@@ -7,11 +7,6 @@ use Rattle.insertions.proofs.Lanes.{bump-moves, bump-stays, put-moves, 
 use borrow.Author.Needs.{needs}
 use Rattle.insertions.proofs.list_lane.Statement.{statement}
 use Rattle.insertions.proofs.list_lane.Tie as tie
-use Rattle.insertions.proofs.list_lane.Reads as reads
-use Rattle.insertions.proofs.list_lane.Lts as lts
-use Rattle.insertions.proofs.entry_of.Reads as entry-of-reads
-use Rattle.insertions.proofs.list_of.Reads as list-of-reads
-use Rattle.insertions.proofs.moves.Reads as moves-reads
 
 -- the place behind the list is there
 place : (c : tie.After-entry-of)
@@ -19,59 +14,24 @@ place : (c : tie.After-entry-of)
     × (getD (c .before .before .before .before .before .before .args .ends .now) (c .before .before .list-of .result + 1) 0 < 65535)
 place c = let s = c .before .before .before .before .before .before in lane-room (laneOf (s .args .code) (s .args .step) (s .args .rest)) (s .pre) (sym (c .before .before .before .before .moves .ensures) ∙ c .before .before .before .if1 .taken) (c .before .before .list-of .result) (c .before .before .list-of .ensures .0)
 
--- src/lib.rt:159:8
-moves-requires : tie.Need-moves-requires
-moves-requires c κs = search needs
-
--- src/lib.rt:160:18
-list-of-requires : tie.Need-list-of-requires
-list-of-requires c κs = search needs
-
--- src/lib.rt:160:18
-add-at : tie.Need-add-at
-add-at c = search needs
-
--- src/lib.rt:161:21
-mul-place : tie.Need-mul-place
-mul-place c = search needs
-
--- src/lib.rt:161:21
-element-copy-out-place : tie.Need-element-copy-out-place
-element-copy-out-place c = search needs
-
--- src/lib.rt:162:35
 entry-of-requires : tie.Need-entry-of-requires
 entry-of-requires c κs = c .before .before .before .before .before .pre .codes 0 (omega arith)
 
--- src/lib.rt:162:17
 cast-entries : tie.Need-cast-entries
 cast-entries c = omega (arith, place c .1)
 
--- src/lib.rt:162:9
 mul-entries : tie.Need-mul-entries
 mul-entries c = omega (arith, place c .1)
 
--- src/lib.rt:162:9
 slice-write-entries : tie.Need-slice-write-entries
 slice-write-entries c = place c .0
 
--- src/lib.rt:163:20
 add-ends : tie.Need-add-ends
 add-ends c = omega (arith, place c .1)
 
--- src/lib.rt:163:9
-mul-ends : tie.Need-mul-ends
-mul-ends c = search needs
-
--- src/lib.rt:163:9
-element-write-ends : tie.Need-element-write-ends
-element-write-ends c = search needs
-
--- src/lib.rt:155:1
 same-length : tie.Need-same-length
 same-length c = simp length-set
 
--- src/lib.rt:155:1
 returns : tie.Need-returns
 returns c = let s = c .before .before .before .before .before .before in
     let x = laneOf (s .args .code) (s .args .step) (s .args .rest) in
@@ -82,7 +42,6 @@ returns c = let s = c .before .before .before .before .before .before in
     let d = c .entry-of .ensures in
     ((λ i. set es (getD ns (e i + 1) 0) (d i)) ∙ sym (put-moves x es ns t), ap (λ (n : ℕ). set ns (n + 1) (getD ns (n + 1) 0 + 1)) e ∙ sym (bump-moves 1 x ns t))
 
--- src/lib.rt:155:1
 returns-2 : tie.Need-returns-2
 returns-2 c = let s = c .before .before .before in
     let x = laneOf (s .args .code) (s .args .step) (s .args .rest) in
@@ -93,18 +52,18 @@ pub list-lane-spec : {M : Type 1} → statement M
 list-lane-spec =
     tie.close
     (tie.spec
-    moves-requires
-    list-of-requires
-    add-at
-    mul-place
-    element-copy-out-place
+    (λ c κs. search needs)
+    (λ c κs. search needs)
+    (λ c. search needs)
+    (λ c. search needs)
+    (λ c. search needs)
     entry-of-requires
     cast-entries
     mul-entries
     slice-write-entries
     add-ends
-    mul-ends
-    element-write-ends
+    (λ c. search needs)
+    (λ c. search needs)
     same-length
     returns
     returns-2)

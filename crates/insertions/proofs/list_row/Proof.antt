@@ -9,9 +9,6 @@ use Rattle.insertions.proofs.Lanes.{bumped-start, placed-start, bumped-
 use Rattle.insertions.proofs.Rows.{code-lanes, front-few, back-few, row-last, lanes-pre, code-next}
 use Rattle.insertions.proofs.list_row.Statement.{statement}
 use Rattle.insertions.proofs.list_row.Tie as tie
-use Rattle.insertions.proofs.list_row.Reads as reads
-use Rattle.insertions.proofs.list_row.Lts as lts
-use Rattle.insertions.proofs.list_code.Reads as list-code-reads
 
 abbrev Inv-loop : tie.InvT-loop
 Inv-loop entries₀ ends₀ front back high low a first b₀ entries ends b = (b ≤ back) × (entries ≡ placed (lanesFrom high low front back (a * back)) (b * 4) entries₀ ends₀) × (ends ≡ bumped 1 (lanesFrom high low front back (a * back)) (b * 4) ends₀)
@@ -19,33 +16,26 @@ Inv-loop entries₀ ends₀ front back high low a first b₀ entries ends b = (b
 abbrev μ-loop : tie.MeasureT-loop
 μ-loop entries₀ ends₀ front back high low a first b₀ entries ends b = back - b
 
--- src/lib.rt:200:17
 mul-first : tie.Need-mul-first Inv-loop μ-loop
 mul-first c = let s = c .before .before .before in omega (arith, row-last (s .pre .1) (s .args .a) (s .pre .3), s .pre .1 .few)
 
--- src/lib.rt:202:5
 loop-holds : tie.Need-loop-holds Inv-loop μ-loop
 loop-holds c = let s = c .before .before .before in
     let f = lanesFrom (s .args .high .now) (s .args .low .now) (s .args .front) (s .args .back) (s .args .a * s .args .back) in
     (omega arith, placed-start f (s .args .entries .now) (s .args .ends .now) _ (omega arith), bumped-start 1 f (s .args .ends .now) _ (omega arith))
 
--- src/lib.rt:203:34
 add-list-code : tie.Need-add-list-code Inv-loop μ-loop
 add-list-code c = let s = c .before .before .before .before .before .before .before in omega (arith, row-last (s .pre .1) (s .args .a) (s .pre .3), s .pre .1 .few, c .before .before .loop-test .taken)
 
--- src/lib.rt:203:56
 mul-list-code : tie.Need-mul-list-code Inv-loop μ-loop
 mul-list-code c = let s = c .before .before .before .before .before .before .before in omega (arith, front-few (s .pre .1), s .pre .3)
 
--- src/lib.rt:203:64
 add-list-code-2 : tie.Need-add-list-code-2 Inv-loop μ-loop
 add-list-code-2 c = let s = c .before .before .before .before .before .before .before in omega (arith, front-few (s .pre .1), back-few (s .pre .1), c .before .before .loop-test .taken)
 
--- src/lib.rt:203:63
 mul-list-code-2 : tie.Need-mul-list-code-2 Inv-loop μ-loop
 mul-list-code-2 c = let s = c .before .before .before .before .before .before .before in omega (arith, front-few (s .pre .1), back-few (s .pre .1), c .before .before .loop-test .taken)
 
--- src/lib.rt:203:9
 list-code-requires : tie.Need-list-code-requires Inv-loop μ-loop
 list-code-requires c κs = let s = c .before .before .before .before .before .before .before in
     let l = c .before .before .before .loop in
@@ -56,15 +46,6 @@ list-code-requires c κs = let s = c .before .before .before .before .before .be
     let g = codeLane high low (s .args .a * s .args .back + l .b) (s .args .a * 4) ((s .args .front + l .b) * 4) in
     (entry-next f g (l .b * 4) 4 (s .args .back * 4) (omega (arith, t)) (l .inv .1) (l .inv .2) (code-lanes high low (s .args .front) (s .args .back) (s .args .a) (l .b) t) (s .pre .0), lanes-pre (s .pre .1) (s .args .a) (l .b) (s .pre .3) t, lanes-pre (s .pre .2) (s .args .a) (l .b) (s .pre .3) t)
 
--- src/lib.rt:204:9
-add-b : tie.Need-add-b Inv-loop μ-loop
-add-b c = search needs
-
--- src/lib.rt:202:5
-loop-less : tie.Need-loop-less Inv-loop μ-loop
-loop-less c = search needs
-
--- src/lib.rt:202:5
 loop-again : tie.Need-loop-again Inv-loop μ-loop
 loop-again c = let s = c .before .before .before .before .before .before .before .before .before .before in
     let l = c .before .before .before .before .before .before .loop in
@@ -82,13 +63,11 @@ loop-again c = let s = c .before .before .before .before .before .before .before
     let n = code-next (l .b) in
     (omega (arith, t), d .0 ∙ (λ i. placed g 4 (p i) (q i)) ∙ placed-on f g es ns (l .b * 4) 4 A ∙ (λ i. placed f (n i) es ns), d .1 ∙ ap (bumped 1 g 4) q ∙ bumped-on 1 f g ns (l .b * 4) 4 (equal-alike f g (l .b * 4) 4 A) ∙ (λ i. bumped 1 f (n i) ns))
 
--- src/lib.rt:188:1
 same-length : tie.Need-same-length Inv-loop μ-loop
 same-length c = let s = c .before .before .before .before .before in
     let l = c .before .loop in
     ap length (l .inv .1) ∙ placed-size (lanesFrom (s .args .high .now) (s .args .low .now) (s .args .front) (s .args .back) (s .args .a * s .args .back)) (s .args .entries .now) (s .args .ends .now) (l .b * 4)
 
--- src/lib.rt:188:1
 returns : tie.Need-returns Inv-loop μ-loop
 returns c = let s = c .before .before .before .before .before in
     let l = c .before .loop in
@@ -109,8 +88,8 @@ list-row-spec =
     add-list-code-2
     mul-list-code-2
     list-code-requires
-    add-b
-    loop-less
+    (λ c. search needs)
+    (λ c. search needs)
     loop-again
     same-length
     returns)
