@@ -3,7 +3,6 @@
 ghost use Prim.Native.Nat.{_+_, _*_, _≤_, _<_};
 ghost use mathlib.Core.Path.{_≡_};
 ghost use lib.ListN.{length, getD};
-ghost use Rattle.insertions.specs.Listing.{ListPre, Counted, ListedBy};
 
 ghost use Rattle.labelling.specs.Labelling.{LabelPre, PositionsDone, SearchPre, ListsPre, AllLabelled, FinishPre, Finished, RankedBy, ListedPre};
 use cells::Groups;
@@ -87,7 +86,7 @@ fn label_few(
 {
     let mut entries = [0u32; 1024];
     let width = columns::width_of(counts);
-    list(&mut entries, ends, steps, kept, width, counts, weights, g);
+    insertions::list(&mut entries, ends, steps, kept, width, counts, weights, g);
     label_positions(work, card, counts, weights, sets, steps, &entries, ends, g);
 }
 
@@ -108,7 +107,7 @@ fn label_many(
 {
     let mut entries = [0u32; 8064];
     let width = columns::width_of(counts);
-    list(&mut entries, ends, steps, kept, width, counts, weights, g);
+    insertions::list(&mut entries, ends, steps, kept, width, counts, weights, g);
     label_positions(work, card, counts, weights, sets, steps, &entries, ends, g);
 }
 
@@ -128,8 +127,8 @@ fn label_by(
     let width = columns::width_of(counts);
     let mut ends = [0u16; 514];
     let kept = columns::prepare(steps, card, counts, width, Pair::EMPTY);
-    let insertions = count(&mut ends, steps, kept, width, counts, weights, g);
-    if insertions <= 1024 {
+    let found = insertions::count(&mut ends, steps, kept, width, counts, weights, g);
+    if found <= 1024 {
         label_few(work, card, counts, weights, sets, steps, &mut ends, kept, g);
     } else {
         label_many(work, card, counts, weights, sets, steps, &mut ends, kept, g);
@@ -157,17 +156,4 @@ pub fn label(work: &mut [u16], card: &[u8], ranking: &[u8], sets: &[u64], size: 
         &mut steps[..places],
         g,
     );
-}
-
-fn count(ends: &mut [u16; 514], steps: &[u16], kept: u64, width: usize, counts: &[u8], weights: &[u64], g: Groups) -> usize
-    requires { ⌜ (length (now ends) ≡ 514) × ListPre (now steps) (now counts) (now weights) width kept g ⌝ }
-    ensures { λ r. ⌜ Counted (now (steps .entry)) (now (counts .entry)) (now (weights .entry)) width kept (now (ends .exit)) × (r ≡ getD (now (ends .exit)) 513 0) ⌝ }
-{
-    0
-}
-
-fn list(entries: &mut [u32], ends: &mut [u16; 514], steps: &[u16], kept: u64, width: usize, counts: &[u8], weights: &[u64], g: Groups)
-    requires { ⌜ ListPre (now steps) (now counts) (now weights) width kept g × Counted (now steps) (now counts) (now weights) width kept (now ends) × (getD (now ends) 513 0 ≤ length (now entries)) ⌝ }
-    ensures { λ _. ⌜ ListedBy (now (steps .entry)) (now (counts .entry)) (now (weights .entry)) width kept (now (entries .exit)) (now (ends .exit)) ⌝ }
-{
 }
