@@ -8,7 +8,7 @@ ghost use Rattle.machine.specs.Symbols.{firstSymbol};
 ghost use lib.ListN.{length};
 ghost use Rattle.labels.specs.Work.{HasNode, HasNodes};
 ghost use Rattle.tables.specs.Places.{sixPlaces};
-ghost use Rattle.positions.specs.Labelling.{LabelPre, PositionsDone};
+ghost use Rattle.labelling.specs.Labelling.{LabelPre, PositionsDone};
 ghost use Rattle.optimizer.specs.Optimizes.{Optimizes};
 ghost use Rattle.optimizer.specs.OptimizesSets.{OptimizesSets};
 ghost use Rattle.product.specs.Best.{best};

@@ -35,7 +35,7 @@ use Rattle.product.specs.Laws.BestCandidate.{profile-length}
 use Rattle.product.specs.Laws.CardGraph.{start-within}
 use Rattle.tables.specs.Engine.{engineGraph}
 use Rattle.tables.specs.Places.{sixPlaces}
-use Rattle.positions.specs.Labelling.{PositionsDone}
+use Rattle.labelling.specs.Labelling.{PositionsDone}
 use Rattle.walk.specs.Walked.{StartsAt, WalkPre, Walked}
 use Rattle.optimizer.specs.Searching.{searchRefusal, labelRefusal, SetsPre, Searched, RankingOfSome, CardOrder}
 use Rattle.optimizer.proofs.Found.{FoundAt, not-found, found, path-found}

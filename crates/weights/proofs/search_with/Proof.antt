@@ -5,7 +5,7 @@ use lib.ListN.{take}
 use borrow.Author.Needs.{needs}
 use Rattle.card.specs.Card.{machinesOf}
 use Rattle.product.specs.Nodes.{stateCounts}
-use Rattle.positions.proofs.Prefix.{front-is, front-fits, front-length, rows-ready}
+use Rattle.tables.proofs.Prefix.{front-is, front-fits, front-length, rows-ready}
 use Rattle.weights.proofs.Preparing.{insertions-ready, tools, label-ready, after-pre, labelled, searched-by}
 use Rattle.weights.proofs.search_with.Statement.{statement}
 use Rattle.weights.proofs.search_with.Tie as tie

@@ -11,12 +11,11 @@ use Rattle.card.specs.Card.{machinesOf, cardRefusal}
 use Rattle.card.specs.Accepted.{accepted}
 use Rattle.product.specs.Nodes.{product, stateCountOf, stateCounts}
 use Rattle.product.specs.Laws.Accepted.{accepted-machines}
 use Rattle.tables.specs.Places.{sixPlaces, SixPlaces}
-use Rattle.tables.specs.Tables.{CountsOfSome, HoldsRows}
+use Rattle.tables.specs.Tables.{CountsOfSome}
 use Rattle.tables.specs.FillingRows.{RowsPre}
 use Rattle.tables.specs.Laws.Harmony.{six-places}
 use Rattle.tables.specs.Laws.Cards.{card-machines}
-use Rattle.positions.specs.Engine.{Looked}
 
 -- a front that is as long as was asked is there
 front-there : (n : ℕ) (l : List ℕ) → length (take n l) ≡ n → n ≤ length l
@@ -44,6 +43,3 @@ module _ (card : List ℕ) (ok : cardRefusal card ≡ 0) (r : List ℕ) (k : ℕ
 
   pub rows-ready : (rs : List ℕ) (P : ℕ) → P ≡ product (stateCounts (machinesOf card)) → length rs ≡ 1024 → RowsPre (take k r) rs P
   rows-ready rs P p n = record { counts-of = front-counts; states = rw front-is p; room = n }
-
-  pub front-looked : {ranking rs ps : List ℕ} → HoldsRows (take k r) rs → ps ≡ sixPlaces ranking → isRanking (machineCount card) ranking ≡ true → Looked card ranking rs (take k r) ps
-  front-looked {ranking} H p ranks = record { rows = rw front-is at H; counts = front-is; places = p; six = places-six card ok ranking p ranks }
