@@ -17,7 +17,7 @@ use Rattle.product.specs.Setting.{Setting}
 use Rattle.tables.specs.Places.{sixPlaces}
 use Rattle.tables.specs.Tables.{CountsOfSome}
 use Rattle.tables.specs.Laws.Cards.{card-machines}
-use Rattle.positions.proofs.Prefix.{front-is, front-length, front-fits, front-counts, places-six}
+use Rattle.tables.proofs.Prefix.{front-is, front-length, front-fits, front-counts, places-six}
 use Rattle.cells.specs.declared.Groups.{Groups}
 use Rattle.cells.specs.Cells.{places}
 use Rattle.cells.specs.Columns.{WeightsOf}
