@@ -44,7 +44,7 @@ module _ (ms : List Machine) (i j : ℕ) (c : List Pair) (same : marksOf c (mach
 
 -- ---- the best of the candidates meant
 
-module _ {better : ProfileOrder} {ms ms′ : List Machine} {Meant Meant′ : List Pair → Type 0}
+module _ {better : ProfileOrder} (ms ms′ : List Machine) {Meant Meant′ : List Pair → Type 0}
     (kept : (d : List Pair) → Meant′ d → Meant d × (profileOf ms′ d ≡ profileOf ms d)) where
   -- where the candidates on the second card are among those on the first, with their profiles, the best is the best there if it is one of them
   still-best : (c : List Pair) → Meant′ c → IsBestIn better ms Meant c → IsBestIn better ms′ Meant′ c
@@ -118,5 +118,5 @@ module _ {card trimmed : List ℕ} {i j : ℕ} (ok : cardRefusal card ≡ 0) (ok
         let here = all .is-best b e in
         let there = stays (b .candidate) off (here .candidate) in
         let q = kept (b .candidate) there .1 ∙ sym (all .its-profile b e) in
-        asked .best-of-all agrees trimmed ok′ .only-it (b .candidate) (still-best kept (b .candidate) there here)
+        asked .best-of-all agrees trimmed ok′ .only-it (b .candidate) (still-best ms (machinesOf trimmed) kept (b .candidate) there here)
         ∙ (λ k. some (record { candidate = b .candidate; profile = q k }))

@@ -26,7 +26,7 @@ use Rattle.product.specs.OptimizingSets.{setsRefusal, setsInputRefusal}
 use Rattle.product.specs.Searches.{Searches, of-word, of-sets}
 use Rattle.product.specs.Laws.BestOfSets.{are64Bits}
 use Rattle.product.specs.Laws.SymbolSets.{sets-64}
-use Rattle.input.specs.AcceptedInput.{passes, passes-all, accepted-input, AcceptedSetsInput, accepted-sets-input}
+use Rattle.input.specs.AcceptedInput.{Passes, passes, passes-all, accepted-input, AcceptedSetsInput, accepted-sets-input}
 use Rattle.optimizer.specs.Optimizes.{Answers, Optimizes, OptimizesSets}
 use Rattle.optimizer.specs.Demands.{answered-accepts}
 use Rattle.trimming.specs.Travelling.{travels}
@@ -64,13 +64,14 @@ module _ {Meant : List Machine → List Pair → Type 0} {bestOn : ProfileOrder 
 -- input that the checks accept they accept with the other card, where it is accepted and the work slice has room
 passes-too : {card trimmed : List ℕ} {i j : ℕ} → LacksArc card i j trimmed → (o w : ℕ → ℕ) (size k room room′ : ℕ) → beforeSearch card (o (machineCount card)) (w (symbolCount card)) (size * nodeCount (machinesOf card) k) room ≡ 0
     → cardRefusal trimmed ≡ 0 → size * nodeCount (machinesOf card) k ≤ room′ → beforeSearch trimmed (o (machineCount trimmed)) (w (symbolCount trimmed)) (size * nodeCount (machinesOf trimmed) k) room′ ≡ 0
-passes-too {card} lacks o w size k room room′ e ok fits =
+passes-too {card} {trimmed} lacks o w size k room room′ e ok fits =
     let p = passes card (o (machineCount card)) (w (symbolCount card)) (size * nodeCount (machinesOf card) k) room e in
-    passes-all (record { accepted = ok; order = ap o (lacks .count) ∙ p .order; word = ap w (lacks .symbols) ∙ p .word; nodes-fit = rw (same-nodes lacks k) fits })
+    let q : Passes trimmed (o (machineCount trimmed)) (w (symbolCount trimmed)) (size * nodeCount (machinesOf trimmed) k) room′ = record { accepted = ok; order = ap o (lacks .count) ∙ p .order; word = ap w (lacks .symbols) ∙ p .word; nodes-fit = rw (same-nodes lacks k) fits } in
+    passes-all q
 
 -- ---- under a ranking, for a word
 
-module _ {card trimmed ranking word work workAfter answer answerAfter secondWork secondWorkAfter secondAnswer secondAfter : List ℕ} {r second : Evaluation} {i j : ℕ} (lacks : LacksArc card i j trimmed)
+module _ (ranking : List ℕ) {card trimmed word work workAfter answer answerAfter secondWork secondWorkAfter secondAnswer secondAfter : List ℕ} {r second : Evaluation} {i j : ℕ} (lacks : LacksArc card i j trimmed)
     (first : Optimizes card ranking word work workAfter answer answerAfter r) (answered : r .number ≡ 0) (call : Optimizes trimmed ranking word secondWork secondWorkAfter secondAnswer secondAfter second)
   where
     input : inputRefusal card ranking word (length work) ≡ 0
@@ -97,26 +98,26 @@ module _ {card trimmed ranking word work workAfter answer answerAfter secondWork
 
 -- ---- for words heard only in part
 
-module _ {card trimmed ranking sets work workAfter answer answerAfter secondWork secondWorkAfter secondAnswer secondAfter : List ℕ} {r second : Evaluation} {i j : ℕ} (lacks : LacksArc card i j trimmed)
+module _ (ranking : List ℕ) {card trimmed sets work workAfter answer answerAfter secondWork secondWorkAfter secondAnswer secondAfter : List ℕ} {r second : Evaluation} {i j : ℕ} (lacks : LacksArc card i j trimmed)
     (first : OptimizesSets card ranking sets work workAfter answer answerAfter r) (answered : r .number ≡ 0) (call : OptimizesSets trimmed ranking sets secondWork secondWorkAfter secondAnswer secondAfter second)
   where
-    input : setsInputRefusal card ranking sets (length work) ≡ 0
-    input = answered-accepts first answered
+    sets-input : setsInputRefusal card ranking sets (length work) ≡ 0
+    sets-input = answered-accepts first answered
 
     accepts : AcceptedSetsInput card ranking sets (length work)
-    accepts = accepted-sets-input card ranking sets (length work) input
+    accepts = accepted-sets-input card ranking sets (length work) sets-input
 
     bits : are64Bits sets ≡ true
     bits = sets-64 (symbolCount card) sets (accepts .sound .symbols) (accepted card (accepts .accepted) .head .counts .symbols)
 
-    input-accepted : cardRefusal trimmed ≡ 0 → 8 * nodeCount (machinesOf card) (length sets) ≤ length secondWork → setsInputRefusal trimmed ranking sets (length secondWork) ≡ 0
+    sets-accepted : cardRefusal trimmed ≡ 0 → 8 * nodeCount (machinesOf card) (length sets) ≤ length secondWork → setsInputRefusal trimmed ranking sets (length secondWork) ≡ 0
     unfolding setsInputRefusal
-    input-accepted = passes-too lacks (λ K. refuse 7 (isRanking K ranking)) (λ S. setsRefusal S sets) 8 (length sets) (length work) (length secondWork) input
+    sets-accepted = passes-too lacks (λ K. refuse 7 (isRanking K ranking)) (λ S. setsRefusal S sets) 8 (length sets) (length work) (length secondWork) sets-input
 
     pub same-answer-sets : travels (machinesOf card) i j (answeredCandidate r answerAfter) ≡ false → cardRefusal trimmed ≡ 0 → 8 * nodeCount (machinesOf card) (length sets) ≤ length secondWork → 2 * r .pairs ≤ length secondAnswer
         → SameAnswer r answerAfter second secondAnswer secondAfter
     unfolding bestOfSets
-    same-answer-sets off ok′ room fits = answer-stays (of-sets sets bits) (ranking-agrees ranking) lacks (accepts .accepted) first answered call off ok′ (input-accepted ok′ room) fits
+    same-answer-sets off ok′ room fits = answer-stays (of-sets sets bits) (ranking-agrees ranking) lacks (accepts .accepted) first answered call off ok′ (sets-accepted ok′ room) fits
 
     pub travelled-changes-sets : travels (machinesOf card) i j (answeredCandidate r answerAfter) ≡ true → ¬ (SameAnswer r answerAfter second secondAnswer secondAfter)
     unfolding bestOfSets
