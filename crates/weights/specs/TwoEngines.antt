@@ -48,7 +48,7 @@ pub record SameAnswer (after afterByWeights : List ℕ) (r : Evaluation) (s : We
   pub pairs : s .evaluation .pairs ≡ r .pairs
   pub candidate : take (2 * s .evaluation .pairs) afterByWeights ≡ take (2 * r .pairs) after
 
-module _ {card ranking weights word work workAfter answer after work′ workAfter′ answer′ after′ : List ℕ} {r : Evaluation} {s : Weighing} where
+module _ (ranking : List ℕ) {card weights word work workAfter answer after work′ workAfter′ answer′ after′ : List ℕ} {r : Evaluation} {s : Weighing} where
   pub two-engines : ranked.Optimizes card ranking word work workAfter answer after r → Optimizes card weights word work′ workAfter′ answer′ after′ s
       → r .number ≡ 0 → s .evaluation .number ≡ 0
       → Outweighs (max (largest (r .profile .counts)) (largest (s .evaluation .profile .counts))) weights ranking
