@@ -11,12 +11,14 @@ use Rattle.refusals.proofs.Refusals.{passed, none-first}
 use Rattle.ranking.specs.Rankings.{isRanking}
 use Rattle.card.specs.Layout.{machineCount, symbolCount}
 use Rattle.card.specs.Card.{cardRefusal, machinesOf}
+use Rattle.card.specs.Accepted.{accepted}
 use Rattle.product.specs.Nodes.{nodeCount}
 use Rattle.product.specs.Answering.{beforeSearch}
 use Rattle.product.specs.Optimizing.{soundWord, inputRefusal}
 use Rattle.product.specs.OptimizingSets.{setsRefusal, setsInputRefusal}
 use Rattle.product.specs.Laws.Words.{accepted-word}
-use Rattle.product.specs.Laws.SymbolSets.{AcceptedSets, accepted-sets}
+use Rattle.product.specs.Laws.BestOfSets.{are64Bits}
+use Rattle.product.specs.Laws.SymbolSets.{AcceptedSets, accepted-sets, sets-64}
 
 -- ---- in general: each check passes, by its number
 
@@ -72,3 +74,7 @@ accepted-sets-input card ranking sets room e =
     let r = isRanking (machineCount card) ranking in
     let p = passes card (refuse 7 r) (setsRefusal (symbolCount card) sets) (8 * nodeCount (machinesOf card) (length sets)) room e in
     record { accepted = p .accepted; ranks = passed 7 r (lit< tt) (p .order); sound = accepted-sets (symbolCount card) sets (p .word); nodes-fit = p .nodes-fit }
+
+-- its sets are 64-bit numbers
+pub accepted-bits : {card ranking sets : List ℕ} {room : ℕ} → AcceptedSetsInput card ranking sets room → are64Bits sets ≡ true
+accepted-bits {card} {sets = sets} a = sets-64 (symbolCount card) sets (a .sound .symbols) (accepted card (a .accepted) .head .counts .symbols)

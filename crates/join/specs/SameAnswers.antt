@@ -17,7 +17,6 @@ use Rattle.machine.specs.Machine.{Machine}
 use Rattle.ranking.specs.Rankings.{isRanking}
 use Rattle.card.specs.Layout.{machineCount, symbolCount}
 use Rattle.card.specs.Card.{machinesOf}
-use Rattle.card.specs.Accepted.{accepted}
 use Rattle.candidate.specs.declared.Evaluation.{Evaluation}
 use Rattle.candidate.specs.Candidates.{profileOf}
 use Rattle.product.specs.Nodes.{nodeCount}
@@ -29,8 +28,7 @@ use Rattle.product.specs.OptimizingSets.{setsRefusal, setsInputRefusal}
 use Rattle.product.specs.BestCandidate.{IsBestBy, Beats, IsBestCandidate, IsBestOfSets}
 use Rattle.product.specs.Searches.{Searches, of-word, of-sets}
 use Rattle.product.specs.Laws.Accepted.{accepted-machines}
-use Rattle.product.specs.Laws.SymbolSets.{sets-64}
-use Rattle.input.specs.AcceptedInput.{Passes, passes, passes-all, accepted-input, accepted-sets-input}
+use Rattle.input.specs.AcceptedInput.{Passes, passes, passes-all, accepted-input, accepted-sets-input, accepted-bits}
 use Rattle.optimizer.specs.Optimizes.{Optimizes, OptimizesSets}
 use Rattle.optimizer.specs.Demands.{AnswersBest, Demands}
 use Rattle.optimizer.specs.Demand3.{demand-3, demand-3-sets}
@@ -166,5 +164,5 @@ module _ (card : List ℕ) (a b room : ℕ) (ok : joiningRefusal card a b room �
       → SameAnswers (lower a b) (other a b) (machinesOf card) (machinesOf new) (IsBestOfSets ranking (machinesOf card) sets) (IsBestOfSets newRanking (machinesOf new) sets) sets answer after newAfter r s
   join-keeps-answers-sets {sets} {work} here there e e′ =
       let i = accepted-sets-input card ranking sets (length work) e in
-      same-answers (joining-joins card a b room ok) (joining-card card a b room ok) unmarked (of-sets sets (sets-64 (symbolCount card) sets (i .sound .symbols) (accepted card (i .accepted) .head .counts .symbols))) (i .ranks)
+      same-answers (joining-joins card a b room ok) (joining-card card a b room ok) unmarked (of-sets sets (accepted-bits i)) (i .ranks)
       (demand-3-sets card ranking here e) (demand-3-sets new newRanking there e′)

@@ -6,11 +6,10 @@ use native.Mathlib.Omega.{arith}
 use lib.ListN.{length}
 use Rattle.card.specs.Layout.{symbolCount}
 use Rattle.card.specs.Card.{machinesOf}
-use Rattle.card.specs.Accepted.{accepted}
 use Rattle.product.specs.Nodes.{product, stateCounts}
 use Rattle.product.specs.OptimizingSets.{setsInputRefusal}
-use Rattle.product.specs.Laws.SymbolSets.{read-symbols, sets-64}
-use Rattle.input.specs.AcceptedInput.{AcceptedSetsInput, accepted-sets-input}
+use Rattle.product.specs.Laws.SymbolSets.{read-symbols}
+use Rattle.input.specs.AcceptedInput.{AcceptedSetsInput, accepted-sets-input, accepted-bits}
 use Rattle.input.proofs.Nodes.{room-for, few-for}
 use Rattle.optimizer.specs.Searching.{SetsPre}
 
@@ -28,10 +27,9 @@ module _ (card ranking sets : List ℕ) (room : ℕ) (ok : setsInputRefusal card
     -- what the search is given
     pub sets-given : {front : List ℕ} → length front ≡ (length sets + 1) * P * 8 → SetsPre card ranking sets front P
     sets-given h =
-        let S = symbolCount card in
         record {
-          setting = record { accepted = accepts .accepted; few = accepts .sound .short; symbols = read-symbols S sets (accepts .sound .symbols); states = e };
+          setting = record { accepted = accepts .accepted; few = accepts .sound .short; symbols = read-symbols (symbolCount card) sets (accepts .sound .symbols); states = e };
           ranks = accepts .ranks;
-          bits = sets-64 S sets (accepts .sound .symbols) (accepted card (accepts .accepted) .head .counts .symbols);
+          bits = accepted-bits accepts;
           room = h;
         }

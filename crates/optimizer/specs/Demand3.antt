@@ -9,7 +9,6 @@ use lib.ListN.{length}
 use Rattle.machine.specs.declared.Pair.{Pair}
 use Rattle.card.specs.Layout.{symbolCount}
 use Rattle.card.specs.Card.{machinesOf}
-use Rattle.card.specs.Accepted.{accepted}
 use Rattle.candidate.specs.declared.Evaluation.{Evaluation}
 use Rattle.candidate.specs.Candidates.{IsCandidate}
 use Rattle.product.specs.Best.{harmonic}
@@ -22,8 +21,7 @@ use Rattle.product.specs.BestTheorem.{best-is-best-of-all}
 use Rattle.product.specs.SetsTheorem.{best-is-best-of-all-words}
 use Rattle.product.specs.CountsFit.{unbeaten-fit, unbeaten-of-sets-fit}
 use Rattle.product.specs.Laws.BestCandidate.{beats-harmonic}
-use Rattle.product.specs.Laws.SymbolSets.{sets-64}
-use Rattle.input.specs.AcceptedInput.{accepted-input, short-word, accepted-sets-input}
+use Rattle.input.specs.AcceptedInput.{accepted-input, short-word, accepted-sets-input, accepted-bits}
 use Rattle.optimizer.specs.Optimizes.{Optimizes, OptimizesSets}
 use Rattle.optimizer.specs.Demands.{Demands, demanded}
 
@@ -49,9 +47,8 @@ module _ (card ranking : List ℕ) {sets work workAfter answer answerAfter : Lis
   pub demand-3-sets : Demand3Sets card ranking sets answer answerAfter r
   demand-3-sets =
       let a = accepted-sets-input card ranking sets (length work) ok in
-      let bits = sets-64 (symbolCount card) sets (a .sound .symbols) (accepted card (a .accepted) .head .counts .symbols) in
       demanded (ranking-agrees ranking) (unbeaten-of-sets-fit (ranking-agrees ranking) card (a .accepted) sets (a .sound .short)) (beats-harmonic ranking (machinesOf card))
-      (best-is-best-of-all-words card ranking sets (a .accepted) (a .ranks) bits) c ok
+      (best-is-best-of-all-words card ranking sets (a .accepted) (a .ranks) (accepted-bits a)) c ok
 
   -- 10 exactly when no word among them has a complete candidate
   pub no-word-exactly : (r .number ≡ 10) ↔ ((word : List ℕ) → fitsSets sets word ≡ true → (d : List Pair) → ¬ (IsCandidate (machinesOf card) word d))

@@ -23,11 +23,12 @@ pub record Answers (n : ℕ) (best : Option Contender) (word work workAfter answ
   pub work-kept : n ≢ 0 → workAfter ≡ work
   pub small : SmallAnswer r
 
--- under a ranking: for a word, and for words heard only in part
+-- under a ranking. For a word the result is `optimized`, and the answer slice at exit `optimizedAnswer`
 abbrev pub Optimizes : (card ranking word work workAfter answer answerAfter : List ℕ) → Evaluation → Type 0
 Optimizes card ranking word work workAfter answer answerAfter r =
     Answers (inputRefusal card ranking word (length work)) (best card ranking word) word work workAfter answer answerAfter r
 
+-- for words heard only in part: `optimizedSets`, and `optimizedSetsAnswer`
 abbrev pub OptimizesSets : (card ranking sets work workAfter answer answerAfter : List ℕ) → Evaluation → Type 0
 OptimizesSets card ranking sets work workAfter answer answerAfter r =
     Answers (setsInputRefusal card ranking sets (length work)) (bestOfSets card ranking sets) sets work workAfter answer answerAfter r

@@ -12,7 +12,6 @@ use Rattle.machine.specs.Machine.{Machine}
 use Rattle.ranking.specs.Rankings.{isRanking}
 use Rattle.card.specs.Layout.{machineCount, symbolCount}
 use Rattle.card.specs.Card.{cardRefusal, machinesOf}
-use Rattle.card.specs.Accepted.{accepted}
 use Rattle.candidate.specs.declared.Evaluation.{Evaluation}
 use Rattle.paths.specs.Costs.{Costs}
 use Rattle.product.specs.Nodes.{nodeCount}
@@ -23,9 +22,7 @@ use Rattle.product.specs.Answering.{beforeSearch}
 use Rattle.product.specs.Optimizing.{soundWord, inputRefusal}
 use Rattle.product.specs.OptimizingSets.{setsRefusal, setsInputRefusal}
 use Rattle.product.specs.Searches.{Searches, of-word, of-sets}
-use Rattle.product.specs.Laws.BestOfSets.{are64Bits}
-use Rattle.product.specs.Laws.SymbolSets.{sets-64}
-use Rattle.input.specs.AcceptedInput.{Passes, passes, passes-all, accepted-input, AcceptedSetsInput, accepted-sets-input}
+use Rattle.input.specs.AcceptedInput.{Passes, passes, passes-all, accepted-input, AcceptedSetsInput, accepted-sets-input, accepted-bits}
 use Rattle.optimizer.specs.Optimizes.{Answers, Optimizes, OptimizesSets}
 use Rattle.optimizer.specs.Demands.{answered-accepts}
 use Rattle.trimming.specs.Travelling.{travels}
@@ -106,9 +103,6 @@ module _ (ranking : List ℕ) {card trimmed sets work workAfter answer answerAft
     accepts : AcceptedSetsInput card ranking sets (length work)
     accepts = accepted-sets-input card ranking sets (length work) sets-input
 
-    bits : are64Bits sets ≡ true
-    bits = sets-64 (symbolCount card) sets (accepts .sound .symbols) (accepted card (accepts .accepted) .head .counts .symbols)
-
     sets-accepted : cardRefusal trimmed ≡ 0 → 8 * nodeCount (machinesOf card) (length sets) ≤ length secondWork → setsInputRefusal trimmed ranking sets (length secondWork) ≡ 0
     unfolding setsInputRefusal
     sets-accepted = passes-too lacks (λ K. refuse 7 (isRanking K ranking)) (λ S. setsRefusal S sets) 8 (length sets) (length work) (length secondWork) sets-input
@@ -116,9 +110,9 @@ module _ (ranking : List ℕ) {card trimmed sets work workAfter answer answerAft
     pub same-answer-sets : travels (machinesOf card) i j (answeredCandidate r answerAfter) ≡ false → cardRefusal trimmed ≡ 0 → 8 * nodeCount (machinesOf card) (length sets) ≤ length secondWork → 2 * r .pairs ≤ length secondAnswer
         → SameAnswer r answerAfter second secondAnswer secondAfter
     unfolding bestOfSets
-    same-answer-sets off ok′ room fits = answer-stays (of-sets sets bits) (ranking-agrees ranking) lacks (accepts .accepted) first answered call off ok′ (sets-accepted ok′ room) fits
+    same-answer-sets off ok′ room fits = answer-stays (of-sets sets (accepted-bits accepts)) (ranking-agrees ranking) lacks (accepts .accepted) first answered call off ok′ (sets-accepted ok′ room) fits
 
     pub travelled-changes-sets : travels (machinesOf card) i j (answeredCandidate r answerAfter) ≡ true → ¬ (SameAnswer r answerAfter second secondAnswer secondAfter)
     unfolding bestOfSets
     travelled-changes-sets =
-        answer-changes (of-sets sets bits) (ranking-agrees ranking) lacks (accepts .accepted) first answered call (λ e. accepted-sets-input trimmed ranking sets (length secondWork) e .accepted)
+        answer-changes (of-sets sets (accepted-bits accepts)) (ranking-agrees ranking) lacks (accepts .accepted) first answered call (λ e. accepted-sets-input trimmed ranking sets (length secondWork) e .accepted)

@@ -51,7 +51,7 @@ pub record Searched (weights : List ℕ) (b : Option Contender) (word work workA
   pub searched : ranked.Searched b word work workAfter answer answerAfter (r .evaluation)
   pub its-sum : r .sum ≡ answeredSum 0 weights b (length answer)
 
--- the contract of the call: that of every call, and the sum besides
+-- the contract of the call: that of every call, and the sum besides. The answer slice at exit is `weighedAnswer`
 pub record Optimizes (card weights word work workAfter answer answerAfter : List ℕ) (r : Weighing) : Type 0 where
   pub answers : Answers (weightedRefusal card weights word (length work)) (bestByWeights card weights word) word work workAfter answer answerAfter (r .evaluation)
   pub its-sum : r .sum ≡ answeredSum (weightedRefusal card weights word (length work)) weights (bestByWeights card weights word) (length answer)
