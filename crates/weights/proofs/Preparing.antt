@@ -53,4 +53,4 @@ module _ {card weights sets work : List ℕ} {P : ℕ} (pre : SetsPre card weigh
     }
 
 pub searched-by : {weights card sets word work after answer answerAfter : List ℕ} {b : Option Contender} {r : Weighing} → AllDone card weights sets work after → Searched weights b word after after answer answerAfter r → Searched weights b word work after answer answerAfter r
-searched-by D S = record { result = S .result; answer-slice = S .answer-slice; work-length = D .size }
+searched-by D S = let T = S .searched in record { searched = record { result = T .result; answer-slice = T .answer-slice; work-length = D .size }; its-sum = S .its-sum }
