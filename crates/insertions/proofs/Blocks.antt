@@ -92,9 +92,9 @@ module _ {steps counts ws : List ℕ} {W kept : ℕ} {g : Groups} (R : ListPre s
         let at : q * product counts * 4 + n ≡ (q * product counts + n / 4) * 4 + n % 4 = omega arith in
         let o : getD four (n % 4) 0 ≡ getD (nextFour (afterFours q kept)) (n % 4) 0 = ap (λ (ys : List ℕ). getD ys (n % 4) 0) e in
         let high-is : cellSum (highAt steps ws W (getD (nextFour (afterFours q kept)) (n % 4) 0)) 0 0 counts (n / 4) ≡ sumAt high (g .front) (n / 4 / g .back) (n / 4 % g .back) (n % 4) =
-            sym (J .highs (n / 4 / g .back) (n / 4 % g .back) (n % 4) al bl jl ∙ (λ i. cellSum (highAt steps ws W (o i)) 0 0 counts (code i))) in
+        sym (J .highs (n / 4 / g .back) (n / 4 % g .back) (n % 4) al bl jl ∙ (λ i. cellSum (highAt steps ws W (o i)) 0 0 counts (code i))) in
         let low-is : cellSum (lowAt steps ws W (getD (nextFour (afterFours q kept)) (n % 4) 0)) 0 0 counts (n / 4) ≡ sumAt low (g .front) (n / 4 / g .back) (n / 4 % g .back) (n % 4) =
-            sym (J .lows (n / 4 / g .back) (n / 4 % g .back) (n % 4) al bl jl ∙ (λ i. cellSum (lowAt steps ws W (o i)) 0 0 counts (code i))) in
+        sym (J .lows (n / 4 / g .back) (n / 4 % g .back) (n % 4) al bl jl ∙ (λ i. cellSum (lowAt steps ws W (o i)) 0 0 counts (code i))) in
         ap (keptLane steps ws counts W kept) at
         ∙ lane-is steps ws counts W kept q (n / 4) (n % 4) (omega (arith, codes-are)) jl
         ∙ (λ i. record { code = n / 4; high = high-is i; low = low-is i })

@@ -179,7 +179,13 @@ fn list_code(
 {
     let mut j = 0;
     while j < 4 {
-        list_lane(entries, ends, code, high[a + j] + high[b + j], low[a + j] + low[b + j]);
+        list_lane(
+            entries,
+            ends,
+            code,
+            high[a + j] + high[b + j],
+            low[a + j] + low[b + j],
+        );
         j += 1;
     }
 }
