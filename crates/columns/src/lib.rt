@@ -172,10 +172,11 @@ pub fn worth(steps: &[u16], width: usize, outputs: u64) -> u64
     let mut left = outputs;
     while left > 0 {
         let output = sets::least(left);
+        let rest = sets::without_least(left);
         if !is_repeated(steps, width, kept, output) {
             kept = kept | sets::set_of(output as u8);
         }
-        left = sets::without_least(left);
+        left = rest;
     }
     kept
 }

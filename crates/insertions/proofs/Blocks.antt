@@ -18,10 +18,11 @@ use Rattle.cells.specs.Columns.{HoldsColumns, WeightsOf}
 use Rattle.cells.specs.Groups.{GroupsOf, sumAt, FourPre, FourJoined}
 use Rattle.cells.specs.Fours.{nextFour}
 use Rattle.cells.specs.Laws.Fours.{four-most}
+use Rattle.cells.specs.Laws.Joint.{joint-cell}
 use Rattle.cells.specs.Laws.Groups.{all-codes, joint-sum}
 use Rattle.cells.specs.Laws.Meeting.{four-pre}
-use Rattle.insertions.specs.Lanes.{Lane}
-use Rattle.insertions.specs.Tables.{fourLane, afterFours, stepLane, keptLane, TablePre}
+use Rattle.insertions.specs.Lanes.{Lane, listOf}
+use Rattle.insertions.specs.Tables.{fourLane, afterFours, outputAt, stepLane, keptLane, TablePre}
 use Rattle.insertions.specs.Listing.{ListPre}
 use Rattle.insertions.proofs.Lanes.{Equal}
 use Rattle.insertions.proofs.Totals.{lane-is, moveTo, all-few}
@@ -30,6 +31,9 @@ use Rattle.basics.specs.Sets.{member}
 positive : (m n : ℕ) → 0 < m * n → 0 < m
 positive zero n h = absurd (omega arith)
 positive (suc m) n h = omega arith
+
+list-small : (h P : ℕ) → h % 256 < P → P ≤ 128 → listOf h < P * 4
+list-small h P l few = let e : h % 128 ≡ h % 256 = omega arith in omega arith
 
 module _ {steps counts ws : List ℕ} {W kept : ℕ} {g : Groups} (R : ListPre steps counts ws W kept g) where
   own-weights : WeightsOf (stateCounts (R .machines)) ws
@@ -46,6 +50,13 @@ module _ {steps counts ws : List ℕ} {W kept : ℕ} {g : Groups} (R : ListPre s
 
   pub codes-are : g .front * g .back ≡ product counts
   codes-are = all-codes (R .groups)
+
+  -- even where there is no step the list is one of a code
+  pub list-below : (i : ℕ) → listOf (keptLane steps ws counts W kept i .high) < product counts * 4
+  list-below i =
+      subst (λ (qs : List ℕ). listOf (keptLane steps ws qs W kept i .high) < product qs * 4) (sym (R .of .counts-are))
+      (let J = joint-cell (R .of .machines) (R .of .columns) own-weights (i / 4 % product (stateCounts (R .machines))) (outputAt (stateCounts (R .machines)) kept i) (mod-lt (i / 4) (product-positive (stateCounts (R .machines)) (counts-positive (R .of .machines .sound)))) (four-most (afterFours (i / 4 / product (stateCounts (R .machines))) kept) (i % 4)) in
+      list-small (keptLane steps ws (stateCounts (R .machines)) W kept i .high) (product (stateCounts (R .machines))) (J .code) (R .of .machines .joint-states))
 
   pub asks-four : (set : ℕ) {four : List ℕ} (high low : List ℕ) → four ≡ nextFour set → length high ≡ 264 → length low ≡ 264 → FourPre steps four counts ws high low W g
   asks-four set {four} high low e a b =
@@ -92,9 +103,9 @@ module _ {steps counts ws : List ℕ} {W kept : ℕ} {g : Groups} (R : ListPre s
         let at : q * product counts * 4 + n ≡ (q * product counts + n / 4) * 4 + n % 4 = omega arith in
         let o : getD four (n % 4) 0 ≡ getD (nextFour (afterFours q kept)) (n % 4) 0 = ap (λ (ys : List ℕ). getD ys (n % 4) 0) e in
         let high-is : cellSum (highAt steps ws W (getD (nextFour (afterFours q kept)) (n % 4) 0)) 0 0 counts (n / 4) ≡ sumAt high (g .front) (n / 4 / g .back) (n / 4 % g .back) (n % 4) =
-            sym (J .highs (n / 4 / g .back) (n / 4 % g .back) (n % 4) al bl jl ∙ (λ i. cellSum (highAt steps ws W (o i)) 0 0 counts (code i))) in
+        sym (J .highs (n / 4 / g .back) (n / 4 % g .back) (n % 4) al bl jl ∙ (λ i. cellSum (highAt steps ws W (o i)) 0 0 counts (code i))) in
         let low-is : cellSum (lowAt steps ws W (getD (nextFour (afterFours q kept)) (n % 4) 0)) 0 0 counts (n / 4) ≡ sumAt low (g .front) (n / 4 / g .back) (n / 4 % g .back) (n % 4) =
-            sym (J .lows (n / 4 / g .back) (n / 4 % g .back) (n % 4) al bl jl ∙ (λ i. cellSum (lowAt steps ws W (o i)) 0 0 counts (code i))) in
+        sym (J .lows (n / 4 / g .back) (n / 4 % g .back) (n % 4) al bl jl ∙ (λ i. cellSum (lowAt steps ws W (o i)) 0 0 counts (code i))) in
         ap (keptLane steps ws counts W kept) at
         ∙ lane-is steps ws counts W kept q (n / 4) (n % 4) (omega (arith, codes-are)) jl
         ∙ (λ i. record { code = n / 4; high = high-is i; low = low-is i })

@@ -1,7 +1,7 @@
 -- The loops over the kept outputs, four at a time: the fours so far are counted, or written.
 use mathlib.Core.Path.{_≡_, refl, sym, _∙_, ap, subst}
 use mathlib.Core.List.{List, []}
-use Prim.Native.Nat.{ℕ, zero, suc, _+_, _*_, _/_, _%_, _^_, _<_, _≤_}
+use Prim.Native.Nat.{ℕ, zero, suc, _+_, _-_, _*_, _/_, _%_, _^_, _<_, _≤_}
 use native.Mathlib.Decide.{ℕ-discrete, decLt}
 use native.Mathlib.Nat.{mod-lt, suc-mul, mul-le-mul-right}
 use native.Mathlib.Numerals.{add-one}
@@ -13,13 +13,13 @@ use Rattle.cells.specs.Groups.{FourJoined}
 use Rattle.cells.specs.Fours.{nextFour, withoutFour}
 use Rattle.insertions.specs.Lanes.{Lane, bumped, placed, countTo, startOf}
 use Rattle.insertions.specs.Tables.{fourLane, afterFours, keptLane, FoursOf, CountRoom, EntryRoom}
-use Rattle.insertions.specs.Listing.{sumTo, AddPre, AddedUp, ListPre, Counted}
+use Rattle.insertions.specs.Listing.{sumTo, AddPre, AddedUp, FilledOn, ListPre, Counted}
 use Rattle.insertions.proofs.Lanes.{bumped-none, bumped-size, bumped-at, bumped-before, bumped-on, placed-none, placed-on, equal-alike, entry-next}
-use Rattle.insertions.proofs.Adding.{sum-none, sum-next}
+use Rattle.insertions.proofs.Adding.{sum-none, sum-next, sum-mono, all-added}
 use Rattle.insertions.proofs.Sorting.{Starts, start-next, start-order}
 use Rattle.insertions.proofs.Fours.{fours-next, fours-none, fours-same}
-use Rattle.insertions.proofs.Totals.{start-most, bumped-moved}
-use Rattle.insertions.proofs.Blocks.{codes-few, codes-some, codes-are, four-lanes, few-listed}
+use Rattle.insertions.proofs.Totals.{start-most, bumped-moved, count-none}
+use Rattle.insertions.proofs.Blocks.{codes-few, codes-some, codes-are, list-below, four-lanes, few-listed}
 
 -- so many fours are done
 pub record FoursTo (kept left fours : ℕ) : Type 0 where
@@ -124,24 +124,53 @@ module _ {steps counts ws : List ℕ} {W kept : ℕ} {g : Groups} (R : ListPre s
       let e : suc l + 2 ≡ l + 2 + 1 = omega arith in
       ap (sumTo ends) e ∙ sum-next ends (l + 2) ∙ omega (arith, sums l (omega arith), a)
 
+  -- there is no list of another code
+  none-behind : (i : ℕ) → g .front * g .back * 4 + 2 ≤ i → getD ends i 0 ≡ 0
+  none-behind i h = go (decLt i 514)
+    where
+      f : ℕ → Lane
+      f = keptLane steps ws counts W kept
+
+      go : Dec (i < 514) → getD ends i 0 ≡ 0
+      go (no k) = List·getD-eq-default ends 0 {n = i} (omega (arith, count-size))
+      go (yes k) =
+          let l = i - 2 in
+          let e : i ≡ i - 2 + 2 = omega arith in
+          let n = C .fours * product counts * 4 in
+          ap (λ (m : ℕ). getD ends m 0) e
+          ∙ ap (λ (ns : List ℕ). getD ns (i - 2 + 2) 0) (C .ends-are)
+          ∙ bumped-at 2 f (C .zeros) (omega arith) (C .are-zeros .size) n (i - 2) (omega arith)
+          ∙ omega (arith, C .are-zeros .zero-at (i - 2 + 2), count-none f (i - 2) n (λ m. omega (arith, list-below R m, codes-are R)))
+
   all-sum : sumTo ends 514 ≤ 63 * product counts
   all-sum =
       let e : sumTo ends 514 ≡ startOf (keptLane steps ws counts W kept) (C .fours * product counts * 4) 512 = sums 512 (omega arith) in
       omega (arith, e, start-most (keptLane steps ws counts W kept) (C .fours * product counts * 4) 512, few-listed R small (C .fours))
 
-  pub add-pre : AddPre ends
-  add-pre = record { size = count-size; fits = omega (arith, all-sum, codes-few R) }
+  pub add-pre : AddPre ends (g .front * g .back * 4 + 2)
+  add-pre = record {
+    size = count-size;
+    some = omega arith;
+    within = omega (arith, codes-are R, codes-few R);
+    fits =
+        let e : g .front * g .back * 4 + 2 + (512 - g .front * g .back * 4) ≡ 514 = omega (arith, codes-are R, codes-few R) in
+        let m : sumTo ends (g .front * g .back * 4 + 2) ≤ sumTo ends 514 = rw e at (sum-mono ends (g .front * g .back * 4 + 2) (512 - g .front * g .back * 4)) in
+        omega (arith, m, all-sum, codes-few R);
+  }
 
-  pub counted : left ≤ 0 → {ends′ : List ℕ} → AddedUp ends ends′ → Counted steps counts ws W kept ends′
-  counted h {ends′} A = record {
-    size = A .size;
+  pub counted : left ≤ 0 → {added ends′ : List ℕ} → AddedUp ends added (g .front * g .back * 4 + 2) → FilledOn added ends′ (g .front * g .back * 4 + 2) → Counted steps counts ws W kept ends′
+  counted h {added} {ends′} A B = record {
+    size = B .size;
     fours = C .fours;
     fours-are = all-fours (C .fours-to) h;
-    first = A .sum 0 (omega arith) ∙ first-sum;
-    starts = λ l k. let e : l + 1 + 1 ≡ l + 2 = omega arith in A .sum (l + 1) (omega arith) ∙ ap (sumTo ends) e ∙ sums l k;
-    few = omega (arith, A .sum 513 (omega arith), all-sum);
+    first = sum 0 (omega arith) ∙ first-sum;
+    starts = λ l k. let e : l + 1 + 1 ≡ l + 2 = omega arith in sum (l + 1) (omega arith) ∙ ap (sumTo ends) e ∙ sums l k;
+    few = omega (arith, sum 513 (omega arith), all-sum);
   }
     where
+      sum : (i : ℕ) → i < 514 → getD ends′ i 0 ≡ sumTo ends (i + 1)
+      sum = all-added (omega arith) none-behind A B
+
       first-sum : sumTo ends (0 + 1) ≡ 0
       first-sum =
           let z : getD ends 0 0 ≡ 0 = ap (λ (ns : List ℕ). getD ns 0 0) (C .ends-are) ∙ bumped-before 2 (keptLane steps ws counts W kept) (C .zeros) (C .fours * product counts * 4) 0 (omega arith) ∙ C .are-zeros .zero-at 0 in

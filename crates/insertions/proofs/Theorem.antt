@@ -85,7 +85,7 @@ module _ {S : ℕ} {ms : List Machine} {W kept : ℕ} {steps ws places es ns : L
       let i = B .at in
       let X = lane-insertion (B .at) (B .moves-there) in
       let e : getD (placed f N es ns) p 0 ≡ f (B .at) .code * 16777216 + X .marks =
-          ap (λ (k : ℕ). getD (placed f N es ns) k 0) (lane-place T p (4 * v) 4 I) ∙ entry-at T N (omega arith) (B .at) (B .within) (B .moves-there) ∙ X .entry-of in
+      ap (λ (k : ℕ). getD (placed f N es ns) k 0) (lane-place T p (4 * v) 4 I) ∙ entry-at T N (omega arith) (B .at) (B .within) (B .moves-there) ∙ X .entry-of in
       let l : I .list ≡ 4 * X .move .target + min (X .first) 3 = sym (B .list-is) ∙ X .list-of in
       let t : X .move .target ≡ v = omega (arith, l, I .first, I .last) in
       record {

@@ -89,6 +89,12 @@ unfolding moveTo
 start-most f zero l = omega (arith, start-none f l)
 start-most f (suc n) l = omega (arith, start-step f n l, below-most (f n) l, start-most f n l)
 
+-- a list that no lane is in
+pub count-none : (f : ℕ → Lane) (l n : ℕ) → ((i : ℕ) → listOf (f i .high) < l + 1 → listOf (f i .high) < l) → countTo f l n ≡ 0
+unfolding countTo
+count-none f l zero h = refl
+count-none f l (suc n) h = omega (arith, count-none f l n h, hit-other l (f n) (λ e. omega (arith, h n (omega arith))))
+
 -- the numbers of the lists
 bump-moved : (k : ℕ) (x : Lane) (ns : List ℕ) (i : ℕ) → k ≤ 2 → length ns ≡ 514 → getD (bump k x ns) i 0 ≤ getD ns i 0 + moved x
 bump-moved k x ns i few size = go (isMove (x .code) (x .high)) refl

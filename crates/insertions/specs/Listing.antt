@@ -2,7 +2,7 @@
 use mathlib.Core.Path.{_≡_}
 use mathlib.Core.Bool.{false}
 use mathlib.Core.List.{List}
-use Prim.Native.Nat.{ℕ, zero, suc, _+_, _*_, _<_, _≤_}
+use Prim.Native.Nat.{ℕ, zero, suc, _+_, _-_, _*_, _<_, _≤_}
 use lib.ListN.{length, getD}
 use Rattle.basics.specs.Sets.{member}
 use Rattle.basics.specs.Products.{product}
@@ -24,14 +24,22 @@ unfoldable pub sumTo : List ℕ → ℕ → ℕ
 sumTo xs zero = 0
 sumTo xs (suc n) = sumTo xs n + getD xs n 0
 
-pub record AddPre (xs : List ℕ) : Type 0 where
+pub record AddPre (xs : List ℕ) (n : ℕ) : Type 0 where
   pub size : length xs ≡ 514
-  pub fits : sumTo xs 514 ≤ 65535
+  pub some : 1 ≤ n
+  pub within : n ≤ 514
+  pub fits : sumTo xs n ≤ 65535
 
--- each number of xs added to those before it
-pub record AddedUp (xs ys : List ℕ) : Type 0 where
+-- each of the first n numbers of xs added to those before it
+pub record AddedUp (xs ys : List ℕ) (n : ℕ) : Type 0 where
   pub size : length ys ≡ 514
-  pub sum : (i : ℕ) → i < 514 → getD ys i 0 ≡ sumTo xs (i + 1)
+  pub sum : (i : ℕ) → i < n → getD ys i 0 ≡ sumTo xs (i + 1)
+
+-- the number before the place n, at n and behind it
+pub record FilledOn (xs ys : List ℕ) (n : ℕ) : Type 0 where
+  pub size : length ys ≡ 514
+  pub before : (i : ℕ) → i < n → getD ys i 0 ≡ getD xs i 0
+  pub behind : (i : ℕ) → n ≤ i → i < 514 → getD ys i 0 ≡ getD xs (n - 1) 0
 
 -- the steps are the columns of machines for the empty symbol, and these are their state counts
 pub record InsertionColumns (S : ℕ) (ms : List Machine) (steps counts : List ℕ) (W : ℕ) : Type 0 where

@@ -5,7 +5,7 @@ ghost use Prim.Native.Nat.{_*_, _^_, _<_, _≤_};
 ghost use lib.ListN.{length, getD, replicate};
 ghost use Rattle.insertions.specs.Lanes.{laneOf, isMove, listOf, narrowed, entryOf, bump, put, bumped, placed};
 ghost use Rattle.insertions.specs.Tables.{codeLane, fourLane, lanesFrom, CountRoom, EntryRoom, LanesPre, TablePre};
-ghost use Rattle.insertions.specs.Listing.{AddPre, AddedUp, ListPre, Counted, ListedBy};
+ghost use Rattle.insertions.specs.Listing.{AddPre, AddedUp, FilledOn, ListPre, Counted, ListedBy};
 use cells::Groups;
 use cells::NOWHERE;
 use cells::fours;
@@ -110,14 +110,27 @@ fn clear(ends: &mut [u16; 514])
     }
 }
 
-// Adds up the counts: where a list starts, one place behind it.
-fn add_up(ends: &mut [u16; 514])
-    requires { ⌜ AddPre (now ends) ⌝ }
-    ensures { λ _. ⌜ AddedUp (now (ends .entry)) (now (ends .exit)) ⌝ }
+// Adds up the counts before a place: where a list starts, one place behind it.
+fn add_up(ends: &mut [u16; 514], last: usize)
+    requires { ⌜ AddPre (now ends) last ⌝ }
+    ensures { λ _. ⌜ AddedUp (now (ends .entry)) (now (ends .exit)) last ⌝ }
 {
     let mut i = 1;
-    while i < 514 {
+    while i < last {
         ends[i] += ends[i - 1];
+        i += 1;
+    }
+}
+
+// Writes the number before a place there and behind it: the lists of codes that there are not are empty.
+fn fill_on(ends: &mut [u16; 514], first: usize)
+    requires { ⌜ (length (now ends) ≡ 514) × (1 ≤ first) × (first ≤ 514) ⌝ }
+    ensures { λ _. ⌜ FilledOn (now (ends .entry)) (now (ends .exit)) first ⌝ }
+{
+    let end = ends[first - 1];
+    let mut i = first;
+    while i < 514 {
+        ends[i] = end;
         i += 1;
     }
 }
@@ -147,7 +160,9 @@ pub fn count(
         count_four(ends, front, back, &high);
         left = fours::without_four(left);
     }
-    add_up(ends);
+    let lists = front * back * 4 + 2;
+    add_up(ends, lists);
+    fill_on(ends, lists);
     ends[513] as usize
 }
 
@@ -179,7 +194,13 @@ fn list_code(
 {
     let mut j = 0;
     while j < 4 {
-        list_lane(entries, ends, code, high[a + j] + high[b + j], low[a + j] + low[b + j]);
+        list_lane(
+            entries,
+            ends,
+            code,
+            high[a + j] + high[b + j],
+            low[a + j] + low[b + j],
+        );
         j += 1;
     }
 }

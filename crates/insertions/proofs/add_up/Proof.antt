@@ -6,10 +6,10 @@ use Rattle.insertions.proofs.add_up.Statement.{statement}
 use Rattle.insertions.proofs.add_up.Tie as tie
 
 abbrev Inv-loop : tie.InvT-loop
-Inv-loop ends₀ i₀ ends i = AddTo ends₀ ends i
+Inv-loop ends₀ last i₀ ends i = AddTo ends₀ ends last i
 
 abbrev μ-loop : tie.MeasureT-loop
-μ-loop ends₀ i₀ ends i = 514 - i
+μ-loop ends₀ last i₀ ends i = last - i
 
 loop-holds : tie.Need-loop-holds Inv-loop μ-loop
 loop-holds c = add-start (c .pre)

@@ -6,7 +6,7 @@ use lib.ListN.{length}
 use Rattle.cells.specs.Fours.{nextFour}
 use Rattle.cells.specs.Laws.Fours.{without-less}
 use Rattle.insertions.proofs.Fours.{fours-small}
-use Rattle.insertions.proofs.Blocks.{asks-four, high-pre, codes-few}
+use Rattle.insertions.proofs.Blocks.{asks-four, high-pre, codes-few, codes-are}
 use Rattle.insertions.proofs.Loops.{CountTo, zeros-of, count-start, room-for-four, four-counted, add-pre, counted}
 use Rattle.insertions.proofs.count.Statement.{statement}
 use Rattle.insertions.proofs.count.Tie as tie
@@ -58,15 +58,30 @@ loop-again c = let s = c .before .before .before .before .before .before .before
       j .kept .1 .1 .1 .1 .1 .1 .1 .0 ∙ l .inv .2,
     )
 
+-- there are at most 128 codes
+mul-lists : tie.Need-mul-lists Inv-loop μ-loop
+mul-lists c = let R = c .before .before .before .before .before .before .before .pre .1 in omega (arith, codes-are R, codes-few R)
+
+mul-lists-2 : tie.Need-mul-lists-2 Inv-loop μ-loop
+mul-lists-2 c = let R = c .before .before .before .before .before .before .before .pre .1 in omega (arith, codes-are R, codes-few R)
+
+add-lists : tie.Need-add-lists Inv-loop μ-loop
+add-lists c = let R = c .before .before .before .before .before .before .before .pre .1 in omega (arith, codes-are R, codes-few R)
+
 add-up-requires : tie.Need-add-up-requires Inv-loop μ-loop
-add-up-requires c κs = add-pre (c .before .before .before .before .before .before .before .before .pre .1) (small (c .before .before .before .before .before .before .before .before)) (c .before .before .loop .inv .0)
+add-up-requires c κs = let s = c .before .before .before .before .before .before .before .before in add-pre (s .pre .1) (small s) (c .before .before .loop .inv .0)
+
+fill-on-requires : tie.Need-fill-on-requires Inv-loop μ-loop
+fill-on-requires c κs = let R = c .before .before .before .before .before .before .before .before .before .before .pre .1 in (c .before .add-up .ensures .size, omega arith, omega (arith, codes-are R, codes-few R))
 
 cast-result : tie.Need-cast-result Inv-loop μ-loop
-cast-result c = let C = counted (c .before .before .before .before .before .before .before .before .before .before .pre .1) (small (c .before .before .before .before .before .before .before .before .before .before)) (c .before .before .before .before .loop .inv .0) (omega (arith, c .before .before .before .loop-test .left)) (c .before .add-up .ensures) in
-    omega (arith, C .few, codes-few (c .before .before .before .before .before .before .before .before .before .before .pre .1))
+cast-result c = let s = c .before .before .before .before .before .before .before .before .before .before .before .before in
+    let C = counted (s .pre .1) (small s) (c .before .before .before .before .before .before .loop .inv .0) (omega (arith, c .before .before .before .before .before .loop-test .left)) (c .before .before .before .add-up .ensures) (c .before .fill-on .ensures) in
+    omega (arith, C .few, codes-few (s .pre .1))
 
 returns : tie.Need-returns Inv-loop μ-loop
-returns c = (counted (c .before .before .before .before .before .before .before .before .before .before .pre .1) (small (c .before .before .before .before .before .before .before .before .before .before)) (c .before .before .before .before .loop .inv .0) (omega (arith, c .before .before .before .loop-test .left)) (c .before .add-up .ensures), refl)
+returns c = let s = c .before .before .before .before .before .before .before .before .before .before .before .before in
+    (counted (s .pre .1) (small s) (c .before .before .before .before .before .before .loop .inv .0) (omega (arith, c .before .before .before .before .before .loop-test .left)) (c .before .before .before .add-up .ensures) (c .before .fill-on .ensures), refl)
 
 pub count-spec : {M : Type 1} → statement M
 count-spec =
@@ -85,7 +100,11 @@ count-spec =
     (λ c κs. search needs)
     loop-less
     loop-again
+    mul-lists
+    mul-lists-2
+    add-lists
     add-up-requires
+    fill-on-requires
     (λ c. search needs)
     cast-result
     returns)
