@@ -163,17 +163,49 @@ fn is_repeated(steps: &[u16], width: usize, kept: u64, output: usize) -> bool
     false
 }
 
+// The key of an output's column: outputs with the same column have the same key.
+fn key_of(steps: &[u16], width: usize, output: usize) -> usize
+    requires { ⌜ Wide (now steps) width × (output < 64) ⌝ }
+    ensures { λ r. ⌜ r < 256 ⌝ }
+{
+    let mut sum = 0;
+    let mut place = 0;
+    while place < width {
+        sum += steps[output * width + place] as usize * (2 * place + 1);
+        place += 1;
+    }
+    sum % 256
+}
+
+// Whether an output has the column of one that is kept, none of which is behind it. `seen` has a bit for each key met so far: a new key is a new
+// column, and no columns are compared.
+fn is_known(steps: &[u16], width: usize, kept: u64, output: usize, seen: &mut [u64]) -> bool
+    requires { ⌜ Wide (now steps) width × (output < 64) × ((k : ℕ) → member kept k ≡ true → k ≤ output) × (length (now seen) ≡ 4) ⌝ }
+    ensures { λ r. ⌜ (r ≡ true → Told (now (steps .entry)) width kept output) ⌝ }
+{
+    let key = key_of(steps, width, output);
+    let one = sets::set_of((key % 64) as u8);
+    let keys = seen[key / 64];
+    seen[key / 64] = keys | one;
+    if sets::holds(keys, one) {
+        is_repeated(steps, width, kept, output)
+    } else {
+        false
+    }
+}
+
 // Of some outputs those worth trying: without those whose column is that of a smaller one.
 pub fn worth(steps: &[u16], width: usize, outputs: u64) -> u64
     requires { ⌜ Wide (now steps) width ⌝ }
     ensures { λ r. ⌜ Worth (now (steps .entry)) width outputs r ⌝ }
 {
+    let mut seen = [0u64; 4];
     let mut kept: u64 = 0;
     let mut left = outputs;
     while left > 0 {
         let output = sets::least(left);
         let rest = sets::without_least(left);
-        if !is_repeated(steps, width, kept, output) {
+        if !is_known(steps, width, kept, output, &mut seen) {
             kept = kept | sets::set_of(output as u8);
         }
         left = rest;
