@@ -26,10 +26,10 @@ use Rattle.product.specs.Laws.Codes.{pricedStep, symbol-edge}
 use Rattle.product.specs.Laws.Setting.{place-low, place-high, symbols-few}
 use Rattle.product.specs.Laws.Letters.{letter-at, priced-over}
 use Rattle.product.specs.Laws.Entering.{NotLeft, TriedBefore}
-use Rattle.tables.specs.Tables.{CardMachines}
-use Rattle.tables.specs.Laws.Cards.{card-machines}
+use Rattle.tables.specs.Tables.{CardMachines, CountsOfSome}
+use Rattle.tables.specs.Laws.Cards.{card-machines, card-counts}
 use Rattle.cells.specs.declared.Groups.{Groups}
-use Rattle.cells.specs.Cells.{nowhere}
+use Rattle.cells.specs.Cells.{nowhere, places}
 use Rattle.cells.specs.Columns.{WeightsOf}
 use Rattle.cells.specs.Fours.{nextFour, withoutFour}
 use Rattle.cells.specs.Groups.{GroupsOf, FourPre, FourJoined}
@@ -92,9 +92,16 @@ four-or-after set {four} {after} h e f y t = pick (four-or-left set h y t)
 
 -- ---- what the calls ask, by what entering is given
 
+-- the width may be any number that is the number of places
+pub of-width : {card counts ws own steps : List ℕ} {W : ℕ} {g : Groups} → Ready card counts ws own steps (places counts) g → W ≡ places counts → Ready card counts ws own steps W g
+of-width {card} {counts} {ws} {own} {steps} {g = g} R e = subst (λ (n : ℕ). Ready card counts ws own steps n g) (sym e) R
+
 module _ {card counts ws own steps : List ℕ} {W : ℕ} {g : Groups} (R : Ready card counts ws own steps W g) where
   its-machines : CardMachines (symbolCount card) (machinesOf card)
   its-machines = card-machines card (R .accepted)
+
+  pub counts-known : CountsOfSome counts
+  counts-known = card-counts card (R .accepted) (R .counts-are)
 
   weights-are : WeightsOf (stateCounts (machinesOf card)) ws
   weights-are = subst (λ (l : List ℕ). WeightsOf l ws) (R .counts-are) (R .weights)
