@@ -41,7 +41,7 @@ fn enter_input(
     }
 }
 
-// Enters a position that has no label yet: tries every code of it by the pairs with each symbol of its set. `high` and `low` are as above.
+// Enters a position that has no label yet: tries every code of it by the pairs with each symbol of its set. `high` and `low` are lent for it.
 pub fn enter_symbols(
     own: &mut [u64],
     next: &[u64; 256],
