@@ -60,7 +60,18 @@ pub fn enter_symbols(
     let mut left = symbols;
     while left > 0 {
         let symbol = sets::least(left) as u8;
-        enter_input(own, next, steps, card, counts, weights, g, symbol, high, low);
+        enter_input(
+            own,
+            next,
+            steps,
+            card,
+            counts,
+            weights,
+            g,
+            symbol,
+            high,
+            low,
+        );
         left = sets::without_least(left);
     }
 }
