@@ -41,7 +41,7 @@ fn enter_input(
     }
 }
 
-// Enters a position that has no label yet: tries every code of it by the pairs with each symbol of its set. `high` and `low` are as above.
+// Enters a position that has no label yet: tries every code of it by the pairs with each symbol of its set. `high` and `low` are lent for it.
 pub fn enter_symbols(
     own: &mut [u64],
     next: &[u64; 256],
@@ -60,7 +60,18 @@ pub fn enter_symbols(
     let mut left = symbols;
     while left > 0 {
         let symbol = sets::least(left) as u8;
-        enter_input(own, next, steps, card, counts, weights, g, symbol, high, low);
+        enter_input(
+            own,
+            next,
+            steps,
+            card,
+            counts,
+            weights,
+            g,
+            symbol,
+            high,
+            low,
+        );
         left = sets::without_least(left);
     }
 }

@@ -3,7 +3,6 @@
 ghost use Prim.Native.Nat.{_+_, _*_, _≤_, _<_};
 ghost use mathlib.Core.Path.{_≡_};
 ghost use lib.ListN.{length, getD};
-
 ghost use Rattle.labelling.specs.Labelling.{LabelPre, PositionsDone, SearchPre, ListsPre, AllLabelled, FinishPre, Finished, RankedBy, ListedPre};
 use cells::Groups;
 use machine::Pair;
@@ -53,7 +52,15 @@ fn label_positions(
     let mut low = [0u64; 264];
     let mut position = sets.len();
     entering::endings::enter_endings(&mut own, steps, card, counts, weights, width, g);
-    finish(work, position * size, size, &mut own, &mut next, entries, ends);
+    finish(
+        work,
+        position * size,
+        size,
+        &mut own,
+        &mut next,
+        entries,
+        ends,
+    );
     while position > 0 {
         position -= 1;
         entering::enter_symbols(
@@ -68,7 +75,15 @@ fn label_positions(
             &mut high,
             &mut low,
         );
-        finish(work, position * size, size, &mut own, &mut next, entries, ends);
+        finish(
+            work,
+            position * size,
+            size,
+            &mut own,
+            &mut next,
+            entries,
+            ends,
+        );
     }
 }
 
