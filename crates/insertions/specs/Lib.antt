@@ -1,0 +1,2 @@
+pub mod RankedWeights
+pub mod Listed
