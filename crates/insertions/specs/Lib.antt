@@ -1,2 +1,3 @@
 pub mod RankedWeights
 pub mod Listed
+pub mod Laws

@@ -1,4 +1,4 @@
 -- Laws of labelling.
-pub mod WeighedBy
 pub mod Packed
 pub mod Ranked
+pub mod LabelRoom

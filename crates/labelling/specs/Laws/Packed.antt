@@ -16,34 +16,23 @@ use Rattle.product.specs.Laws.Edges.{moved, word-ended}
 use Rattle.tables.specs.Engine.{engineGraph}
 use Rattle.tables.specs.Places.{sixPlaces}
 use Rattle.tables.specs.Laws.Cards.{card-machines}
-use Rattle.settling.specs.Prices.{rankedHighs, rankedLows}
 use Rattle.settling.specs.Packing.{packedEdge, packedPath, Packs}
 use Rattle.cells.specs.Cells.{highOf, lowOf}
 use Rattle.cells.specs.Columns.{weighed}
 use Rattle.cells.specs.Trying.{cellPrice}
 use Rattle.cells.specs.Laws.Weighed.{weighed-whole}
-use Rattle.insertions.specs.RankedWeights.{weightBy, RankedWeights}
+use Rattle.insertions.specs.RankedWeights.{RankedWeights}
+use Rattle.insertions.specs.Laws.Ranked.{ranked-high, ranked-low}
 use Rattle.entering.specs.Entering.{cellGraph}
 use Rattle.labelling.specs.CountsPacking.{firstCounts, lastCounts, countsPacking}
-use Rattle.labelling.specs.Laws.WeighedBy.{sumBy, weighed-same, weighed-by}
-
--- ---- marks
-
--- what marks add up to by ranked weights
-module _ {places ws : List ℕ} (R : RankedWeights places ws) (marks : List ℕ) (few : length marks ≤ 6) where
-  pub ranked-high : weighed (highOf ws) 0 marks ≡ sumBy places rankedHighs marks
-  ranked-high = weighed-same (highOf ws) (weightBy places rankedHighs) 0 marks (λ i h. R .high i (omega arith)) ∙ weighed-by places rankedHighs marks
-
-  pub ranked-low : weighed (lowOf ws) 0 marks ≡ sumBy places rankedLows marks
-  ranked-low = weighed-same (lowOf ws) (weightBy places rankedLows) 0 marks (λ i h. R .low i (omega arith)) ∙ weighed-by places rankedLows marks
 
 module _ (ranking : List ℕ) {ws : List ℕ} (R : RankedWeights (sixPlaces ranking) ws) (whole : (m : ℕ) → highOf ws m % 256 ≡ 0) where
   -- the ranked price of marks and a number of pairs, packed, is the price of cells
   pub price-packs : (marks : List ℕ) → length marks ≤ 6 → (n : ℕ) → countsPacking .edge (byRanking (sixPlaces ranking) .of marks n) ≡ cellPrice ws .of marks n
-  unfolding countsPacking sumBy
+  unfolding countsPacking
   price-packs marks few n =
-      let a : firstCounts (byRanking (sixPlaces ranking) .of marks n) ≡ weighed (λ m. highOf ws m / 256) 0 marks = omega (arith, weighed-whole (highOf ws) whole 0 marks, ranked-high R marks few) in
-      let b : lastCounts (byRanking (sixPlaces ranking) .of marks n) ≡ weighed (lowOf ws) 0 marks + n = omega (arith, ranked-low R marks few) in
+      let a : firstCounts (byRanking (sixPlaces ranking) .of marks n) ≡ weighed (λ m. highOf ws m / 256) 0 marks = omega (arith, weighed-whole (highOf ws) whole 0 marks, ranked-high R refl marks few) in
+      let b : lastCounts (byRanking (sixPlaces ranking) .of marks n) ≡ weighed (lowOf ws) 0 marks + n = omega (arith, ranked-low R refl marks few) in
       λ i. (a i, b i)
 
 -- ---- a move and an ending have a number of marks for each machine
