@@ -1,0 +1,3 @@
+-- Laws of the weighted order.
+pub mod Sound
+pub mod Weighing

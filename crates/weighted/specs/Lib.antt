@@ -1,0 +1,2 @@
+pub mod WeighsBy
+pub mod Laws
