@@ -1,3 +1,4 @@
 -- Laws of the weighted order.
 pub mod Sound
 pub mod Weighing
+pub mod Done
