@@ -1,1 +1,5 @@
+pub mod ClosingCodes
+pub mod ClosingExample
 pub mod Labelled
+pub mod Ends
+pub mod Finishing

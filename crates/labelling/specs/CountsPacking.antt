@@ -1,7 +1,7 @@
 -- Ranked costs as two numbers: the three highest counts in the first, 16 bits each, and the other three and the pairs in the second.
 use mathlib.Core.Path.{_≡_}
 use mathlib.Core.Logic.{inl, inr}
-use Prim.Native.Nat.{ℕ, zero, suc, _+_, _*_, _<_}
+use Prim.Native.Nat.{ℕ, zero, suc, _+_, _*_}
 use native.Mathlib.Omega.{arith}
 use Rattle.paths.specs.Ranked.{Ranked, add, Less, rankedCosts}
 use Rattle.labels.specs.LabelCost.{AllShort}

@@ -16,8 +16,11 @@ use Rattle.product.specs.Setting.{placeOf, Setting}
 use Rattle.labels.specs.Work.{labelOf}
 use Rattle.labels.specs.LabelCost.{AllShort}
 use Rattle.tables.specs.Engine.{engineGraph}
-use Rattle.tables.specs.Places.{SixPlaces}
+use Rattle.tables.specs.Places.{sixPlaces}
 use Rattle.settling.specs.Packing.{packedPath}
+use Rattle.settling.specs.Prices.{rankedHighs, rankedLows}
+use Rattle.settling.specs.Insertions.{Lists, listsOf}
+use Rattle.settling.specs.Settling.{SettlePre, Settled}
 use Rattle.cells.specs.declared.Groups.{Groups}
 use Rattle.cells.specs.Cells.{places}
 use Rattle.cells.specs.Columns.{WeightsOf}
@@ -27,6 +30,7 @@ use Rattle.insertions.specs.RankedWeights.{RankedWeights}
 use Rattle.insertions.specs.Listed.{Listed}
 use Rattle.entering.specs.Entering.{cellGraph}
 use Rattle.labelling.specs.CountsPacking.{countsPacking}
+use Rattle.labelling.specs.Closing.{ClosePre, ClosedAt}
 
 -- what labelling needs
 pub record LabelPre (card ranking sets xs : List ℕ) (P : ℕ) : Type 0 where
@@ -45,6 +49,22 @@ pub record Labelled (card ws sets work : List ℕ) (i : ℕ) (L : Labels (ranked
   pub stored : (u : ℕ) → i ≤ placeOf card u → L u ≡ packedPath countsPacking (labelOf work u)
   pub short : (u : ℕ) (c : Ranked 6) → i ≤ placeOf card u → labelOf work u ≡ some c → AllShort 6 c
 
+-- the lists in ranked order
+abbrev pub rankedLists : (entries ends : List ℕ) → Lists
+rankedLists entries ends = listsOf entries ends rankedHighs rankedLows true
+
+-- a position that may be settled, and closed then
+pub record FinishPre (work own next entries ends : List ℕ) (base P : ℕ) : Type 0 where
+  pub settle : SettlePre (rankedLists entries ends) own P
+  pub close : (ys : List ℕ) → length ys ≡ 256 → Settled (rankedLists entries ends) own ys → ClosePre work ys next base P
+
+-- it was settled, and closed
+pub record Finished (work work′ own own′ next next′ entries ends : List ℕ) (base P : ℕ) : Type 0 where
+  pub labels : List ℕ
+  pub size : length labels ≡ 256
+  pub settled : Settled (rankedLists entries ends) own labels
+  pub closed : ClosedAt work work′ labels own′ next next′ base P
+
 -- a setting with the tables' sizes: state counts, weights in ranked order, groups, room for the labels and for 65 columns
 pub record SearchPre (work card counts ws sets steps : List ℕ) (g : Groups) : Type 0 where
   pub setting : Setting card sets (product counts)
@@ -57,14 +77,13 @@ pub record SearchPre (work card counts ws sets steps : List ℕ) (g : Groups) : 
 
 -- the weights are those of a ranked order, and the lists have the insertions of outputs that tell of all others
 pub record ListsPre (card ws entries ends : List ℕ) : Type 0 where
-  pub order : List ℕ
-  pub six : SixPlaces order
-  pub ranked : RankedWeights order ws
+  pub ranking : List ℕ
+  pub ranked : RankedWeights (sixPlaces ranking) ws
   pub width : ℕ
   pub steps : List ℕ
   pub kept : ℕ
   pub prepared : Prepared (machinesOf card) 0 width steps kept
-  pub listed : Listed (machinesOf card) order kept entries ends
+  pub listed : Listed (machinesOf card) (sixPlaces ranking) kept entries ends
 
 pub record AllLabelled (card ws sets work work′ : List ℕ) : Type 0 where
   pub size : length work′ ≡ length work

@@ -2,3 +2,5 @@
 pub mod Packed
 pub mod Ranked
 pub mod LabelRoom
+pub mod Settled
+pub mod Tied
