@@ -1,15 +1,13 @@
 -- A position that was settled is done, over the costs that cells stand for: settling works on the two numbers of a label, high with its last byte,
 -- and these are the costs packed. Nothing is lost by packing where every cost is short.
 use mathlib.Core.Path.{_≡_, refl, sym, _∙_, ap, ap₂, subst}
-use mathlib.Core.Logic.{_⊎_, inl, inr, _≢_}
-use mathlib.Core.Bool.{Bool, cond}
+use mathlib.Core.Logic.{inl, inr, _≢_}
 use mathlib.Core.Option.{Option, none, some, Option·none-ne-some}
 use mathlib.Core.List.{List, _∷_}
-use Prim.Native.Nat.{ℕ, suc, _+_, _*_, _/_, _%_, _<_, _≤_}
+use Prim.Native.Nat.{ℕ, _+_, _*_, _/_, _%_, _<_}
 use native.Mathlib.Decide.{decLt}
 use native.Mathlib.Omega.{arith}
 use lib.ListN.{length, getD}
-use borrow.Author.Tests.{lt-ltb, le-ltb}
 use Rattle.machine.specs.declared.Pair.{Pair}
 use Rattle.card.specs.Card.{machinesOf}
 use Rattle.paths.specs.Total.{Upto}
@@ -19,7 +17,6 @@ use Rattle.paths.specs.Pigeonhole.{Distinct}
 use Rattle.paths.specs.Graph.{Alphabet, Edge, Graph, nodes, Run}
 use Rattle.paths.specs.Labels.{ClosedAt, Held, Attained, held→run}
 use Rattle.paths.specs.Positions.{Positioned, Entered, Done}
-use Rattle.paths.specs.Cheapest.{EdgeTo}
 use Rattle.product.specs.ProductGraph.{pairs}
 use Rattle.product.specs.Setting.{placeOf, Setting}
 use Rattle.product.specs.Laws.Edges.{edge-of}
@@ -29,6 +26,7 @@ use Rattle.cells.specs.declared.Cell.{Cell}
 use Rattle.cells.specs.Cells.{nowhere}
 use Rattle.cells.specs.Labels.{cellAt}
 use Rattle.cells.specs.Trying.{labelFrom, cellPrice}
+use Rattle.cells.specs.Laws.Trying.{label-there, label-none as no-label}
 use Rattle.cells.specs.Laws.Position.{placed, placed-in, placed-before, placed-after}
 use Rattle.settling.specs.Labels.{labelOf, labelFrom as numbersLabel}
 use Rattle.settling.specs.Insertions.{Lists, codeIn, insertionAt, insertions}
@@ -36,7 +34,7 @@ use Rattle.settling.specs.Settling.{Settled}
 use Rattle.settling.specs.Packing.{Packing, packedEdge, packedPath, Packs, packedGraph, packs}
 use Rattle.settling.specs.WeightedPacking.{weightedPacking}
 use Rattle.settling.proofs.Labels.{label-some, label-none, label-is, label-at}
-use Rattle.settling.proofs.Insertions.{is-insertion, edgeOf}
+use Rattle.settling.proofs.Insertions.{is-insertion}
 use Rattle.settling.proofs.Packing.{unpacked-attained, unpacked-closed}
 use Rattle.settling.proofs.PositionDone.{Tied, Holds, settled-done}
 use Rattle.entering.specs.Entering.{cellGraph, Position}
@@ -75,23 +73,6 @@ module _ {costs : Costs} (K : Packing costs) where
 
   module _ {alphabet : Alphabet} (G : Graph costs alphabet) (H : Graph (rankedCosts 1) alphabet) (X : Packs K G H) where
     open Alphabet alphabet using (Letter)
-
-    -- a path of H costs what a packed cost is
-    pub run-packed : {u : ℕ} {ps : List Letter} {x : Ranked 1} → Run H u ps x → (c : Cost) × (K .path c ≡ x)
-    run-packed (Run.halt {u} {c = x} h) = let k = path-of (G .ending u) x (sym (X .endings u) ∙ h) in (k .cost, k .packed-is)
-    run-packed (Run.step {u} {p} f y h r q) =
-        let k = packed-from (G .edge u p) f (sym (X .edges u p) ∙ h) in
-        let d = run-packed r in
-        (costs ._⊕_ (k .edge .cost) (d .0), K .sum (k .edge .cost) (d .0) ∙ (λ i. add 1 (k .packed-is i .cost) (d .1 i)) ∙ sym q)
-
-    -- the positions of H are those of G
-    pub packed-positioned : {pos : ℕ → ℕ} {n : ℕ} → Positioned G pos n → Positioned H pos n
-    packed-positioned {pos} Y = record {
-      next = λ u p f h.
-          let k = packed-from (G .edge u p) f (sym (X .edges u p) ∙ h) in
-          subst (λ (f : Edge (Ranked 1)). (pos (f .target) ≡ pos u) ⊎ (pos (f .target) ≡ suc (pos u))) (k .packed-is) (Y .next u p (k .edge) (k .is));
-      ends = λ u x h. let k = path-of (G .ending u) x (sym (X .endings u) ∙ h) in Y .ends u (k .cost) (k .is);
-    }
 
     module _ (short : (c : Cost) → K .Short c) where
       -- at most stays at most
@@ -193,18 +174,16 @@ module _ (ws : List ℕ) {card sets : List ℕ} {P : ℕ} (s : Setting card sets
 -- ---- a cell as a label and as its numbers
 
 pub cell-numbers : (x : Cell) → (x .high < nowhere → x .high % 256 ≡ 255) → packedPath weightedPacking (labelFrom x) ≡ numbersLabel (x .high) (x .low)
-unfolding labelFrom weightedPacking
+unfolding weightedPacking
 cell-numbers x last = go (decLt (x .high) nowhere)
   where
     go : Dec (x .high < nowhere) → packedPath weightedPacking (labelFrom x) ≡ numbersLabel (x .high) (x .low)
     go (yes h) =
         let e : x .high / 256 * 256 + 255 ≡ x .high = omega (arith, last h) in
-        ap (λ (b : Bool). packedPath weightedPacking (cond b (some (x .high / 256, x .low)) none)) (lt-ltb (x .high) nowhere h)
+        ap (packedPath weightedPacking) (label-there x h)
         ∙ ap {B = Option (Ranked 1)} (λ (n : ℕ). some (n, x .low)) e
         ∙ sym (label-some (x .high) (x .low) h)
-    go (no h) =
-        ap (λ (b : Bool). packedPath weightedPacking (cond b (some (x .high / 256, x .low)) none)) (le-ltb (x .high) nowhere (omega arith))
-        ∙ sym (label-none (x .high) (x .low) (omega arith))
+    go (no h) = ap (packedPath weightedPacking) (no-label x (omega arith)) ∙ sym (label-none (x .high) (x .low) (omega arith))
 
 pub label-cell : (own : List ℕ) (c : ℕ) → length own ≡ 256 → c < 128 → labelOf own c ≡ numbersLabel (cellAt own c .high) (cellAt own c .low)
 label-cell own c z h =

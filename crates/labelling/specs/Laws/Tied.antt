@@ -1,15 +1,13 @@
--- The lists of insertions are the edges between the codes of a position.
+-- The lists of insertions are the edges between the codes of a position; what settling it asks, and what it gives in ranked order.
 use mathlib.Core.Path.{_≡_, refl, sym, _∙_, ap, subst}
 use mathlib.Core.Logic.{_⊎_, inl, inr, _≢_}
-use mathlib.Core.Bool.{Bool, true, false, cond, _&&_}
+use mathlib.Core.Bool.{Bool, true}
 use mathlib.Core.Option.{Option, none, some, Option·none-ne-some}
-use mathlib.Core.List.{List, [], _∷_, map}
-use Prim.Native.Nat.{ℕ, zero, suc, _+_, _*_, _-_, _/_, _%_, _^_, _<_, _≤_}
-use native.Mathlib.Decide.{ℕ-discrete}
+use mathlib.Core.List.{List}
+use Prim.Native.Nat.{ℕ, _+_, _*_, _-_, _/_, _%_, _^_, _<_, _≤_}
 use native.Mathlib.Omega.{arith}
-use lib.Dec.{eqb}
-use lib.ListN.{length, getD, length-map}
-use borrow.Author.Tests.{eq-eqb, ne-eqb}
+use lib.ListN.{length, getD}
+use borrow.Author.Tests.{ne-eqb}
 use Rattle.basics.specs.Sets.{member}
 use Rattle.basics.proofs.Bools.{clash}
 use Rattle.machine.specs.declared.Pair.{Pair}
@@ -20,10 +18,11 @@ use Rattle.paths.specs.Costs.{Labels}
 use Rattle.paths.specs.Ranked.{Ranked, rankedCosts}
 use Rattle.paths.specs.Graph.{Edge}
 use Rattle.paths.specs.Labels.{Attained}
+use Rattle.paths.specs.Positions.{Entered, Done}
 use Rattle.paths.specs.Cheapest.{EdgeTo}
 use Rattle.product.specs.Nodes.{stateCounts, product, statesAt}
 use Rattle.product.specs.ProductGraph.{Move, move, pricedMove}
-use Rattle.product.specs.Codes.{codeStep, movedBy}
+use Rattle.product.specs.Codes.{movedBy}
 use Rattle.product.specs.Setting.{placeOf, Setting}
 use Rattle.product.specs.Laws.Codes.{insertion-move}
 use Rattle.product.specs.Laws.Edges.{moved, step-marks-bound}
@@ -32,29 +31,31 @@ use Rattle.product.specs.Laws.Setting.{machines-sound, symbols-few, few-codes, 
 use Rattle.tables.specs.Places.{sixPlaces, markNumber}
 use Rattle.tables.specs.Laws.Cards.{card-machines}
 use Rattle.tables.specs.Laws.Packing.{six-number}
+use Rattle.cells.specs.declared.Cell.{Cell}
 use Rattle.cells.specs.Cells.{nowhere, highOf, lowOf}
 use Rattle.cells.specs.Columns.{weighed, WeightsOf}
 use Rattle.cells.specs.Labels.{cellAt}
 use Rattle.cells.specs.Trying.{labelFrom, cellPrice}
 use Rattle.cells.specs.Laws.Weighed.{weighed-whole}
+use Rattle.cells.specs.Laws.Trying.{label-there}
 use Rattle.cells.specs.Laws.Position.{placed, placed-in}
 use Rattle.columns.specs.Prepared.{NoSteps, Covered, Prepared}
 use Rattle.settling.specs.Prices.{SixWeights, RankedIf, marksPrice, mostPrice, insertionCost, rankedHighs, rankedLows}
-use Rattle.settling.specs.Insertions.{codeIn, marksIn, isListed, listsOf}
+use Rattle.settling.specs.Insertions.{codeIn, isListed, listsOf}
 use Rattle.settling.specs.Labels.{labelOf}
-use Rattle.settling.specs.Settling.{Fits, SettlePre}
+use Rattle.settling.specs.Settling.{Fits, SettlePre, Settled}
 use Rattle.settling.specs.Packing.{packedEdge}
 use Rattle.settling.specs.WeightedPacking.{weightedPacking}
 use Rattle.settling.proofs.Prices.{ranked-highs-few, ranked-lows-few}
 use Rattle.settling.proofs.Insertions.{edgeOf}
 use Rattle.settling.proofs.PositionDone.{Entry, Tied}
-use Rattle.insertions.specs.Listed.{insertionStep, Inserts, Place, Listed}
+use Rattle.insertions.specs.Listed.{insertionStep, Place, Listed}
 use Rattle.insertions.specs.RankedWeights.{RankedWeights}
 use Rattle.insertions.specs.Laws.Ranked.{ranked-high, ranked-low}
 use Rattle.entering.specs.Entering.{cellGraph, Position}
 use Rattle.labelling.specs.Laws.Packed.{move-length}
 use Rattle.labelling.specs.Laws.LabelRoom.{LabelRoom, ranked-room}
-use Rattle.labelling.specs.Laws.Settled.{numberGraph, number-over, path-of, cell-numbers, label-cell}
+use Rattle.labelling.specs.Laws.Settled.{numberGraph, number-over, path-of, cell-numbers, label-cell, settled-last, settled-position}
 
 -- marks, as a number by their places, are priced as their machines weigh them
 pub record SamePrices (places highs lows ws : List ℕ) : Type 0 where
@@ -108,6 +109,10 @@ few-marks {card} {sets} s u p m h =
 
 -- ---- the ties
 
+-- the edge of an insertion to the nodes from a number on
+abbrev insertionEdge : (base : ℕ) (places highs lows : List ℕ) → Move → Edge (Ranked 1)
+insertionEdge base places highs lows w = record { target = base + w .target; cost = insertionCost highs lows (markNumber places (w .marks)) }
+
 module _ {card sets : List ℕ} {P : ℕ} (s : Setting card sets P) (i : ℕ) (inside : i ≤ length sets) where
   -- an insertion is a move at every position
   inserting : (c y : ℕ) → c < P → y ≢ emptySymbol → move sets (machinesOf card) (i * P + c) (pairOf emptySymbol y) ≡ movedBy (i * P) (insertionStep (machinesOf card) c y)
@@ -120,9 +125,6 @@ module _ {card sets : List ℕ} {P : ℕ} (s : Setting card sets P) (i : ℕ) (i
     marks-few : FewMarks (w .marks)
     marks-few = few-marks s (i * P + c) (pairOf emptySymbol y) (record { target = i * P + w .target; marks = w .marks }) (inserting c y b n ∙ ap (movedBy (i * P)) e)
 
-    abbrev insertionEdge : Edge (Ranked 1)
-    insertionEdge = record { target = i * P + w .target; cost = insertionCost highs lows (markNumber places (w .marks)) }
-
     price-is : weightedPacking .edge (cellPrice ws .of (w .marks) 1) ≡ insertionCost highs lows (markNumber places (w .marks))
     unfolding weightedPacking
     price-is =
@@ -131,7 +133,7 @@ module _ {card sets : List ℕ} {P : ℕ} (s : Setting card sets P) (i : ℕ) (i
         let q : weighed (lowOf ws) 0 (w .marks) + 1 ≡ 1 + marksPrice lows (markNumber places (w .marks)) = omega (arith, T .low (w .marks) (F .count) (F .most)) in
         λ i. (p i, q i)
 
-    insertion-is : numberGraph ws card sets .edge (i * P + c) (pairOf emptySymbol y) ≡ some insertionEdge
+    insertion-is : numberGraph ws card sets .edge (i * P + c) (pairOf emptySymbol y) ≡ some (insertionEdge (i * P) places highs lows w)
     insertion-is =
         ap (λ (o : Option Move). packedEdge weightedPacking (pricedMove (cellPrice ws) sets (machinesOf card) o)) (inserting c y b n ∙ ap (movedBy (i * P)) e)
         ∙ ap {B = Option (Edge (Ranked 1))} (λ (k : Ranked 1). some (record { target = i * P + w .target; cost = k })) price-is
@@ -147,7 +149,7 @@ module _ {card sets : List ℕ} {P : ℕ} (s : Setting card sets P) (i : ℕ) (i
         let I = Y .entry v at h in
         record {
           letter = pairOf emptySymbol (I .output);
-          to = record { target = i * P + I .move .target; cost = insertionCost highs lows (markNumber places (I .move .marks)) };
+          to = insertionEdge (i * P) places highs lows (I .move);
           edge-is = insertion-is ws (Z .whole) T (codeIn (getD entries at 0)) (I .output) (I .move) (omega (arith, Y .from v at h, s .states)) (kept-symbol (I .output) (I .is-kept)) (I .is);
           target-is = ap (λ (n : ℕ). i * P + n) (I .target-is);
           cost-is = ap (insertionCost highs lows) (sym (I .marks-are));
@@ -173,17 +175,19 @@ module _ {card sets : List ℕ} {P : ℕ} (s : Setting card sets P) (i : ℕ) (i
         edge-is : numberGraph ws card sets .edge (i * P + j) (pairOf emptySymbol (p .output)) ≡ some e
         edge-is = ap (numberGraph ws card sets .edge (i * P + j)) (sym letter-is) ∙ h
 
+        entry-at : (w : Move) → insertionEdge (i * P) places highs lows w ≡ e → w .target ≡ v → Place entries ends (w .target) j (markNumber places (w .marks)) → Entry (listsOf entries ends highs lows ranked) j v (e .cost)
+        entry-at w f z A = record {
+          at = A .at;
+          place = subst (λ (v : ℕ). isListed ends v (A .at) ≡ true) z (A .listed);
+          from = A .from-is;
+          cost = inr (ap (insertionCost highs lows) (A .marks-are) ∙ ap (λ (f : Edge (Ranked 1)). f .cost) f);
+        }
+
         entry-of : (w : Move) → insertionStep (machinesOf card) j (p .output) ≡ some w → (y : ℕ) → member kept y ≡ true → insertionStep (machinesOf card) j y ≡ some w → Entry (listsOf entries ends highs lows ranked) j v (e .cost)
         entry-of w k y m q =
-            let f : insertionEdge ws (Z .whole) T j (p .output) w a symbol k ≡ e = cc (insertion-is ws (Z .whole) T j (p .output) w a symbol k, edge-is) in
+            let f : insertionEdge (i * P) places highs lows w ≡ e = cc (insertion-is ws (Z .whole) T j (p .output) w a symbol k, edge-is) in
             let z : w .target ≡ v = omega (arith, ap (λ (f : Edge (Ranked 1)). f .target) f, t) in
-            let A = Y .all j y w (omega (arith, s .states)) m q (λ r. n (sym r ∙ z)) in
-            record {
-              at = A .at;
-              place = subst (λ (v : ℕ). isListed ends v (A .at) ≡ true) z (A .listed);
-              from = A .from-is;
-              cost = inr (ap (insertionCost highs lows) (A .marks-are) ∙ ap (λ (f : Edge (Ranked 1)). f .cost) f);
-            }
+            entry-at w f z (Y .all j y w (omega (arith, s .states)) m q (λ r. n (sym r ∙ z)))
 
         told : (w : Move) → insertionStep (machinesOf card) j (p .output) ≡ some w → (_≡_ {A = ℕ} 0 0 × (p .output ≡ 0)) ⊎ (NoSteps (machinesOf card) 0 (p .output) ⊎ Covered (machinesOf card) 0 kept (p .output)) → Entry (listsOf entries ends highs lows ranked) j v (e .cost)
         told w k (inl z) = absurd (symbol (z .1))
@@ -235,11 +239,35 @@ module _ {highs lows own : List ℕ} {P : ℕ} (ranked : Bool) (few : P ≤ 128)
       let r = room c (k .cost) b (k .is) in
       subst (λ (x : Ranked 1). Fits (listsOf entries ends highs lows ranked) 128 x) (k .packed-is) (record { high = omega (arith, r .high); low = omega (arith, r .low) })
 
--- in ranked order, where the labels are attained
-pub ranked-ready : (ranking : List ℕ) {card sets own entries ends ws : List ℕ} {P i kept : ℕ} (s : Setting card sets P) → i ≤ length sets → WeightsOf (stateCounts (machinesOf card)) ws → RankedWeights (sixPlaces ranking) ws
-    → Listed (machinesOf card) (sixPlaces ranking) kept entries ends → Position own P → (L : Labels (rankedCosts 1)) → Attained (cellGraph ws card sets) (placed (i * P) P L (cellAt own))
-    → SettlePre (listsOf entries ends rankedHighs rankedLows true) own P
-ranked-ready ranking {own = own} {entries = entries} {ends = ends} {P = P} {i = i} s inside Z R Y A L T =
-    settle-ready true (few-codes s) A Y (s .states) ranked-highs-few ranked-lows-few (record { high = λ _. refl; low = λ _. refl })
-    (settle-fits true (few-codes s) A entries ends {top = 2 ^ 56} (omega arith)
-    (λ c x b l. ranked-room s ranking Z R T (i * P + c) x (node-below s i (i * P + c) inside (omega arith)) (placed-in (i * P) P L (cellAt own) c b ∙ l)))
+-- ---- in ranked order, where the labels are attained
+
+-- a cell with room for 128 pairs, each of whose marks add at most these, and for what is added to its low number besides
+pub record CellRoom (highs lows : ℕ) (x : Cell) : Type 0 where
+  pub high : x .high + 128 * highs < 2 ^ 56
+  pub low : x .low + 128 * (lows + 1) + 2 ^ 56 ≤ 2 ^ 64
+
+module _ (ranking : List ℕ) {card sets ws : List ℕ} {P i : ℕ} (s : Setting card sets P) (inside : i ≤ length sets) (Z : WeightsOf (stateCounts (machinesOf card)) ws) (R : RankedWeights (sixPlaces ranking) ws)
+    (L : Labels (rankedCosts 1)) (own : List ℕ) (T : Attained (cellGraph ws card sets) (placed (i * P) P L (cellAt own))) where
+  label-room : (c : ℕ) (x : Ranked 1) → c < P → labelFrom (cellAt own c) ≡ some x → LabelRoom (mostPrice rankedHighs) (mostPrice rankedLows) (2 ^ 56) x
+  label-room c x b l = ranked-room s ranking Z R T (i * P + c) x (node-below s i (i * P + c) inside (omega arith)) (placed-in (i * P) P L (cellAt own) c b ∙ l)
+
+  -- a settled position: what closing it asks
+  pub ranked-cell : (c : ℕ) → c < P → cellAt own c .high < nowhere → cellAt own c .high % 256 ≡ 255 → CellRoom (mostPrice rankedHighs) (mostPrice rankedLows) (cellAt own c)
+  ranked-cell c b h last =
+      let r = label-room c (cellAt own c .high / 256, cellAt own c .low) b (label-there (cellAt own c) h) in
+      record { high = omega (arith, r .high); low = omega (arith, r .low) }
+
+  -- a position that was entered: what settling it asks
+  pub ranked-ready : {entries ends : List ℕ} {kept : ℕ} → Listed (machinesOf card) (sixPlaces ranking) kept entries ends → Position own P → SettlePre (listsOf entries ends rankedHighs rankedLows true) own P
+  ranked-ready {entries} {ends} Y A =
+      settle-ready true (few-codes s) A Y (s .states) ranked-highs-few ranked-lows-few (record { high = λ _. refl; low = λ _. refl }) (settle-fits true (few-codes s) A entries ends {top = 2 ^ 56} (omega arith) label-room)
+
+-- a position that was entered and settled is done
+module _ (ranking : List ℕ) {card sets ws entries ends steps own own′ : List ℕ} {P i W kept : ℕ} (s : Setting card sets P) (inside : i ≤ length sets) (Z : WeightsOf (stateCounts (machinesOf card)) ws) (R : RankedWeights (sixPlaces ranking) ws)
+    (X : Prepared (machinesOf card) 0 W steps kept) (Y : Listed (machinesOf card) (sixPlaces ranking) kept entries ends) (A : Position own P) (size : length own′ ≡ 256)
+    (S : Settled (listsOf entries ends rankedHighs rankedLows true) own own′) where
+  pub ranked-last : (c : ℕ) → c < P → cellAt own′ c .high < nowhere → cellAt own′ c .high % 256 ≡ 255
+  ranked-last = settled-last ws s (tied s i inside ws true Z (ranked-tie R refl) X Y) A size S
+
+  pub ranked-settled : (L : Labels (rankedCosts 1)) → Entered (cellGraph ws card sets) (placeOf card) (placed (i * P) P L (cellAt own)) i → Done (cellGraph ws card sets) (placeOf card) (placed (i * P) P L (cellAt own′)) i
+  ranked-settled = settled-position ws s (tied s i inside ws true Z (ranked-tie R refl) X Y) A size S
