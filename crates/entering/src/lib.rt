@@ -1,1 +1,61 @@
 // Entering a position: by the symbols of its set, or, at the last one, by the endings.
+ghost use mathlib.Core.Path.{_≡_};
+ghost use mathlib.Core.Bool.{true};
+ghost use Prim.Native.Nat.{ℕ, _≤_};
+ghost use lib.ListN.{length};
+ghost use Rattle.basics.specs.Sets.{member};
+ghost use Rattle.basics.specs.Products.{product};
+ghost use Rattle.card.specs.Layout.{symbolCount};
+ghost use Rattle.entering.specs.Entering.{Ready, Blank, NextRoom, Position, SymbolsEntered};
+ghost use Rattle.entering.specs.Symbols.{codes, InputTried};
+use cells::Groups;
+use machine::sets;
+
+// Tries every code of a position by the pairs with one input: the outputs worth trying, four at a time.
+fn enter_input(
+    own: &mut [u64],
+    next: &[u64; 256],
+    steps: &mut [u16],
+    card: &[u8],
+    counts: &[u8],
+    weights: &[u64],
+    width: usize,
+    g: Groups,
+    input: u8,
+)
+    requires { ⌜ Ready (now card) (now counts) (now weights) (now own) (now steps) width g × Position (now own) (codes (now card)) × NextRoom (now next) (now weights) (length (now counts)) (product (now counts)) × (1 ≤ input) × (input ≤ symbolCount (now card)) ⌝ }
+    ensures { λ _. ⌜ InputTried (now (card .entry)) (now (weights .entry)) (now (own .entry)) (now (own .exit)) (now (next .entry)) input ⌝ }
+{
+    let mut high = [0u64; 264];
+    let mut low = [0u64; 264];
+    let mut left = columns::prepare(steps, card, counts, width, input);
+    while left > 0 {
+        let four = cells::fours::next_four(left);
+        cells::join_four(steps, width, &four, counts, weights, g, &mut high, &mut low);
+        cells::try_four(own, next, g.front, g.back, &high, &low);
+        left = cells::fours::without_four(left);
+    }
+}
+
+// Enters a position that has no label yet: tries every code of it by the pairs with each symbol of its set.
+pub fn enter_symbols(
+    own: &mut [u64],
+    next: &[u64; 256],
+    steps: &mut [u16],
+    card: &[u8],
+    counts: &[u8],
+    weights: &[u64],
+    width: usize,
+    g: Groups,
+    symbols: u64,
+)
+    requires { ⌜ Ready (now card) (now counts) (now weights) (now own) (now steps) width g × Blank (now own) (product (now counts)) × NextRoom (now next) (now weights) (length (now counts)) (product (now counts)) × ((x : ℕ) → member symbols x ≡ true → (1 ≤ x) × (x ≤ symbolCount (now card))) ⌝ }
+    ensures { λ _. ⌜ SymbolsEntered (now (card .entry)) (now (weights .entry)) (now (own .exit)) (now (next .entry)) symbols ⌝ }
+{
+    let mut left = symbols;
+    while left > 0 {
+        let symbol = sets::least(left) as u8;
+        enter_input(own, next, steps, card, counts, weights, width, g, symbol);
+        left = sets::without_least(left);
+    }
+}

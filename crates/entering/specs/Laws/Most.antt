@@ -1,8 +1,8 @@
--- What marks add at most: each machine has at most 15 in a step.
+-- What marks add at most, 15 for each machine: a step to a label with room for it stays a label.
 use mathlib.Core.Path.{_≡_, refl, sym, _∙_, ap}
 use mathlib.Core.List.{List, [], _∷_, map}
 use mathlib.Core.Option.{Option, some, none, Option·none-ne-some}
-use Prim.Native.Nat.{ℕ, zero, suc, _+_, _*_, _/_, _%_, _≤_}
+use Prim.Native.Nat.{ℕ, zero, suc, _+_, _*_, _/_, _%_, _<_, _≤_}
 use native.Mathlib.Nat.{mul-le-mul-right}
 use native.Mathlib.Omega.{arith}
 use lib.ListN.{length, getD, replicate}
@@ -15,8 +15,11 @@ use Rattle.product.specs.Laws.Codes.{withFirst, step-no-machine, step-next-mach
 use Rattle.product.specs.Laws.JointStep.{AllSound}
 use Rattle.tables.specs.Laws.Edges.{code-step-few}
 use Rattle.tables.proofs.Machines.{counts-length}
-use Rattle.cells.specs.Columns.{weighed}
-use Rattle.entering.specs.Entering.{mostOf}
+use Rattle.tables.specs.Tables.{CardMachines}
+use Rattle.cells.specs.Cells.{nowhere, highOf}
+use Rattle.cells.specs.Columns.{weighed, JointCell}
+use Rattle.cells.specs.Labels.{nextCell, wayBy}
+use Rattle.entering.specs.Entering.{mostOf, NextRoom}
 
 most-from : (w : ℕ → ℕ) (m : ℕ) (xs : List ℕ) (K : ℕ) → ((i : ℕ) → getD xs i 0 ≤ 15) → length xs ≤ K → weighed w m xs ≤ weighed w m (replicate K 15)
 unfolding weighed
@@ -48,3 +51,11 @@ marks-length (m ∷ ms) c p v e =
 -- so the marks of a joint step add at most this
 pub step-most : {S : ℕ} {ms : List Machine} → AllSound S ms → (w : ℕ → ℕ) (c : ℕ) (p : Pair) (v : Move) → codeStep ms c p ≡ some v → weighed w 0 (v .marks) ≤ mostOf w (length (stateCounts ms))
 step-most {ms = ms} sound w c p v e = weighed-most w (v .marks) (length (stateCounts ms)) (code-step-few sound c p v e) (omega (arith, marks-length ms c p v e, counts-length ms))
+
+-- with room for a pair more, a step to a label stays below nowhere
+pub way-fits : {S : ℕ} {ms : List Machine} {next ws : List ℕ} → CardMachines S ms → NextRoom next ws (length (stateCounts ms)) (product (stateCounts ms)) → (c : ℕ) (p : Pair) {h l : ℕ}
+    → JointCell ws (product (stateCounts ms)) (codeStep ms c p) h l → (v : Move) → codeStep ms c p ≡ some v → nextCell next (v .target) .high < nowhere → wayBy next h l .high < nowhere
+way-fits {next = next} {ws = ws} M N c p {h} {l} J v e k =
+    let t : h % 128 ≡ v .target = omega (arith, J .target v e, J .code, M .joint-states) in
+    let z : getD next (h % 128 * 2) 0 ≡ getD next (v .target * 2) 0 = ap (λ (n : ℕ). getD next (n * 2) 0) t in
+    omega (arith, z, J .high v e, step-most (M .sound) (highOf ws) c p v e, N .room (v .target) (omega (arith, J .target v e, J .code)) k)
