@@ -2,3 +2,4 @@
 pub mod Sound
 pub mod Weighing
 pub mod Done
+pub mod Prices
