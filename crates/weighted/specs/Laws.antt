@@ -3,3 +3,4 @@ pub mod Sound
 pub mod Weighing
 pub mod Done
 pub mod Prices
+pub mod Room

@@ -6,6 +6,7 @@ use Prim.Native.Nat.{ℕ}
 use Rattle.card.specs.Card.{machinesOf}
 use Rattle.paths.specs.Costs.{Labels}
 use Rattle.paths.specs.Ranked.{Ranked, rankedCosts}
+use Rattle.paths.specs.Labels.{Attained}
 use Rattle.paths.specs.Positions.{Done}
 use Rattle.product.specs.ProductGraph.{Move, move, ending, pricedMove, pricedEnding}
 use Rattle.settling.specs.Packing.{Packing, packedEdge, packedPath, Packs}
@@ -36,9 +37,12 @@ module _ {weights ws : List ℕ} (W : WeighsBy weights ws) (card sets : List ℕ
   weighted-packs : Packs unpackedCosts (weightedGraph card weights sets) (cellGraph ws card sets)
   weighted-packs = record { edges = λ u p. same-edge (move sets (machinesOf card) u p); endings = λ u. same-ending (ending sets (machinesOf card) u) }
 
+  pub weighted-attained : {M : Labels (rankedCosts 1)} → Attained (cellGraph ws card sets) M → Attained (weightedGraph card weights sets) M
+  weighted-attained {M} A = unpacked-attained unpackedCosts (weightedGraph card weights sets) (cellGraph ws card sets) weighted-packs M M (λ u. as-it-is (M u)) (λ u c l. tt) (λ u ps c d l r k. tt) A
+
   pub weighted-done : {pos : ℕ → ℕ} {M : Labels (rankedCosts 1)} {i : ℕ} → Done (cellGraph ws card sets) pos M i → Done (weightedGraph card weights sets) pos M i
   weighted-done {M = M} D = record {
-    attained = unpacked-attained unpackedCosts (weightedGraph card weights sets) (cellGraph ws card sets) weighted-packs M M (λ u. as-it-is (M u)) (λ u c l. tt) (λ u ps c d l r k. tt) (D .attained);
+    attained = weighted-attained (D .attained);
     closed = λ u h. unpacked-closed unpackedCosts (weightedGraph card weights sets) (cellGraph ws card sets) weighted-packs M M (λ u. as-it-is (M u)) (λ u c l. tt) u (λ c e. tt) (λ p e d k l. tt) (D .closed u h);
     blank = D .blank;
   }

@@ -18,7 +18,7 @@ use Rattle.weighted.specs.Laws.Sound.{Sound}
 use Rattle.weighted.specs.Laws.Weighing.{low-sum}
 
 -- marks of at most six machines, one by one
-six-terms : (w : ℕ → ℕ) (xs : List ℕ) → length xs ≤ 6
+pub six-terms : (w : ℕ → ℕ) (xs : List ℕ) → length xs ≤ 6
     → weighed w 0 xs ≡ w 0 * getD xs 0 0 + (w 1 * getD xs 1 0 + (w 2 * getD xs 2 0 + (w 3 * getD xs 3 0 + (w 4 * getD xs 4 0 + w 5 * getD xs 5 0))))
 unfolding weighed
 six-terms w [] h = omega arith
