@@ -1,3 +1,4 @@
+pub mod Passing
 pub mod ClosingCodes
 pub mod ClosingExample
 pub mod Labelled

@@ -12,7 +12,7 @@ ghost use Prim.Native.Nat.{ℕ};
 ghost use Rattle.labelling.specs.Labelling.{LabelPre, PositionsDone, SearchPre, ListsPre, AllLabelled, FinishPre, Finished};
 use cells::Groups;
 
-mod closing; // closing.rt: a settled position is stored, and is the next one's
+pub mod closing; // closing.rt: a settled position is stored, and is the next one's
 
 // One mark at each place of the ranking: what it counts in high, and in low.
 const HIGHS: [u64; 6] = [1099511627776, 16777216, 256, 0, 0, 0];
