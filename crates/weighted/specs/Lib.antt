@@ -1,2 +1,3 @@
 pub mod WeighsBy
+pub mod Closing
 pub mod Laws

@@ -8,6 +8,8 @@ ghost use Rattle.cells.specs.Columns.{WeightsOf};
 ghost use Rattle.sums.specs.Weights.{soundWeights};
 ghost use Rattle.weighted.specs.WeighsBy.{HighsWritten, WeighsBy};
 
+pub mod closing; // closing.rt: a settled position is stored, and is the next one's
+
 fn wide(x: u32) -> u64
     ensures { λ r. ⌜ (r ≡ x) × (r < 2 ^ 32) ⌝ }
 {
