@@ -3,8 +3,8 @@ use mathlib.Core.Path.{_≡_, refl, sym, _∙_, ap, subst}
 use mathlib.Core.Logic.{_⊎_, inl, inr}
 use mathlib.Core.Bool.{Bool, true, false}
 use mathlib.Core.List.{List, [], _∷_}
-use mathlib.Core.Option.{Option, some, none, Option·none-ne-some}
-use Prim.Native.Nat.{ℕ, suc, _+_, _-_, _*_, _^_, _<_, _≤_}
+use mathlib.Core.Option.{Option, some, Option·none-ne-some}
+use Prim.Native.Nat.{ℕ, _+_, _-_, _*_, _^_, _<_, _≤_}
 use native.Mathlib.Omega.{arith}
 use lib.ListN.{length, getD}
 use borrow.Author.Tests.{eq-eqb}
@@ -26,6 +26,7 @@ use Rattle.product.specs.Laws.Codes.{pricedStep, symbol-edge}
 use Rattle.product.specs.Laws.Setting.{place-low, place-high, symbols-few}
 use Rattle.product.specs.Laws.Letters.{letter-at, priced-over}
 use Rattle.product.specs.Laws.Entering.{NotLeft, TriedBefore}
+use Rattle.tables.specs.Tables.{CardMachines}
 use Rattle.tables.specs.Laws.Cards.{card-machines}
 use Rattle.cells.specs.declared.Groups.{Groups}
 use Rattle.cells.specs.Cells.{nowhere}
@@ -92,6 +93,9 @@ four-or-after set {four} {after} h e f y t = pick (four-or-left set h y t)
 -- ---- what the calls ask, by what entering is given
 
 module _ {card counts ws own steps : List ℕ} {W : ℕ} {g : Groups} (R : Ready card counts ws own steps W g) where
+  its-machines : CardMachines (symbolCount card) (machinesOf card)
+  its-machines = card-machines card (R .accepted)
+
   weights-are : WeightsOf (stateCounts (machinesOf card)) ws
   weights-are = subst (λ (l : List ℕ). WeightsOf l ws) (R .counts-are) (R .weights)
 
@@ -102,13 +106,13 @@ module _ {card counts ws own steps : List ℕ} {W : ℕ} {g : Groups} (R : Ready
   room-is {next} N = subst (λ (l : List ℕ). NextRoom next ws (length l) (product l)) (R .counts-are) N
 
   pub fill-ready : {x : ℕ} → x ≤ symbolCount card → FillPre card counts steps W x
-  fill-ready h = record { accepted = R .accepted; counts-are = R .counts-are; input = omega (arith, card-machines card (R .accepted) .symbols); width = R .width; room = R .room }
+  fill-ready h = record { accepted = R .accepted; counts-are = R .counts-are; input = omega (arith, its-machines .symbols); width = R .width; room = R .room }
 
   module _ {steps′ four high low : List ℕ} {x kept : ℕ} (Q : Prepared (machinesOf card) x W steps′ kept) (outputs : (j : ℕ) → getD four j 0 ≤ 64) (eh : length high ≡ 264) (el : length low ≡ 264) where
     pub four-ready : FourPre steps′ four counts ws high low W g
     four-ready =
         subst (λ (l : List ℕ). FourPre steps′ four l ws high low W g) (sym (R .counts-are))
-        (four-pre (card-machines card (R .accepted)) (Q .columns) weights-are groups-are (R .few) four high low outputs eh el)
+        (four-pre its-machines (Q .columns) weights-are groups-are (R .few) four high low outputs eh el)
 
     module _ {own′ next : List ℕ} (N : NextRoom next ws (length counts) (product counts)) (O : Position own′ (codes card)) (J : FourJoined steps′ four counts ws high low W g) where
       joined-are : FourJoined steps′ four (stateCounts (machinesOf card)) ws high low W g
@@ -116,8 +120,8 @@ module _ {card counts ws own steps : List ℕ} {W : ℕ} {g : Groups} (R : Ready
 
       pub try-ready : TryPre own′ next high low (g .front) (g .back) × SkipPre own′ next high (g .front) (g .back) 0 (g .front * g .back)
       try-ready = (
-        try-pre (card-machines card (R .accepted)) (Q .columns) weights-are groups-are (R .few) joined-are outputs eh el (O .size) (N .fits),
-        skip-pre (card-machines card (R .accepted)) (Q .columns) weights-are groups-are (R .few) joined-are outputs (room-is N .labels) (O .labels),
+        try-pre its-machines (Q .columns) weights-are groups-are (R .few) joined-are outputs eh el (O .size) (N .fits),
+        skip-pre its-machines (Q .columns) weights-are groups-are (R .few) joined-are outputs (room-is N .labels) (O .labels),
       )
 
       -- ---- four outputs more
@@ -125,14 +129,14 @@ module _ {card counts ws own steps : List ℕ} {W : ℕ} {g : Groups} (R : Ready
       module _ {own″ : List ℕ} (reads : 1 ≤ x) (T : TriedIn own′ own″ next high low (g .front) (g .back) 0 (g .front * g .back)) where
         fits : (c j : ℕ) → c < codes card → j < 4 → (v : Move) → codeStep (machinesOf card) c (lanePair x four j) ≡ some v → nextCell next (v .target) .high < nowhere → wayBy next (laneSum high g c j) (laneSum low g c j) .high < nowhere
         fits c j h k =
-            way-fits (card-machines card (R .accepted)) (room-is N) c (lanePair x four j)
-            (code-step-is (card-machines card (R .accepted)) (Q .columns) weights-are groups-are (try-ready .0 .some .1) joined-are outputs c j h k)
+            way-fits its-machines (room-is N) c (lanePair x four j)
+            (code-step-is its-machines (Q .columns) weights-are groups-are (try-ready .0 .some .1) joined-are outputs c j h k)
 
-        -- whatever the sets are, so with x alone
+        -- no label is of a set: those of the law are the set of x alone
         still-labels : Position own″ (codes card)
         still-labels = record {
           size = T .size ∙ O .size;
-          labels = position-own (card-machines card (R .accepted)) (Q .columns) weights-are groups-are (try-ready .0 .some .1) joined-are outputs (2 ^ x ∷ []) next 0 (λ e. omega arith) (member-one x x ∙ eq-eqb x x refl) (room-is N .labels) fits
+          labels = position-own its-machines (Q .columns) weights-are groups-are (try-ready .0 .some .1) joined-are outputs (2 ^ x ∷ []) next 0 (λ e. omega arith) (member-one x x ∙ eq-eqb x x refl) (room-is N .labels) fits
               (λ w. labelFrom (nextCell next (w - (0 + 1) * codes card))) (λ t h. let e : (0 + 1) * codes card + t - (0 + 1) * codes card ≡ t = omega arith in ap (λ (n : ℕ). labelFrom (nextCell next n)) e) (O .labels) T;
         }
 
@@ -142,7 +146,7 @@ module _ {card counts ws own steps : List ℕ} {W : ℕ} {g : Groups} (R : Ready
           position = still-labels;
           enters = λ sets K L i rest B t S.
               entering-skip (cellGraph ws card sets) (placeOf card)
-              (position-tried (card-machines card (R .accepted)) (Q .columns) weights-are groups-are (try-ready .0 .some .1) joined-are outputs sets next i (λ e. omega arith) t (room-is N .labels) fits
+              (position-tried its-machines (Q .columns) weights-are groups-are (try-ready .0 .some .1) joined-are outputs sets next i (λ e. omega arith) t (room-is N .labels) fits
               (KeptTried rest x kept left) L (B .nexts) (O .labels) T (A .enters sets K L i rest B t S))
               (λ _. ⊥) (KeptTried rest x kept after) (λ u c a d h. d) (λ u p e c a b d h l. done i rest u p (place-low (B .setting) u i a) (place-high (B .setting) u i a) d);
         }
@@ -179,10 +183,13 @@ fours-end {card} {ws} {next = next} {x = x} {kept = kept} {left = left} ok reads
         step : ℕ → Option Move
         step y = codeStep (machinesOf card) (u - i * codes card) (record { input = x; output = y })
 
+        below : u - i * codes card < codes card
+        below = omega (arith, place-low (B .setting) u i a, place-high (B .setting) u i a)
+
         edge-is : (y : ℕ) → cellGraph ws card sets .edge u (record { input = x; output = y }) ≡ pricedStep (cellPrice ws) ((i + 1) * codes card) (step y)
         edge-is y =
             let q : i * codes card + (u - i * codes card) ≡ u = omega (arith, place-low (B .setting) u i a) in
-            rw q at (symbol-edge (cellPrice ws) sets (machinesOf card) i (u - i * codes card) (omega (arith, place-low (B .setting) u i a, place-high (B .setting) u i a)) (record { input = x; output = y }) (λ n. omega arith) t)
+            rw q at (symbol-edge (cellPrice ws) sets (machinesOf card) i (u - i * codes card) below (record { input = x; output = y }) (λ n. omega arith) t)
 
         this : p ≡ record { input = x; output = p .output }
         this = λ k. record { input = d .0 k; output = p .output }
@@ -194,6 +201,8 @@ fours-end {card} {ws} {next = next} {x = x} {kept = kept} {left = left} ok reads
         go (inl n) = absurd (omega (arith, n .0))
         go (inr (inl n)) = absurd (Option·none-ne-some e (ap (pricedStep (cellPrice ws) ((i + 1) * codes card)) (sym (n (u - i * codes card))) ∙ its))
         go (inr (inr v)) =
-            let l : left ≡ 0 = omega arith in
-            (record { input = x; output = v .other }, inr (refl, v .is-kept, rw l (no-member (v .other))),
-            edge-is (v .other) ∙ ap (pricedStep (cellPrice ws) ((i + 1) * codes card)) (v .same (u - i * codes card) (omega (arith, place-low (B .setting) u i a, place-high (B .setting) u i a))) ∙ its)
+            let l : left ≡ 0 = omega arith in (
+              record { input = x; output = v .other },
+              inr (refl, v .is-kept, rw l (no-member (v .other))),
+              edge-is (v .other) ∙ ap (pricedStep (cellPrice ws) ((i + 1) * codes card)) (v .same (u - i * codes card) below) ∙ its,
+            )

@@ -1,2 +1,3 @@
 pub mod Fours
 pub mod Symbols
+pub mod LastPosition

@@ -11,6 +11,8 @@ ghost use Rattle.entering.specs.Symbols.{codes, InputTried};
 use cells::Groups;
 use machine::sets;
 
+pub mod endings; // endings.rt: the labels of the last position
+
 // Tries every code of a position by the pairs with one input: the outputs worth trying, four at a time.
 fn enter_input(
     own: &mut [u64],
@@ -28,12 +30,12 @@ fn enter_input(
 {
     let mut high = [0u64; 264];
     let mut low = [0u64; 264];
-    let mut left = columns::prepare(steps, card, counts, width, input);
-    while left > 0 {
-        let four = cells::fours::next_four(left);
+    let mut outputs = columns::prepare(steps, card, counts, width, input);
+    while outputs > 0 {
+        let four = cells::fours::next_four(outputs);
         cells::join_four(steps, width, &four, counts, weights, g, &mut high, &mut low);
         cells::try_four(own, next, g.front, g.back, &high, &low);
-        left = cells::fours::without_four(left);
+        outputs = cells::fours::without_four(outputs);
     }
 }
 

@@ -1,6 +1,5 @@
 -- A position that was entered, settled and closed: one position more is labelled.
 use mathlib.Core.Path.{_≡_, refl, sym, _∙_, ap, subst}
-use mathlib.Core.Bool.{true}
 use mathlib.Core.List.{List}
 use mathlib.Core.Option.{some}
 use Prim.Native.Nat.{ℕ, suc, _+_, _*_, _/_, _%_, _^_, _<_, _≤_}
@@ -16,7 +15,6 @@ use Rattle.product.specs.Laws.Setting.{few-codes, node-below}
 use Rattle.tables.specs.Laws.Cards.{card-machines}
 use Rattle.labels.specs.Work.{HasNodes}
 use Rattle.settling.specs.Settling.{SettlePre, Settled}
-use Rattle.settling.proofs.PositionDone.{Tied}
 use Rattle.cells.specs.declared.Cell.{Cell}
 use Rattle.cells.specs.Cells.{nowhere, highOf, lowOf}
 use Rattle.cells.specs.Columns.{WeightsOf}
@@ -27,8 +25,7 @@ use Rattle.entering.specs.Entering.{cellGraph, mostOf, Blank, Position, NextRoo
 use Rattle.labelling.specs.Closing.{ClosePre, ClosedAt}
 use Rattle.labelling.specs.Labelling.{Labelled, ListsPre, rankedLists, FinishPre, Finished}
 use Rattle.labelling.specs.Laws.LabelRoom.{LabelRoom, ranked-room-most}
-use Rattle.labelling.specs.Laws.Settled.{numberGraph, settled-last, settled-position}
-use Rattle.labelling.specs.Laws.Tied.{ranked-tie, tied, ranked-ready}
+use Rattle.labelling.specs.Laws.Tied.{ranked-ready, ranked-last, ranked-settled}
 use Rattle.labelling.proofs.Labelled.{Followed, labelled-next, followed-next, label-of-cell}
 
 -- what holds when the position i is closed
@@ -43,12 +40,9 @@ pub record PositionClosed (card ws sets work own next : List ℕ) (K P i : ℕ) 
 
 module _ {card ws sets entries ends : List ℕ} {P : ℕ} (s : Setting card sets P) (W : WeightsOf (stateCounts (machinesOf card)) ws) (Z : ListsPre card ws entries ends) {i : ℕ} (within : i ≤ length sets)
     {own : List ℕ} (L : Labels (rankedCosts 1)) (A : Position own P) (E : Entered (cellGraph ws card sets) (placeOf card) (placed (i * P) P L (cellAt own)) i) where
-  ties : Tied (numberGraph ws card sets) (placeOf card) i (rankedLists entries ends) (i * P) P
-  ties = tied s i within ws true W (ranked-tie (Z .ranking) (Z .ranked)) (Z .prepared) (Z .listed)
-
-  module _ {ys : List ℕ} (size : length ys ≡ 256) (S : Settled (rankedLists entries ends) own ys) where
+  module _ {ys : List ℕ} (S : Settled (rankedLists entries ends) own ys) where
     pub done : Done (cellGraph ws card sets) (placeOf card) (placed (i * P) P L (cellAt ys)) i
-    done = settled-position ws s ties A size S L E
+    done = ranked-settled (Z .ranking) s within W (Z .ranked) (Z .prepared) (Z .listed) A (S .size) S L E
 
     -- a label has room for more
     room : (K : ℕ) → K ≤ 6 → (c : ℕ) → c < P → cellAt ys c .high < nowhere → LabelRoom (mostOf (highOf ws) K) (mostOf (lowOf ws) K) (2 ^ 56) (cellAt ys c .high / 256, cellAt ys c .low)
@@ -57,13 +51,13 @@ module _ {card ws sets entries ends : List ℕ} {P : ℕ} (s : Setting card sets
         (placed-in (i * P) P L (cellAt ys) c b ∙ label-of-cell (cellAt ys c .high) (cellAt ys c .low) h)
 
     last : (c : ℕ) → c < P → cellAt ys c .high < nowhere → cellAt ys c .high % 256 ≡ 255
-    last = settled-last ws s ties A size S
+    last = ranked-last (Z .ranking) s within W (Z .ranked) (Z .prepared) (Z .listed) A (S .size) S
 
     pub close-ready : {work next : List ℕ} → HasNodes work (i * P + P) → length next ≡ 256 → ClosePre work ys next (i * P) P
     close-ready there e = record {
       nodes = there;
       few = few-codes s;
-      own-size = size;
+      own-size = S .size;
       next-size = e;
       last = last;
       high = λ c b h. omega (arith, room 0 (omega arith) c b h .high, last c b h);
@@ -83,9 +77,9 @@ module _ {card ws sets entries ends : List ℕ} {P : ℕ} (s : Setting card sets
 
   pub finish-ready : {work next : List ℕ} → HasNodes work (i * P + P) → length next ≡ 256 → FinishPre work own next entries ends (i * P) P
   finish-ready there e = record {
-    settle = ranked-ready (Z .ranking) s within W (Z .ranked) (Z .listed) A L (E .attained);
-    close = λ ys size S. close-ready size S there e;
+    settle = ranked-ready (Z .ranking) s within W (Z .ranked) L own (E .attained) (Z .listed) A;
+    close = λ ys S. close-ready S there e;
   }
 
   pub finished : {work work′ own′ next next′ : List ℕ} (K : ℕ) → K ≤ 6 → Labelled card ws sets work (suc i) L → NextFits next → Finished work work′ own own′ next next′ entries ends (i * P) P → PositionClosed card ws sets work′ own′ next′ K P i
-  finished K six B N F = closed-next (F .size) (F .settled) K six B N (F .closed)
+  finished K six B N F = closed-next (F .settled) K six B N (F .closed)

@@ -36,8 +36,8 @@ pub record Followed (next : List ℕ) (P i : ℕ) (L : Labels (rankedCosts 1)) :
 
 module _ {card ws sets : List ℕ} {P : ℕ} (s : Setting card sets P) where
   -- past the last position there is nothing
-  pub labelled-start : {work : List ℕ} → length work ≡ (length sets + 1) * P * 8 → ((u : ℕ) → (length sets + 1) * P ≤ u → labelOf work u ≡ none) → Labelled card ws sets work (suc (length sets)) (λ _. none)
-  labelled-start {work} room past = record {
+  pub labelled-start : {work : List ℕ} → ((u : ℕ) → (length sets + 1) * P ≤ u → labelOf work u ≡ none) → Labelled card ws sets work (suc (length sets)) (λ _. none)
+  labelled-start {work} past = record {
     done = done-start (cellGraph ws card sets) (placeOf card) (over-positioned (priced-over (cellPrice ws) card sets (s .accepted))) (λ _. none) (λ u. refl);
     stored = λ u h. ap (packedPath countsPacking) (sym (none-there u h));
     short = λ u c h l. absurd (Option·none-ne-some c (sym (none-there u h) ∙ l));

@@ -1,6 +1,8 @@
 pub mod Passing
+pub mod Weighing
 pub mod ClosingCodes
 pub mod ClosingExample
 pub mod Labelled
-pub mod Ends
 pub mod Finishing
+pub mod Looping
+pub mod Ends

@@ -25,6 +25,7 @@ use Rattle.cells.specs.declared.Groups.{Groups}
 use Rattle.cells.specs.Cells.{places}
 use Rattle.cells.specs.Columns.{WeightsOf}
 use Rattle.cells.specs.Groups.{GroupsOf}
+use Rattle.columns.specs.Filling.{Small}
 use Rattle.columns.specs.Prepared.{Prepared}
 use Rattle.insertions.specs.RankedWeights.{RankedWeights}
 use Rattle.insertions.specs.Listed.{Listed}
@@ -56,12 +57,11 @@ rankedLists entries ends = listsOf entries ends rankedHighs rankedLows true
 -- a position that may be settled, and closed then
 pub record FinishPre (work own next entries ends : List ℕ) (base P : ℕ) : Type 0 where
   pub settle : SettlePre (rankedLists entries ends) own P
-  pub close : (ys : List ℕ) → length ys ≡ 256 → Settled (rankedLists entries ends) own ys → ClosePre work ys next base P
+  pub close : (ys : List ℕ) → Settled (rankedLists entries ends) own ys → ClosePre work ys next base P
 
 -- it was settled, and closed
 pub record Finished (work work′ own own′ next next′ entries ends : List ℕ) (base P : ℕ) : Type 0 where
   pub labels : List ℕ
-  pub size : length labels ≡ 256
   pub settled : Settled (rankedLists entries ends) own labels
   pub closed : ClosedAt work work′ labels own′ next next′ base P
 
@@ -74,6 +74,7 @@ pub record SearchPre (work card counts ws sets steps : List ℕ) (g : Groups) : 
   pub few : g .front + g .back ≤ 66
   pub room : length work ≡ (length sets + 1) * product counts * 8
   pub columns : 65 * places counts ≤ length steps
+  pub small : Small steps
 
 -- the weights are those of a ranked order, and the lists have the insertions of outputs that tell of all others
 pub record ListsPre (card ws entries ends : List ℕ) : Type 0 where

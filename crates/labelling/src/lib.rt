@@ -3,20 +3,12 @@
 ghost use Prim.Native.Nat.{_+_, _*_, _≤_, _<_};
 ghost use mathlib.Core.Path.{_≡_};
 ghost use lib.ListN.{length};
-ghost use mathlib.Core.Bool.{true};
-ghost use Rattle.basics.specs.Sets.{member};
-ghost use Rattle.basics.specs.Products.{product};
-ghost use Rattle.card.specs.Layout.{symbolCount};
-ghost use Rattle.entering.specs.Entering.{Ready, Blank, NextRoom, SymbolsEntered, EndingsEntered};
-ghost use Prim.Native.Nat.{ℕ};
+
 ghost use Rattle.labelling.specs.Labelling.{LabelPre, PositionsDone, SearchPre, ListsPre, AllLabelled, FinishPre, Finished};
 use cells::Groups;
 
+pub mod weights; // weights.rt: what states and marks count, in ranked order
 pub mod closing; // closing.rt: a settled position is stored, and is the next one's
-
-// One mark at each place of the ranking: what it counts in high, and in low.
-const HIGHS: [u64; 6] = [1099511627776, 16777216, 256, 0, 0, 0];
-const LOWS: [u64; 6] = [0, 0, 0, 281474976710656, 4294967296, 65536];
 
 // Settles a position that was entered, by insertions in lists, and closes it.
 fn finish(
@@ -31,8 +23,8 @@ fn finish(
     requires { ⌜ FinishPre (now work) (now own) (now next) (now entries) (now ends) base size ⌝ }
     ensures { λ _. ⌜ Finished (now (work .entry)) (now (work .exit)) (now (own .entry)) (now (own .exit)) (now (next .entry)) (now (next .exit)) (now (entries .entry)) (now (ends .entry)) base size ⌝ }
 {
-    let highs = HIGHS;
-    let lows = LOWS;
+    let highs = weights::HIGHS;
+    let lows = weights::LOWS;
     settling::settle(own, entries, ends, &highs, &lows, true, size);
     closing::close(work, base, size, own, next);
 }
@@ -57,11 +49,11 @@ fn label_positions(
     let mut own = [0u64; 256];
     let mut next = [0u64; 256];
     let mut position = sets.len();
-    enter_endings(&mut own, steps, card, counts, weights, width, g);
+    entering::endings::enter_endings(&mut own, steps, card, counts, weights, width, g);
     finish(work, position * size, size, &mut own, &mut next, entries, ends);
     while position > 0 {
         position -= 1;
-        enter_symbols(
+        entering::enter_symbols(
             &mut own,
             &next,
             steps,
@@ -74,16 +66,4 @@ fn label_positions(
         );
         finish(work, position * size, size, &mut own, &mut next, entries, ends);
     }
-}
-
-fn enter_symbols(own: &mut [u64; 256], next: &[u64; 256], steps: &mut [u16], card: &[u8], counts: &[u8], weights: &[u64], width: usize, g: Groups, symbols: u64)
-    requires { ⌜ Ready (now card) (now counts) (now weights) (now own) (now steps) width g × Blank (now own) (product (now counts)) × NextRoom (now next) (now weights) (length (now counts)) (product (now counts)) × ((x : ℕ) → member symbols x ≡ true → (1 ≤ x) × (x ≤ symbolCount (now card))) ⌝ }
-    ensures { λ _. ⌜ SymbolsEntered (now (card .entry)) (now (weights .entry)) (now (own .exit)) (now (next .entry)) symbols ⌝ }
-{
-}
-
-fn enter_endings(own: &mut [u64; 256], steps: &mut [u16], card: &[u8], counts: &[u8], weights: &[u64], width: usize, g: Groups)
-    requires { ⌜ Ready (now card) (now counts) (now weights) (now own) (now steps) width g ⌝ }
-    ensures { λ _. ⌜ EndingsEntered (now (card .entry)) (now (weights .entry)) (now (own .exit)) ⌝ }
-{
 }

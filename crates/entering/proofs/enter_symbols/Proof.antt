@@ -9,11 +9,6 @@ use Rattle.basics.specs.Sets.{member}
 use Rattle.entering.proofs.Symbols.{blank-position, still-ready, blank-codes, SymbolsTried, symbols-start, symbols-next, symbols-end}
 use Rattle.entering.proofs.enter_symbols.Statement.{statement}
 use Rattle.entering.proofs.enter_symbols.Tie as tie
-use Rattle.entering.proofs.enter_symbols.Reads as reads
-use Rattle.entering.proofs.enter_symbols.Lts as lts
-use Rattle.entering.proofs.enter_input.Reads as enter-input-reads
-use Rattle.machine.proofs.sets.least.Reads as least-reads
-use Rattle.machine.proofs.sets.without_least.Reads as without-least-reads
 
 abbrev Inv-loop : tie.InvT-loop
 Inv-loop own₀ next steps₀ card counts weights width g symbols left₀ own steps left = SymbolsTried card weights own₀ own next symbols left × (length steps ≡ length steps₀)
@@ -21,19 +16,12 @@ Inv-loop own₀ next steps₀ card counts weights width g symbols left₀ own st
 abbrev μ-loop : tie.MeasureT-loop
 μ-loop own₀ next steps₀ card counts weights width g symbols left₀ own steps left = left
 
--- src/lib.rt:56:5
 loop-holds : tie.Need-loop-holds Inv-loop μ-loop
 loop-holds c = let s = c .before .before .before .before .before in (symbols-start (blank-position (s .pre .0 .size) (blank-codes (s .pre .0) (s .pre .1))), refl)
 
--- src/lib.rt:57:22
-least-requires : tie.Need-least-requires Inv-loop μ-loop
-least-requires c κs = search needs
-
--- src/lib.rt:57:22
 cast-symbol : tie.Need-cast-symbol Inv-loop μ-loop
 cast-symbol c = omega (arith, c .least .ensures .1)
 
--- src/lib.rt:58:9
 enter-input-requires : tie.Need-enter-input-requires Inv-loop μ-loop
 enter-input-requires c κs = let s = c .before .before .before .before .before .before .before .before .before .before in
     let l = c .before .before .before .before .loop in
@@ -41,15 +29,9 @@ enter-input-requires c κs = let s = c .before .before .before .before .before .
     let b = s .pre .3 (x .result) (l .inv .0 .inside (x .result) (x .ensures .2)) in
     (still-ready (s .pre .0) (l .inv .0 .position .size) (l .inv .1), l .inv .0 .position, s .pre .2, b .0, b .1)
 
--- src/lib.rt:59:9
-without-least-requires : tie.Need-without-least-requires Inv-loop μ-loop
-without-least-requires c κs = search needs
-
--- src/lib.rt:56:5
 loop-less : tie.Need-loop-less Inv-loop μ-loop
 loop-less c = c .without-least .ensures .0
 
--- src/lib.rt:56:5
 loop-again : tie.Need-loop-again Inv-loop μ-loop
 loop-again c = let s = c .before .before .before .before .before .before .before .before .before .before .before .before .before .before .before .before in
     let l = c .before .before .before .before .before .before .before .before .before .before .loop in
@@ -58,17 +40,14 @@ loop-again c = let s = c .before .before .before .before .before .before .before
       c .before .before .before .before .before .enter-input .kept .1 .1 .0 ∙ l .inv .1,
     )
 
--- src/lib.rt:41:1
 same-length : tie.Need-same-length Inv-loop μ-loop
 same-length c = c .before .loop .inv .0 .position .size ∙ sym (c .before .before .before .before .before .before .before .pre .0 .size)
 
--- src/lib.rt:41:1
 same-length-2 : tie.Need-same-length-2 Inv-loop μ-loop
 same-length-2 c = c .before .loop .inv .1
 
--- src/lib.rt:41:1
 returns : tie.Need-returns Inv-loop μ-loop
-returns c = let s = c .before .before .before .before .before .before .before in symbols-end (s .args .card .now) (s .pre .0 .accepted) (c .loop-test .left) (blank-codes (s .pre .0) (s .pre .1)) (c .before .loop .inv .0)
+returns c = let s = c .before .before .before .before .before .before .before in symbols-end (s .args .card .now) (s .pre .0 .accepted) (omega (arith, c .loop-test .left)) (blank-codes (s .pre .0) (s .pre .1)) (c .before .loop .inv .0)
 
 pub enter-symbols-spec : {M : Type 1} → statement M
 enter-symbols-spec =
@@ -77,10 +56,10 @@ enter-symbols-spec =
     Inv-loop
     μ-loop
     loop-holds
-    least-requires
+    (λ c κs. search needs)
     cast-symbol
     enter-input-requires
-    without-least-requires
+    (λ c κs. search needs)
     loop-less
     loop-again
     same-length
