@@ -19,7 +19,7 @@ pub record HighsWritten (weights xs ys : List ℕ) (n : ℕ) : Type 0 where
 
 -- what a mark counts in high and in low, for six machines in card order
 abbrev pub sixHighs : List ℕ → List ℕ
-sixHighs weights = 256 * getD weights 0 0 ∷ 256 * getD weights 1 0 ∷ 256 * getD weights 2 0 ∷ 256 * getD weights 3 0 ∷ 256 * getD weights 4 0 ∷ 256 * getD weights 5 0 ∷ []
+sixHighs ws = highOf ws 0 ∷ highOf ws 1 ∷ highOf ws 2 ∷ highOf ws 3 ∷ highOf ws 4 ∷ highOf ws 5 ∷ []
 
 abbrev pub noLows : List ℕ
 noLows = 0 ∷ 0 ∷ 0 ∷ 0 ∷ 0 ∷ 0 ∷ []

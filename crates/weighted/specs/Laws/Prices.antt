@@ -1,8 +1,9 @@
--- The lists of insertions have marks as numbers, in card order: what settling makes of them by the weights is what the machines' numbers make of them.
-use mathlib.Core.Path.{_≡_, refl, sym, _∙_}
+-- The lists of insertions have marks as numbers: what settling makes of them by the weights is what the machines' numbers make of them.
+use mathlib.Core.Path.{_≡_, refl, sym, _∙_, ap}
+use mathlib.Core.Logic.{_⊎_, inl, inr}
 use mathlib.Core.List.{List, [], _∷_}
 use Prim.Native.Nat.{ℕ, zero, suc, _+_, _*_, _^_, _<_, _≤_}
-use native.Mathlib.Nat.{mul-comm}
+use native.Mathlib.Nat.{mul-comm, zero-mul}
 use native.Mathlib.Omega.{arith}
 use lib.ListN.{length, getD}
 use Rattle.tables.specs.Places.{markNumber}
@@ -11,11 +12,9 @@ use Rattle.settling.specs.Prices.{SixWeights, marksPrice, mostPrice}
 use Rattle.cells.specs.Cells.{highOf, lowOf}
 use Rattle.cells.specs.Columns.{weighed}
 use Rattle.labelling.specs.Laws.Tied.{SamePrices}
-use Rattle.sums.specs.Numbers.{cardPlaces}
 use Rattle.sums.proofs.Weighing.{packed-sum}
 use Rattle.weighted.specs.WeighsBy.{WeighsBy, sixHighs, noLows}
 use Rattle.weighted.specs.Laws.Sound.{Sound}
-use Rattle.weighted.specs.Laws.Weighing.{low-sum}
 
 -- marks of at most six machines, one by one
 pub six-terms : (w : ℕ → ℕ) (xs : List ℕ) → length xs ≤ 6
@@ -30,74 +29,77 @@ six-terms w (a ∷ b ∷ c ∷ d ∷ e ∷ []) h = omega (arith, mul-comm a (w 0
 six-terms w (a ∷ b ∷ c ∷ d ∷ e ∷ f ∷ []) h = omega (arith, mul-comm a (w 0), mul-comm b (w 1), mul-comm c (w 2), mul-comm d (w 3), mul-comm e (w 4), mul-comm f (w 5))
 six-terms w (a ∷ b ∷ c ∷ d ∷ e ∷ f ∷ g ∷ r) h = absurd (omega arith)
 
--- six numbers for the machines in card order price the number of marks
-card-price : (ns : List ℕ) (w : ℕ → ℕ) → ((m : ℕ) → m < 6 → getD ns m 0 ≡ w m) → (marks : List ℕ) → length marks ≤ 6 → ((m : ℕ) → getD marks m 0 ≤ 15) → marksPrice ns (markNumber cardPlaces marks) ≡ weighed w 0 marks
+-- six numbers for places price the number of marks, where a machine has the place of its own number, or counts nothing
+place-price : (places ns : List ℕ) (w : ℕ → ℕ) → length places ≡ 6 → ((m : ℕ) → m < 6 → (getD ns m 0 ≡ w m) × ((getD places m 0 ≡ m) ⊎ (w m ≡ 0)))
+    → (marks : List ℕ) → length marks ≤ 6 → ((m : ℕ) → getD marks m 0 ≤ 15) → marksPrice ns (markNumber places marks) ≡ weighed w 0 marks
 unfolding marksPrice
-card-price ns w same marks few most =
-    let e = six-number cardPlaces marks refl in
-    let p : marksPrice ns (markNumber cardPlaces marks) ≡ marksPrice ns (getD marks 0 0 * 1048576 + (getD marks 1 0 * 65536 + (getD marks 2 0 * 4096 + (getD marks 3 0 * 256 + (getD marks 4 0 * 16 + getD marks 5 0))))) = λ i. marksPrice ns (e i) in
-    let q = packed-sum (getD marks 0 0) (getD marks 1 0) (getD marks 2 0) (getD marks 3 0) (getD marks 4 0) (getD marks 5 0) (most 0) (most 1) (most 2) (most 3) (most 4) (most 5) ns in
-    let z₀ = same 0 (omega arith) in
-    let z₁ = same 1 (omega arith) in
-    let z₂ = same 2 (omega arith) in
-    let z₃ = same 3 (omega arith) in
-    let z₄ = same 4 (omega arith) in
-    let z₅ = same 5 (omega arith) in
-    p ∙ q
-    ∙ (λ i. z₀ i * getD marks 0 0 + (z₁ i * getD marks 1 0 + (z₂ i * getD marks 2 0 + (z₃ i * getD marks 3 0 + (z₄ i * getD marks 4 0 + z₅ i * getD marks 5 0)))))
-    ∙ sym (six-terms w marks few)
+place-price places ns w size same marks few most =
+    (λ i. marksPrice ns (six-number places marks size i))
+    ∙ packed-sum (at 0) (at 1) (at 2) (at 3) (at 4) (at 5) (most (getD places 0 0)) (most (getD places 1 0)) (most (getD places 2 0)) (most (getD places 3 0)) (most (getD places 4 0)) (most (getD places 5 0)) ns
+    ∙ omega (arith, part 0 (omega arith), part 1 (omega arith), part 2 (omega arith), part 3 (omega arith), part 4 (omega arith), part 5 (omega arith), six-terms w marks few)
+  where
+    at : ℕ → ℕ
+    at m = getD marks (getD places m 0) 0
 
-module _ {weights ws : List ℕ} (W : WeighsBy weights ws) where
-  pub weights-tie : SamePrices cardPlaces (sixHighs weights) noLows ws
-  weights-tie = record { high = card-price (sixHighs weights) (highOf ws) highs; low = card-price noLows (lowOf ws) lows }
-    where
-      highs : (m : ℕ) → m < 6 → getD (sixHighs weights) m 0 ≡ highOf ws m
-      highs zero h = sym (W .high 0)
-      highs (suc zero) h = sym (W .high 1)
-      highs (suc (suc zero)) h = sym (W .high 2)
-      highs (suc (suc (suc zero))) h = sym (W .high 3)
-      highs (suc (suc (suc (suc zero)))) h = sym (W .high 4)
-      highs (suc (suc (suc (suc (suc zero))))) h = sym (W .high 5)
-      highs (suc (suc (suc (suc (suc (suc m)))))) h = absurd (omega arith)
+    part : (m : ℕ) → m < 6 → getD ns m 0 * at m ≡ w m * getD marks m 0
+    part m h = go (same m h .1)
+      where
+        go : (getD places m 0 ≡ m) ⊎ (w m ≡ 0) → getD ns m 0 * at m ≡ w m * getD marks m 0
+        go (inl e) = let p = same m h .0 in λ i. p i * getD marks (e i) 0
+        go (inr z) = ap (λ (n : ℕ). n * at m) (same m h .0 ∙ z) ∙ zero-mul (at m) ∙ sym (ap (λ (n : ℕ). n * getD marks m 0) z ∙ zero-mul (getD marks m 0))
 
-      lows : (m : ℕ) → m < 6 → getD noLows m 0 ≡ lowOf ws m
-      lows zero h = sym (W .low 0)
-      lows (suc zero) h = sym (W .low 1)
-      lows (suc (suc zero)) h = sym (W .low 2)
-      lows (suc (suc (suc zero))) h = sym (W .low 3)
-      lows (suc (suc (suc (suc zero)))) h = sym (W .low 4)
-      lows (suc (suc (suc (suc (suc zero))))) h = sym (W .low 5)
-      lows (suc (suc (suc (suc (suc (suc m)))))) h = absurd (omega arith)
+no-low : (m : ℕ) → getD noLows m 0 ≡ 0
+no-low zero = refl
+no-low (suc zero) = refl
+no-low (suc (suc zero)) = refl
+no-low (suc (suc (suc zero))) = refl
+no-low (suc (suc (suc (suc zero)))) = refl
+no-low (suc (suc (suc (suc (suc zero))))) = refl
+no-low (suc (suc (suc (suc (suc (suc m)))))) = refl
+
+-- the machines in card order, of which no more than these count
+pub record InCardOrder (places ws : List ℕ) : Type 0 where
+  pub size : length places ≡ 6
+  pub place : (m : ℕ) → m < 6 → (getD places m 0 ≡ m) ⊎ (highOf ws m ≡ 0)
+
+pub weights-tie : {places weights ws : List ℕ} → WeighsBy weights ws → InCardOrder places ws → SamePrices places (sixHighs ws) noLows ws
+weights-tie {places} {ws = ws} W O = record { high = place-price places (sixHighs ws) (highOf ws) (O .size) highs; low = place-price places noLows (lowOf ws) (O .size) lows }
+  where
+    highs : (m : ℕ) → m < 6 → (getD (sixHighs ws) m 0 ≡ highOf ws m) × ((getD places m 0 ≡ m) ⊎ (highOf ws m ≡ 0))
+    highs zero h = (refl, O .place 0 h)
+    highs (suc zero) h = (refl, O .place 1 h)
+    highs (suc (suc zero)) h = (refl, O .place 2 h)
+    highs (suc (suc (suc zero))) h = (refl, O .place 3 h)
+    highs (suc (suc (suc (suc zero)))) h = (refl, O .place 4 h)
+    highs (suc (suc (suc (suc (suc zero))))) h = (refl, O .place 5 h)
+    highs (suc (suc (suc (suc (suc (suc m)))))) h = absurd (omega arith)
+
+    lows : (m : ℕ) → m < 6 → (getD noLows m 0 ≡ lowOf ws m) × ((getD places m 0 ≡ m) ⊎ (lowOf ws m ≡ 0))
+    lows m h = (omega (arith, no-low m, W .low m), inr (W .low m))
 
 -- what settling asks of the weights
-module _ {K : ℕ} {weights : List ℕ} (A : Sound K weights) where
-  pub highs-few : SixWeights (sixHighs weights)
+module _ {K : ℕ} {weights ws : List ℕ} (A : Sound K weights) (W : WeighsBy weights ws) where
+  high-few : (m : ℕ) → highOf ws m ≤ 1024000000000
+  high-few m = omega (arith, W .high m, A .most m)
+
+  pub highs-few : SixWeights (sixHighs ws)
   highs-few = record { most = most }
     where
-      most : (i : ℕ) → getD (sixHighs weights) i 0 ≤ 2 ^ 48
-      most zero = omega (arith, A .most 0)
-      most (suc zero) = omega (arith, A .most 1)
-      most (suc (suc zero)) = omega (arith, A .most 2)
-      most (suc (suc (suc zero))) = omega (arith, A .most 3)
-      most (suc (suc (suc (suc zero)))) = omega (arith, A .most 4)
-      most (suc (suc (suc (suc (suc zero))))) = omega (arith, A .most 5)
+      most : (i : ℕ) → getD (sixHighs ws) i 0 ≤ 2 ^ 48
+      most zero = omega (arith, high-few 0)
+      most (suc zero) = omega (arith, high-few 1)
+      most (suc (suc zero)) = omega (arith, high-few 2)
+      most (suc (suc (suc zero))) = omega (arith, high-few 3)
+      most (suc (suc (suc (suc zero)))) = omega (arith, high-few 4)
+      most (suc (suc (suc (suc (suc zero))))) = omega (arith, high-few 5)
       most (suc (suc (suc (suc (suc (suc i)))))) = omega arith
 
-  pub high-most : mostPrice (sixHighs weights) ≤ 92160000000000
+  pub high-most : mostPrice (sixHighs ws) ≤ 92160000000000
   unfolding mostPrice
-  high-most = omega (arith, A .most 0, A .most 1, A .most 2, A .most 3, A .most 4, A .most 5)
+  high-most = omega (arith, high-few 0, high-few 1, high-few 2, high-few 3, high-few 4, high-few 5)
 
 pub lows-few : SixWeights noLows
-lows-few = record { most = most }
-  where
-    most : (i : ℕ) → getD noLows i 0 ≤ 2 ^ 48
-    most zero = omega arith
-    most (suc zero) = omega arith
-    most (suc (suc zero)) = omega arith
-    most (suc (suc (suc zero))) = omega arith
-    most (suc (suc (suc (suc zero)))) = omega arith
-    most (suc (suc (suc (suc (suc zero))))) = omega arith
-    most (suc (suc (suc (suc (suc (suc i)))))) = omega arith
+lows-few = record { most = λ i. omega (arith, no-low i) }
 
 pub low-most : mostPrice noLows ≡ 0
 unfolding mostPrice

@@ -35,12 +35,12 @@ fifteen-most (suc K) zero = omega arith
 fifteen-most (suc K) (suc i) = fifteen-most K i
 
 module _ {weights ws : List ℕ} (W : WeighsBy weights ws) (K : ℕ) (six : K ≤ 6) where
-  pub weighted-most-high : mostOf (highOf ws) K ≤ mostPrice (sixHighs weights)
+  pub weighted-most-high : mostOf (highOf ws) K ≤ mostPrice (sixHighs ws)
   unfolding mostPrice
   weighted-most-high =
       let n : length {A = ℕ} (replicate K 15) ≡ K = length-replicate {A = ℕ} K 15 in
       let t = six-terms (highOf ws) (replicate K 15) (omega arith) in
-      omega (arith, t, part 0, part 1, part 2, part 3, part 4, part 5, W .high 0, W .high 1, W .high 2, W .high 3, W .high 4, W .high 5)
+      omega (arith, t, part 0, part 1, part 2, part 3, part 4, part 5)
     where
       part : (m : ℕ) → highOf ws m * getD (replicate K 15) m 0 ≤ highOf ws m * 15
       part m = mul-le-mul-left (highOf ws m) (fifteen-most K m)
@@ -50,10 +50,10 @@ module _ {weights ws : List ℕ} (W : WeighsBy weights ws) (K : ℕ) (six : K �
 
 module _ {card sets : List ℕ} {P : ℕ} (s : Setting card sets P) {n : ℕ} {weights ws : List ℕ} (A : Sound n weights) (Z : WeightsOf (stateCounts (machinesOf card)) ws) (W : WeighsBy weights ws)
     {M : Labels (rankedCosts 1)} (T : Attained (cellGraph ws card sets) M) (u : ℕ) (c : Ranked 1) (h : u < (length sets + 1) * P) (l : M u ≡ some c) where
-  pub weighted-room : LabelRoom (mostPrice (sixHighs weights)) (mostPrice noLows) (2 ^ 59) c
+  pub weighted-room : LabelRoom (mostPrice (sixHighs ws)) (mostPrice noLows) (2 ^ 59) c
   weighted-room =
-      label-room s Z 6 (card-machines card (s .accepted) .machines) (mostPrice (sixHighs weights)) (mostPrice noLows) (2 ^ 59) (weighted-most-high W 6 (omega arith)) (weighted-most-low W 6 (omega arith))
-      (omega (arith, high-most A)) (omega (arith, low-most)) T u c h l
+      label-room s Z 6 (card-machines card (s .accepted) .machines) (mostPrice (sixHighs ws)) (mostPrice noLows) (2 ^ 59) (weighted-most-high W 6 (omega arith)) (weighted-most-low W 6 (omega arith))
+      (omega (arith, high-most A W)) (omega (arith, low-most)) T u c h l
 
   pub weighted-room-most : (K : ℕ) → K ≤ 6 → LabelRoom (mostOf (highOf ws) K) (mostOf (lowOf ws) K) (2 ^ 59) c
   weighted-room-most K six = room-less (weighted-most-high W K six) (weighted-most-low W K six) weighted-room
