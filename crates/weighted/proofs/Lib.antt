@@ -1,2 +1,4 @@
 pub mod Numbers
 pub mod ClosingNumbers
+pub mod Labelled
+pub mod Finishing
