@@ -2,3 +2,4 @@ pub mod Numbers
 pub mod ClosingNumbers
 pub mod Labelled
 pub mod Finishing
+pub mod Looping

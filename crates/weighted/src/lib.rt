@@ -4,9 +4,12 @@ ghost use mathlib.Core.Bool.{true};
 ghost use Prim.Native.Nat.{_*_, _^_, _<_, _≤_};
 ghost use lib.ListN.{length, take};
 ghost use Rattle.tables.specs.Tables.{CountsOfSome};
+ghost use Rattle.cells.specs.Cells.{highOf};
 ghost use Rattle.cells.specs.Columns.{WeightsOf};
 ghost use Rattle.sums.specs.Weights.{soundWeights};
-ghost use Rattle.weighted.specs.WeighsBy.{HighsWritten, WeighsBy};
+ghost use Rattle.weighted.specs.WeighsBy.{HighsWritten, WeighsBy, sixHighs};
+ghost use Rattle.weighted.specs.Labelling.{FinishPre, Finished, SearchPre, ListsPre, AllLabelled};
+use cells::Groups;
 
 pub mod closing; // closing.rt: a settled position is stored, and is the next one's
 
@@ -37,4 +40,107 @@ pub fn weights_of(counts: &[u8], weights: &[u32]) -> [u64; 18]
     write_highs(&mut numbers, weights);
     cells::scales::write_scales(&mut numbers, counts);
     numbers
+}
+
+// What a mark of a machine counts in high, 0 past the last one.
+fn high_at(numbers: &[u64], machine: usize) -> u64
+    requires { ⌜ machine < 6 ⌝ }
+    ensures { λ r. ⌜ r ≡ highOf (now (numbers .entry)) machine ⌝ }
+{
+    let at = 3 * machine + 1;
+    if at < numbers.len() {
+        return numbers[at];
+    }
+    0
+}
+
+// What marks of six machines count in high.
+fn six_highs(numbers: &[u64]) -> [u64; 6]
+    ensures { λ r. ⌜ r ≡ sixHighs (now (numbers .entry)) ⌝ }
+{
+    [
+        high_at(numbers, 0),
+        high_at(numbers, 1),
+        high_at(numbers, 2),
+        high_at(numbers, 3),
+        high_at(numbers, 4),
+        high_at(numbers, 5),
+    ]
+}
+
+// Settles a position that was entered, by insertions in lists, and closes it.
+fn finish(
+    work: &mut [u64],
+    base: usize,
+    size: usize,
+    own: &mut [u64; 256],
+    next: &mut [u64; 256],
+    entries: &[u32],
+    ends: &[u16; 514],
+    highs: &[u64; 6],
+)
+    requires { ⌜ FinishPre (now work) (now own) (now next) (now entries) (now ends) (now highs) base size ⌝ }
+    ensures { λ _. ⌜ Finished (now (work .entry)) (now (work .exit)) (now (own .entry)) (now (own .exit)) (now (next .entry)) (now (next .exit)) (now (entries .entry)) (now (ends .entry)) (now (highs .entry)) base size ⌝ }
+{
+    let lows = [0u64; 6];
+    settling::settle(own, entries, ends, highs, &lows, false, size);
+    closing::close(work, base, size, own, next);
+}
+
+// Labels the nodes of all positions, by insertions in lists.
+fn label_positions(
+    work: &mut [u64],
+    card: &[u8],
+    counts: &[u8],
+    numbers: &[u64],
+    sets: &[u64],
+    steps: &mut [u16],
+    entries: &[u32],
+    ends: &[u16; 514],
+    g: Groups,
+)
+    requires { ⌜ SearchPre (now work) (now card) (now counts) (now numbers) (now sets) (now steps) g × ListsPre (now card) (now numbers) (now entries) (now ends) ⌝ }
+    ensures { λ _. ⌜ AllLabelled (now (card .entry)) (now (numbers .entry)) (now (sets .entry)) (now (work .entry)) (now (work .exit)) ⌝ }
+{
+    let highs = six_highs(numbers);
+    let width = columns::width_of(counts);
+    let size = g.front * g.back;
+    let mut own = [0u64; 256];
+    let mut next = [0u64; 256];
+    let mut position = sets.len();
+    entering::endings::enter_endings(&mut own, steps, card, counts, numbers, width, g);
+    finish(
+        work,
+        position * size,
+        size,
+        &mut own,
+        &mut next,
+        entries,
+        ends,
+        &highs,
+    );
+    while position > 0 {
+        position -= 1;
+        entering::enter_symbols(
+            &mut own,
+            &next,
+            steps,
+            card,
+            counts,
+            numbers,
+            width,
+            g,
+            sets[position],
+        );
+        finish(
+            work,
+            position * size,
+            size,
+            &mut own,
+            &mut next,
+            entries,
+            ends,
+            &highs,
+        );
+    }
 }
