@@ -42,16 +42,16 @@ module _ {card ws sets entries ends : List ℕ} {P : ℕ} (s : Setting card sets
     {own : List ℕ} (L : Labels (rankedCosts 1)) (A : Position own P) (E : Entered (cellGraph ws card sets) (placeOf card) (placed (i * P) P L (cellAt own)) i) where
   module _ {ys : List ℕ} (S : Settled (rankedLists entries ends) own ys) where
     pub done : Done (cellGraph ws card sets) (placeOf card) (placed (i * P) P L (cellAt ys)) i
-    done = ranked-settled (Z .ranking) s within W (Z .ranked) (Z .prepared) (Z .listed) A (S .size) S L E
+    done = ranked-settled (Z .by .ranking) s within W (Z .by .ranked) (Z .prepared) (Z .listed) A (S .size) S L E
 
     -- a label has room for more
     room : (K : ℕ) → K ≤ 6 → (c : ℕ) → c < P → cellAt ys c .high < nowhere → LabelRoom (mostOf (highOf ws) K) (mostOf (lowOf ws) K) (2 ^ 56) (cellAt ys c .high / 256, cellAt ys c .low)
     room K six c b h =
-        ranked-room-most s (Z .ranking) W (Z .ranked) K six (done .attained) (i * P + c) (cellAt ys c .high / 256, cellAt ys c .low) (node-below s i (i * P + c) within (omega arith))
+        ranked-room-most s (Z .by .ranking) W (Z .by .ranked) K six (done .attained) (i * P + c) (cellAt ys c .high / 256, cellAt ys c .low) (node-below s i (i * P + c) within (omega arith))
         (placed-in (i * P) P L (cellAt ys) c b ∙ label-of-cell (cellAt ys c .high) (cellAt ys c .low) h)
 
     last : (c : ℕ) → c < P → cellAt ys c .high < nowhere → cellAt ys c .high % 256 ≡ 255
-    last = ranked-last (Z .ranking) s within W (Z .ranked) (Z .prepared) (Z .listed) A (S .size) S
+    last = ranked-last (Z .by .ranking) s within W (Z .by .ranked) (Z .prepared) (Z .listed) A (S .size) S
 
     pub close-ready : {work next : List ℕ} → HasNodes work (i * P + P) → length next ≡ 256 → ClosePre work ys next (i * P) P
     close-ready there e = record {
@@ -77,7 +77,7 @@ module _ {card ws sets entries ends : List ℕ} {P : ℕ} (s : Setting card sets
 
   pub finish-ready : {work next : List ℕ} → HasNodes work (i * P + P) → length next ≡ 256 → FinishPre work own next entries ends (i * P) P
   finish-ready there e = record {
-    settle = ranked-ready (Z .ranking) s within W (Z .ranked) L own (E .attained) (Z .listed) A;
+    settle = ranked-ready (Z .by .ranking) s within W (Z .by .ranked) L own (E .attained) (Z .listed) A;
     close = λ ys S. close-ready S there e;
   }
 

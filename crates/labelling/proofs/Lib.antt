@@ -6,3 +6,4 @@ pub mod Labelled
 pub mod Finishing
 pub mod Looping
 pub mod Ends
+pub mod Preparing

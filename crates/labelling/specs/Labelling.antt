@@ -16,7 +16,7 @@ use Rattle.product.specs.Setting.{placeOf, Setting}
 use Rattle.labels.specs.Work.{labelOf}
 use Rattle.labels.specs.LabelCost.{AllShort}
 use Rattle.tables.specs.Engine.{engineGraph}
-use Rattle.tables.specs.Places.{sixPlaces}
+use Rattle.tables.specs.Places.{sixPlaces, SixPlaces}
 use Rattle.settling.specs.Packing.{packedPath}
 use Rattle.settling.specs.Prices.{rankedHighs, rankedLows}
 use Rattle.settling.specs.Insertions.{Lists, listsOf}
@@ -29,6 +29,7 @@ use Rattle.columns.specs.Filling.{Small}
 use Rattle.columns.specs.Prepared.{Prepared}
 use Rattle.insertions.specs.RankedWeights.{RankedWeights}
 use Rattle.insertions.specs.Listed.{Listed}
+use Rattle.insertions.specs.Listing.{Counted}
 use Rattle.entering.specs.Entering.{cellGraph}
 use Rattle.labelling.specs.CountsPacking.{countsPacking}
 use Rattle.labelling.specs.Closing.{ClosePre, ClosedAt}
@@ -76,15 +77,26 @@ pub record SearchPre (work card counts ws sets steps : List ℕ) (g : Groups) : 
   pub columns : 65 * places counts ≤ length steps
   pub small : Small steps
 
--- the weights are those of a ranked order, and the lists have the insertions of outputs that tell of all others
-pub record ListsPre (card ws entries ends : List ℕ) : Type 0 where
+-- the weights are those of a ranked order
+pub record RankedBy (ws : List ℕ) : Type 0 where
   pub ranking : List ℕ
   pub ranked : RankedWeights (sixPlaces ranking) ws
+  pub six : SixPlaces (sixPlaces ranking)
+
+-- the weights are those of a ranked order, and the lists have the insertions of outputs that tell of all others
+pub record ListsPre (card ws entries ends : List ℕ) : Type 0 where
+  pub by : RankedBy ws
   pub width : ℕ
   pub steps : List ℕ
   pub kept : ℕ
   pub prepared : Prepared (machinesOf card) 0 width steps kept
-  pub listed : Listed (machinesOf card) (sixPlaces ranking) kept entries ends
+  pub listed : Listed (machinesOf card) (sixPlaces (by .ranking)) kept entries ends
+
+-- the columns of the insertions, whose outputs tell of all others; they are counted, and the weights are those of a ranked order
+pub record ListedPre (card counts ws steps ends : List ℕ) (kept : ℕ) : Type 0 where
+  pub by : RankedBy ws
+  pub prepared : Prepared (machinesOf card) 0 (places counts) steps kept
+  pub counted : Counted steps counts ws (places counts) kept ends
 
 pub record AllLabelled (card ws sets work work′ : List ℕ) : Type 0 where
   pub size : length work′ ≡ length work
