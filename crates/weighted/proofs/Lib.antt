@@ -3,3 +3,4 @@ pub mod ClosingNumbers
 pub mod Labelled
 pub mod Finishing
 pub mod Looping
+pub mod Preparing

@@ -11,6 +11,7 @@ use Rattle.paths.specs.Ranked.{rankedCosts}
 use Rattle.paths.specs.Positions.{Done}
 use Rattle.product.specs.Nodes.{stateCounts, product}
 use Rattle.product.specs.Setting.{placeOf, Setting}
+use Rattle.tables.specs.Places.{SixPlaces}
 use Rattle.settling.specs.Insertions.{Lists, listsOf}
 use Rattle.settling.specs.Settling.{SettlePre, Settled}
 use Rattle.cells.specs.declared.Groups.{Groups}
@@ -19,6 +20,7 @@ use Rattle.cells.specs.Columns.{WeightsOf}
 use Rattle.cells.specs.Groups.{GroupsOf}
 use Rattle.columns.specs.Filling.{Small}
 use Rattle.columns.specs.Prepared.{Prepared}
+use Rattle.insertions.specs.RankedWeights.{RankedWeights}
 use Rattle.insertions.specs.Listed.{Listed}
 use Rattle.entering.specs.Entering.{cellGraph}
 use Rattle.sums.specs.Weights.{soundWeights}
@@ -83,6 +85,14 @@ pub record ListsPre (card ws entries ends : List ℕ) : Type 0 where
   pub kept : ℕ
   pub prepared : Prepared (machinesOf card) 0 width steps kept
   pub listed : Listed (machinesOf card) order kept entries ends
+
+-- the numbers by which the lists have marks: those of a ranked order, which is the card order
+pub record MarksBy (counts ws marks : List ℕ) : Type 0 where
+  pub weights : WeightsOf counts marks
+  pub order : List ℕ
+  pub six : SixPlaces order
+  pub ranked : RankedWeights order marks
+  pub in-order : InCardOrder order ws
 
 pub record AllLabelled (card ws sets work work′ : List ℕ) : Type 0 where
   pub size : length work′ ≡ length work

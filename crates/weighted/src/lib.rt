@@ -6,10 +6,13 @@ ghost use lib.ListN.{length, take};
 ghost use Rattle.tables.specs.Tables.{CountsOfSome};
 ghost use Rattle.cells.specs.Cells.{highOf};
 ghost use Rattle.cells.specs.Columns.{WeightsOf};
+ghost use Rattle.basics.specs.Products.{product};
 ghost use Rattle.sums.specs.Weights.{soundWeights};
+ghost use Rattle.sums.specs.Labelling.{AllDone};
 ghost use Rattle.weighted.specs.WeighsBy.{HighsWritten, WeighsBy, sixHighs};
-ghost use Rattle.weighted.specs.Labelling.{FinishPre, Finished, SearchPre, ListsPre, AllLabelled};
+ghost use Rattle.weighted.specs.Labelling.{LabelPre, FinishPre, Finished, SearchPre, ListsPre, MarksBy, AllLabelled};
 use cells::Groups;
+use machine::Pair;
 
 pub mod closing; // closing.rt: a settled position is stored, and is the next one's
 
@@ -34,7 +37,7 @@ fn write_highs(numbers: &mut [u64], weights: &[u32])
 // The numbers of machines with these state counts and weights, three for each: what a state counts in a code, what a mark counts in high, and in low.
 pub fn weights_of(counts: &[u8], weights: &[u32]) -> [u64; 18]
     requires { ⌜ CountsOfSome (now counts) × (soundWeights (length (now counts)) (now weights) ≡ true) ⌝ }
-    ensures { λ r. ⌜ WeightsOf (now (counts .entry)) (take (3 * length (now (counts .entry))) r) × WeighsBy (now (weights .entry)) (take (3 * length (now (counts .entry))) r) ⌝ }
+    ensures { λ r. ⌜ WeightsOf (now (counts .entry)) (take (3 * length (now (counts .entry))) r) × WeighsBy (now (weights .entry)) (take (3 * length (now (counts .entry))) r) × (length r ≡ 18) ⌝ }
 {
     let mut numbers = [0u64; 18];
     write_highs(&mut numbers, weights);
@@ -143,4 +146,131 @@ fn label_positions(
             &highs,
         );
     }
+}
+
+// Labels all nodes. `marks` has the numbers by which the lists have the marks, in card order; `entries` is overwritten.
+fn label_with(
+    work: &mut [u64],
+    card: &[u8],
+    counts: &[u8],
+    numbers: &[u64],
+    marks: &[u64],
+    sets: &[u64],
+    steps: &mut [u16],
+    entries: &mut [u32],
+    g: Groups,
+)
+    requires { ⌜ SearchPre (now work) (now card) (now counts) (now numbers) (now sets) (now steps) g × MarksBy (now counts) (now numbers) (now marks) × (63 * product (now counts) ≤ length (now entries)) ⌝ }
+    ensures { λ _. ⌜ AllLabelled (now (card .entry)) (now (numbers .entry)) (now (sets .entry)) (now (work .entry)) (now (work .exit)) ⌝ }
+{
+    let width = columns::width_of(counts);
+    let mut ends = [0u16; 514];
+    let kept = columns::prepare(steps, card, counts, width, Pair::EMPTY);
+    insertions::count(&mut ends, steps, kept, width, counts, marks, g);
+    insertions::list(entries, &mut ends, steps, kept, width, counts, marks, g);
+    label_positions(work, card, counts, numbers, sets, steps, entries, &ends, g);
+}
+
+// Labels all nodes of at most 16 codes.
+fn label_few(
+    work: &mut [u64],
+    card: &[u8],
+    counts: &[u8],
+    numbers: &[u64],
+    marks: &[u64],
+    sets: &[u64],
+    steps: &mut [u16],
+    g: Groups,
+)
+    requires { ⌜ SearchPre (now work) (now card) (now counts) (now numbers) (now sets) (now steps) g × MarksBy (now counts) (now numbers) (now marks) × (product (now counts) ≤ 16) ⌝ }
+    ensures { λ _. ⌜ AllLabelled (now (card .entry)) (now (numbers .entry)) (now (sets .entry)) (now (work .entry)) (now (work .exit)) ⌝ }
+{
+    let mut entries = [0u32; 1008];
+    label_with(
+        work,
+        card,
+        counts,
+        numbers,
+        marks,
+        sets,
+        steps,
+        &mut entries,
+        g,
+    );
+}
+
+// Labels all nodes of any number of codes.
+fn label_many(
+    work: &mut [u64],
+    card: &[u8],
+    counts: &[u8],
+    numbers: &[u64],
+    marks: &[u64],
+    sets: &[u64],
+    steps: &mut [u16],
+    g: Groups,
+)
+    requires { ⌜ SearchPre (now work) (now card) (now counts) (now numbers) (now sets) (now steps) g × MarksBy (now counts) (now numbers) (now marks) ⌝ }
+    ensures { λ _. ⌜ AllLabelled (now (card .entry)) (now (numbers .entry)) (now (sets .entry)) (now (work .entry)) (now (work .exit)) ⌝ }
+{
+    let mut entries = [0u32; 8064];
+    label_with(
+        work,
+        card,
+        counts,
+        numbers,
+        marks,
+        sets,
+        steps,
+        &mut entries,
+        g,
+    );
+}
+
+// Labels all nodes. Few codes take a small table, since a table has to be written whole when it is made.
+fn label_by(
+    work: &mut [u64],
+    card: &[u8],
+    counts: &[u8],
+    numbers: &[u64],
+    marks: &[u64],
+    sets: &[u64],
+    steps: &mut [u16],
+    g: Groups,
+)
+    requires { ⌜ SearchPre (now work) (now card) (now counts) (now numbers) (now sets) (now steps) g × MarksBy (now counts) (now numbers) (now marks) ⌝ }
+    ensures { λ _. ⌜ AllLabelled (now (card .entry)) (now (numbers .entry)) (now (sets .entry)) (now (work .entry)) (now (work .exit)) ⌝ }
+{
+    let size = g.front * g.back;
+    if size <= 16 {
+        label_few(work, card, counts, numbers, marks, sets, steps, g);
+    } else {
+        label_many(work, card, counts, numbers, marks, sets, steps, g);
+    }
+}
+
+// Labels all nodes: the label of a node is the cost of a best path from it.
+pub fn label(work: &mut [u64], card: &[u8], weights: &[u32], sets: &[u64], size: usize)
+    requires { ⌜ LabelPre (now card) (now weights) (now sets) (now work) size ⌝ }
+    ensures { λ _. ⌜ AllDone (now (card .entry)) (now (weights .entry)) (now (sets .entry)) (now (work .entry)) (now (work .exit)) ⌝ }
+{
+    let all = tables::state_counts(card);
+    let machines = card::machine_count(card);
+    let counts = &all[..machines];
+    let numbers = weights_of(counts, weights);
+    let order = [0u8, 1, 2, 3, 4, 5];
+    let marks = labelling::weights::ranked_weights(counts, &order[..machines]);
+    let places = columns::width_of(counts) * 65;
+    let g = cells::grouped(counts, size);
+    let mut steps = [65535u16; 2600];
+    label_by(
+        work,
+        card,
+        counts,
+        &numbers[..3 * machines],
+        &marks[..3 * machines],
+        sets,
+        &mut steps[..places],
+        g,
+    );
 }

@@ -22,7 +22,7 @@ returns c =
     let A = sound-are (length (s .args .counts .now)) (s .args .weights .now) (s .pre .1) in
     let H = c .before .before .before .before .write-highs .ensures in
     let S = c .before .write-scales .ensures in
-    (numbers-of (s .pre .0) A H S, numbers-by (s .pre .0) A H S)
+    (numbers-of (s .pre .0) A H S, numbers-by (s .pre .0) A H S, S .size ∙ H .size)
 
 pub weights-of-spec : {M : Type 1} → statement M
 weights-of-spec =
