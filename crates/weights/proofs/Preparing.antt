@@ -15,7 +15,7 @@ use Rattle.tables.specs.Tables.{HoldsRows}
 use Rattle.tables.specs.JointTable.{HoldsJoint, JointTablePre}
 use Rattle.sums.specs.Numbers.{sixWeights, cardPlaces}
 use Rattle.sums.specs.Labelling.{Tools, AllDone, LabelPre}
-use Rattle.sums.proofs.Sweeping.{six-card}
+use Rattle.sums.proofs.Stepping.{six-card}
 use Rattle.weights.specs.declared.Weighing.{Weighing}
 use Rattle.weights.specs.Walking.{Labelled}
 use Rattle.weights.specs.Searching.{SetsPre, Searched}
