@@ -1,4 +1,4 @@
--- What closing a position does: a label taken apart into counts, passed on, and the loop over the codes.
+-- What closing a position does: labels taken apart into counts and written, code by code.
 use mathlib.Core.Path.{_≡_, refl, sym, _∙_, ap, subst}
 use mathlib.Core.Logic.{_⊎_, inl, inr, _≢_}
 use mathlib.Core.List.{List}
@@ -21,7 +21,7 @@ use Rattle.cells.specs.Trying.{labelFrom}
 use Rattle.cells.specs.Laws.Labels.{written, written-here, written-other}
 use Rattle.cells.specs.Laws.Trying.{label-there, label-none}
 use Rattle.labelling.specs.CountsPacking.{firstCounts, lastCounts, countsPacking}
-use Rattle.labelling.specs.Closing.{ClosePre, ClosedAt, LabelStored, orNone, PassPre, Passed}
+use Rattle.labelling.specs.Closing.{ClosePre, ClosedAt, LabelStored, PassAllPre, AllPassed}
 
 -- ---- two numbers taken apart into counts
 
@@ -90,188 +90,56 @@ module _ (h l : ℕ) where
       is : labelOf (set xs (u * 8) 0) u ≡ none
       is = unlabelled (set xs (u * 8) 0) u (getD-set-same xs (u * 8) 0 0 (omega arith))
 
--- ---- a label, or none
+-- ---- the loop: the labels of the codes below n are written
 
-abbrev noCell : Cell
-noCell = record { high = noLabel; low = 0 }
-
-module _ (x : Cell) where
-  pub or-there : x .high < nowhere → orNone x ≡ x
-  unfolding orNone
-  or-there h = rw (lt-ltb (x .high) nowhere h)
-
-  pub or-gone : nowhere ≤ x .high → orNone x ≡ record { high = noLabel; low = 0 }
-  unfolding orNone
-  or-gone h = rw (le-ltb (x .high) nowhere h)
-
-  same-label : labelFrom (orNone x) ≡ labelFrom x
-  same-label = go (decLt (x .high) nowhere)
-    where
-      go : Dec (x .high < nowhere) → labelFrom (orNone x) ≡ labelFrom x
-      go (yes k) = ap labelFrom (or-there k)
-      go (no k) = ap labelFrom (or-gone (omega arith)) ∙ label-none noCell (omega arith) ∙ sym (label-none x (omega arith))
-
-  same-high : orNone x .high < nowhere → orNone x .high ≡ x .high
-  same-high h = go (decLt (x .high) nowhere)
-    where
-      go : Dec (x .high < nowhere) → orNone x .high ≡ x .high
-      go (yes k) = ap (λ (y : Cell). y .high) (or-there k)
-      go (no k) = absurd (let e : orNone x .high ≡ noLabel = ap (λ (y : Cell). y .high) (or-gone (omega arith)) in omega arith)
-
-  own-cell : (x .high < nowhere → x .high % 256 ≡ 255) → OwnCell (orNone x)
-  own-cell h = go (decLt (x .high) nowhere)
-    where
-      go : Dec (x .high < nowhere) → OwnCell (orNone x)
-      go (yes k) = subst OwnCell (sym (or-there k)) (record { last = h k; most = omega arith; empty = λ e. absurd (omega arith) })
-      go (no k) = subst OwnCell (sym (or-gone (omega arith))) (record { last = omega arith; most = omega arith; empty = λ e. refl })
-
-  low-few : (x .high < nowhere → x .low + 2 ^ 56 ≤ 2 ^ 64) → orNone x .low ≤ 2 ^ 64 - 2 ^ 56
-  low-few h = go (decLt (x .high) nowhere)
-    where
-      go : Dec (x .high < nowhere) → orNone x .low ≤ 2 ^ 64 - 2 ^ 56
-      go (yes k) = let e : orNone x .low ≡ x .low = ap (λ (y : Cell). y .low) (or-there k) in omega (arith, h k)
-      go (no k) = let e : orNone x .low ≡ 0 = ap (λ (y : Cell). y .low) (or-gone (omega arith)) in omega arith
-
--- a code is taken off a label
-code-fits : (x : Cell) (c : ℕ) → OwnCell x → c < 128 → c ≤ x .high
-code-fits x c o k = omega (arith, o .last)
-
--- ---- passed on
-
-module _ (own next : List ℕ) (c : ℕ) (P : PassPre own next c) (x : Cell) (is : x ≡ orNone (cellAt own c)) where
-  pub at-least : c ≤ x .high
-  at-least = subst (λ (y : Cell). c ≤ y .high) (sym is) (code-fits (orNone (cellAt own c)) c (own-cell (cellAt own c) (P .last)) (P .few))
-
-  abbrev less : Cell
-  less = record { high = x .high - c; low = x .low }
-
-  pub passed : Passed own (written own c noCell) next (written next c less) c
-  passed = record {
-    own-size = simp length-set;
-    next-size = simp length-set;
-    passed = back ∙ is;
-    blank = written-here own c noCell (omega (arith, P .few, P .own-size));
-    own-others = written-other own c noCell;
-    next-others = written-other next c less;
-  }
-    where
-      back : nextCell (written next c less) c ≡ x
-      back =
-          let e = written-here next c less (omega (arith, P .few, P .next-size)) in
-          let q : x .high - c + c ≡ x .high = omega (arith, at-least) in
-          (λ i. record { high = e i .high + c; low = e i .low }) ∙ (λ i. record { high = q i; low = x .low })
-
--- ---- the loop: the codes below n are closed
-
-pub record CodeClosed (work own own′ next : List ℕ) (base c : ℕ) : Type 0 where
-  pub stored : packedPath countsPacking (labelOf work (base + c)) ≡ labelFrom (cellAt own c)
-  pub short : (k : Ranked 6) → labelOf work (base + c) ≡ some k → AllShort 6 k
-  pub next-is : nextCell next c ≡ orNone (cellAt own c)
-  pub blank : cellAt own′ c ≡ record { high = noLabel; low = 0 }
-
-pub record ClosedBelow (work work′ own own′ next next′ : List ℕ) (base n : ℕ) : Type 0 where
+pub record StoredBelow (work work′ own : List ℕ) (base n : ℕ) : Type 0 where
   pub size : length work′ ≡ length work
-  pub own-size : length own′ ≡ 256
-  pub next-size : length next′ ≡ 256
   pub others : (w : ℕ) → (w < base) ⊎ (base + n ≤ w) → AlikeAt work work′ w
-  pub done : (c : ℕ) → c < n → CodeClosed work′ own own′ next′ base c
-  pub own-rest : (c : ℕ) → n ≤ c → cellAt own′ c ≡ cellAt own c
-  pub next-rest : (c : ℕ) → n ≤ c → cellAt next′ c ≡ cellAt next c
+  pub stored : (c : ℕ) → c < n → packedPath countsPacking (labelOf work′ (base + c)) ≡ labelFrom (cellAt own c)
+  pub short : (c : ℕ) (k : Ranked 6) → c < n → labelOf work′ (base + c) ≡ some k → AllShort 6 k
 
-module _ (work own next : List ℕ) (base P : ℕ) (pre : ClosePre work own next base P) where
-  pub closed-start : ClosedBelow work work own own next next base 0
-  closed-start = record {
-    size = refl;
-    own-size = pre .own-size;
-    next-size = pre .next-size;
-    others = λ w d. record { state = refl; cost = refl };
-    done = λ c h. absurd (omega arith);
-    own-rest = λ c h. refl;
-    next-rest = λ c h. refl;
+pub stored-start : (work own : List ℕ) (base : ℕ) → StoredBelow work work own base 0
+stored-start work own base = record { size = refl; others = λ w d. record { state = refl; cost = refl }; stored = λ c h. absurd (omega arith); short = λ c k h. absurd (omega arith) }
+
+module _ (work work′ own : List ℕ) (base n : ℕ) (B : StoredBelow work work′ own base n) where
+  pub has-node : {next : List ℕ} {P : ℕ} → ClosePre work own next base P → n < P → (base + n) * 8 + 7 < length work′
+  has-node pre k = omega (arith, B .size, pre .nodes)
+
+  pub stored-next : (work″ : List ℕ) → LabelStored work′ work″ (base + n) (cellAt own n .high) (cellAt own n .low) → StoredBelow work work″ own base (n + 1)
+  stored-next work″ S = record { size = S .size ∙ B .size; others = others; stored = λ c h. stored c h (ℕ-discrete c n); short = λ c k h. short c k h (ℕ-discrete c n) }
+    where
+      others : (w : ℕ) → (w < base) ⊎ (base + (n + 1) ≤ w) → AlikeAt work work″ w
+      others w (inl h) = alike-trans (B .others w (inl h)) (S .others w (λ e. omega arith))
+      others w (inr h) = alike-trans (B .others w (inr (omega arith))) (S .others w (λ e. omega arith))
+
+      same : (c : ℕ) → c ≢ n → labelOf work″ (base + c) ≡ labelOf work′ (base + c)
+      same c d = label-alike (S .others (base + c) (λ e. d (omega arith)))
+
+      stored : (c : ℕ) → c < n + 1 → Dec (c ≡ n) → packedPath countsPacking (labelOf work″ (base + c)) ≡ labelFrom (cellAt own c)
+      stored c h (yes e) = rw e (S .stored)
+      stored c h (no d) = ap (packedPath countsPacking) (same c d) ∙ B .stored c (omega arith)
+
+      short : (c : ℕ) (k : Ranked 6) → c < n + 1 → Dec (c ≡ n) → labelOf work″ (base + c) ≡ some k → AllShort 6 k
+      short c k h (yes e) l = S .short k (ap (λ (c : ℕ). labelOf work″ (base + c)) (sym e) ∙ l)
+      short c k h (no d) l = B .short c k (omega arith) (sym (same c d) ∙ l)
+
+-- ---- closed
+
+module _ {work own next : List ℕ} {base P : ℕ} (pre : ClosePre work own next base P) where
+  pub pass-ready : PassAllPre own next P
+  pass-ready = record { few = pre .few; own-size = pre .own-size; next-size = pre .next-size; last = pre .last; low = pre .low }
+
+  pub closed-all : {work′ own′ next′ : List ℕ} → StoredBelow work work′ own base P → AllPassed own own′ next next′ P → ClosedAt work work′ own own′ next next′ base P
+  closed-all S A = record {
+    size = S .size;
+    others = S .others;
+    stored = S .stored;
+    short = S .short;
+    labels = A .labels;
+    same = A .same;
+    high-same = A .high-same;
+    fits = A .fits;
+    blank = A .blank;
+    own-size = A .own-size;
+    next-size = A .next-size;
   }
-
-  module _ (work′ own′ next′ : List ℕ) (n : ℕ) (B : ClosedBelow work work′ own own′ next next′ base n) where
-    module _ (k : n < P) where
-      -- what the calls for the code n ask
-      pub has-node : (base + n) * 8 + 7 < length work′
-      has-node = omega (arith, B .size, pre .nodes)
-
-      pub high-few : cellAt own′ n .high < nowhere → cellAt own′ n .high < 2 ^ 56
-      high-few = subst (λ (x : Cell). x .high < nowhere → x .high < 2 ^ 56) (sym (B .own-rest n (omega arith))) (pre .high n k)
-
-      pub pass-pre : PassPre own′ next′ n
-      pass-pre = record {
-        few = omega (arith, pre .few);
-        own-size = B .own-size;
-        next-size = B .next-size;
-        last = subst (λ (x : Cell). x .high < nowhere → x .high % 256 ≡ 255) (sym (B .own-rest n (omega arith))) (pre .last n k);
-      }
-
-      module _ (work″ own″ next″ : List ℕ) (S : LabelStored work′ work″ (base + n) (cellAt own′ n .high) (cellAt own′ n .low)) (Q : Passed own′ own″ next′ next″ n) where
-        here : CodeClosed work″ own own″ next″ base n
-        here =
-            let e = B .own-rest n (omega arith) in
-            record { stored = S .stored ∙ ap labelFrom e; short = S .short; next-is = Q .passed ∙ ap orNone e; blank = Q .blank }
-
-        before : (c : ℕ) → c ≢ n → CodeClosed work′ own own′ next′ base c → CodeClosed work″ own own″ next″ base c
-        before c d D =
-            let a = label-alike (S .others (base + c) (λ e. d (omega arith))) in
-            let q = Q .next-others c d in
-            record {
-              stored = ap (packedPath countsPacking) a ∙ D .stored;
-              short = λ f e. D .short f (sym a ∙ e);
-              next-is = (λ i. record { high = q i .high + c; low = q i .low }) ∙ D .next-is;
-              blank = Q .own-others c d ∙ D .blank;
-            }
-
-        done-next : (c : ℕ) → c < n + 1 → Dec (c ≡ n) → CodeClosed work″ own own″ next″ base c
-        done-next c h (yes e) = subst (CodeClosed work″ own own″ next″ base) (sym e) here
-        done-next c h (no d) = before c d (B .done c (omega arith))
-
-        others-next : (w : ℕ) → (w < base) ⊎ (base + (n + 1) ≤ w) → AlikeAt work work″ w
-        others-next w (inl h) = alike-trans (B .others w (inl h)) (S .others w (λ e. omega arith))
-        others-next w (inr h) = alike-trans (B .others w (inr (omega arith))) (S .others w (λ e. omega arith))
-
-        pub closed-next : ClosedBelow work work″ own own″ next next″ base (n + 1)
-        closed-next = record {
-          size = S .size ∙ B .size;
-          own-size = Q .own-size ∙ B .own-size;
-          next-size = Q .next-size ∙ B .next-size;
-          others = others-next;
-          done = λ c h. done-next c h (ℕ-discrete c n);
-          own-rest = λ c h. Q .own-others c (λ e. omega arith) ∙ B .own-rest c (omega arith);
-          next-rest = λ c h. Q .next-others c (λ e. omega arith) ∙ B .next-rest c (omega arith);
-        }
-
-  module _ (work′ own′ next′ : List ℕ) (B : ClosedBelow work work′ own own′ next next′ base P) where
-    cells-own : (c : ℕ) → c < P → OwnCell (nextCell next′ c)
-    cells-own c k = subst OwnCell (sym (B .done c k .next-is)) (own-cell (cellAt own c) (pre .last c k))
-
-    lows-few : (c : ℕ) → c < P → getD next′ (c * 2 + 1) 0 ≤ 2 ^ 64 - 2 ^ 56
-    lows-few c k = subst (λ (x : Cell). x .low ≤ 2 ^ 64 - 2 ^ 56) (sym (B .done c k .next-is)) (low-few (cellAt own c) (pre .low c k))
-
-    fits : NextFits next → NextFits next′
-    fits F = record { highs = λ i. high i (decLt i P); lows = λ i. low i (decLt i P) }
-      where
-        high : (i : ℕ) → Dec (i < P) → getD next′ (i * 2) 0 ≤ noLabel
-        high i (yes k) = omega (arith, cells-own i k .most)
-        high i (no k) = subst (λ (x : Cell). x .high ≤ noLabel) (sym (B .next-rest i (omega arith))) (F .highs i)
-
-        low : (i : ℕ) → Dec (i < P) → getD next′ (i * 2 + 1) 0 ≤ 2 ^ 64 - 2 ^ 56
-        low i (yes k) = lows-few i k
-        low i (no k) = subst (λ (x : Cell). x .low ≤ 2 ^ 64 - 2 ^ 56) (sym (B .next-rest i (omega arith))) (F .lows i)
-
-    pub closed-end : ClosedAt work work′ own own′ next next′ base P
-    closed-end = record {
-      size = B .size;
-      others = B .others;
-      stored = λ c k. B .done c k .stored;
-      short = λ c f k e. B .done c k .short f e;
-      labels = cells-own;
-      same = λ c k. ap labelFrom (B .done c k .next-is) ∙ same-label (cellAt own c);
-      high-same = λ c k. subst (λ (x : Cell). x .high < nowhere → x .high ≡ cellAt own c .high) (sym (B .done c k .next-is)) (same-high (cellAt own c));
-      fits = fits;
-      blank = λ c k. B .done c k .blank;
-      own-size = B .own-size;
-      next-size = B .next-size;
-    }

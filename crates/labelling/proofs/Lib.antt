@@ -1,3 +1,4 @@
+pub mod Passing
 pub mod Weighing
 pub mod ClosingCodes
 pub mod ClosingExample

@@ -32,7 +32,7 @@ use Rattle.labelling.proofs.Labelled.{labelled-start}
 use Rattle.labelling.proofs.Finishing.{PositionClosed, finish-ready, finished}
 
 module _ {work card counts ws sets steps : List ℕ} {g : Groups} (Q : SearchPre work card counts ws sets steps g) where
-  codes : g .front * g .back ≡ product counts
+  pub codes : g .front * g .back ≡ product counts
   codes = all-codes (Q .groups)
 
   counts-of : product counts ≡ product (stateCounts (machinesOf card))
@@ -41,10 +41,10 @@ module _ {work card counts ws sets steps : List ℕ} {g : Groups} (Q : SearchPre
   pub at-hand : Setting card sets (g .front * g .back)
   at-hand = record { accepted = Q .setting .accepted; few = Q .setting .few; symbols = Q .setting .symbols; states = codes ∙ counts-of }
 
-  weights-of : WeightsOf (stateCounts (machinesOf card)) ws
+  pub weights-of : WeightsOf (stateCounts (machinesOf card)) ws
   weights-of = subst (λ (l : List ℕ). WeightsOf l ws) (Q .counts-are) (Q .weights)
 
-  few-machines : length counts ≤ 6
+  pub few-machines : length counts ≤ 6
   few-machines = omega (arith, ap length (Q .counts-are), length-map (machinesOf card) stateCountOf, card-machines card (Q .setting .accepted) .machines)
 
   pub enter-ready : {own steps′ : List ℕ} {W : ℕ} → W ≡ places counts → length steps′ ≡ length steps → length own ≡ 256 → Ready card counts ws own steps′ W g
@@ -80,7 +80,7 @@ module _ {work card counts ws sets steps : List ℕ} {g : Groups} (Q : SearchPre
   pub counts-known : CountsOfSome counts
   counts-known = card-counts card (Q .setting .accepted) (Q .counts-are)
 
-  position-of : {own : List ℕ} → Position own (product (stateCounts (machinesOf card))) → Position own (g .front * g .back)
+  pub position-of : {own : List ℕ} → Position own (product (stateCounts (machinesOf card))) → Position own (g .front * g .back)
   position-of {own} A = subst (λ (n : ℕ). Position own n) (sym (codes ∙ counts-of)) A
 
   -- nothing is past the last position

@@ -68,3 +68,22 @@ pub record Passed (own own′ next next′ : List ℕ) (code : ℕ) : Type 0 whe
   pub blank : cellAt own′ code ≡ record { high = noLabel; low = 0 }
   pub own-others : (c : ℕ) → c ≢ code → cellAt own′ c ≡ cellAt own c
   pub next-others : (c : ℕ) → c ≢ code → cellAt next′ c ≡ cellAt next c
+
+-- ---- all codes
+
+pub record PassAllPre (own next : List ℕ) (P : ℕ) : Type 0 where
+  pub few : P ≤ 128
+  pub own-size : length own ≡ 256
+  pub next-size : length next ≡ 256
+  pub last : (c : ℕ) → c < P → cellAt own c .high < nowhere → cellAt own c .high % 256 ≡ 255
+  pub low : (c : ℕ) → c < P → cellAt own c .high < nowhere → cellAt own c .low + 2 ^ 56 ≤ 2 ^ 64
+
+-- the labels of a position went from own to next
+pub record AllPassed (own own′ next next′ : List ℕ) (P : ℕ) : Type 0 where
+  pub labels : (c : ℕ) → c < P → OwnCell (nextCell next′ c)
+  pub same : (c : ℕ) → c < P → labelFrom (nextCell next′ c) ≡ labelFrom (cellAt own c)
+  pub high-same : (c : ℕ) → c < P → nextCell next′ c .high < nowhere → nextCell next′ c .high ≡ cellAt own c .high
+  pub fits : NextFits next → NextFits next′
+  pub blank : Blank own′ P
+  pub own-size : length own′ ≡ 256
+  pub next-size : length next′ ≡ 256

@@ -3,7 +3,7 @@ ghost use mathlib.Core.Path.{_≡_};
 ghost use Prim.Native.Nat.{_^_, _<_};
 ghost use Rattle.labels.specs.Work.{HasNode};
 ghost use Rattle.cells.specs.Cells.{nowhere};
-ghost use Rattle.labelling.specs.Closing.{orNone, ClosePre, ClosedAt, LabelStored, PassPre, Passed};
+ghost use Rattle.labelling.specs.Closing.{orNone, ClosePre, ClosedAt, LabelStored, PassPre, Passed, PassAllPre, AllPassed};
 use cells::Cell;
 use cells::NOWHERE;
 
@@ -59,6 +59,18 @@ fn pass_on(own: &mut [u64; 256], next: &mut [u64; 256], code: usize)
     own[at + 1] = 0;
 }
 
+// Makes the labels of a position those of the next one, and takes them away.
+pub fn pass_all(own: &mut [u64; 256], next: &mut [u64; 256], size: usize)
+    requires { ⌜ PassAllPre (now own) (now next) size ⌝ }
+    ensures { λ _. ⌜ AllPassed (now (own .entry)) (now (own .exit)) (now (next .entry)) (now (next .exit)) size ⌝ }
+{
+    let mut code = 0;
+    while code < size {
+        pass_on(own, next, code);
+        code += 1;
+    }
+}
+
 // Closes the position of the size nodes from base on.
 pub fn close(
     work: &mut [u16],
@@ -73,7 +85,7 @@ pub fn close(
     let mut code = 0;
     while code < size {
         store(work, base + code, own[code * 2], own[code * 2 + 1]);
-        pass_on(own, next, code);
         code += 1;
     }
+    pass_all(own, next, size);
 }

@@ -7,8 +7,8 @@ ghost use Rattle.labelling.specs.Labelling.{LabelPre, PositionsDone, Sea
 use cells::Groups;
 use machine::Pair;
 
-mod weights; // weights.rt: what states and marks count, in ranked order
-mod closing; // closing.rt: a settled position is stored, and is the next one's
+pub mod weights; // weights.rt: what states and marks count, in ranked order
+pub mod closing; // closing.rt: a settled position is stored, and is the next one's
 
 // Settles a position that was entered, by insertions in lists, and closes it.
 fn finish(

@@ -1,6 +1,6 @@
 -- `or_none` meets its contract, by cases.
 use mathlib.Core.Path.{sym}
-use Rattle.labelling.proofs.ClosingCodes.{or-there, or-gone}
+use Rattle.labelling.proofs.Passing.{or-there, or-gone}
 use Rattle.labelling.proofs.closing.or_none.Statement.{statement}
 use Rattle.labelling.proofs.closing.or_none.Tie as tie
 

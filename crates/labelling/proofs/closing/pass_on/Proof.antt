@@ -1,6 +1,6 @@
 -- `pass_on` meets its contract: a label's last byte is 255, so the code can be taken off.
 use native.Mathlib.Omega.{arith}
-use Rattle.labelling.proofs.ClosingCodes.{at-least, passed}
+use Rattle.labelling.proofs.Passing.{at-least, passed}
 use borrow.Author.Needs.{needs}
 use Rattle.labelling.proofs.closing.pass_on.Statement.{statement}
 use Rattle.labelling.proofs.closing.pass_on.Tie as tie
