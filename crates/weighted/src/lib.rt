@@ -110,6 +110,8 @@ fn label_positions(
     let size = g.front * g.back;
     let mut own = [0u64; 256];
     let mut next = [0u64; 256];
+    let mut high = [0u64; 264];
+    let mut low = [0u64; 264];
     let mut position = sets.len();
     entering::endings::enter_endings(&mut own, steps, card, counts, numbers, width, g);
     finish(
@@ -131,9 +133,10 @@ fn label_positions(
             card,
             counts,
             numbers,
-            width,
             g,
             sets[position],
+            &mut high,
+            &mut low,
         );
         finish(
             work,
