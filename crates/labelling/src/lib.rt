@@ -3,7 +3,6 @@
 ghost use Prim.Native.Nat.{_+_, _*_, _≤_, _<_};
 ghost use mathlib.Core.Path.{_≡_};
 ghost use lib.ListN.{length, getD};
-
 ghost use Rattle.labelling.specs.Labelling.{LabelPre, PositionsDone, SearchPre, ListsPre, AllLabelled, FinishPre, Finished, RankedBy, ListedPre};
 use cells::Groups;
 use machine::Pair;
@@ -51,7 +50,15 @@ fn label_positions(
     let mut next = [0u64; 256];
     let mut position = sets.len();
     entering::endings::enter_endings(&mut own, steps, card, counts, weights, width, g);
-    finish(work, position * size, size, &mut own, &mut next, entries, ends);
+    finish(
+        work,
+        position * size,
+        size,
+        &mut own,
+        &mut next,
+        entries,
+        ends,
+    );
     while position > 0 {
         position -= 1;
         entering::enter_symbols(
@@ -65,7 +72,15 @@ fn label_positions(
             g,
             sets[position],
         );
-        finish(work, position * size, size, &mut own, &mut next, entries, ends);
+        finish(
+            work,
+            position * size,
+            size,
+            &mut own,
+            &mut next,
+            entries,
+            ends,
+        );
     }
 }
 

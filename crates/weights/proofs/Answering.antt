@@ -26,9 +26,9 @@ use Rattle.weights.specs.Accepting.{accepts}
 use Rattle.weights.specs.WeightedBest.{weighted-best-is-small}
 use Rattle.weights.specs.Searching.{SetsPre, TablesFit, SearchPre, Searched, Optimizes}
 
--- three new tables, with room for the joint steps of P codes and lists of their insertions
-pub tables-fit : (P n : ℕ) → P * 64 ≤ n → TablesFit (replicate {A = ℕ} n 0) (replicate {A = ℕ} n 0) (replicate {A = ℕ} n 0) P
-tables-fit P n h = record { insertions = omega (arith, length-replicate {A = ℕ} n 0); lists = omega (arith, length-replicate {A = ℕ} n 0); joint = omega (arith, length-replicate {A = ℕ} n 0) }
+-- two new tables, with room for the joint steps of P codes
+pub tables-fit : (P n : ℕ) → P * 64 ≤ n → TablesFit (replicate {A = ℕ} n 0) (replicate {A = ℕ} n 0) P
+tables-fit P n h = record { insertions = omega (arith, length-replicate {A = ℕ} n 0); joint = omega (arith, length-replicate {A = ℕ} n 0) }
 
 -- ---- an accepted word
 

@@ -43,7 +43,7 @@ use Rattle.sums.specs.Weights.{weightedSum, bySum}
 use Rattle.sums.specs.WeightedPaths.{byWeights, weights-agree, weightedGraph}
 use Rattle.sums.specs.Numbers.{noLabel, costOf, labelFrom, labelOf}
 use Rattle.sums.proofs.Numbers.{label-at, label-some, label-none}
-use Rattle.sums.proofs.Sweeping.{label-small}
+use Rattle.sums.proofs.Stepping.{label-small}
 use Rattle.weights.specs.declared.Weighing.{Weighing}
 use Rattle.weights.specs.Weighing.{refusedWeighing, sumOf, answeredSum}
 use Rattle.weights.specs.Walking.{Labelled, StartsAt}

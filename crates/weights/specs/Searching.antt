@@ -32,10 +32,9 @@ pub record SetsPre (card weights sets work : List ℕ) (size : ℕ) : Type 0 whe
   pub bits : are64Bits sets ≡ true
   pub room : length work ≡ (length sets + 1) * size
 
--- room for two tables of the joint steps of P codes, and for lists of their insertions
-pub record TablesFit (ins ls js : List ℕ) (P : ℕ) : Type 0 where
+-- room for two tables of the joint steps of P codes
+pub record TablesFit (ins js : List ℕ) (P : ℕ) : Type 0 where
   pub insertions : P * 64 ≤ length ins
-  pub lists : P * 64 ≤ length ls
   pub joint : P * 64 ≤ length js
 
 -- the same with an accepted word
