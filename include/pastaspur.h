@@ -2,7 +2,7 @@
  *
  * Build and link:  rt staticlib pastaspur
  *                  cc -Iinclude program.c -Ltarget/staticlib -lpastaspur
- * Of other libraries it needs memset alone. examples/c has two programs.
+ * Of other libraries it needs memset and memcpy alone. examples/c has two programs.
  *
  * Every call
  * - answers a refusal's number (enum pastaspur_refusal), 0 where it accepts its input: the first refusal met, in the order that its

@@ -26,7 +26,7 @@ use Rattle.product.specs.Laws.Setting.{symbols-few, few-codes}
 use Rattle.product.specs.Laws.Letters.{over-positioned}
 use Rattle.product.specs.Laws.Entering.{NotLeft, symbols-begun, symbols-entered}
 use Rattle.tables.specs.Engine.{engineGraph}
-use Rattle.positions.specs.Labelling.{PositionsDone}
+use Rattle.labelling.specs.Labelling.{PositionsDone}
 use Rattle.cull.specs.Cull.{FewestBelow}
 use Rattle.cull.specs.Stages.{cull-start}
 use Rattle.cull.specs.StageLabels.{countOf, stageLabel, fewestIn}

@@ -1,5 +1,5 @@
 -- Trying the endings of the last position in a stage.
-use mathlib.Core.Path.{_≡_, refl, _∙_, ap, subst}
+use mathlib.Core.Path.{_≡_, refl, sym, _∙_, ap, subst}
 use mathlib.Core.Bool.{Bool, true, false}
 use mathlib.Core.Option.{Option, none, some}
 use mathlib.Core.List.{List}
@@ -14,7 +14,8 @@ use Rattle.labels.specs.Marks.{marksCost}
 use Rattle.product.specs.ProductGraph.{pairs}
 use Rattle.tables.specs.Places.{sixPlaces}
 use Rattle.tables.specs.Endings.{endingCosts}
-use Rattle.tables.specs.JointNumbers.{endingFrom}
+use Rattle.tables.specs.JointNumbers.{endingFrom, jointEnded}
+use Rattle.tables.specs.declared.JointEnding.{JointEnding}
 use Rattle.tables.specs.Laws.Endings.{ending-edge}
 use Rattle.product.specs.Setting.{placeOf, Setting}
 use Rattle.product.specs.Laws.Setting.{machines-sound}
@@ -22,6 +23,7 @@ use Rattle.product.specs.Laws.Entering.{no-ending-tried, ending-tried, endings-
 use Rattle.tables.specs.Engine.{engineGraph}
 use Rattle.cull.specs.Stages.{stage-no-ending}
 use Rattle.cull.specs.StageLabels.{stageLabel}
+use Rattle.cull.specs.Engine.{Looked}
 use Rattle.cull.specs.Relaxing.{noCounts, LeftTold, Lowered}
 use Rattle.cull.specs.Culling.{pairsCounted, stageGraph, Culled, EndsTried}
 use Rattle.cull.proofs.Linking.{ending-kept, ending-dropped}
@@ -39,6 +41,10 @@ ends-trans a b = record {
 
 pub ends-whole : {card ranking sets xs ys : List ℕ} {k u c n : ℕ} → EndsTried card ranking sets xs ys k u (u + c) → c ≤ n → n ≤ c → EndsTried card ranking sets xs ys k u (u + n)
 ends-whole {c = c} {n = n} T a b = let q : n ≡ c = omega arith in rw q T
+
+-- what the joint ending says, by the ranking
+pub ended-at : {card ranking rs cs ps : List ℕ} → Looked card ranking rs cs ps → (z : ℕ) (r : JointEnding) → jointEnded r ≡ endingFrom ps (machinesOf card) z → endingFrom (sixPlaces ranking) (machinesOf card) z ≡ jointEnded r
+ended-at L z r e = sym (rw (L .places) at e)
 
 module _ {card sets : List ℕ} {P : ℕ} (s : Setting card sets P) (ranking : List ℕ) where
   abbrev G : Graph (rankedCosts 6) pairs

@@ -4,6 +4,8 @@ pub mod StageWork
 pub mod Relaxing
 pub mod Runs
 pub mod Linking
+pub mod Edges
+pub mod JointSteps
 pub mod Positions
 pub mod NextStage
 pub mod Ending

@@ -34,9 +34,10 @@ use Rattle.machine.specs.Symbols.{emptySymbol, isPair}
 use Rattle.product.specs.Setting.{placeOf, Setting}
 use Rattle.product.specs.Laws.Setting.{machines-sound, symbols-few, few-codes, few-nodes, place-low, place-high, place-inside}
 use Rattle.product.specs.Laws.Letters.{LetterAt, OverSets, letter-at, over-positioned, part-over}
+use Rattle.product.specs.Laws.Edges.{edge-counts, ending-counts}
 use Rattle.tables.specs.Engine.{engineGraph}
 use Rattle.tables.specs.Laws.Edges.{edgeFrom, insertion-edge}
-use Rattle.positions.proofs.Edges.{over, within, small-marks, symbol-at, joint-bounds}
+use Rattle.cull.proofs.Edges.{over, within, symbol-at, joint-below}
 use Rattle.cull.specs.Stages.{stage-alike-edges, stage-within, stage-sized, stage-count}
 use Rattle.cull.specs.StageLabels.{countOf, stageLabel}
 use Rattle.cull.specs.Relaxation.{Relaxes, Closes}
@@ -87,7 +88,7 @@ module _ {card sets : List ℕ} {P : ℕ} (s : Setting card sets P) where
 
         b : countAt 1 0 d ≤ 15 * letterCount 1 d + 15
         b = attained-count-size S stage-inside A v d h l (stage-sized 6 G (pairsCounted card ranking sets) fewest k)
-            (stage-count 6 G (pairsCounted card ranking sets) fewest k (ranked-counts 6 G k 15 15 (λ u p e z. small-marks s ranking .mark u p e z k) (λ u c z. small-marks s ranking .end-mark u c z k)))
+            (stage-count 6 G (pairsCounted card ranking sets) fewest k (ranked-counts 6 G k 15 15 (λ u p e z. edge-counts (sixPlaces ranking) sets (machinesOf card) (machines-sound s) u p e z k) (λ u c z. ending-counts (sixPlaces ranking) sets (machinesOf card) (machines-sound s) u c z k)))
 
     insertion-at : (i z y : ℕ) → i ≤ length sets → z < P → 0 < y → G .edge (i * P + z) (record { input = 0; output = y }) ≡ edgeFrom (i * P) (jointFrom (sixPlaces ranking) (machinesOf card) z (record { input = 0; output = y }))
     insertion-at i z y h l n = rw (s .states) (insertion-edge ranking sets (machines-sound s) i z (omega (arith, s .states)) (record { input = 0; output = y }) h (rw (ne-eqb y 0 (omega arith))) refl)
@@ -99,7 +100,7 @@ module _ {card sets : List ℕ} {P : ℕ} (s : Setting card sets P) where
       symbol-linked x m H = record {
         step = λ c y. jointFrom (sixPlaces ranking) (machinesOf card) c (record { input = x; output = y });
         told = λ c y a l n. H .entry c y (omega (arith, s .states)) n;
-        within = λ c y r a l n e. joint-bounds s ranking c (r .0) (r .1) (record { input = x; output = y }) e .0;
+        within = λ c y r a l n e. joint-below s ranking c (r .0) (r .1) (record { input = x; output = y }) e;
         entry = λ c y a l n. linked-entry G (pairsCounted card ranking sets) fewest k (C .below) xs (C .told) (i * P + c) (record { input = x; output = y }) ((i + 1) * P) (jointFrom (sixPlaces ranking) (machinesOf card) c (record { input = x; output = y })) (symbol-at s ranking i x c y m a);
         alike = λ c y n a l z j w q. stage-alike-edges 6 G (pairsCounted card ranking sets) fewest k (i * P + c) (record { input = x; output = y }) (record { input = x; output = n }) (symbol-at s ranking i x c y m a ∙ ap (edgeFrom ((i + 1) * P)) q ∙ sym (symbol-at s ranking i x c n m a));
       }
@@ -108,7 +109,7 @@ module _ {card sets : List ℕ} {P : ℕ} (s : Setting card sets P) where
       insertion-linked h H = record {
         step = λ c y. jointFrom (sixPlaces ranking) (machinesOf card) c (record { input = 0; output = y });
         told = λ c y a l n. H .entry c y (omega (arith, s .states)) n;
-        within = λ c y r a l n e. joint-bounds s ranking c (r .0) (r .1) (record { input = 0; output = y }) e .0;
+        within = λ c y r a l n e. joint-below s ranking c (r .0) (r .1) (record { input = 0; output = y }) e;
         entry = λ c y a l n. linked-entry G (pairsCounted card ranking sets) fewest k (C .below) xs (C .told) (i * P + c) (record { input = 0; output = y }) (i * P) (jointFrom (sixPlaces ranking) (machinesOf card) c (record { input = 0; output = y })) (insertion-at i c y h a l);
         alike = λ c y n a l z j w q. stage-alike-edges 6 G (pairsCounted card ranking sets) fewest k (i * P + c) (record { input = 0; output = y }) (record { input = 0; output = n }) (insertion-at i c y h a l ∙ ap (edgeFrom (i * P)) q ∙ sym (insertion-at i c n h a j));
       }

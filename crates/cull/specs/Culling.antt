@@ -18,7 +18,7 @@ use Rattle.tables.specs.JointTable.{HoldsJoint}
 use Rattle.tables.specs.Places.{sixPlaces}
 use Rattle.product.specs.Setting.{placeOf, Setting}
 use Rattle.tables.specs.Engine.{engineGraph}
-use Rattle.positions.specs.Engine.{Looked, Lent}
+use Rattle.cull.specs.Engine.{Looked, Lent}
 use Rattle.cull.specs.Cull.{left, FewestBelow}
 use Rattle.cull.specs.OneConstraint.{LeastPrices}
 use Rattle.cull.specs.Stages.{stage}

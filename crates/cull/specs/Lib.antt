@@ -16,6 +16,7 @@ pub mod CullLabels
 pub mod StageLabels
 pub mod Relaxation
 pub mod Relaxing
+pub mod Engine
 pub mod Culling
 pub mod Survivors
 pub mod TwoEngines

@@ -6,15 +6,14 @@ use mathlib.Core.List.{List}
 use Prim.Native.Nat.{ℕ}
 use lib.ListN.{length}
 use Rattle.candidate.specs.declared.Evaluation.{Evaluation}
-use Rattle.optimizer.specs.Optimizes.{Optimizes}
-use Rattle.optimizer.specs.OptimizesSets.{OptimizesSets}
+use Rattle.optimizer.specs.Optimizes.{Optimizes, OptimizesSets}
 use Rattle.optimizer.specs.TwoCalls.{two-calls, two-calls-sets}
 
-module _ {card ranking word work work′ after after′ answer filled filled′ : List ℕ} {r r′ : Evaluation} (same-length : length work ≡ length work′) where
+module _ (card ranking : List ℕ) {word work work′ after after′ answer filled filled′ : List ℕ} {r r′ : Evaluation} (same-length : length work ≡ length work′) where
   -- work slices of one length, with any contents
   pub two-engines : Optimizes card ranking word work after answer filled r → Optimizes card ranking word work′ after′ answer filled′ r′ → (r ≡ r′) × (filled ≡ filled′)
-  two-engines a b = two-calls a b .same-length same-length
+  two-engines a b = two-calls card ranking a b .same-length same-length
 
   -- with sets
   pub two-engines-sets : OptimizesSets card ranking word work after answer filled r → OptimizesSets card ranking word work′ after′ answer filled′ r′ → (r ≡ r′) × (filled ≡ filled′)
-  two-engines-sets a b = two-calls-sets a b .same-length same-length
+  two-engines-sets a b = two-calls-sets card ranking a b .same-length same-length

@@ -19,7 +19,8 @@ use Rattle.candidate.specs.Candidates.{pairsOf, bytesOf, spelled, marksFrom, is
 use Rattle.candidate.specs.Evaluating.{refused, soundCandidate, evaluating}
 use Rattle.ranking.specs.ByteStrings.{smaller}
 use Rattle.product.specs.Best.{winsTie, preferred, sameWord, pairsOver, listsBelow, contendersAmong, leastOf, bestBelow, bestOf, bestIn, best}
-use Rattle.product.specs.Optimizing.{soundWord, inputRefusal, optimizerRefusal, optimized, optimizedAnswer}
+use Rattle.product.specs.Answering.{answered, answeredSlice}
+use Rattle.product.specs.Optimizing.{soundWord, inputRefusal, optimized, optimizedAnswer}
 use Rattle.examples.specs.Cards.{cardA, cardAWithInsertion, cardB, cardBWithEnding}
 
 -- an accepted result: the counts, the pairs, the length of the word
@@ -54,7 +55,7 @@ pub record TenExamples : Type 0 where
   pub ten : finding 3 (4 ∷ 1 ∷ []) ≡ record { number = 0; ranking = 1 ∷ 2 ∷ 0 ∷ 0 ∷ 0 ∷ 0 ∷ [] }
 
 pub the-ten-examples : TenExamples
-unfolding allOf pairwise those firstThat joined everyBelow someBelow numbersBelow occurrences setOf ofKind takes stepAmong endingOf takeOnePair clash arcAt arcsAt machineOf soundArc shaped partRefusal dueOffset laidOut partsIn counted partsOf cardRefusal partsRefusal product machinesOf isRanking arrangements harmony highest fits conditionsOf disjoint soundCondition soundList smallest finding pairsOf bytesOf spelled marksFrom isComplete profileOf soundCandidate evaluating smaller winsTie preferred sameWord pairsOver listsBelow contendersAmong leastOf bestBelow bestOf bestIn best soundWord inputRefusal optimizerRefusal optimized optimizedAnswer
+unfolding allOf pairwise those firstThat joined everyBelow someBelow numbersBelow occurrences setOf ofKind takes stepAmong endingOf takeOnePair clash arcAt arcsAt machineOf soundArc shaped partRefusal dueOffset laidOut partsIn counted partsOf cardRefusal partsRefusal product machinesOf isRanking arrangements harmony highest fits conditionsOf disjoint soundCondition soundList smallest finding pairsOf bytesOf spelled marksFrom isComplete profileOf soundCandidate evaluating smaller winsTie preferred sameWord pairsOver listsBelow contendersAmong leastOf bestBelow bestOf bestIn best soundWord inputRefusal answered answeredSlice
 the-ten-examples = record {
   one = (refl, refl);
   two = (refl, refl);
@@ -75,5 +76,5 @@ pub record RequestExamples : Type 0 where
   pub its-profile : evaluating cardBWithEnding (1 ∷ 1 ∷ []) ≡ accepted (1 ∷ 0 ∷ 0 ∷ 0 ∷ 0 ∷ 0 ∷ []) 1 1
 
 pub the-request-examples : RequestExamples
-unfolding allOf pairwise those firstThat joined everyBelow someBelow numbersBelow occurrences setOf ofKind takes stepAmong endingOf takeOnePair clash arcAt arcsAt machineOf soundArc shaped partRefusal dueOffset laidOut partsIn counted partsOf cardRefusal partsRefusal product machinesOf isRanking arrangements harmony highest fits conditionsOf disjoint soundCondition soundList smallest finding pairsOf bytesOf spelled marksFrom isComplete profileOf soundCandidate evaluating smaller winsTie preferred sameWord pairsOver listsBelow contendersAmong leastOf bestBelow bestOf bestIn best soundWord inputRefusal optimizerRefusal optimized optimizedAnswer
+unfolding allOf pairwise those firstThat joined everyBelow someBelow numbersBelow occurrences setOf ofKind takes stepAmong endingOf takeOnePair clash arcAt arcsAt machineOf soundArc shaped partRefusal dueOffset laidOut partsIn counted partsOf cardRefusal partsRefusal product machinesOf isRanking arrangements harmony highest fits conditionsOf disjoint soundCondition soundList smallest finding pairsOf bytesOf spelled marksFrom isComplete profileOf soundCandidate evaluating smaller winsTie preferred sameWord pairsOver listsBelow contendersAmong leastOf bestBelow bestOf bestIn best soundWord inputRefusal answered answeredSlice
 the-request-examples = record { ending-marks = (refl, refl); its-profile = refl }

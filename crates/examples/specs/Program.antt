@@ -14,7 +14,8 @@ use Rattle.ranking.specs.Harmony.{harmony}
 use Rattle.candidate.specs.Candidates.{pairsOf, bytesOf, spelled, marksFrom, isComplete, profileOf}
 use Rattle.ranking.specs.ByteStrings.{smaller}
 use Rattle.product.specs.Best.{winsTie, preferred, sameWord, pairsOver, listsBelow, contendersAmong, leastOf, bestBelow, bestOf, bestIn, best}
-use Rattle.product.specs.Optimizing.{soundWord, inputRefusal, optimizerRefusal, optimized, optimizedAnswer}
+use Rattle.product.specs.Answering.{answered, answeredSlice}
+use Rattle.product.specs.Optimizing.{soundWord, inputRefusal}
 use Rattle.lines.specs.Text.{textOf, before, after, segments}
 use Rattle.lines.specs.Decimal.{digitsWithin, decimal, valueFrom}
 use Rattle.lines.specs.Parsing.{isRankingText, isSymbolText, symbolsIn, parsedLine}
@@ -38,5 +39,5 @@ pub record ProgramExamples : Type 0 where
   pub lesson-of-two : output cardB (textOf "012 2\n021 2") ≡ textOf "0,0,1 2:0\n0,1,0 0:1 2:2\nanswered 2 refused 0\ntotal 0,1,1\n"
 
 pub the-program-examples : ProgramExamples
-unfolding allOf pairwise those joined everyBelow someBelow numbersBelow occurrences setOf ofKind takes stepAmong endingOf takeOnePair clash arcAt arcsAt machineOf soundArc shaped partRefusal dueOffset laidOut partsIn counted partsOf cardRefusal partsRefusal product machinesOf isRanking harmony pairsOf bytesOf spelled marksFrom isComplete profileOf smaller winsTie preferred sameWord pairsOver listsBelow contendersAmong leastOf bestBelow bestOf bestIn best soundWord inputRefusal optimizerRefusal optimized optimizedAnswer before after segments digitsWithin decimal valueFrom isRankingText isSymbolText symbolsIn parsedLine linesOf nextCount withCommas pairText pairsText acceptedLine lineOf answeredLine totalLine closingLines bestLine countsOf shownMachines totalOf totals closing lessonOutput
+unfolding allOf pairwise those joined everyBelow someBelow numbersBelow occurrences setOf ofKind takes stepAmong endingOf takeOnePair clash arcAt arcsAt machineOf soundArc shaped partRefusal dueOffset laidOut partsIn counted partsOf cardRefusal partsRefusal product machinesOf isRanking harmony pairsOf bytesOf spelled marksFrom isComplete profileOf smaller winsTie preferred sameWord pairsOver listsBelow contendersAmong leastOf bestBelow bestOf bestIn best soundWord inputRefusal answered answeredSlice before after segments digitsWithin decimal valueFrom isRankingText isSymbolText symbolsIn parsedLine linesOf nextCount withCommas pairText pairsText acceptedLine lineOf answeredLine totalLine closingLines bestLine countsOf shownMachines totalOf totals closing lessonOutput
 the-program-examples = record { line = refl; empty-word = refl; lesson-of-line = refl; lesson-of-empty-word = refl; no-input = refl; lesson-of-two = refl }

@@ -21,18 +21,16 @@ use Rattle.card.specs.Accepted.{accepted}
 use Rattle.basics.proofs.Search.{map-at}
 use Rattle.candidate.specs.Candidates.{marksOf, countOf, profileOf, IsCandidate}
 use Rattle.product.specs.Nodes.{nodeCount}
-use Rattle.product.specs.Best.{Contender, best}
-use Rattle.product.specs.Sets.{IsCandidateOf, bestOfSets}
-use Rattle.product.specs.BestCandidate.{Beats, better-profile, fewer-pairs, smaller-bytes, IsBestCandidate, IsBestOfSets, BestOf}
-use Rattle.product.specs.BestTheorem.{best-is-best-of-all}
-use Rattle.product.specs.SetsTheorem.{best-is-best-of-all-words}
-use Rattle.product.specs.Laws.BestOfSets.{are64Bits}
-use Rattle.product.specs.Laws.BestCandidate.{profile-length}
+use Rattle.product.specs.Best.{Contender, ProfileOrder, harmonic}
+use Rattle.product.specs.Prices.{ranking-agrees}
+use Rattle.product.specs.BestCandidate.{IsBestBy, Beats, better-profile, fewer-pairs, smaller-bytes, BestOf}
+use Rattle.product.specs.Searches.{Searches}
+use Rattle.product.specs.Laws.BestCandidate.{profile-length, best-of-ranked}
 use Rattle.product.specs.Laws.Accepted.{accepted-machines}
 use Rattle.join.specs.Merged.{mergedCounts}
 use Rattle.join.specs.JoinedMachine.{machineAt, joinedMachine, joinedMachines, markless}
 use Rattle.join.specs.JoinedRanking.{renumbered, joinedRanking}
-use Rattle.join.specs.JoinTheorem.{Joins, JoinKeeps, join-keeps}
+use Rattle.join.specs.JoinTheorem.{Joins, JoinKeeps, keeps-meant, join-keeps}
 use Rattle.join.specs.Laws.Merged.{length-merged}
 use Rattle.join.specs.Laws.Ranking.{merged-count, joined-worse, joined-ranking}
 use Rattle.join.specs.Laws.Markless.{counts-nothing}
@@ -103,29 +101,17 @@ module _ {S i j u : ℕ} {ms : List Machine} (k : Joins S i j ms) (n : Unmarked 
     beats-new (fewer-pairs e h) = fewer-pairs (to-new e) h
     beats-new (smaller-bytes e h l) = smaller-bytes (to-new e) h l
 
-  -- the best candidate is the same
-  pub best-joined : (r word : List ℕ) (c : List Pair) → IsBestCandidate (joinedRanking i j u r) (joinedMachines i j ms) word c ↔ IsBestCandidate r ms word c
-  unfolding ms′ keeps
-  best-joined r word c = (
+  -- the best candidate is the same, whatever is asked for
+  pub best-joined : {Meant : List Machine → List Pair → Type 0} {bestOn : ProfileOrder → List ℕ → Option Contender} → Searches Meant bestOn → (r : List ℕ) (c : List Pair)
+      → IsBestBy (Beats (joinedRanking i j u r) (joinedMachines i j ms)) (Meant (joinedMachines i j ms)) c ↔ IsBestBy (Beats r ms) (Meant ms) c
+  unfolding ms′
+  best-joined asked r c = (
     λ b.
-        let h = keeps .candidate word c .0 (b .candidate) in
-        record { candidate = h; rivals = λ d hd ne. beats-old r c d h hd (b .rivals d (keeps .candidate word d .1 hd) ne) },
+        let h = keeps-meant k asked c .0 (b .candidate) in
+        record { candidate = h; rivals = λ d hd ne. beats-old r c d (asked .candidate h .1) (asked .candidate hd .1) (b .rivals d (keeps-meant k asked d .1 hd) ne) },
     λ b. record {
-      candidate = keeps .candidate word c .1 (b .candidate);
-      rivals = λ d hd ne. let h = keeps .candidate word d .0 hd in beats-new r c d (b .candidate) h (b .rivals d h ne);
-    },
-  )
-
-  -- so is the best for a word heard only in part
-  pub best-of-sets-joined : (r sets : List ℕ) (c : List Pair) → IsBestOfSets (joinedRanking i j u r) (joinedMachines i j ms) sets c ↔ IsBestOfSets r ms sets c
-  unfolding ms′ keeps
-  best-of-sets-joined r sets c = (
-    λ b.
-        let h = keeps .candidate-of sets c .0 (b .candidate) in
-        record { candidate = h; rivals = λ d hd ne. beats-old r c d (h .is) (hd .is) (b .rivals d (keeps .candidate-of sets d .1 hd) ne) },
-    λ b. record {
-      candidate = keeps .candidate-of sets c .1 (b .candidate);
-      rivals = λ d hd ne. let h = keeps .candidate-of sets d .0 hd in beats-new r c d (b .candidate .is) (h .is) (b .rivals d h ne);
+      candidate = keeps-meant k asked c .1 (b .candidate);
+      rivals = λ d hd ne. let h = keeps-meant k asked d .0 hd in beats-new r c d (asked .candidate (b .candidate) .1) (asked .candidate h .1) (b .rivals d h ne);
     },
   )
 
@@ -163,13 +149,7 @@ module _ {card new : List ℕ} {i j : ℕ} (two : TwoCards i j card new) where
   pub same-nodes : (n : ℕ) → nodeCount (machinesOf new) n ≡ nodeCount (machinesOf card) n
   same-nodes n = ap (λ (ms : List Machine). nodeCount ms n) (two .machines) ∙ ap (λ (P : ℕ). (n + 1) * P) (kept .states)
 
-  -- candidates are the same, and their profiles are the old ones with the two counts added
-  pub same-candidate : (word : List ℕ) (c : List Pair) → IsCandidate (machinesOf new) word c ↔ IsCandidate (machinesOf card) word c
-  same-candidate word c = rw (two .machines) (kept .candidate word c)
-
-  pub same-candidate-of : (sets : List ℕ) (c : List Pair) → IsCandidateOf (machinesOf new) sets c ↔ IsCandidateOf (machinesOf card) sets c
-  same-candidate-of sets c = rw (two .machines) (kept .candidate-of sets c)
-
+  -- the profiles of candidates are the old ones with the two counts added
   pub added-profile : {word : List ℕ} (c : List Pair) → IsCandidate (machinesOf card) word c → profileOf (machinesOf new) c ≡ mergedCounts i j (profileOf (machinesOf card) c)
   added-profile c is = rw (two .machines) (kept .profile c (is .pairs) (is .complete))
 
@@ -183,32 +163,32 @@ module _ {card new : List ℕ} {i j : ℕ} (two : TwoCards i j card new) where
             ∙ length-merged joinedMachine (machinesOf card) i j (two .order) (joins .within)
             ∙ accepted-machines card (two .first-accepted) .count
 
-    pub same-best : (ranking word : List ℕ) (c : List Pair) → IsBestCandidate (joinedRanking i j u ranking) (machinesOf new) word c ↔ IsBestCandidate ranking (machinesOf card) word c
-    same-best ranking word c = rw (two .machines) (best-joined joins n ranking word c)
+    -- whatever is asked for
+    module _ {Meant : List Machine → List Pair → Type 0} {bestOn : ProfileOrder → List ℕ → Option Contender} (asked : Searches Meant bestOn) where
+      -- the same candidates are meant, and the best of them is the same
+      pub same-meant : (c : List Pair) → Meant (machinesOf new) c ↔ Meant (machinesOf card) c
+      same-meant c = rw (two .machines) (keeps-meant joins asked c)
 
-    pub same-best-of-sets : (ranking sets : List ℕ) (c : List Pair) → IsBestOfSets (joinedRanking i j u ranking) (machinesOf new) sets c ↔ IsBestOfSets ranking (machinesOf card) sets c
-    same-best-of-sets ranking sets c = rw (two .machines) (best-of-sets-joined joins n ranking sets c)
+      pub same-best : (ranking : List ℕ) (c : List Pair) → IsBestBy (Beats (joinedRanking i j u ranking) (machinesOf new)) (Meant (machinesOf new)) c ↔ IsBestBy (Beats ranking (machinesOf card)) (Meant (machinesOf card)) c
+      same-best ranking c = rw (two .machines) (best-joined joins n asked ranking c)
 
-    -- so what the definitions find is the same, for a word and for sets
-    found-too : {Meant Best NewMeant NewBest : List Pair → Type 0} {o new-o : Option Contender} → BestOf (machinesOf card) Meant Best o → BestOf (machinesOf new) NewMeant NewBest new-o
-        → ((c : List Pair) → NewMeant c → Meant c) → ((c : List Pair) → Best c → NewBest c) → ((c : List Pair) → Best c → profileOf (machinesOf new) c ≡ mergedCounts i j (profileOf (machinesOf card) c))
-        → new-o ≡ joinedContender i j o
-    found-too {Meant} {Best} {NewMeant} {NewBest} {o} {new-o} here there meant bests profiles = go o refl
-      where
-        go : (b : Option Contender) → o ≡ b → new-o ≡ joinedContender i j b
-        go none q = there .none-exactly .1 (λ c x. here .none-exactly .0 q c (meant c x))
-        go (some b) q =
-            let c = b .candidate in
-            let is = here .is-best b q in
-            there .only-it c (bests c is) ∙ ap (λ (v : List ℕ). some (record { candidate = c; profile = v })) (profiles c is ∙ ap (mergedCounts i j) (sym (here .its-profile b q)))
+      module _ (ranking : List ℕ) (is : isRanking (machineCount card) ranking ≡ true) where
+        pub old-best : BestOf (machinesOf card) (Beats ranking (machinesOf card)) (Meant (machinesOf card)) (bestOn (harmonic ranking) card)
+        old-best = best-of-ranked ranking (rw (accepted-machines card (two .first-accepted) .count) is) (asked .best-of-all (ranking-agrees ranking) card (two .first-accepted))
 
-    pub best-of-joined : (ranking word : List ℕ) → isRanking (machineCount card) ranking ≡ true → best new (joinedRanking i j u ranking) word ≡ joinedContender i j (best card ranking word)
-    best-of-joined ranking word is =
-        found-too (best-is-best-of-all card ranking word (two .first-accepted) is) (best-is-best-of-all new (joinedRanking i j u ranking) word (two .second-accepted) (new-ranking ranking is))
-        (λ c. same-candidate word c .0) (λ c. same-best ranking word c .1) (λ c b. added-profile c (b .candidate))
+        new-best : BestOf (machinesOf new) (Beats (joinedRanking i j u ranking) (machinesOf new)) (Meant (machinesOf new)) (bestOn (harmonic (joinedRanking i j u ranking)) new)
+        new-best =
+            best-of-ranked (joinedRanking i j u ranking) (rw (accepted-machines new (two .second-accepted) .count) (new-ranking ranking is))
+            (asked .best-of-all (ranking-agrees (joinedRanking i j u ranking)) new (two .second-accepted))
 
-    pub best-of-sets-of-joined : (ranking sets : List ℕ) → isRanking (machineCount card) ranking ≡ true → are64Bits sets ≡ true
-        → bestOfSets new (joinedRanking i j u ranking) sets ≡ joinedContender i j (bestOfSets card ranking sets)
-    best-of-sets-of-joined ranking sets is bits =
-        found-too (best-is-best-of-all-words card ranking sets (two .first-accepted) is bits) (best-is-best-of-all-words new (joinedRanking i j u ranking) sets (two .second-accepted) (new-ranking ranking is) bits)
-        (λ c. same-candidate-of sets c .0) (λ c. same-best-of-sets ranking sets c .1) (λ c b. added-profile c (b .candidate .is))
+        -- so what the definitions find is the same
+        pub best-of-joined : bestOn (harmonic (joinedRanking i j u ranking)) new ≡ joinedContender i j (bestOn (harmonic ranking) card)
+        best-of-joined = go (bestOn (harmonic ranking) card) refl
+          where
+            go : (b : Option Contender) → bestOn (harmonic ranking) card ≡ b → bestOn (harmonic (joinedRanking i j u ranking)) new ≡ joinedContender i j b
+            go none q = new-best .none-exactly .1 (λ c x. old-best .none-exactly .0 q c (same-meant c .0 x))
+            go (some b) q =
+                let c = b .candidate in
+                let best-here = old-best .is-best b q in
+                new-best .only-it c (same-best ranking c .1 best-here)
+                ∙ ap (λ (v : List ℕ). some (record { candidate = c; profile = v })) (added-profile c (asked .candidate (best-here .candidate) .1) ∙ ap (mergedCounts i j) (sym (old-best .its-profile b q)))

@@ -14,9 +14,10 @@ use Rattle.basics.proofs.Search.{all-at}
 use Rattle.machine.specs.declared.Pair.{Pair}
 use Rattle.machine.specs.Symbols.{isPair}
 use Rattle.machine.specs.Machine.{Machine}
-use Rattle.candidate.specs.Candidates.{marksOf, isSome, countOf, isComplete, profileOf, IsCandidate}
+use Rattle.candidate.specs.Candidates.{marksOf, isSome, countOf, isComplete, profileOf}
 use Rattle.product.specs.Nodes.{stateCountOf, stateCounts, product}
-use Rattle.product.specs.Sets.{IsCandidateOf}
+use Rattle.product.specs.Best.{Contender, ProfileOrder}
+use Rattle.product.specs.Searches.{Searches}
 use Rattle.join.specs.Merged.{mergedCounts}
 use Rattle.join.specs.JoinedMachine.{machineAt, joinedMachine, joinedMachines, bothMarks, markless}
 use Rattle.join.specs.Laws.Machines.{soundMachine}
@@ -35,8 +36,6 @@ pub record Joins (S i j : ℕ) (ms : List Machine) : Type 0 where
 pub record JoinKeeps (i j : ℕ) (ms : List Machine) : Type 0 where
   pub complete : (c : List Pair) → allOf isPair c ≡ true → isComplete (joinedMachines i j ms) c ≡ isComplete ms c
   pub profile : (c : List Pair) → allOf isPair c ≡ true → isComplete ms c ≡ true → profileOf (joinedMachines i j ms) c ≡ mergedCounts i j (profileOf ms c)
-  pub candidate : (word : List ℕ) (c : List Pair) → IsCandidate (joinedMachines i j ms) word c ↔ IsCandidate ms word c
-  pub candidate-of : (sets : List ℕ) (c : List Pair) → IsCandidateOf (joinedMachines i j ms) sets c ↔ IsCandidateOf ms sets c
   pub states : product (stateCounts (joinedMachines i j ms)) ≡ product (stateCounts ms)
 
 module _ {S i j : ℕ} {ms : List Machine} (k : Joins S i j ms) where
@@ -74,21 +73,17 @@ module _ {S i j : ℕ} {ms : List Machine} (k : Joins S i j ms) where
       (all-at (λ m. isSome (marksOf c m)) ms _ t i (omega (arith, k .order, k .within)))
       (all-at (λ m. isSome (marksOf c m)) ms _ t j (k .within)))
 
-  keeps-candidate : (word : List ℕ) (c : List Pair) → IsCandidate (joinedMachines i j ms) word c ↔ IsCandidate ms word c
-  keeps-candidate word c = (
-    λ h. record { pairs = h .pairs; spells = h .spells; complete = sym (keeps-complete c (h .pairs)) ∙ h .complete },
-    λ h. record { pairs = h .pairs; spells = h .spells; complete = keeps-complete c (h .pairs) ∙ h .complete },
+  -- so of all that can be asked for the same lists are meant
+  pub keeps-meant : {Meant : List Machine → List Pair → Type 0} {best : ProfileOrder → List ℕ → Option Contender} → Searches Meant best → (c : List Pair) → Meant (joinedMachines i j ms) c ↔ Meant ms c
+  keeps-meant asked c = (
+    λ h. let k = asked .candidate h .1 in asked .complete-too h (sym (keeps-complete c (k .pairs)) ∙ k .complete),
+    λ h. let k = asked .candidate h .1 in asked .complete-too h (keeps-complete c (k .pairs) ∙ k .complete),
   )
 
   pub join-keeps : JoinKeeps i j ms
   join-keeps = record {
     complete = keeps-complete;
     profile = keeps-profile;
-    candidate = keeps-candidate;
-    candidate-of = λ sets c. (
-      λ h. record { word = h .word; fits = h .fits; is = keeps-candidate (h .word) c .0 (h .is) },
-      λ h. record { word = h .word; fits = h .fits; is = keeps-candidate (h .word) c .1 (h .is) },
-    );
     states =
         ap product (map-merged stateCountOf joinedMachine (λ m n. m * n) ms i j _ (k .order) (k .within) (joined-states (machineAt ms i) (machineAt ms j)))
         ∙ product-merged (stateCounts ms) i j (k .order) (omega (arith, k .within, length-map ms stateCountOf));

@@ -32,6 +32,7 @@ use Rattle.candidate.specs.Candidates.{isComplete, profileOf}
 use Rattle.candidate.specs.Evaluating.{evaluating}
 use Rattle.product.specs.Best.{best}
 use Rattle.product.specs.Sets.{bestOfSets}
+use Rattle.product.specs.Searches.{of-word, of-sets}
 use Rattle.product.specs.Nodes.{stateCountOf, stateCounts, product}
 use Rattle.product.specs.Laws.Accepted.{part-states}
 use Rattle.product.specs.Laws.BestOfSets.{are64Bits}
@@ -42,7 +43,7 @@ use Rattle.join.specs.JoinedRanking.{joinedRanking}
 use Rattle.join.specs.JoinedCard.{MayJoin, fitsPart, joinedPart, joinedParts, joinedCard, lower, other, joining, machinesRefusal, joiningRefusal, joiningAnswer, joiningTarget}
 use Rattle.join.specs.Writing.{CardJoins}
 use Rattle.join.specs.JoinTheorem.{Joins, JoinKeeps, join-keeps}
-use Rattle.join.specs.BestJoined.{Unmarked, TwoCards, joinedContender, card-joins, best-of-joined, best-of-sets-of-joined}
+use Rattle.join.specs.BestJoined.{Unmarked, TwoCards, joinedContender, card-joins, best-of-joined}
 use Rattle.join.specs.JoinedEvaluation.{SameEvaluation, same-evaluation}
 use Rattle.join.specs.Laws.Merged.{length-merged, each-merged, all-merged, map-merged}
 use Rattle.join.specs.Laws.Sound.{joined-sound}
@@ -154,7 +155,7 @@ pub record CardJoined (i j : ℕ) (card new : List ℕ) : Type 0 where
       → bestOfSets new (joinedRanking i j u ranking) sets ≡ joinedContender i j (bestOfSets card ranking sets)
 
 pub card-joined : (card : List ℕ) → cardRefusal card ≡ 0 → (i j : ℕ) → MayJoin i j (machinesOf card) → CardJoined i j card (joinedCard i j card)
-unfolding machinesOf joinedCard
+unfolding machinesOf joinedCard best bestOfSets
 card-joined card ok i j may = record {
   accepts = made .accepts;
   symbols = made .symbols;
@@ -166,8 +167,8 @@ card-joined card ok i j may = record {
   complete = λ c is. ap (λ (l : List Machine). isComplete l c) machines ∙ keeps .complete c is;
   profile = λ c is t. ap (λ (l : List Machine). profileOf l c) machines ∙ keeps .profile c is t;
   evaluation = same-evaluation two;
-  best-one = λ u n ranking word is. best-of-joined two n ranking word is;
-  best-of-sets = λ u n ranking sets is bits. best-of-sets-of-joined two n ranking sets is bits;
+  best-one = λ u n ranking word is. best-of-joined two n (of-word word) ranking is;
+  best-of-sets = λ u n ranking sets is bits. best-of-joined two n (of-sets sets bits) ranking is;
 }
   where
     S : ℕ

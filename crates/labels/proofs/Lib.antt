@@ -1,13 +1,3 @@
 pub mod Comparing
 pub mod Work
-pub mod Clearing
-pub mod Keys
-pub mod Lowering
-pub mod Selecting
-pub mod PositionGraph
-pub mod Listing
-pub mod Spreading
-pub mod Settling
-pub mod PartLabels
-pub mod PositionDone
 pub mod Room

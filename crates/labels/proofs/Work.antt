@@ -1,18 +1,18 @@
 -- Laws of the work slice: what a node's numbers say, and what writing them does.
 use mathlib.Core.Path.{_≡_, refl, sym, _∙_, ap}
 use mathlib.Core.Logic.{_⊎_, inl, inr, _≢_}
-use mathlib.Core.Bool.{Bool, cond}
+use mathlib.Core.Bool.{Bool, cond, not}
 use mathlib.Core.Option.{none, some, Option·none-ne-some}
 use mathlib.Core.List.{List, [], _∷_}
 use Prim.Native.Nat.{ℕ, zero, suc, _+_, _*_, _≤_, _<_}
 use native.Mathlib.Omega.{arith}
 use native.Mathlib.Decide.{ℕ-discrete, decLt}
 use lib.Dec.{eqb}
-use borrow.Author.Tests.{eq-eqb, ne-eqb}
+use borrow.Author.Tests.{eq-eqb, ne-eqb, eqb-true, eqb-false, not-true, not-false}
 use lib.ListN.{length, getD, set, length-set, List·getD-eq-default}
 use lib.Seq.{getD-set-same, getD-set-other}
 use Rattle.paths.specs.Ranked.{Ranked}
-use Rattle.labels.specs.Work.{stateOf, costAt, labelOf, AlikeAt, Stored}
+use Rattle.labels.specs.Work.{stateOf, costAt, labelOf, AlikeAt, Reached, Stored}
 
 -- ---- what a label is
 
@@ -25,6 +25,13 @@ module _ (xs : List ℕ) (u : ℕ) where
   unfolding labelOf
   unlabelled e = ap (λ (b : Bool). cond b none (some (costAt xs u))) (eq-eqb (stateOf xs u) 0 e)
 
+  -- whether u has one
+  pub reached-test : Reached xs u (not (eqb (stateOf xs u) 0))
+  reached-test = record {
+    label = λ q. labelled (eqb-false (stateOf xs u) 0 (not-true (eqb (stateOf xs u) 0) q));
+    unlabelled = λ q. unlabelled (eqb-true (stateOf xs u) 0 (not-false (eqb (stateOf xs u) 0) q));
+  }
+
   -- u has the label c
   pub record Holds (c : Ranked 6) : Type 0 where
     pub state : stateOf xs u ≢ 0
@@ -36,13 +43,6 @@ module _ (xs : List ℕ) (u : ℕ) where
       go : Dec (stateOf xs u ≡ 0) → Holds c
       go (yes e) = absurd (Option·none-ne-some c (sym (unlabelled e) ∙ l))
       go (no n) = let q : costAt xs u ≡ c = cc (labelled n, l) in record { state = n; cost = q }
-
-  pub blank-state : labelOf xs u ≡ none → stateOf xs u ≡ 0
-  blank-state l = go (ℕ-discrete (stateOf xs u) 0)
-    where
-      go : Dec (stateOf xs u ≡ 0) → stateOf xs u ≡ 0
-      go (yes e) = e
-      go (no n) = absurd (Option·none-ne-some (costAt xs u) (sym l ∙ labelled n))
 
   -- past the end there is no label
   pub past-end : length xs ≤ u * 8 → labelOf xs u ≡ none

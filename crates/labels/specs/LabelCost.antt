@@ -1,36 +1,19 @@
 -- The cost that a label has: six counts in ranked order, and the number of pairs.
-use mathlib.Core.Bool.{Bool, _&&_, _||_}
+use mathlib.Core.Bool.{Bool, _&&_}
 use Prim.Native.Nat.{ℕ, zero, suc, _+_, _*_, _<_}
-use lib.Dec.{ltb, eqb}
+use lib.Dec.{eqb}
 use Rattle.paths.specs.Ranked.{Ranked}
 use Rattle.labels.specs.declared.Label.{Label}
 
 abbrev pub costOf : Label → Ranked 6
 costOf l = (l .first, (l .second, (l .third, (l .fourth, (l .fifth, (l .sixth, l .pairs))))))
 
--- a cost from its fourth place on
-abbrev pub lastPlaces : Ranked 6 → Ranked 3
-lastPlaces c = c .1 .1 .1
-
--- its first two counts as one number
-abbrev pub firstTwo : Ranked 6 → ℕ
-firstTwo c = c .0 * 65536 + c .1 .0
-
--- its first four
-abbrev pub frontKey : Ranked 6 → ℕ
-frontKey c = ((c .0 * 65536 + c .1 .0) * 65536 + c .1 .1 .0) * 65536 + c .1 .1 .1 .0
-
 -- each count fits into 16 bits
 abbrev pub AllShort : (k : ℕ) → Ranked k → Type 0
 AllShort zero c = c < 65536
 AllShort (suc k) c = (c .0 < 65536) × AllShort k (c .1)
 
--- whether a is less than b, from the first place on
-abbrev pub isLess : (k : ℕ) → Ranked k → Ranked k → Bool
-isLess zero a b = ltb a b
-isLess (suc k) a b = ltb (a .0) (b .0) || (eqb (a .0) (b .0) && isLess k (a .1) (b .1))
-
--- whether they are the same
+-- whether a and b are the same
 abbrev pub isSame : (k : ℕ) → Ranked k → Ranked k → Bool
 isSame zero a b = eqb a b
 isSame (suc k) a b = eqb (a .0) (b .0) && isSame k (a .1) (b .1)

@@ -1,11 +1,4 @@
 pub mod Marks
-pub mod MarksLaws
 pub mod LabelCost
+pub mod MarksLaws
 pub mod Work
-pub mod Keys
-pub mod Listing
-pub mod Lowering
-pub mod Selecting
-pub mod PositionGraph
-pub mod Spreading
-pub mod Settling

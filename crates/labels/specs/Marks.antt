@@ -1,8 +1,5 @@
 -- The marks of a pair as one number: four bits a machine in ranked order, the highest ranked machine's first.
-use mathlib.Core.Bool.{cond}
-use mathlib.Core.Option.{Option, none, some}
 use Prim.Native.Nat.{ℕ, zero, suc, _+_, _*_, _/_, _%_, _^_}
-use lib.Dec.{ltb}
 use Rattle.paths.specs.Ranked.{Ranked}
 
 -- the k marks that the number e stands for, and one pair
@@ -18,17 +15,6 @@ fromNibbles (suc k) c = c .0 * 16 ^ k + fromNibbles k (c .1)
 abbrev pub marksCost : ℕ → Ranked 6
 marksCost e = nibbles 6 e
 
--- what the pair costs; a number that is not of six marks stands for no pair
-unfoldable pub pairCost : ℕ → Option (Ranked 6)
-pairCost e = cond (ltb e (16 ^ 6)) (some (marksCost e)) none
-
 -- the number of no pair
 abbrev pub noPair : ℕ
 noPair = 4294967295
-
--- a pair of a list as one number: the node that it leads from, and its marks
-abbrev pub pairFrom : ℕ → ℕ
-pairFrom x = x / 16777216
-
-abbrev pub pairMarks : ℕ → ℕ
-pairMarks x = x % 16777216

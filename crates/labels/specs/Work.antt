@@ -1,5 +1,5 @@
--- The work slice: eight numbers to a node. Node u's stand from u * 8 on: its state (0 unreached, 1 open, 2 settled), six counts in ranked
--- order, the number of pairs.
+-- The work slice: eight numbers to a node. Node u's stand from u * 8 on: its state, 0 where it has no label, six counts in ranked order, the number
+-- of pairs.
 use mathlib.Core.Path.{_≡_}
 use mathlib.Core.Logic.{_≢_}
 use mathlib.Core.Bool.{Bool, true, false, cond}
@@ -25,15 +25,9 @@ stateOf xs u = getD xs (u * 8) 0
 abbrev pub costAt : List ℕ → ℕ → Ranked 6
 costAt xs u = (getD xs (u * 8 + 1) 0, (getD xs (u * 8 + 2) 0, (getD xs (u * 8 + 3) 0, (getD xs (u * 8 + 4) 0, (getD xs (u * 8 + 5) 0, (getD xs (u * 8 + 6) 0, getD xs (u * 8 + 7) 0))))))
 
--- the label of u: none where u is unreached, and past the end
+-- the label of u: none where its state is 0, and past the end
 unfoldable pub labelOf : List ℕ → ℕ → Option (Ranked 6)
 labelOf xs u = cond (eqb (stateOf xs u) 0) none (some (costAt xs u))
-
-abbrev pub OpenAt : List ℕ → ℕ → Type 0
-OpenAt xs u = stateOf xs u ≡ 1
-
-abbrev pub SettledAt : List ℕ → ℕ → Type 0
-SettledAt xs u = stateOf xs u ≡ 2
 
 -- the node w is the same in both
 pub record AlikeAt (xs ys : List ℕ) (w : ℕ) : Type 0 where
@@ -45,15 +39,9 @@ pub record Reached (xs : List ℕ) (u : ℕ) (r : Bool) : Type 0 where
   pub label : r ≡ true → labelOf xs u ≡ some (costAt xs u)
   pub unlabelled : r ≡ false → labelOf xs u ≡ none
 
--- ys is xs with u open and its label c
+-- ys is xs with the label c at u
 pub record Stored (xs ys : List ℕ) (u : ℕ) (c : Ranked 6) : Type 0 where
   pub size : length ys ≡ length xs
   pub state : stateOf ys u ≡ 1
   pub cost : costAt ys u ≡ c
   pub others : (w : ℕ) → w ≢ u → AlikeAt xs ys w
-
--- ys is xs with no label at the first n nodes
-pub record Cleared (xs ys : List ℕ) (n : ℕ) : Type 0 where
-  pub size : length ys ≡ length xs
-  pub blank : (u : ℕ) → u < n → labelOf ys u ≡ none
-  pub others : (u : ℕ) → n ≤ u → AlikeAt xs ys u

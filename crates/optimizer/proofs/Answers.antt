@@ -1,52 +1,78 @@
--- What the call answers, by the checks that the input passes and by the best candidate. Assumes nothing.
-use mathlib.Core.Path.{_≡_, refl, _∙_}
+-- What the calls answer, by the checks that the input passes and by the best candidate: for every order, a word or sets. Assumes nothing.
+use mathlib.Core.Path.{_≡_, refl, sym, _∙_, ap}
 use mathlib.Core.Logic.{_≢_}
 use mathlib.Core.List.{List, [], _∷_, _++_}
+use mathlib.Core.Option.{Option, some}
 use Prim.Native.Nat.{ℕ, zero, suc, _<_, _≤_}
 use native.Mathlib.Omega.{arith}
 use lib.ListN.{length, take, drop, length-append, length-drop}
-use Rattle.refusals.specs.Refusals.{refuse}
+use Rattle.refusals.specs.Refusals.{unlessRefused}
+use Rattle.refusals.proofs.Refusals.{accepted as taken, not-accepted}
 use Rattle.card.specs.Layout.{symbolCount}
 use Rattle.candidate.specs.declared.Evaluation.{Evaluation}
-use Rattle.candidate.specs.Candidates.{isSome}
 use Rattle.candidate.specs.Evaluating.{refused}
-use Rattle.product.specs.Best.{best}
+use Rattle.product.specs.Best.{Contender, best}
+use Rattle.product.specs.Sets.{bestOfSets}
 use Rattle.product.specs.Prices.{ranking-agrees}
-use Rattle.product.specs.Optimizing.{inputRefusal, answerFits, optimizerRefusal, optimized, optimizedAnswer}
-use Rattle.product.specs.CountsFit.{best-in-is-small}
-use Rattle.input.specs.AcceptedInput.{accepted-input, short-word}
-use Rattle.optimizer.specs.SmallAnswers.{SmallAnswer, small-answer}
-use Rattle.optimizer.specs.Optimizes.{Optimizes}
+use Rattle.product.specs.Answering.{callRefusal, evaluationOf, filled, answered, answeredSlice}
+use Rattle.product.specs.Optimizing.{inputRefusal}
+use Rattle.product.specs.OptimizingSets.{setsInputRefusal}
+use Rattle.product.specs.CountsFit.{SmallBest, best-in-is-small, best-of-sets-is-small}
+use Rattle.input.specs.AcceptedInput.{accepted-input, short-word, accepted-sets-input}
+use Rattle.optimizer.specs.SmallAnswers.{small-answer}
+use Rattle.optimizer.specs.Optimizes.{Answers}
 use Rattle.optimizer.specs.Searching.{Searched}
 
--- ---- the bound
+-- ---- the contract, where the best of accepted input is small
 
--- what the definition answers is small
-answers-small : (card ranking word : List ℕ) (room answerRoom : ℕ) → SmallAnswer (optimized card ranking word room answerRoom)
-unfolding optimized optimizerRefusal best
-answers-small card ranking word room answerRoom =
-    small-answer (inputRefusal card ranking word room) (refuse 10 (isSome (best card ranking word)) ∷ refuse 12 (answerFits (best card ranking word) answerRoom) ∷ []) (best card ranking word) word
-    (λ e. let a = accepted-input card ranking word room e in best-in-is-small (ranking-agrees ranking) card (a .accepted) word (short-word (symbolCount card) word (a .sound)))
+module _ {n : ℕ} {best : Option Contender} (small : n ≡ 0 → (b : Contender) → best ≡ some b → SmallBest b) {word work answer : List ℕ} {r : Evaluation} where
+  call-answers : {workAfter answerAfter : List ℕ} → r ≡ answered n best word (length answer) → answerAfter ≡ answeredSlice n best answer → length workAfter ≡ length work → (n ≢ 0 → workAfter ≡ work)
+      → Answers n best word work workAfter answer answerAfter r
+  call-answers e s l k = record { result = e; answer-slice = s; work-length = l; work-kept = k; small = rw e (small-answer n best word (length answer) small) }
 
--- so it comes with the rest of the contract
-call-answers : {card ranking word work workAfter answer answerAfter : List ℕ} {r : Evaluation} → r ≡ optimized card ranking word (length work) (length answer) → answerAfter ≡ optimizedAnswer card ranking word (length work) answer
-    → length workAfter ≡ length work → (inputRefusal card ranking word (length work) ≢ 0 → workAfter ≡ work) → Optimizes card ranking word work workAfter answer answerAfter r
-call-answers {card} {ranking} {word} {work} {answer = answer} e s l k = record { result = e; answer-slice = s; work-length = l; work-kept = k; small = rw e (answers-small card ranking word (length work) (length answer)) }
+  -- a refusal of the input
+  pub call-refused : (m : ℕ) → m ≡ n → 0 < m → r ≡ refused m → Answers n best word work work answer answer r
+  unfolding answered answeredSlice
+  call-refused zero e h q = absurd (omega arith)
+  call-refused (suc m) e h q = call-answers (q ∙ ap (λ (k : ℕ). answered k best word (length answer)) e) (ap (λ (k : ℕ). answeredSlice k best answer) e) refl (λ _. refl)
 
--- ---- a refusal of the input
+  -- accepted input: what the search answers is the call's answer
+  pub call-searched : {front frontAfter workAfter answerAfter : List ℕ} → n ≡ 0 → length workAfter ≡ length work → Searched best word front frontAfter answer answerAfter r → Answers n best word work workAfter answer answerAfter r
+  call-searched ok w s = call-answers (rw ok (s .result)) (rw ok (s .answer-slice)) w (λ z. absurd (z ok))
 
-pub call-refused : {card ranking word work answer : List ℕ} {r : Evaluation} (n : ℕ) → n ≡ inputRefusal card ranking word (length work) → 0 < n → r ≡ refused n
-    → Optimizes card ranking word work work answer answer r
-unfolding optimized optimizedAnswer optimizerRefusal
-call-refused zero e h q = absurd (omega arith)
-call-refused (suc n) e h q = call-answers (q ∙ (rw (← e))) (rw (← e)) refl (λ _. refl)
+-- ---- what a search answers
 
--- ---- accepted input: what the search answers is the call's answer
+module _ {best : Option Contender} {word work workAfter answer : List ℕ} {r : Evaluation} (w : length workAfter ≡ length work) where
+  -- 10 or 12
+  pub search-refused : (n : ℕ) → n ≡ callRefusal 0 best (length answer) → 0 < n → r ≡ refused n → Searched best word work workAfter answer answer r
+  unfolding answered answeredSlice
+  search-refused n e h q = record { result = q ∙ by (evaluationOf best word) refused; answer-slice = by (filled best answer) (λ n. answer); work-length = w }
+    where
+      by : {A : Type 0} (a : A) (f : ℕ → A) → f n ≡ unlessRefused (callRefusal 0 best (length answer)) a f
+      by a f = sym (not-accepted n a f h) ∙ ap (λ (m : ℕ). unlessRefused m a f) e
 
-pub call-searched : {card ranking word front frontAfter work workAfter answer answerAfter : List ℕ} {r : Evaluation} → inputRefusal card ranking word (length work) ≡ 0 → length workAfter ≡ length work
-    → Searched (best card ranking word) word front frontAfter answer answerAfter r → Optimizes card ranking word work workAfter answer answerAfter r
-unfolding optimized optimizedAnswer optimizerRefusal
-call-searched ok w s = call-answers (s .result ∙ (rw ok)) (s .answer-slice ∙ (rw ok)) w (λ n. absurd (n ok))
+  -- or the best
+  pub search-found : {b : Contender} {answerAfter : List ℕ} → best ≡ some b → callRefusal 0 best (length answer) ≡ 0 → r ≡ evaluationOf (some b) word → answerAfter ≡ filled (some b) answer
+      → Searched best word work workAfter answer answerAfter r
+  unfolding answered answeredSlice
+  search-found is ok e s = record {
+    result = e ∙ sym (ap (λ (o : Option Contender). evaluationOf o word) is) ∙ sym (taken (evaluationOf best word) refused ok);
+    answer-slice = s ∙ sym (ap (λ (o : Option Contender). filled o answer) is) ∙ sym (taken (filled best answer) (λ n. answer) ok);
+    work-length = w;
+  }
+
+-- ---- the best of accepted input is small, under a ranking
+
+module _ (card ranking : List ℕ) (room : ℕ) where
+  pub word-best-small : (word : List ℕ) → inputRefusal card ranking word room ≡ 0 → (b : Contender) → best card ranking word ≡ some b → SmallBest b
+  unfolding best
+  word-best-small word e =
+      let a = accepted-input card ranking word room e in
+      best-in-is-small (ranking-agrees ranking) card (a .accepted) word (short-word (symbolCount card) word (a .sound))
+
+  pub sets-best-small : (sets : List ℕ) → setsInputRefusal card ranking sets room ≡ 0 → (b : Contender) → bestOfSets card ranking sets ≡ some b → SmallBest b
+  unfolding bestOfSets
+  sets-best-small sets e = let a = accepted-sets-input card ranking sets room e in best-of-sets-is-small (ranking-agrees ranking) card (a .accepted) sets (a .sound .short)
 
 -- ---- the work slice
 

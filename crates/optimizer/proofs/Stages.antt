@@ -6,8 +6,8 @@ use Prim.Native.Nat.{ℕ, _+_, _*_, _<_, _≤_}
 use native.Mathlib.Omega.{arith}
 use lib.Dec.{leb}
 use lib.ListN.{length, drop}
-use Rattle.refusals.specs.Refusals.{refuse, unlessRefused}
-use Rattle.refusals.proofs.Refusals.{accepted as taken, not-accepted, last-one}
+use Rattle.refusals.specs.Refusals.{refuse}
+use Rattle.refusals.proofs.Refusals.{last-one}
 use Rattle.machine.specs.declared.Pair.{Pair}
 use Rattle.ranking.specs.declared.Profile.{Profile}
 use Rattle.ranking.specs.Lemmas.Rankings.{ranking-facts}
@@ -19,7 +19,7 @@ use Rattle.candidate.specs.Candidates.{bytesOf}
 use Rattle.candidate.specs.Evaluating.{refused}
 use Rattle.product.specs.Best.{Contender}
 use Rattle.product.specs.Sets.{bestOfSets}
-use Rattle.product.specs.Optimizing.{evaluationOf, filled}
+use Rattle.product.specs.Answering.{callRefusal, evaluationOf, filled}
 use Rattle.paths.specs.Ranked.{Ranked, letterCount}
 use Rattle.paths.specs.ByRanking.{ranked, ranked-letters}
 use Rattle.paths.specs.Labels.{Closed, Attained}
@@ -35,9 +35,10 @@ use Rattle.product.specs.Laws.BestCandidate.{profile-length}
 use Rattle.product.specs.Laws.CardGraph.{start-within}
 use Rattle.tables.specs.Engine.{engineGraph}
 use Rattle.tables.specs.Places.{sixPlaces}
-use Rattle.positions.specs.Labelling.{PositionsDone}
+use Rattle.labelling.specs.Labelling.{PositionsDone}
 use Rattle.walk.specs.Walked.{StartsAt, WalkPre, Walked}
-use Rattle.optimizer.specs.Searching.{searchRefusal, labelRefusal, SetsPre, Searched, RankingOfSome, CardOrder}
+use Rattle.optimizer.specs.Searching.{labelRefusal, SetsPre, Searched, RankingOfSome, CardOrder}
+use Rattle.optimizer.proofs.Answers.{search-refused, search-found}
 use Rattle.optimizer.proofs.Found.{FoundAt, not-found, found, path-found}
 use Rattle.optimizer.proofs.Labels.{starts-at}
 
@@ -62,15 +63,15 @@ module _ {card ranking sets work : List ℕ} {size : ℕ} (pre : SetsPre card ra
     start-there = omega (arith, done .size, pre .room, ap (λ (n : ℕ). (length sets + 1) * n) (pre .setting .states), start-within card sets (pre .setting .accepted))
 
     -- the checks by the label of the start are those by the best candidate
-    by-label : (room : ℕ) → labelRefusal (labelOf after (cardStart card)) room ≡ searchRefusal (bestOfSets card ranking sets) room
+    by-label : (room : ℕ) → labelRefusal (labelOf after (cardStart card)) room ≡ callRefusal 0 (bestOfSets card ranking sets) room
     by-label room = go (labelOf after (cardStart card)) refl
       where
-        go : (o : Option (Ranked 6)) → labelOf after (cardStart card) ≡ o → labelRefusal o room ≡ searchRefusal (bestOfSets card ranking sets) room
-        go none l = sym (ap (λ (b : Option Contender). searchRefusal b room) (not-found card ranking sets (pre .setting .accepted) (pre .ranks) (pre .bits) (labelOf after) closed l))
+        go : (o : Option (Ranked 6)) → labelOf after (cardStart card) ≡ o → labelRefusal o room ≡ callRefusal 0 (bestOfSets card ranking sets) room
+        go none l = sym (ap (λ (b : Option Contender). callRefusal 0 b room) (not-found card ranking sets (pre .setting .accepted) (pre .ranks) (pre .bits) (labelOf after) closed l))
         go (some x) l =
             ap (λ (n : ℕ). refuse 12 (leb (2 * n) room)) its-pairs
             ∙ sym (last-one (refuse 12 (leb (2 * length (f .form .candidate)) room)))
-            ∙ sym (ap (λ (b : Option Contender). searchRefusal b room) (f .is))
+            ∙ sym (ap (λ (b : Option Contender). callRefusal 0 b room) (f .is))
           where
             f : FoundAt card ranking sets x
             f = found card ranking sets (pre .setting .accepted) (pre .ranks) (pre .bits) (labelOf after) closed attained x l
@@ -87,14 +88,7 @@ module _ {card ranking sets work : List ℕ} {size : ℕ} (pre : SetsPre card ra
 
     -- a refusal
     pub refused-answered : (answer : List ℕ) (n : ℕ) (r : Evaluation) → n ≡ labelRefusal (labelOf after (cardStart card)) (length answer) → 0 < n → r ≡ refused n → Searched (bestOfSets card ranking sets) sets work after answer answer r
-    refused-answered answer n r e h q = record {
-      result = q ∙ refused-by (evaluationOf (bestOfSets card ranking sets) sets) refused;
-      answer-slice = refused-by (filled (bestOfSets card ranking sets) answer) (λ n. answer);
-      work-length = done .size;
-    }
-      where
-        refused-by : {A : Type 0} (a : A) (f : ℕ → A) → f n ≡ unlessRefused (searchRefusal (bestOfSets card ranking sets) (length answer)) a f
-        refused-by a f = sym (not-accepted n a f h) ∙ ap (λ (m : ℕ). unlessRefused m a f) (e ∙ by-label (length answer))
+    refused-answered answer n r e h q = search-refused (done .size) n (e ∙ by-label (length answer)) h q
 
     -- none
     module _ (room : ℕ) (passes : labelRefusal (labelOf after (cardStart card)) room ≡ 0) where
@@ -133,16 +127,12 @@ module _ {card ranking sets work : List ℕ} {size : ℕ} (pre : SetsPre card ra
     pub best-answered : {answer answerAfter : List ℕ} {n : ℕ} (label : Label) (profile : Profile) → labelRefusal (labelOf after (cardStart card)) (length answer) ≡ 0 → costOf label ≡ costAt after (cardStart card)
         → CardOrder ranking (costOf label) profile → Walked ranking card sets after answer answerAfter n
         → Searched (bestOfSets card ranking sets) sets work after answer answerAfter (record { number = 0; profile = profile; pairs = n; «word_length» = length sets })
-    best-answered {answer = answer} {answerAfter = answerAfter} {n = n} label profile passes at order w = record {
-      result = evaluated ∙ sym (taken (evaluationOf (bestOfSets card ranking sets) sets) refused unrefused);
-      answer-slice = written ∙ sym (taken (filled (bestOfSets card ranking sets) answer) (λ n. answer) unrefused);
-      work-length = done .size;
-    }
+    best-answered {answer = answer} {answerAfter = answerAfter} {n = n} label profile passes at order w = search-found (done .size) (b .is) unrefused evaluated written
       where
         b : FoundAt card ranking sets (start (length answer) passes .cost)
         b = the-best (length answer) passes
 
-        unrefused : searchRefusal (bestOfSets card ranking sets) (length answer) ≡ 0
+        unrefused : callRefusal 0 (bestOfSets card ranking sets) (length answer) ≡ 0
         unrefused = sym (by-label (length answer)) ∙ passes
 
         cost : costOf label ≡ ranked (sixPlaces ranking) (b .form .profile) (length (b .form .candidate))
@@ -153,16 +143,14 @@ module _ {card ranking sets work : List ℕ} {size : ℕ} (pre : SetsPre card ra
             ap length (b .profile) ∙ profile-length (machinesOf card) (b .form .candidate) ∙ accepted-machines card (pre .setting .accepted) .count
             ∙ sym (ranking-facts (machineCount card) ranking (pre .ranks) .places)
 
-        evaluated : _≡_ {A = Evaluation} (record { number = 0; profile = profile; pairs = n; «word_length» = length sets }) (evaluationOf (bestOfSets card ranking sets) sets)
+        evaluated : _≡_ {A = Evaluation} (record { number = 0; profile = profile; pairs = n; «word_length» = length sets }) (evaluationOf (some (b .form)) sets)
         evaluated =
             let p = order (b .form .profile) (length (b .form .candidate)) lengths cost in
             let m = walked-pairs (length answer) passes w in
-            let q : _≡_ {A = Evaluation} (record { number = 0; profile = profile; pairs = n; «word_length» = length sets }) (evaluationOf (some (b .form)) sets)
-            = λ i. record { number = 0; profile = p i; pairs = m i; «word_length» = length sets } in
-            q ∙ ap (λ o. evaluationOf o sets) (sym (b .is))
+            λ i. record { number = 0; profile = p i; pairs = m i; «word_length» = length sets }
 
-        written : answerAfter ≡ filled (bestOfSets card ranking sets) answer
-        written = w .written ∙ ap (λ (d : List Pair). bytesOf d ++ drop (2 * length d) answer) (walked-best (length answer) passes w) ∙ ap (λ o. filled o answer) (sym (b .is))
+        written : answerAfter ≡ filled (some (b .form)) answer
+        written = w .written ∙ ap (λ (d : List Pair). bytesOf d ++ drop (2 * length d) answer) (walked-best (length answer) passes w)
 
 pub searched-by : {b : Option Contender} {card ranking sets word work after answer answerAfter : List ℕ} {r : Evaluation} → PositionsDone card ranking sets work after 0 → Searched b word after after answer answerAfter r → Searched b word work after answer answerAfter r
 searched-by D S = record { result = S .result; answer-slice = S .answer-slice; work-length = D .size }

@@ -22,7 +22,7 @@ use Rattle.product.specs.ProductGraph.{cardStart}
 use Rattle.product.specs.Laws.Accepted.{accepted-machines}
 use Rattle.product.specs.Laws.BestCandidate.{profile-length}
 use Rattle.tables.specs.Engine.{engineGraph}
-use Rattle.positions.specs.Labelling.{PositionsDone}
+use Rattle.labelling.specs.Labelling.{PositionsDone}
 use Rattle.optimizer.specs.Searching.{SetsPre, SearchPre, CardOrder}
 use Rattle.optimizer.specs.Telling.{profileTold, TellsBest}
 use Rattle.optimizer.proofs.Words.{word-small}

@@ -2,6 +2,7 @@
 use mathlib.Core.Path.{_≡_, refl, _∙_, ap}
 use mathlib.Core.Bool.{true, _&&_}
 use mathlib.Core.List.{List, [], _∷_}
+use mathlib.Core.Option.{Option}
 use Prim.Native.Nat.{ℕ, suc, _+_, _^_, _<_, _≤_}
 use native.Mathlib.Decide.{ℕ-discrete}
 use native.Mathlib.Omega.{arith}
@@ -19,15 +20,16 @@ use Rattle.card.specs.Card.{cardRefusal}
 use Rattle.card.specs.Accepted.{accepted}
 use Rattle.candidate.specs.declared.Evaluation.{Evaluation}
 use Rattle.candidate.specs.Evaluating.{refused}
-use Rattle.product.specs.Best.{best}
+use Rattle.product.specs.Best.{Contender, best}
 use Rattle.product.specs.Sets.{singletons, bestOfSets}
+use Rattle.product.specs.Answering.{callRefusal, answered}
 use Rattle.product.specs.Optimizing.{soundWord}
 use Rattle.product.specs.SetsTheorem.{best-of-one-word}
 use Rattle.product.specs.OneSymbolEach.{evaluated-alike}
 use Rattle.product.specs.Laws.Words.{accepted-word, small-symbols}
 use Rattle.product.specs.Laws.Sets.{as-many, reads-word}
 use Rattle.product.specs.Laws.BestOfSets.{singletons-64}
-use Rattle.optimizer.specs.Searching.{searchRefusal, SetsPre, SearchPre, Searched}
+use Rattle.optimizer.specs.Searching.{SetsPre, SearchPre, Searched}
 
 -- ---- filling the sets
 
@@ -79,6 +81,15 @@ module _ (card word : List ℕ) (ok : cardRefusal card ≡ 0) (sound : soundWord
 pub small-at : (word : List ℕ) → allOf (λ x. ltb x 64) word ≡ true → (i : ℕ) → i < length word → getD word i 0 < 64
 small-at word t i h = ltb-true (getD word i 0) 64 (all-at (λ x. ltb x 64) word 0 t i h)
 
+-- the length answered is the word's
+pub length-alike : (word : List ℕ) {b : Option Contender} {work after answer answerAfter : List ℕ} {r : Evaluation} → Searched b (singletons word) work after answer answerAfter r → Searched b word work after answer answerAfter r
+unfolding answered
+length-alike word {b} {answer = answer} S = record {
+  result = S .result ∙ ap (λ (e : Evaluation). unlessRefused (callRefusal 0 b (length answer)) e refused) (evaluated-alike b word);
+  answer-slice = S .answer-slice;
+  work-length = S .work-length;
+}
+
 module _ {card ranking word work : List ℕ} {size : ℕ} (pre : SearchPre card ranking word work size) where
   pub word-small : allOf (λ x. ltb x 64) word ≡ true
   word-small = all-small card word (pre .accepted) (pre .sound)
@@ -100,11 +111,7 @@ module _ {card ranking word work : List ℕ} {size : ℕ} (pre : SearchPre card 
     sets-pre = rw are own-sets
 
     pub word-searched : {after answer answerAfter : List ℕ} {r : Evaluation} → Searched (bestOfSets card ranking sets) sets work after answer answerAfter r → Searched (best card ranking word) word work after answer answerAfter r
-    word-searched {after} {answer} {answerAfter} {r} T = record {
-      result = S .result ∙ ap (λ (e : Evaluation). unlessRefused (searchRefusal (best card ranking word) (length answer)) e refused) (evaluated-alike (best card ranking word) word);
-      answer-slice = S .answer-slice;
-      work-length = S .work-length;
-    }
+    word-searched {after} {answer} {answerAfter} {r} T = length-alike word the-word
       where
-        S : Searched (best card ranking word) (singletons word) work after answer answerAfter r
-        S = rw (are, best-of-one-word card ranking word (pre .accepted) word-small) at T
+        the-word : Searched (best card ranking word) (singletons word) work after answer answerAfter r
+        the-word = rw (are, best-of-one-word card ranking word (pre .accepted) word-small) at T

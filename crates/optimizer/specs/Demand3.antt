@@ -1,88 +1,57 @@
--- Demand 3, of what the optimizer's call answers: for every card, ranking, word and work slice that the checks 1 to 9 accept, and every answer slice.
-use mathlib.Core.Path.{_≡_, sym, subst₂}
-use mathlib.Core.Logic.{_⊎_, _↔_, _≢_}
-use mathlib.Core.List.{List, _++_}
-use Prim.Native.Nat.{ℕ, _*_, _<_, _≤_}
-use lib.ListN.{length, drop}
+-- Demand 3, of what the calls under a ranking answer: for every card, ranking, word or list of sets, and work slice that the checks before the search
+-- accept, and every answer slice. With sets the rivals are all lists of pairs, however long, that spell one of the words with one symbol from each set.
+use mathlib.Core.Path.{_≡_}
+use mathlib.Core.Logic.{_↔_}
+use mathlib.Core.Bool.{true}
+use mathlib.Core.List.{List}
+use Prim.Native.Nat.{ℕ}
+use lib.ListN.{length}
 use Rattle.machine.specs.declared.Pair.{Pair}
 use Rattle.card.specs.Layout.{symbolCount}
 use Rattle.card.specs.Card.{machinesOf}
 use Rattle.candidate.specs.declared.Evaluation.{Evaluation}
-use Rattle.candidate.specs.Candidates.{bytesOf, profileOf, IsCandidate}
-use Rattle.candidate.specs.Evaluating.{profileWith}
-use Rattle.product.specs.Best.{best, harmonic}
-use Rattle.product.specs.Sets.{singletons}
+use Rattle.candidate.specs.Candidates.{IsCandidate}
+use Rattle.product.specs.Best.{harmonic}
+use Rattle.product.specs.Sets.{singletons, fitsSets, IsCandidateOf}
 use Rattle.product.specs.Prices.{byRanking, ranking-agrees}
-use Rattle.product.specs.Optimizing.{inputRefusal, optimizerRefusal, optimized, optimizedAnswer}
-use Rattle.product.specs.BestCandidate.{IsBestCandidate, IsUnbeatenIn}
-use Rattle.product.specs.BestTheorem.{BestOfAll, best-is-best-of-all}
-use Rattle.product.specs.CountsFit.{CountsFit, unbeaten-fit}
-use Rattle.product.specs.Laws.BestCandidate.{best-harmonic, best-unbeaten}
-use Rattle.input.specs.AcceptedInput.{AcceptedInput, accepted-input, short-word}
-use Rattle.optimizer.specs.Optimizes.{Optimizes}
+use Rattle.product.specs.Optimizing.{inputRefusal}
+use Rattle.product.specs.OptimizingSets.{setsInputRefusal}
+use Rattle.product.specs.BestCandidate.{IsBestCandidate, IsBestOfSets}
+use Rattle.product.specs.BestTheorem.{best-is-best-of-all}
+use Rattle.product.specs.SetsTheorem.{best-is-best-of-all-words}
+use Rattle.product.specs.CountsFit.{unbeaten-fit, unbeaten-of-sets-fit}
+use Rattle.product.specs.Laws.BestCandidate.{beats-harmonic}
+use Rattle.input.specs.AcceptedInput.{accepted-input, short-word, accepted-sets-input, accepted-bits}
+use Rattle.optimizer.specs.Optimizes.{Optimizes, OptimizesSets}
 use Rattle.optimizer.specs.Demands.{Demands, demanded}
 
--- the best candidate and where it stands: it is a candidate for the word, beats every other one, however long, and the answer has it
-pub record AnswersBest (card ranking word answer after : List ℕ) (r : Evaluation) (c : List Pair) : Type 0 where
-  pub is-best : IsBestCandidate ranking (machinesOf card) word c
-  pub fits : 2 * length c ≤ length answer
-  pub bytes : after ≡ bytesOf c ++ drop (2 * length c) answer
-  pub profile : r .profile ≡ profileWith (profileOf (machinesOf card) c)
-  pub pairs : r .pairs ≡ length c
-  pub word-length : r .«word_length» ≡ length word
+-- for a word
+abbrev pub Demand3 : (card ranking word answer after : List ℕ) → Evaluation → Type 0
+Demand3 card ranking word answer after r =
+    Demands (byRanking ranking) (harmonic ranking) card (singletons word) (IsCandidate (machinesOf card) word) (IsBestCandidate ranking (machinesOf card) word) word answer after r
 
-pub record Demand3 (card ranking word answer after : List ℕ) (r : Evaluation) : Type 0 where
-  -- the number is 0, 10 or 12
-  pub numbers : (r .number ≡ 0) ⊎ ((r .number ≡ 10) ⊎ (r .number ≡ 12))
-  -- none exactly when no list of pairs, however long, is a candidate for the word
-  pub none-exactly : (r .number ≡ 10) ↔ ((c : List Pair) → ¬ (IsCandidate (machinesOf card) word c))
-  -- otherwise there is a best one
-  pub otherwise-best : (c : List Pair) → IsCandidate (machinesOf card) word c → (b : List Pair) × IsBestCandidate ranking (machinesOf card) word b
-  -- each candidate that none beats by profile or pair count, the best one too, passes no node twice, so it has at most 3,199 pairs and no count
-  -- above 48,000
-  pub counts-fit : CountsFit (byRanking ranking) card (singletons word) (IsUnbeatenIn (harmonic ranking) (machinesOf card) (IsCandidate (machinesOf card) word))
-  pub best-unbeaten : (c : List Pair) → IsBestCandidate ranking (machinesOf card) word c → IsUnbeatenIn (harmonic ranking) (machinesOf card) (IsCandidate (machinesOf card) word) c
-  -- 12 exactly when there is a best candidate and its bytes are more than the answer slice has
-  pub room-exactly : (r .number ≡ 12) ↔ ((c : List Pair) × IsBestCandidate ranking (machinesOf card) word c × (length answer < 2 * length c))
-  -- 0 exactly when there is a best candidate whose bytes the answer slice has room for
-  pub best-exactly : (r .number ≡ 0) ↔ ((c : List Pair) × IsBestCandidate ranking (machinesOf card) word c × (2 * length c ≤ length answer))
-  -- and then it is answered
-  pub answered : r .number ≡ 0 → (c : List Pair) × AnswersBest card ranking word answer after r c
-  -- otherwise the answer slice keeps its bytes
-  pub untouched : r .number ≢ 0 → after ≡ answer
+-- for sets
+abbrev pub Demand3Sets : (card ranking sets answer after : List ℕ) → Evaluation → Type 0
+Demand3Sets card ranking sets answer after r =
+    Demands (byRanking ranking) (harmonic ranking) card sets (IsCandidateOf (machinesOf card) sets) (IsBestOfSets ranking (machinesOf card) sets) sets answer after r
 
-module _ (card ranking word answer : List ℕ) (room : ℕ) (ok : inputRefusal card ranking word room ≡ 0) where
-  accepts : AcceptedInput card ranking word room
-  accepts = accepted-input card ranking word room ok
-
-  all : BestOfAll card ranking word
-  all = best-is-best-of-all card ranking word (accepts .accepted) (accepts .ranks)
-
-  -- of what the definitions give
-  of-word : Demands (machinesOf card) (IsCandidate (machinesOf card) word) (IsBestCandidate ranking (machinesOf card) word) word answer (optimizedAnswer card ranking word room answer) (optimized card ranking word room (length answer))
-  unfolding optimized optimizedAnswer optimizerRefusal
-  of-word =
-      demanded (machinesOf card) (IsCandidate (machinesOf card) word) (IsBestCandidate ranking (machinesOf card) word) (best card ranking word) all (λ c k. k .candidate) word answer
-      (optimizedAnswer card ranking word room answer) (optimized card ranking word room (length answer)) (rw ok) (rw ok)
-
-  of-definitions : Demand3 card ranking word answer (optimizedAnswer card ranking word room answer) (optimized card ranking word room (length answer))
-  of-definitions =
-      let d = of-word in
-      record {
-        numbers = d .numbers;
-        none-exactly = d .none-exactly;
-        otherwise-best = d .otherwise-best;
-        counts-fit = unbeaten-fit (ranking-agrees ranking) card (accepts .accepted) word (short-word (symbolCount card) word (accepts .sound));
-        best-unbeaten = λ c k. best-unbeaten (ranking-agrees ranking) c (best-harmonic ranking (machinesOf card) word c k);
-        room-exactly = d .room-exactly;
-        best-exactly = d .best-exactly;
-        answered = λ h.
-            let a = d .answered h .1 in
-            (d .answered h .0, record { is-best = a .is-best; fits = a .fits; bytes = a .bytes; profile = a .profile; pairs = a .pairs; word-length = a .word-length });
-        untouched = d .untouched;
-      }
-
--- the theorem, of what the call answers
-module _ {card ranking word work workAfter answer answerAfter : List ℕ} {r : Evaluation} where
+-- the theorems, of what the calls answer
+module _ (card ranking : List ℕ) {word work workAfter answer answerAfter : List ℕ} {r : Evaluation} where
   pub demand-3 : Optimizes card ranking word work workAfter answer answerAfter r → inputRefusal card ranking word (length work) ≡ 0 → Demand3 card ranking word answer answerAfter r
-  demand-3 c ok = subst₂ (λ (a : List ℕ) (v : Evaluation). Demand3 card ranking word answer a v) (sym (c .answer-slice)) (sym (c .result)) (of-definitions card ranking word answer (length work) ok)
+  demand-3 c ok =
+      let a = accepted-input card ranking word (length work) ok in
+      demanded (ranking-agrees ranking) (unbeaten-fit (ranking-agrees ranking) card (a .accepted) word (short-word (symbolCount card) word (a .sound))) (beats-harmonic ranking (machinesOf card))
+      (best-is-best-of-all card ranking word (a .accepted) (a .ranks)) c ok
+
+module _ (card ranking : List ℕ) {sets work workAfter answer answerAfter : List ℕ} {r : Evaluation} (c : OptimizesSets card ranking sets work workAfter answer answerAfter r) (ok : setsInputRefusal card ranking sets (length work) ≡ 0) where
+  pub demand-3-sets : Demand3Sets card ranking sets answer answerAfter r
+  demand-3-sets =
+      let a = accepted-sets-input card ranking sets (length work) ok in
+      demanded (ranking-agrees ranking) (unbeaten-of-sets-fit (ranking-agrees ranking) card (a .accepted) sets (a .sound .short)) (beats-harmonic ranking (machinesOf card))
+      (best-is-best-of-all-words card ranking sets (a .accepted) (a .ranks) (accepted-bits a)) c ok
+
+  -- 10 exactly when no word among them has a complete candidate
+  pub no-word-exactly : (r .number ≡ 10) ↔ ((word : List ℕ) → fitsSets sets word ≡ true → (d : List Pair) → ¬ (IsCandidate (machinesOf card) word d))
+  no-word-exactly =
+      let none = demand-3-sets .none-exactly in
+      (λ n word f d h. none .0 n d (record { word = word; fits = f; is = h }), λ f. none .1 (λ d h. f (h .word) (h .fits) d (h .is)))

@@ -1,13 +1,11 @@
 -- definitions
 pub mod SmallAnswers
 pub mod Optimizes
-pub mod OptimizesSets
 pub mod Searching
 pub mod Telling
 -- the theorems that join the calls' contracts with demand 3
 pub mod Demands
 pub mod Demand3
-pub mod Demand3Sets
 -- sets of one symbol each, and two calls with work slices of their own
 pub mod SetsCalls
 pub mod TwoCalls

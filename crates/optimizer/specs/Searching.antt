@@ -1,31 +1,27 @@
 -- The search, for input that passed the checks 1 to 9.
 use mathlib.Core.Path.{_≡_}
 use mathlib.Core.Bool.{true}
-use mathlib.Core.List.{List, [], _∷_}
+use mathlib.Core.List.{List}
 use mathlib.Core.Option.{Option, some, none}
 use Prim.Native.Nat.{ℕ, _+_, _*_, _≤_}
 use lib.Dec.{leb}
 use lib.ListN.{length}
-use Rattle.refusals.specs.Refusals.{refuse, firstOf, unlessRefused}
+use Rattle.refusals.specs.Refusals.{refuse}
 use Rattle.ranking.specs.declared.Profile.{Profile}
 use Rattle.ranking.specs.Rankings.{isRanking}
 use Rattle.card.specs.Layout.{machineCount, symbolCount}
 use Rattle.card.specs.Card.{cardRefusal, machinesOf}
 use Rattle.candidate.specs.declared.Evaluation.{Evaluation}
-use Rattle.candidate.specs.Candidates.{isSome}
-use Rattle.candidate.specs.Evaluating.{profileWith, refused}
+use Rattle.candidate.specs.Evaluating.{profileWith}
 use Rattle.product.specs.Best.{Contender}
-use Rattle.product.specs.Optimizing.{soundWord, answerFits, evaluationOf, filled}
+use Rattle.product.specs.Answering.{answered, answeredSlice}
+use Rattle.product.specs.Optimizing.{soundWord}
 use Rattle.paths.specs.Ranked.{Ranked, letterCount}
 use Rattle.paths.specs.ByRanking.{ranked}
 use Rattle.product.specs.Nodes.{product, stateCounts}
 use Rattle.product.specs.Setting.{Setting}
 use Rattle.product.specs.Laws.BestOfSets.{are64Bits}
 use Rattle.tables.specs.Places.{sixPlaces}
-
--- the checks 10 and 12
-abbrev pub searchRefusal : Option Contender → ℕ → ℕ
-searchRefusal b room = firstOf (refuse 10 (isSome b) ∷ refuse 12 (answerFits b room) ∷ [])
 
 -- accepted sets, all of them 64-bit numbers, with just the room for the nodes in the work slice
 pub record SetsPre (card ranking sets work : List ℕ) (size : ℕ) : Type 0 where
@@ -44,8 +40,8 @@ pub record SearchPre (card ranking word work : List ℕ) (size : ℕ) : Type 0 w
 
 -- what the search answers by what the best is, and the slices at exit
 pub record Searched (b : Option Contender) (word work workAfter answer answerAfter : List ℕ) (r : Evaluation) : Type 0 where
-  pub result : r ≡ unlessRefused (searchRefusal b (length answer)) (evaluationOf b word) refused
-  pub answer-slice : answerAfter ≡ unlessRefused (searchRefusal b (length answer)) (filled b answer) (λ n. answer)
+  pub result : r ≡ answered 0 b word (length answer)
+  pub answer-slice : answerAfter ≡ answeredSlice 0 b answer
   pub work-length : length workAfter ≡ length work
 
 -- the checks 10 and 12 by the label of the start, which is what the best candidate costs

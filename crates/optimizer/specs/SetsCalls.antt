@@ -9,8 +9,7 @@ use Rattle.candidate.specs.Evaluating.{refused}
 use Rattle.product.specs.Sets.{singletons}
 use Rattle.product.specs.Optimizing.{optimized, optimizedAnswer}
 use Rattle.product.specs.OneSymbolEach.{symbolOutOfRange, one-symbol-result, one-symbol-refused, one-symbol-answer}
-use Rattle.optimizer.specs.Optimizes.{Optimizes}
-use Rattle.optimizer.specs.OptimizesSets.{OptimizesSets}
+use Rattle.optimizer.specs.Optimizes.{Optimizes, OptimizesSets}
 
 -- sets of one symbol each, with the word: one answer slice, and one result; or 25 against 8, exactly where the checks before the symbol test pass and a
 -- symbol is out of range
@@ -20,9 +19,9 @@ pub record OneSymbolEach (card ranking word filled filled′ : List ℕ) (r r′
   pub refusals : symbolOutOfRange card ranking word ≡ true → (r ≡ refused 25) × (r′ ≡ refused 8)
 
 -- sets of one symbol each give the ordinary call's answer so, for every word and work slices of one length, with any contents
-pub one-symbol-each : {card ranking word work work′ after after′ answer filled filled′ : List ℕ} {r r′ : Evaluation} → length work ≡ length work′
+pub one-symbol-each : (card ranking word : List ℕ) {work work′ after after′ answer filled filled′ : List ℕ} {r r′ : Evaluation} → length work ≡ length work′
     → OptimizesSets card ranking (singletons word) work after answer filled r → Optimizes card ranking word work′ after′ answer filled′ r′ → OneSymbolEach card ranking word filled filled′ r r′
-one-symbol-each {card} {ranking} {word} {work} {work′} {answer = answer} e a b = record {
+one-symbol-each card ranking word {work} {work′} {answer = answer} e a b = record {
   answer-slice = a .answer-slice ∙ one-symbol-answer card ranking word (length work) answer ∙ ap (λ (n : ℕ). optimizedAnswer card ranking word n answer) e ∙ sym (b .answer-slice);
   result = λ t. a .result ∙ one-symbol-result card ranking word (length work) t (length answer) ∙ ap (λ (n : ℕ). optimized card ranking word n (length answer)) e ∙ sym (b .result);
   refusals = λ t. (a .result ∙ one-symbol-refused card ranking word (length work) t (length answer) .0, b .result ∙ one-symbol-refused card ranking word (length work′) t (length answer) .1);

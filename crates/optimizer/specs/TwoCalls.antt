@@ -16,16 +16,13 @@ use Rattle.ranking.specs.Rankings.{isRanking}
 use Rattle.card.specs.Layout.{machineCount, symbolCount}
 use Rattle.card.specs.Card.{cardRefusal, machinesOf}
 use Rattle.candidate.specs.declared.Evaluation.{Evaluation}
-use Rattle.candidate.specs.Candidates.{isSome}
 use Rattle.candidate.specs.Evaluating.{refused}
 use Rattle.product.specs.Nodes.{nodeCount}
-use Rattle.product.specs.Best.{Contender, best}
-use Rattle.product.specs.Sets.{bestOfSets}
-use Rattle.product.specs.Optimizing.{soundWord, inputRefusal, optimizerRefusal, answerFits, evaluationOf, filled, optimized, optimizedAnswer}
-use Rattle.product.specs.OptimizingSets.{setsRefusal, setsInputRefusal, optimizerSetsRefusal, optimizedSets, optimizedSetsAnswer}
-use Rattle.optimizer.specs.Searching.{searchRefusal}
-use Rattle.optimizer.specs.Optimizes.{Optimizes}
-use Rattle.optimizer.specs.OptimizesSets.{OptimizesSets}
+use Rattle.product.specs.Best.{Contender}
+use Rattle.product.specs.Answering.{evaluationOf, answered, answeredSlice}
+use Rattle.product.specs.Optimizing.{soundWord, inputRefusal}
+use Rattle.product.specs.OptimizingSets.{setsRefusal, setsInputRefusal}
+use Rattle.optimizer.specs.Optimizes.{Answers, Optimizes, OptimizesSets}
 
 -- ---- what holds of a call and of two, by the number that the checks before 9 give and the room that 9 asks for
 
@@ -52,71 +49,81 @@ pub record TwoCalls {A : Type 0} (refusal : ℕ → A) (before need : ℕ) (work
 
 -- ---- from any contract in which 9 alone looks at the length of the work slice
 
--- a call by the numbers of the checks before 9, the room that 9 asks for, the numbers of the checks after it, and what it gives where nothing is refused
-pub record Call {A : Type 0} (refusal : ℕ → A) (checks : List ℕ) (need : ℕ) (later : List ℕ) (accepted : A) (filled work workAfter answer answerAfter : List ℕ) (r : A) : Type 0 where
-  pub result : r ≡ unlessRefused (firstOf (firstOf (checks ++ (refuse 9 (leb need (length work)) ∷ [])) ∷ later)) accepted refusal
-  pub answer-slice : answerAfter ≡ unlessRefused (firstOf (firstOf (checks ++ (refuse 9 (leb need (length work)) ∷ [])) ∷ later)) filled (λ n. answer)
-  pub work-kept : firstOf (checks ++ (refuse 9 (leb need (length work)) ∷ [])) ≢ 0 → workAfter ≡ work
+-- the number of the checks before the search: those before 9, and 9
+abbrev pub withNine : List ℕ → ℕ → ℕ → ℕ
+withNine checks need room = firstOf (checks ++ (refuse 9 (leb need room) ∷ []))
 
 first-before : (ns ms : List ℕ) → firstOf (ns ++ ms) ≡ firstOf (firstOf ns ∷ ms)
 first-before [] ms = refl
 first-before (zero ∷ ns) ms = first-before ns ms
 first-before (suc n ∷ ns) ms = refl
 
-module _ {A : Type 0} {refusal : ℕ → A} {checks : List ℕ} {need : ℕ} {later : List ℕ} {accepted : A} (searched : unlessRefused (firstOf later) accepted refusal ≢ refusal 9) where
-  one-call : {filled work workAfter answer answerAfter : List ℕ} {r : A} (before : ℕ) → firstOf checks ≡ before
-      → Call refusal checks need later accepted filled work workAfter answer answerAfter r → OneCall refusal before need work workAfter answer answerAfter r
-  one-call {filled} {work} {workAfter} {answer} {answerAfter} {r} before e c = go before e
-    where
-      refuses : (n : ℕ) → firstOf (checks ++ (refuse 9 (leb need (length work)) ∷ [])) ≡ suc n → RefusedBy refusal (suc n) work workAfter answer answerAfter r
-      refuses n q = record {
-        result = c .result ∙ ap (λ (m : ℕ). unlessRefused (firstOf (m ∷ later)) accepted refusal) q;
-        answer-slice = c .answer-slice ∙ ap (λ (m : ℕ). unlessRefused (firstOf (m ∷ later)) filled (λ n. answer)) q;
-        work-slice = c .work-kept (λ z. omega (arith, q));
-      }
+-- a call by what it gives for that number, as its result and as the answer slice
+pub record Call {A : Type 0} (result-of : ℕ → A) (slice-of : ℕ → List ℕ) (n : ℕ) (work workAfter answerAfter : List ℕ) (r : A) : Type 0 where
+  pub result : r ≡ result-of n
+  pub answer-slice : answerAfter ≡ slice-of n
+  pub work-kept : n ≢ 0 → workAfter ≡ work
 
-      at-9 : (t : Bool) → firstOf checks ≡ 0 → leb need (length work) ≡ t → firstOf (checks ++ (refuse 9 (leb need (length work)) ∷ [])) ≡ refuse 9 t
-      at-9 true z t = first-before checks (refuse 9 (leb need (length work)) ∷ []) ∙ rw (z, t)
-      at-9 false z t = first-before checks (refuse 9 (leb need (length work)) ∷ []) ∙ rw (z, t)
+module _ {A : Type 0} {refusal result-of : ℕ → A} {slice-of : ℕ → List ℕ} {answer : List ℕ} (refuses : (n : ℕ) → result-of (suc n) ≡ refusal (suc n)) (keeps : (n : ℕ) → slice-of (suc n) ≡ answer)
+    (searched : result-of 0 ≢ refusal 9) (checks : List ℕ) (need : ℕ)
+  where
+    one-call : {work workAfter answerAfter : List ℕ} {r : A} (before : ℕ) → firstOf checks ≡ before → Call result-of slice-of (withNine checks need (length work)) work workAfter answerAfter r
+        → OneCall refusal before need work workAfter answer answerAfter r
+    one-call {work} {workAfter} {answerAfter} {r} before e c = go before e
+      where
+        refused-by : (n : ℕ) → withNine checks need (length work) ≡ suc n → RefusedBy refusal (suc n) work workAfter answer answerAfter r
+        refused-by n q = record { result = c .result ∙ ap result-of q ∙ refuses n; answer-slice = c .answer-slice ∙ ap slice-of q ∙ keeps n; work-slice = c .work-kept (λ z. omega (arith, q)) }
 
-      go : (before : ℕ) → firstOf checks ≡ before → OneCall refusal before need work workAfter answer answerAfter r
-      go (suc n) e = record {
-        refused-before = λ h. refuses n (first-before checks (refuse 9 (leb need (length work)) ∷ []) ∙ rw e);
-        refused-by-9 = λ z. absurd (omega arith);
-        not-by-9 = λ z. absurd (omega arith);
-      }
-      go zero e = record {
-        refused-before = λ h. absurd (h refl);
-        refused-by-9 = λ z h. refuses 8 (at-9 false e (lt-leb need (length work) h));
-        not-by-9 = λ z h q. searched (sym (c .result ∙ ap (λ (m : ℕ). unlessRefused (firstOf (m ∷ later)) accepted refusal) (at-9 true e (le-leb need (length work) h))) ∙ q);
-      }
+        at-9 : (t : Bool) → firstOf checks ≡ 0 → leb need (length work) ≡ t → withNine checks need (length work) ≡ refuse 9 t
+        at-9 true z t = first-before checks (refuse 9 (leb need (length work)) ∷ []) ∙ rw (z, t)
+        at-9 false z t = first-before checks (refuse 9 (leb need (length work)) ∷ []) ∙ rw (z, t)
 
-  pub both-calls : {filled work workAfter work′ workAfter′ answer answerAfter answerAfter′ : List ℕ} {r r′ : A}
-      → Call refusal checks need later accepted filled work workAfter answer answerAfter r → Call refusal checks need later accepted filled work′ workAfter′ answer answerAfter′ r′
-      → TwoCalls refusal (firstOf checks) need work workAfter work′ workAfter′ answer answerAfter answerAfter′ r r′
-  both-calls {filled} {work} {work′ = work′} {answer = answer} {answerAfter = answerAfter} {answerAfter′ = answerAfter′} {r = r} {r′ = r′} a b = record {
-    first = one-call (firstOf checks) refl a;
-    second = one-call (firstOf checks) refl b;
-    same = λ e h k. alike (le-leb need (length work) h ∙ sym (le-leb need (length work′) k));
-    same-length = λ e. alike (ap (leb need) e);
-  }
-    where
-      alike : leb need (length work) ≡ leb need (length work′) → (r ≡ r′) × (answerAfter ≡ answerAfter′)
-      alike e = (
-        a .result ∙ ap (λ (t : Bool). unlessRefused (firstOf (firstOf (checks ++ (refuse 9 t ∷ [])) ∷ later)) accepted refusal) e ∙ sym (b .result),
-        a .answer-slice ∙ ap (λ (t : Bool). unlessRefused (firstOf (firstOf (checks ++ (refuse 9 t ∷ [])) ∷ later)) filled (λ n. answer)) e ∙ sym (b .answer-slice),
-      )
+        go : (before : ℕ) → firstOf checks ≡ before → OneCall refusal before need work workAfter answer answerAfter r
+        go (suc n) e = record {
+          refused-before = λ h. refused-by n (first-before checks (refuse 9 (leb need (length work)) ∷ []) ∙ rw e);
+          refused-by-9 = λ z. absurd (omega arith);
+          not-by-9 = λ z. absurd (omega arith);
+        }
+        go zero e = record {
+          refused-before = λ h. absurd (h refl);
+          refused-by-9 = λ z h. refused-by 8 (at-9 false e (lt-leb need (length work) h));
+          not-by-9 = λ z h q. searched (sym (c .result ∙ ap result-of (at-9 true e (le-leb need (length work) h))) ∙ q);
+        }
 
--- ---- the calls under a ranking
+    pub both-calls : {work workAfter work′ workAfter′ answerAfter answerAfter′ : List ℕ} {r r′ : A}
+        → Call result-of slice-of (withNine checks need (length work)) work workAfter answerAfter r → Call result-of slice-of (withNine checks need (length work′)) work′ workAfter′ answerAfter′ r′
+        → TwoCalls refusal (firstOf checks) need work workAfter work′ workAfter′ answer answerAfter answerAfter′ r r′
+    both-calls {work} {work′ = work′} {answerAfter = answerAfter} {answerAfter′ = answerAfter′} {r = r} {r′ = r′} a b = record {
+      first = one-call (firstOf checks) refl a;
+      second = one-call (firstOf checks) refl b;
+      same = λ e h k. alike (le-leb need (length work) h ∙ sym (le-leb need (length work′) k));
+      same-length = λ e. alike (ap (leb need) e);
+    }
+      where
+        alike : leb need (length work) ≡ leb need (length work′) → (r ≡ r′) × (answerAfter ≡ answerAfter′)
+        alike e =
+            let q = ap (λ (t : Bool). firstOf (checks ++ (refuse 9 t ∷ []))) e in
+            (a .result ∙ ap result-of q ∙ sym (b .result), a .answer-slice ∙ ap slice-of q ∙ sym (b .answer-slice))
 
 -- a search does not answer 9
-pub not-9 : (o : Option Contender) (word : List ℕ) (room : ℕ) → unlessRefused (searchRefusal o room) (evaluationOf o word) refused ≢ refused 9
+pub not-9 : (o : Option Contender) (word : List ℕ) (room : ℕ) → answered 0 o word room ≢ refused 9
+unfolding answered
 not-9 none word room e = omega (arith, ap (λ (v : Evaluation). v .number) e)
 not-9 (some b) word room e = fits (leb (2 * length (b .candidate)) room) e
   where
     fits : (t : Bool) → unlessRefused (firstOf (refuse 12 t ∷ [])) (evaluationOf (some b) word) refused ≢ refused 9
     fits true e = omega (arith, ap (λ (v : Evaluation). v .number) e)
     fits false e = omega (arith, ap (λ (v : Evaluation). v .number) e)
+
+-- ---- the calls under a ranking
+
+pub two-answers : (checks : List ℕ) (need : ℕ) {best : Option Contender} {word work workAfter work′ workAfter′ answer answerAfter answerAfter′ : List ℕ} {r r′ : Evaluation}
+    → Answers (withNine checks need (length work)) best word work workAfter answer answerAfter r → Answers (withNine checks need (length work′)) best word work′ workAfter′ answer answerAfter′ r′
+    → TwoCalls refused (firstOf checks) need work workAfter work′ workAfter′ answer answerAfter answerAfter′ r r′
+unfolding answered answeredSlice
+two-answers checks need {best} {word} {answer = answer} a b =
+    both-calls {result-of = λ n. answered n best word (length answer)} {slice-of = λ n. answeredSlice n best answer} (λ n. refl) (λ n. refl) (not-9 best word (length answer)) checks need
+    (record { result = a .result; answer-slice = a .answer-slice; work-kept = a .work-kept }) (record { result = b .result; answer-slice = b .answer-slice; work-kept = b .work-kept })
 
 -- the checks 1 to 8 of a word, and those of sets
 abbrev pub checksOfWord : (card ranking word : List ℕ) → List ℕ
@@ -125,17 +132,13 @@ checksOfWord card ranking word = cardRefusal card ∷ refuse 7 (isRanking (machi
 abbrev pub checksOfSets : (card ranking sets : List ℕ) → List ℕ
 checksOfSets card ranking sets = cardRefusal card ∷ refuse 7 (isRanking (machineCount card) ranking) ∷ setsRefusal (symbolCount card) sets ∷ []
 
-module _ {card ranking word work workAfter work′ workAfter′ answer answerAfter answerAfter′ : List ℕ} {r r′ : Evaluation} where
+module _ (card ranking : List ℕ) {word work workAfter work′ workAfter′ answer answerAfter answerAfter′ : List ℕ} {r r′ : Evaluation} where
   pub two-calls : Optimizes card ranking word work workAfter answer answerAfter r → Optimizes card ranking word work′ workAfter′ answer answerAfter′ r′
       → TwoCalls refused (firstOf (checksOfWord card ranking word)) (8 * nodeCount (machinesOf card) (length word)) work workAfter work′ workAfter′ answer answerAfter answerAfter′ r r′
-  unfolding optimized optimizedAnswer optimizerRefusal inputRefusal
-  two-calls a b =
-      both-calls {checks = checksOfWord card ranking word} {later = refuse 10 (isSome (best card ranking word)) ∷ refuse 12 (answerFits (best card ranking word) (length answer)) ∷ []} (not-9 (best card ranking word) word (length answer)) {filled = filled (best card ranking word) answer}
-      (record { result = a .result; answer-slice = a .answer-slice; work-kept = a .work-kept }) (record { result = b .result; answer-slice = b .answer-slice; work-kept = b .work-kept })
+  unfolding inputRefusal
+  two-calls = two-answers (checksOfWord card ranking word) (8 * nodeCount (machinesOf card) (length word))
 
   pub two-calls-sets : OptimizesSets card ranking word work workAfter answer answerAfter r → OptimizesSets card ranking word work′ workAfter′ answer answerAfter′ r′
       → TwoCalls refused (firstOf (checksOfSets card ranking word)) (8 * nodeCount (machinesOf card) (length word)) work workAfter work′ workAfter′ answer answerAfter answerAfter′ r r′
-  unfolding optimizedSets optimizedSetsAnswer optimizerSetsRefusal setsInputRefusal
-  two-calls-sets a b =
-      both-calls {checks = checksOfSets card ranking word} {later = refuse 10 (isSome (bestOfSets card ranking word)) ∷ refuse 12 (answerFits (bestOfSets card ranking word) (length answer)) ∷ []} (not-9 (bestOfSets card ranking word) word (length answer)) {filled = filled (bestOfSets card ranking word) answer}
-      (record { result = a .result; answer-slice = a .answer-slice; work-kept = a .work-kept }) (record { result = b .result; answer-slice = b .answer-slice; work-kept = b .work-kept })
+  unfolding setsInputRefusal
+  two-calls-sets = two-answers (checksOfSets card ranking word) (8 * nodeCount (machinesOf card) (length word))

@@ -12,9 +12,8 @@ ghost use Rattle.product.specs.ProductGraph.{cardStart};
 ghost use Rattle.candidate.specs.Candidates.{isSome};
 ghost use Rattle.product.specs.Optimizing.{inputRefusal};
 ghost use Rattle.labels.specs.LabelCost.{costOf};
-ghost use Rattle.positions.specs.Labelling.{PositionsDone};
-ghost use Rattle.optimizer.specs.Optimizes.{Optimizes};
-ghost use Rattle.optimizer.specs.OptimizesSets.{OptimizesSets};
+ghost use Rattle.labelling.specs.Labelling.{PositionsDone};
+ghost use Rattle.optimizer.specs.Optimizes.{Optimizes, OptimizesSets};
 ghost use Rattle.optimizer.specs.Searching.{SetsPre, SearchPre, Searched, RankingOfSome, CardOrder};
 ghost use Rattle.optimizer.specs.Telling.{TellsBest};
 use basics::index;
@@ -100,7 +99,7 @@ fn search_sets(
     requires { ⌜ SetsPre (now card) (now ranking) (now sets) (now work) size ⌝ }
     ensures { λ r. ⌜ Searched (bestOfSets (now (card .entry)) (now (ranking .entry)) (now (sets .entry))) (now (sets .entry)) (now (work .entry)) (now (work .exit)) (now (answer .entry)) (now (answer .exit)) r ⌝ }
 {
-    positions::label(work, card, ranking, sets, size);
+    labelling::label(work, card, ranking, sets, size);
     read_out(card, ranking, sets, size, work, answer)
 }
 
@@ -139,7 +138,7 @@ fn label_sets(card: &[u8], ranking: &[u8], sets: &[u64], size: usize, work: &mut
     requires { ⌜ SetsPre (now card) (now ranking) (now sets) (now work) size × (isSome (bestOfSets (now card) (now ranking) (now sets)) ≡ true) ⌝ }
     ensures { λ r. ⌜ TellsBest (bestOfSets (now (card .entry)) (now (ranking .entry)) (now (sets .entry))) (now (work .entry)) (now (work .exit)) r ⌝ }
 {
-    positions::label(work, card, ranking, sets, size);
+    labelling::label(work, card, ranking, sets, size);
     let label = labels::load(work, start_node(card));
     profile_of(label, ranking)
 }

@@ -20,18 +20,18 @@ use Rattle.paths.specs.Graph.{pathCost}
 use Rattle.paths.specs.Best.{before-total, IsBest}
 use Rattle.product.specs.Prices.{Price, Alike, Agrees, ranking-agrees}
 use Rattle.product.specs.ProductGraph.{pairs, pricedGraph, cardGraph, cardStart}
-use Rattle.product.specs.BestCandidate.{BeatsIn, by-profile, by-pairs, by-bytes, IsBestIn, IsBestCandidate, BestOf}
+use Rattle.product.specs.BestCandidate.{BeatsIn, by-profile, by-pairs, by-bytes, BeatsOn, IsBestIn, Beats, BestOf}
 use Rattle.product.specs.Laws.Candidates.{candidate-cost, cost-candidate}
 use Rattle.product.specs.Laws.Accepted.{accepted-machines}
 use Rattle.product.specs.Laws.Preference.{keyOf, beats-earlier}
 use Rattle.product.specs.Laws.Best.{candidateOf, best-answers, best-contender, is-the-best, there-is-none}
-use Rattle.product.specs.Laws.BestCandidate.{best-harmonic, harmonic-best, path-best-in, best-in-path}
+use Rattle.product.specs.Laws.BestCandidate.{best-of-ranked, path-best-in, best-in-path}
 
 -- ---- in an order on profiles, with a price that agrees with it
 
 module _ {costs : Costs} {price : Price costs} {better : ProfileOrder} (agrees : Agrees price better) (card word : List ℕ) (ok : cardRefusal card ≡ 0) where
   -- the best of the definition is the best of the lists of pairs of any length
-  pub best-in-is-best-of-all : BestOf (machinesOf card) (IsCandidate (machinesOf card) word) (IsBestIn better (machinesOf card) (IsCandidate (machinesOf card) word)) (bestIn better card word)
+  pub best-in-is-best-of-all : BestOf (machinesOf card) (BeatsOn better (machinesOf card)) (IsCandidate (machinesOf card) word) (bestIn better card word)
   best-in-is-best-of-all = record { none-exactly = (nothing, empty); is-best = best-one; its-profile = profile; only-it = only }
     where
       nothing : bestIn better card word ≡ none → (c : List Pair) → ¬ (IsCandidate (machinesOf card) word c)
@@ -94,18 +94,11 @@ module _ {costs costs′ : Costs} {price : Price costs} {price′ : Price costs�
 -- ---- under a ranking
 
 abbrev pub BestOfAll : (card ranking word : List ℕ) → Type 0
-BestOfAll card ranking word = BestOf (machinesOf card) (IsCandidate (machinesOf card) word) (IsBestCandidate ranking (machinesOf card) word) (best card ranking word)
+BestOfAll card ranking word = BestOf (machinesOf card) (Beats ranking (machinesOf card)) (IsCandidate (machinesOf card) word) (best card ranking word)
 
 pub best-is-best-of-all : (card ranking word : List ℕ) → cardRefusal card ≡ 0 → isRanking (machineCount card) ranking ≡ true → BestOfAll card ranking word
 unfolding best
-best-is-best-of-all card r word ok is =
-    let all = best-in-is-best-of-all (ranking-agrees r) card word ok in
-    record {
-      none-exactly = all .none-exactly;
-      is-best = λ b e. harmonic-best r (machinesOf card) word (b .candidate) (rw (accepted-machines card ok .count) is) (all .is-best b e);
-      its-profile = all .its-profile;
-      only-it = λ c a. all .only-it c (best-harmonic r (machinesOf card) word c a);
-    }
+best-is-best-of-all card r word ok is = best-of-ranked r (rw (accepted-machines card ok .count) is) (best-in-is-best-of-all (ranking-agrees r) card word ok)
 
 -- how an engine shows that it found it: its answer is the best path of the product, or the product has no path
 pub best-path-is-best : (card ranking word : List ℕ) → cardRefusal card ≡ 0 → (c : List Pair) → IsBest (cardGraph card ranking word) (cardStart card) c

@@ -19,7 +19,7 @@ use Rattle.product.specs.Prices.{Price, Agrees}
 use Rattle.product.specs.ProductGraph.{pairs, pricedGraph, cardStart}
 use Rattle.product.specs.Best.{Contender, ProfileOrder}
 use Rattle.product.specs.Sets.{IsCandidateOf, bestOfSetsIn}
-use Rattle.product.specs.BestCandidate.{IsBestIn, BestOf}
+use Rattle.product.specs.BestCandidate.{BeatsOn, BestOf}
 use Rattle.product.specs.SetsTheorem.{no-path-no-best-of-sets, best-in-is-best-of-all-words}
 use Rattle.product.specs.Laws.Accepted.{accepted-machines}
 use Rattle.product.specs.Laws.Candidates.{fitting-cost, cost-fitting}
@@ -41,7 +41,7 @@ module _ {costs : Costs} {price : Price costs} {better : ProfileOrder} (agrees :
   pub label-best : Attained (pricedGraph price card sets) L → (x : costs .Cost) → L (cardStart card) ≡ some x → BestAt price better card sets x
   label-best attained x l = go (bestOfSetsIn better card sets) refl
     where
-      all : BestOf (machinesOf card) (IsCandidateOf (machinesOf card) sets) (IsBestIn better (machinesOf card) (IsCandidateOf (machinesOf card) sets)) (bestOfSetsIn better card sets)
+      all : BestOf (machinesOf card) (BeatsOn better (machinesOf card)) (IsCandidateOf (machinesOf card) sets) (bestOfSetsIn better card sets)
       all = best-in-is-best-of-all-words agrees card sets ok bits
 
       d : List Pair

@@ -8,6 +8,7 @@ pub mod Setting
 pub mod Pairs
 pub mod Best
 pub mod Sets
+pub mod Answering
 pub mod Optimizing
 pub mod OptimizingSets
 pub mod BestCandidate
@@ -17,6 +18,7 @@ pub mod Laws
 pub mod CandidatePaths
 pub mod BestTheorem
 pub mod SetsTheorem
+pub mod Searches
 pub mod CountsFit
 pub mod OneSymbolEach
 pub mod LabelTheorem

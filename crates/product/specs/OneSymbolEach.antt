@@ -21,8 +21,9 @@ use Rattle.candidate.specs.Evaluating.{refused}
 use Rattle.product.specs.Nodes.{nodeCount}
 use Rattle.product.specs.Best.{Contender, best}
 use Rattle.product.specs.Sets.{singletons, bestOfSets}
-use Rattle.product.specs.Optimizing.{soundWord, inputRefusal, optimizerRefusal, evaluationOf, optimized, optimizedAnswer}
-use Rattle.product.specs.OptimizingSets.{setsRefusal, setsInputRefusal, optimizerSetsRefusal, optimizedSets, optimizedSetsAnswer}
+use Rattle.product.specs.Answering.{evaluationOf, answered, answeredSlice}
+use Rattle.product.specs.Optimizing.{soundWord, inputRefusal, optimized, optimizedAnswer}
+use Rattle.product.specs.OptimizingSets.{setsRefusal, setsInputRefusal, optimizedSets, optimizedSetsAnswer}
 use Rattle.product.specs.SetsTheorem.{best-of-one-word}
 use Rattle.product.specs.Laws.Words.{small-symbols}
 use Rattle.product.specs.Laws.Sets.{as-many}
@@ -106,7 +107,7 @@ module _ (card ranking word : List ℕ) (room : ℕ) where
 
   -- the result is that for the word
   pub one-symbol-result : symbolOutOfRange card ranking word ≡ false → (answerRoom : ℕ) → optimizedSets card ranking (singletons word) room answerRoom ≡ optimized card ranking word room answerRoom
-  unfolding optimizedSets optimized optimizerSetsRefusal optimizerRefusal
+  unfolding answered
   one-symbol-result t answerRoom = go (inputRefusal card ranking word room) refl
     where
       go : (n : ℕ) → inputRefusal card ranking word room ≡ n → optimizedSets card ranking (singletons word) room answerRoom ≡ optimized card ranking word room answerRoom
@@ -115,12 +116,12 @@ module _ (card ranking word : List ℕ) (room : ℕ) where
 
   -- or 25 against 8
   pub one-symbol-refused : symbolOutOfRange card ranking word ≡ true → (answerRoom : ℕ) → (optimizedSets card ranking (singletons word) room answerRoom ≡ refused 25) × (optimized card ranking word room answerRoom ≡ refused 8)
-  unfolding optimizedSets optimized optimizerSetsRefusal optimizerRefusal
+  unfolding answered
   one-symbol-refused t answerRoom = let p = other-input t in (rw (p .0), rw (p .1))
 
   -- and the answer slice is that for the word in any case
   pub one-symbol-answer : (answer : List ℕ) → optimizedSetsAnswer card ranking (singletons word) room answer ≡ optimizedAnswer card ranking word room answer
-  unfolding optimizedSetsAnswer optimizedAnswer optimizerSetsRefusal optimizerRefusal
+  unfolding answeredSlice
   one-symbol-answer answer = go (symbolOutOfRange card ranking word) refl (inputRefusal card ranking word room) refl
     where
       go : (b : Bool) → symbolOutOfRange card ranking word ≡ b → (n : ℕ) → inputRefusal card ranking word room ≡ n → optimizedSetsAnswer card ranking (singletons word) room answer ≡ optimizedAnswer card ranking word room answer

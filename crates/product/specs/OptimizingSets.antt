@@ -6,18 +6,16 @@ use lib.ListN.{length}
 use lib.Dec.{leb}
 use Rattle.basics.specs.Search.{allOf}
 use Rattle.basics.specs.Sets.{member}
-use Rattle.refusals.specs.Refusals.{refuse, firstOf, unlessRefused}
+use Rattle.refusals.specs.Refusals.{refuse, firstOf}
 use Rattle.machine.specs.Symbols.{emptySymbol}
 use Rattle.machine.specs.Part.{soundSet}
 use Rattle.ranking.specs.Rankings.{isRanking}
 use Rattle.card.specs.Layout.{machineCount, symbolCount}
-use Rattle.card.specs.Card.{cardRefusal, machinesOf}
+use Rattle.card.specs.Card.{machinesOf}
 use Rattle.candidate.specs.declared.Evaluation.{Evaluation}
-use Rattle.candidate.specs.Candidates.{isSome}
-use Rattle.candidate.specs.Evaluating.{refused}
 use Rattle.product.specs.Nodes.{nodeCount}
 use Rattle.product.specs.Sets.{bestOfSets}
-use Rattle.product.specs.Optimizing.{answerFits, evaluationOf, filled}
+use Rattle.product.specs.Answering.{beforeSearch, answered, answeredSlice}
 
 -- a set is not empty, has no bit over S, and does not hold the empty symbol
 abbrev pub symbolSet : ℕ → ℕ → Bool
@@ -30,28 +28,12 @@ setsRefusal S sets = firstOf (refuse 8 (leb (length sets) 24) ∷ refuse 25 (all
 -- the checks before the search: 0 where card, ranking, sets and work slice are accepted
 unfoldable pub setsInputRefusal : List ℕ → List ℕ → List ℕ → ℕ → ℕ
 setsInputRefusal card ranking sets room =
-    firstOf
-    (cardRefusal card
-    ∷ refuse 7 (isRanking (machineCount card) ranking)
-    ∷ setsRefusal (symbolCount card) sets
-    ∷ refuse 9 (leb (8 * nodeCount (machinesOf card) (length sets)) room)
-    ∷ [])
+    beforeSearch card (refuse 7 (isRanking (machineCount card) ranking)) (setsRefusal (symbolCount card) sets) (8 * nodeCount (machinesOf card) (length sets)) room
 
--- all of them in their order; 10 is that no word with one symbol from each set has a complete candidate
-unfoldable pub optimizerSetsRefusal : List ℕ → List ℕ → List ℕ → ℕ → ℕ → ℕ
-optimizerSetsRefusal card ranking sets workRoom answerRoom =
-    firstOf
-    (setsInputRefusal card ranking sets workRoom
-    ∷ refuse 10 (isSome (bestOfSets card ranking sets))
-    ∷ refuse 12 (answerFits (bestOfSets card ranking sets) answerRoom)
-    ∷ [])
+-- the whole result; 10 is that no word with one symbol from each set has a complete candidate
+abbrev pub optimizedSets : List ℕ → List ℕ → List ℕ → ℕ → ℕ → Evaluation
+optimizedSets card ranking sets workRoom answerRoom = answered (setsInputRefusal card ranking sets workRoom) (bestOfSets card ranking sets) sets answerRoom
 
--- the whole result; the word length is the number of sets
-unfoldable pub optimizedSets : List ℕ → List ℕ → List ℕ → ℕ → ℕ → Evaluation
-optimizedSets card ranking sets workRoom answerRoom =
-    unlessRefused (optimizerSetsRefusal card ranking sets workRoom answerRoom) (evaluationOf (bestOfSets card ranking sets) sets) refused
-
--- the answer slice at exit: the pairs fill its front, its other bytes keep their values
-unfoldable pub optimizedSetsAnswer : List ℕ → List ℕ → List ℕ → ℕ → List ℕ → List ℕ
-optimizedSetsAnswer card ranking sets workRoom answer =
-    unlessRefused (optimizerSetsRefusal card ranking sets workRoom (length answer)) (filled (bestOfSets card ranking sets) answer) (λ n. answer)
+-- the answer slice at exit
+abbrev pub optimizedSetsAnswer : List ℕ → List ℕ → List ℕ → ℕ → List ℕ → List ℕ
+optimizedSetsAnswer card ranking sets workRoom answer = answeredSlice (setsInputRefusal card ranking sets workRoom) (bestOfSets card ranking sets) answer

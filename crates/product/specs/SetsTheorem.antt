@@ -23,13 +23,13 @@ use Rattle.paths.specs.Graph.{pathCost}
 use Rattle.paths.specs.Best.{Before, IsBest, best-unique}
 use Rattle.product.specs.Prices.{Price, Agrees, ranking-agrees}
 use Rattle.product.specs.ProductGraph.{pairs, pricedGraph, cardStart}
-use Rattle.product.specs.BestCandidate.{BeatsIn, IsBestIn, IsBestOfSets, BestOf}
+use Rattle.product.specs.BestCandidate.{BeatsIn, BeatsOn, IsBestIn, Beats, BestOf}
 use Rattle.product.specs.BestTheorem.{beats-alike, best-in-is-best-of-all}
 use Rattle.product.specs.Laws.Candidates.{fitting-cost, as-sets, as-word}
 use Rattle.product.specs.Laws.Preference.{keyOf, earlier-beats}
 use Rattle.product.specs.Laws.Accepted.{accepted-machines}
 use Rattle.product.specs.Laws.Best.{best-contender}
-use Rattle.product.specs.Laws.BestCandidate.{sets-harmonic, harmonic-sets, path-best-of-sets, best-of-sets-path}
+use Rattle.product.specs.Laws.BestCandidate.{best-of-ranked, path-best-of-sets, best-of-sets-path}
 use Rattle.product.specs.Laws.BestOfSets.{are64Bits, singletons-64, BestForOne, best-for-one, BestUpto, best-upto}
 
 -- ---- in an order on profiles, with a price that agrees with it
@@ -76,7 +76,7 @@ module _ {costs : Costs} {price : Price costs} {better : ProfileOrder} (agrees :
         go none e = refl
         go (some b) e = absurd (Option·none-ne-some _ (sym (f (b .candidate)) ∙ fitting-cost price sets (accepted-machines card ok .sound) (b .candidate) (best-one b e .candidate)))
 
-    pub best-in-is-best-of-all-words : BestOf (machinesOf card) (IsCandidateOf (machinesOf card) sets) (IsBestIn better (machinesOf card) (IsCandidateOf (machinesOf card) sets)) (bestOfSetsIn better card sets)
+    pub best-in-is-best-of-all-words : BestOf (machinesOf card) (BeatsOn better (machinesOf card)) (IsCandidateOf (machinesOf card) sets) (bestOfSetsIn better card sets)
     best-in-is-best-of-all-words = record {
       none-exactly = (λ e c h. let l = best-upto agrees card ok sets bits c h in Option·none-ne-some (l .least) (sym e ∙ l .is), nothing (bestOfSetsIn better card sets) refl);
       is-best = best-one;
@@ -96,10 +96,10 @@ best-in-of-one-word {better = better} agrees card word ok small = go (bestIn bet
     ms : List Machine
     ms = machinesOf card
 
-    all : BestOf ms (IsCandidate ms word) (IsBestIn better ms (IsCandidate ms word)) (bestIn better card word)
+    all : BestOf ms (BeatsOn better ms) (IsCandidate ms word) (bestIn better card word)
     all = best-in-is-best-of-all agrees card word ok
 
-    sets : BestOf ms (IsCandidateOf ms (singletons word)) (IsBestIn better ms (IsCandidateOf ms (singletons word))) (bestOfSetsIn better card (singletons word))
+    sets : BestOf ms (BeatsOn better ms) (IsCandidateOf ms (singletons word)) (bestOfSetsIn better card (singletons word))
     sets = best-in-is-best-of-all-words agrees card (singletons word) ok (singletons-64 word small)
 
     go : (o : Option Contender) → bestIn better card word ≡ o → bestOfSetsIn better card (singletons word) ≡ o
@@ -117,10 +117,10 @@ same-order {better = better} {better′ = better′} agrees agrees′ card sets 
     ms : List Machine
     ms = machinesOf card
 
-    all : BestOf ms (IsCandidateOf ms sets) (IsBestIn better ms (IsCandidateOf ms sets)) (bestOfSetsIn better card sets)
+    all : BestOf ms (BeatsOn better ms) (IsCandidateOf ms sets) (bestOfSetsIn better card sets)
     all = best-in-is-best-of-all-words agrees card sets ok bits
 
-    all′ : BestOf ms (IsCandidateOf ms sets) (IsBestIn better′ ms (IsCandidateOf ms sets)) (bestOfSetsIn better′ card sets)
+    all′ : BestOf ms (BeatsOn better′ ms) (IsCandidateOf ms sets) (bestOfSetsIn better′ card sets)
     all′ = best-in-is-best-of-all-words agrees′ card sets ok bits
 
     go : (o : Option Contender) → bestOfSetsIn better card sets ≡ o → o ≡ bestOfSetsIn better′ card sets
@@ -134,18 +134,11 @@ same-order {better = better} {better′ = better′} agrees agrees′ card sets 
 
 abbrev pub BestOfAllWords : (card ranking sets : List ℕ) → Type 0
 BestOfAllWords card ranking sets =
-    BestOf (machinesOf card) (IsCandidateOf (machinesOf card) sets) (IsBestOfSets ranking (machinesOf card) sets) (bestOfSets card ranking sets)
+    BestOf (machinesOf card) (Beats ranking (machinesOf card)) (IsCandidateOf (machinesOf card) sets) (bestOfSets card ranking sets)
 
 pub best-is-best-of-all-words : (card ranking sets : List ℕ) → cardRefusal card ≡ 0 → isRanking (machineCount card) ranking ≡ true → are64Bits sets ≡ true → BestOfAllWords card ranking sets
 unfolding bestOfSets
-best-is-best-of-all-words card r sets ok is bits =
-    let all = best-in-is-best-of-all-words (ranking-agrees r) card sets ok bits in
-    record {
-      none-exactly = all .none-exactly;
-      is-best = λ b e. harmonic-sets r (machinesOf card) sets (b .candidate) (rw (accepted-machines card ok .count) is) (all .is-best b e);
-      its-profile = all .its-profile;
-      only-it = λ c a. all .only-it c (sets-harmonic r (machinesOf card) sets c a);
-    }
+best-is-best-of-all-words card r sets ok is bits = best-of-ranked r (rw (accepted-machines card ok .count) is) (best-in-is-best-of-all-words (ranking-agrees r) card sets ok bits)
 
 pub best-of-one-word : (card ranking word : List ℕ) → cardRefusal card ≡ 0 → allOf (λ x. ltb x 64) word ≡ true → bestOfSets card ranking (singletons word) ≡ best card ranking word
 unfolding bestOfSets best

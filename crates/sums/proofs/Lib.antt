@@ -1,6 +1,3 @@
 pub mod Numbers
 pub mod Weighing
-pub mod Sweeping
-pub mod Listing
-pub mod Ending
-pub mod Labelling
+pub mod Stepping

@@ -18,8 +18,7 @@ use Rattle.tables.specs.Places.{markNumber}
 use Rattle.tables.specs.Laws.Packing.{number-below, six-number}
 use Rattle.sums.specs.Weights.{soundWeights, weightedSum}
 use Rattle.sums.specs.Laws.Sums.{sumBelow, card-order}
-use Rattle.sums.specs.Numbers.{costOf, sixWeights, cardPlaces, marksSum, pairNumber, endingNumber}
-use Rattle.sums.specs.Lowering.{SixWeights}
+use Rattle.sums.specs.Numbers.{costOf, sixWeights, SixWeights, cardPlaces, marksSum, pairNumber}
 
 pub record Weighs (card weights : List ℕ) : Type 0 where
   pub count : length weights ≡ machineCount card
@@ -40,7 +39,7 @@ each-few [] h i = omega arith
 each-few (w ∷ ws) h zero = leb-true w 4000000000 (left (leb w 4000000000) (allOf (λ w. leb w 4000000000) ws) h)
 each-few (w ∷ ws) h (suc i) = each-few ws (right (leb w 4000000000) (allOf (λ w. leb w 4000000000) ws) h) i
 
-pub weights-six : (weights : List ℕ) → allOf (λ w. leb w 4000000000) weights ≡ true → SixWeights (sixWeights weights)
+weights-six : (weights : List ℕ) → allOf (λ w. leb w 4000000000) weights ≡ true → SixWeights (sixWeights weights)
 weights-six weights h = record { size = refl; most = each }
   where
     each : (i : ℕ) → getD (sixWeights weights) i 0 ≤ 4000000000
@@ -108,10 +107,9 @@ pub record SumsUp (weights marks : List ℕ) : Type 0 where
   pub below : markNumber cardPlaces marks < 16 ^ 6
   pub sum : marksSum (sixWeights weights) (markNumber cardPlaces marks) ≡ weightedSum weights marks
   pub cost : _≡_ {A = Ranked 1} (weightedSum weights marks, 1) (costOf (pairNumber (sixWeights weights) (markNumber cardPlaces marks)))
-  pub ending : _≡_ {A = Ranked 1} (weightedSum weights marks, 0) (costOf (endingNumber (sixWeights weights) (markNumber cardPlaces marks)))
 
 pub sums-up : (card weights : List ℕ) → soundWeights (machineCount card) weights ≡ true → cardRefusal card ≡ 0 → (marks : List ℕ) → ((i : ℕ) → getD marks i 0 ≤ 15) → SumsUp weights marks
-sums-up card weights sound ok marks few = record { below = number-below marks few cardPlaces; sum = sum; cost = cost; ending = ending }
+sums-up card weights sound ok marks few = record { below = number-below marks few cardPlaces; sum = sum; cost = cost }
   where
     w : Weighs card weights
     w = weighs-are card weights sound
@@ -127,11 +125,4 @@ sums-up card weights sound ok marks few = record { below = number-below marks fe
         let n : pairNumber (sixWeights weights) (markNumber cardPlaces marks) ≡ weightedSum weights marks * 4096 + 1 = ap (λ (n : ℕ). n * 4096 + 1) sum in
         let a : weightedSum weights marks ≡ pairNumber (sixWeights weights) (markNumber cardPlaces marks) / 4096 = omega arith in
         let b : 1 ≡ pairNumber (sixWeights weights) (markNumber cardPlaces marks) % 4096 = omega arith in
-        λ i. (a i, b i)
-
-    ending : _≡_ {A = Ranked 1} (weightedSum weights marks, 0) (costOf (endingNumber (sixWeights weights) (markNumber cardPlaces marks)))
-    ending =
-        let n : endingNumber (sixWeights weights) (markNumber cardPlaces marks) ≡ weightedSum weights marks * 4096 = ap (λ (n : ℕ). n * 4096) sum in
-        let a : weightedSum weights marks ≡ endingNumber (sixWeights weights) (markNumber cardPlaces marks) / 4096 = omega arith in
-        let b : 0 ≡ endingNumber (sixWeights weights) (markNumber cardPlaces marks) % 4096 = omega arith in
         λ i. (a i, b i)

@@ -7,10 +7,7 @@ pub mod Laws
 pub mod DominanceTheorem
 pub mod WeightedPaths
 pub mod WeightedGraph
--- the engine: labels as numbers, and what its functions do
+-- labels as numbers, and what an engine does with them
 pub mod Numbers
-pub mod Lowering
-pub mod Sweeping
-pub mod Listing
-pub mod Ending
+pub mod Stepping
 pub mod Labelling

@@ -1,11 +1,12 @@
 -- A label as one number: the sum times 4,096 and the number of pairs. Of two labels the lesser has the lesser number, and numbers add up as labels do:
 -- a best path has fewer than 4,096 pairs.
+use mathlib.Core.Path.{_≡_}
 use mathlib.Core.Bool.{cond}
 use mathlib.Core.List.{List, [], _∷_}
 use mathlib.Core.Option.{Option, some, none}
-use Prim.Native.Nat.{ℕ, _+_, _*_, _/_, _%_}
+use Prim.Native.Nat.{ℕ, _+_, _*_, _/_, _%_, _≤_}
 use lib.Dec.{ltb}
-use lib.ListN.{getD}
+use lib.ListN.{length, getD}
 use Rattle.paths.specs.Ranked.{Ranked}
 
 -- the number of a node that has no label
@@ -26,6 +27,11 @@ labelOf xs u = labelFrom (getD xs u noLabel)
 abbrev pub sixWeights : List ℕ → List ℕ
 sixWeights weights = getD weights 0 0 ∷ getD weights 1 0 ∷ getD weights 2 0 ∷ getD weights 3 0 ∷ getD weights 4 0 ∷ getD weights 5 0 ∷ []
 
+-- six weights of at most 4,000,000,000
+pub record SixWeights (ws : List ℕ) : Type 0 where
+  pub size : length ws ≡ 6
+  pub most : (i : ℕ) → getD ws i 0 ≤ 4000000000
+
 -- the machines in card order as six places
 abbrev pub cardPlaces : List ℕ
 cardPlaces = 0 ∷ 1 ∷ 2 ∷ 3 ∷ 4 ∷ 5 ∷ []
@@ -43,8 +49,3 @@ endingNumber ws e = marksSum ws e * 4096
 
 abbrev pub pairNumber : List ℕ → ℕ → ℕ
 pairNumber ws e = marksSum ws e * 4096 + 1
-
--- all numbers of a slice added: what falls with each label that falls
-unfoldable pub total : List ℕ → ℕ
-total [] = 0
-total (x ∷ xs) = x + total xs

@@ -1,5 +1,6 @@
 pub mod Starting
 pub mod Machines
+pub mod Prefix
 pub mod Counts
 pub mod Rows
 pub mod Joining
@@ -7,4 +8,3 @@ pub mod Ending
 pub mod JointEntries
 pub mod JointRows
 pub mod JointFilling
-pub mod Cheapest

@@ -3,5 +3,4 @@ pub mod Packing
 pub mod Harmony
 pub mod Cards
 pub mod Edges
-pub mod Cheapest
 pub mod Endings

@@ -4,8 +4,6 @@ pub mod JointNumbers
 pub mod Tables
 pub mod Endings
 pub mod FillingRows
-pub mod Insertions
 pub mod JointTable
 pub mod FillingJoint
-pub mod FillingCheapest
 pub mod Laws

@@ -1,22 +1,18 @@
 // Tables that the engine's inner loops look steps up in.
 ghost use mathlib.Core.Path.{_≡_};
 ghost use mathlib.Core.List.{List};
-ghost use Prim.Native.Nat.{ℕ, _^_, _<_, _≤_};
+ghost use Prim.Native.Nat.{ℕ, _<_, _≤_};
 ghost use lib.ListN.{getD, take};
 ghost use Rattle.machine.specs.Machine.{Machine};
 ghost use Rattle.card.specs.Layout.{machineCount};
 ghost use Rattle.card.specs.Card.{machinesOf, cardRefusal};
 ghost use Rattle.product.specs.Nodes.{stateCounts, product};
 ghost use Rattle.product.specs.ProductGraph.{startNode};
-ghost use Rattle.labels.specs.LabelCost.{costOf};
 ghost use Rattle.tables.specs.Places.{sixPlaces, markNumber, SixPlaces};
 ghost use Rattle.tables.specs.JointNumbers.{jointEnded, endingFrom};
-ghost use Rattle.tables.specs.Endings.{endingCost};
 ghost use Rattle.tables.specs.Tables.{CountsOfSome, HoldsRows, JointPre, Joins, EndingPre};
 ghost use Rattle.tables.specs.FillingRows.{RowsPre, RowFilled};
-ghost use Rattle.tables.specs.FillingCheapest.{NotePre, Noted, Blank, FillPre, FilledFrom, FilledCheapest};
 use basics::index;
-use labels::Label;
 use machine::Ending;
 use machine::Pair;
 use machine::Position;
@@ -203,62 +199,4 @@ pub fn joint_ending(card: &[u8], rows: &[u16], places: &[u8; 6], code: usize) ->
         m += 1;
     }
     JointEnding::Marks(number(&marks, places))
-}
-
-// The label of an ending with those marks.
-pub fn ending_label(marks: u32) -> Label
-    requires { ⌜ marks < 16 ^ 6 ⌝ }
-    ensures { λ r. ⌜ costOf r ≡ endingCost marks ⌝ }
-{
-    let nothing = Label {
-        first: 0,
-        second: 0,
-        third: 0,
-        fourth: 0,
-        fifth: 0,
-        sixth: 0,
-        pairs: 0,
-    };
-    let mut label = labels::plus(nothing, marks);
-    label.pairs = 0;
-    label
-}
-
-// Keeps the number of a joint step from a joint state where it is the smallest so far.
-fn note(table: &mut [u32], size: usize, from: usize, step: Joint)
-    requires { ⌜ NotePre (now table) size from step ⌝ }
-    ensures { λ _. ⌜ Noted (now (table .entry)) (now (table .exit)) size from step ⌝ }
-{
-    let Joint::To(to, marks) = step else {
-        return;
-    };
-    let at = to * size + from;
-    if marks < table[at] {
-        table[at] = marks;
-    }
-}
-
-// The cheapest insertions from one joint state.
-fn fill_from(joint: &[u32], size: usize, symbols: usize, from: usize, table: &mut [u32])
-    requires { ⌜ FillPre (now joint) (now table) size symbols × (from < size) ⌝ }
-    ensures { λ _. ⌜ FilledFrom (now (joint .entry)) (now (table .entry)) (now (table .exit)) size symbols from ⌝ }
-{
-    let mut y = Pair::FIRST;
-    while y <= symbols {
-        let step = joint_table::read(joint[from * 64 + y]);
-        note(table, size, from, step);
-        y += 1;
-    }
-}
-
-// The cheapest insertions between all joint states, from the table of the joint steps for the empty symbol, where no pair stands everywhere.
-pub fn fill_cheapest(joint: &[u32], size: usize, symbols: usize, table: &mut [u32])
-    requires { ⌜ FillPre (now joint) (now table) size symbols × Blank (now table) ⌝ }
-    ensures { λ _. ⌜ FilledCheapest (now (joint .entry)) (now (table .exit)) size symbols ⌝ }
-{
-    let mut from = 0;
-    while from < size {
-        fill_from(joint, size, symbols, from, table);
-        from += 1;
-    }
 }

@@ -9,4 +9,3 @@ pub mod Acceptance
 pub mod SameBest
 -- the theorem, over the calls
 pub mod Trimming
-pub mod TrimmingSets

@@ -19,15 +19,12 @@ use Rattle.card.specs.Layout.{machineCount, symbolCount, partOf}
 use Rattle.card.specs.Card.{cardRefusal, machinesOf}
 use Rattle.card.specs.Accepted.{accepted}
 use Rattle.card.specs.Laws.Machines.{length-machines, machine-at}
-use Rattle.candidate.specs.Candidates.{isSome, marksOf, countOf, isComplete, profileOf, IsCandidate}
+use Rattle.candidate.specs.Candidates.{isSome, marksOf, countOf, isComplete, profileOf}
 use Rattle.paths.specs.Costs.{Costs}
-use Rattle.product.specs.Best.{Contender, contenderOf, ProfileOrder, bestIn, best}
-use Rattle.product.specs.Sets.{IsCandidateOf, bestOfSetsIn, bestOfSets}
-use Rattle.product.specs.Prices.{Price, Agrees, ranking-agrees}
+use Rattle.product.specs.Best.{Contender, contenderOf, ProfileOrder}
+use Rattle.product.specs.Prices.{Price, Agrees}
 use Rattle.product.specs.BestCandidate.{BeatsIn, IsBestIn}
-use Rattle.product.specs.BestTheorem.{best-in-is-best-of-all}
-use Rattle.product.specs.SetsTheorem.{best-in-is-best-of-all-words}
-use Rattle.product.specs.Laws.BestOfSets.{are64Bits}
+use Rattle.product.specs.Searches.{Searches}
 use Rattle.trimming.specs.Travelling.{machineWithout, machinesWithout, travels}
 use Rattle.trimming.specs.Trimmed.{LacksArc}
 use Rattle.trimming.specs.Laws.Lists.{all-set-same}
@@ -47,7 +44,7 @@ module _ (ms : List Machine) (i j : ℕ) (c : List Pair) (same : marksOf c (mach
 
 -- ---- the best of the candidates meant
 
-module _ {better : ProfileOrder} {ms ms′ : List Machine} {Meant Meant′ : List Pair → Type 0}
+module _ {better : ProfileOrder} (ms ms′ : List Machine) {Meant Meant′ : List Pair → Type 0}
     (kept : (d : List Pair) → Meant′ d → Meant d × (profileOf ms′ d ≡ profileOf ms d)) where
   -- where the candidates on the second card are among those on the first, with their profiles, the best is the best there if it is one of them
   still-best : (c : List Pair) → Meant′ c → IsBestIn better ms Meant c → IsBestIn better ms′ Meant′ c
@@ -91,60 +88,35 @@ module _ {card trimmed : List ℕ} {i j : ℕ} (ok : cardRefusal card ≡ 0) (ok
       go none e = absurd (false≢true (sym (ap {A = Option ℕ} isSome e) ∙ runs d complete))
       go (some n) e = e ∙ sym (run-kept machine j clashless startState d pairs n e)
 
-  word-kept : (word : List ℕ) (d : List Pair) → IsCandidate (machinesOf trimmed) word d → IsCandidate ms word d × (profileOf (machinesOf trimmed) d ≡ profileOf ms d)
-  word-kept word d h =
-      let complete : isComplete (machinesWithout i j ms) d ≡ true = rw (lacks .machines) at (h .complete) in
-      let same = ran d (h .pairs) complete in
-      (record { pairs = h .pairs; spells = h .spells; complete = sym (same-complete ms i j d same) ∙ complete }, ap (λ (l : List Machine). profileOf l d) (lacks .machines) ∙ same-profile ms i j d same)
+  -- ---- the theorem, for whatever is asked for
 
-  sets-kept : (sets : List ℕ) (d : List Pair) → IsCandidateOf (machinesOf trimmed) sets d → IsCandidateOf ms sets d × (profileOf (machinesOf trimmed) d ≡ profileOf ms d)
-  sets-kept sets d h = let k = word-kept (h .word) d (h .is) in (record { word = h .word; fits = h .fits; is = k .0 }, k .1)
+  module _ {Meant : List Machine → List Pair → Type 0} {best : ProfileOrder → List ℕ → Option Contender} (asked : Searches Meant best) where
+    -- a candidate on the trimmed card is one on the card, with its profile
+    kept : (d : List Pair) → Meant (machinesOf trimmed) d → Meant ms d × (profileOf (machinesOf trimmed) d ≡ profileOf ms d)
+    kept d h =
+        let k = asked .candidate h .1 in
+        let complete : isComplete (machinesWithout i j ms) d ≡ true = rw (lacks .machines) at (k .complete) in
+        let same = ran d (k .pairs) complete in
+        (asked .complete-too h (sym (same-complete ms i j d same) ∙ complete), ap (λ (l : List Machine). profileOf l d) (lacks .machines) ∙ same-profile ms i j d same)
 
-  -- and one that travels the arc is none there
-  pub travelled-gone : (word : List ℕ) (c : List Pair) → travels ms i j c ≡ true → ¬ (IsCandidate (machinesOf trimmed) word c)
-  travelled-gone word c t h =
-      let complete : isComplete (machinesWithout i j ms) c ≡ true = rw (lacks .machines) at (h .complete) in
-      false≢true (sym (ap {A = Option ℕ} isSome (run-gone machine j clashless startState c (h .pairs) t)) ∙ runs c complete)
+    -- one that travels the arc is none there
+    pub travelled-gone : (c : List Pair) → travels ms i j c ≡ true → ¬ (Meant (machinesOf trimmed) c)
+    travelled-gone c t h =
+        let k = asked .candidate h .1 in
+        let complete : isComplete (machinesWithout i j ms) c ≡ true = rw (lacks .machines) at (k .complete) in
+        false≢true (sym (ap {A = Option ℕ} isSome (run-gone machine j clashless startState c (k .pairs) t)) ∙ runs c complete)
 
-  -- a candidate that does not travel the arc is one on the trimmed card
-  module _ (c : List Pair) (off : travels ms i j c ≡ false) where
-    same : marksOf c (machineWithout j machine) ≡ marksOf c machine
-    same = run-same machine j startState c off
+    -- and one that does not is
+    stays : (c : List Pair) → travels ms i j c ≡ false → Meant ms c → Meant (machinesOf trimmed) c
+    stays c off h =
+        asked .complete-too h (ap (λ (l : List Machine). isComplete l c) (lacks .machines) ∙ same-complete ms i j c (run-same machine j startState c off) ∙ asked .candidate h .1 .complete)
 
-    word-stays : (word : List ℕ) → IsCandidate ms word c → IsCandidate (machinesOf trimmed) word c
-    word-stays word h = record { pairs = h .pairs; spells = h .spells; complete = ap (λ (l : List Machine). isComplete l c) (lacks .machines) ∙ same-complete ms i j c same ∙ h .complete }
-
-    sets-stay : (sets : List ℕ) → IsCandidateOf ms sets c → IsCandidateOf (machinesOf trimmed) sets c
-    sets-stay sets h = record { word = h .word; fits = h .fits; is = word-stays (h .word) (h .is) }
-
-    trimmed-profile : profileOf (machinesOf trimmed) c ≡ profileOf ms c
-    trimmed-profile = ap (λ (l : List Machine). profileOf l c) (lacks .machines) ∙ same-profile ms i j c same
-
-  -- ---- the theorem, for every order on profiles with a price that agrees with it
-
-  module _ {costs : Costs} {price : Price costs} {better : ProfileOrder} (agrees : Agrees price better) (b : Contender) (off : travels ms i j (b .candidate) ≡ false) where
-    same-contender : b .profile ≡ profileOf ms (b .candidate) → contenderOf (machinesOf trimmed) (b .candidate) ≡ b
-    same-contender e = let q = trimmed-profile (b .candidate) off ∙ sym e in λ k. record { candidate = b .candidate; profile = q k }
-
-    pub same-best-in : (word : List ℕ) → bestIn better card word ≡ some b → bestIn better trimmed word ≡ some b
-    same-best-in word e =
-        let all = best-in-is-best-of-all agrees card word ok in
+    -- so the best is the same, in every order on profiles with a price that agrees with it
+    pub same-best : {costs : Costs} {price : Price costs} {better : ProfileOrder} → Agrees price better → (b : Contender) → best better card ≡ some b → travels ms i j (b .candidate) ≡ false → best better trimmed ≡ some b
+    same-best agrees b e off =
+        let all = asked .best-of-all agrees card ok in
         let here = all .is-best b e in
-        best-in-is-best-of-all agrees trimmed word ok′ .only-it (b .candidate) (still-best (word-kept word) (b .candidate) (word-stays (b .candidate) off word (here .candidate)) here)
-        ∙ ap {B = Option Contender} some (same-contender (all .its-profile b e))
-
-    pub same-best-of-sets-in : (sets : List ℕ) → are64Bits sets ≡ true → bestOfSetsIn better card sets ≡ some b → bestOfSetsIn better trimmed sets ≡ some b
-    same-best-of-sets-in sets bits e =
-        let all = best-in-is-best-of-all-words agrees card sets ok bits in
-        let here = all .is-best b e in
-        best-in-is-best-of-all-words agrees trimmed sets ok′ bits .only-it (b .candidate) (still-best (sets-kept sets) (b .candidate) (sets-stay (b .candidate) off sets (here .candidate)) here)
-        ∙ ap {B = Option Contender} some (same-contender (all .its-profile b e))
-
-  -- under a ranking
-  pub same-best : (ranking word : List ℕ) (b : Contender) → best card ranking word ≡ some b → travels ms i j (b .candidate) ≡ false → best trimmed ranking word ≡ some b
-  unfolding best
-  same-best ranking word b e off = same-best-in (ranking-agrees ranking) b off word e
-
-  pub same-best-of-sets : (ranking sets : List ℕ) → are64Bits sets ≡ true → (b : Contender) → bestOfSets card ranking sets ≡ some b → travels ms i j (b .candidate) ≡ false → bestOfSets trimmed ranking sets ≡ some b
-  unfolding bestOfSets
-  same-best-of-sets ranking sets bits b e off = same-best-of-sets-in (ranking-agrees ranking) b off sets bits e
+        let there = stays (b .candidate) off (here .candidate) in
+        let q = kept (b .candidate) there .1 ∙ sym (all .its-profile b e) in
+        asked .best-of-all agrees trimmed ok′ .only-it (b .candidate) (still-best ms (machinesOf trimmed) kept (b .candidate) there here)
+        ∙ (λ k. some (record { candidate = b .candidate; profile = q k }))

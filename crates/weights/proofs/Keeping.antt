@@ -39,10 +39,10 @@ use Rattle.walk.specs.declared.Tried.the-variants.{Least, Without}
 use Rattle.sums.specs.Numbers.{noLabel, costOf, labelFrom, labelOf, cardPlaces, pairNumber, endingNumber}
 use Rattle.sums.specs.WeightedPaths.{weightedGraph}
 use Rattle.sums.specs.WeightedGraph.{weighted-sized}
-use Rattle.sums.specs.Sweeping.{Weighted, SweepPre}
+use Rattle.sums.specs.Stepping.{Weighted, StepsPre}
 use Rattle.sums.specs.Labelling.{Lent}
 use Rattle.sums.proofs.Numbers.{number-of, number-upto, number-add, label-at, labelled-at}
-use Rattle.sums.proofs.Sweeping.{over, six-card, next-within, node-there, SmallNumber, number-small, label-small, no-edge, EdgeTo, edge-to}
+use Rattle.sums.proofs.Stepping.{over, six-card, next-within, node-there, SmallNumber, number-small, label-small, no-edge, EdgeTo, edge-to}
 use Rattle.weights.specs.Walking.{KeepsAt, TightTo, KeepsPair, Tries, Labelled, TryPre, StartsAt, Finds, Filled, filledAfter, FillPre}
 
 -- ---- by the joint step found
@@ -53,7 +53,7 @@ not-to c q = let z : _≡_ {A = ℕ} 0 1 = cc in omega arith
 not-no : (c : ℕ) → _≡_ {A = Kept} (To c) No → ⊥
 not-no c q = let z : _≡_ {A = ℕ} 0 1 = cc in omega arith
 
-module _ {card weights sets js ws xs : List ℕ} {P i j x first : ℕ} (Q : SweepPre card weights sets js ws xs P i j x first) (z y : ℕ) (k : z < P) (few : y ≤ symbolCount card) (least : first ≤ y) (r : Joint) (J : ReadAs (getD js (z * 64 + y) 0) r) where
+module _ {card weights sets js ws xs : List ℕ} {P i j x first : ℕ} (Q : StepsPre card weights sets js ws xs P i j x first) (z y : ℕ) (k : z < P) (few : y ≤ symbolCount card) (least : first ≤ y) (r : Joint) (J : ReadAs (getD js (z * 64 + y) 0) r) where
   kept-no : ¬ (KeepsAt card weights sets xs P i z (record { input = x; output = y })) → KeepsPair card weights sets xs P i z x y No
   kept-no f = record { to = λ c q. absurd (not-to c q); no = λ q. f }
 
@@ -167,7 +167,7 @@ module _ {card weights sets xs : List ℕ} {P : ℕ} (W : Weighted card weights 
 -- ---- by the table of the in
 
 module _ {card weights sets ins cs ps ws xs : List ℕ} {P i code x : ℕ} (T : TryPre card weights sets ins cs ps ws xs P i code x) where
-  pub insertion-ready : x ≡ emptySymbol → SweepPre card weights sets ins ws xs P i i x 1
+  pub insertion-ready : x ≡ emptySymbol → StepsPre card weights sets ins ws xs P i i x 1
   insertion-ready e = record {
     weighted = T .labelled .weighted;
     position = T .position;
@@ -191,7 +191,7 @@ module _ {card weights sets ins cs ps ws xs : List ℕ} {P i code x : ℕ} (T : 
         room = rw (T .labelled .counts, ← (s .states)) (L .joint);
       }
 
-  pub symbol-ready : {js : List ℕ} → x ≢ emptySymbol → HoldsJoint (symbolCount card) (machinesOf card) x cardPlaces js → SweepPre card weights sets js ws xs P i (i + 1) x 0
+  pub symbol-ready : {js : List ℕ} → x ≢ emptySymbol → HoldsJoint (symbolCount card) (machinesOf card) x cardPlaces js → StepsPre card weights sets js ws xs P i (i + 1) x 0
   symbol-ready n H = record {
     weighted = T .labelled .weighted;
     position = T .position;

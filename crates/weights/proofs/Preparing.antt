@@ -11,11 +11,11 @@ use Rattle.product.specs.Best.{Contender}
 use Rattle.product.specs.Nodes.{stateCounts}
 use Rattle.product.specs.Laws.Setting.{symbols-few}
 use mathlib.Core.Option.{Option}
-use Rattle.tables.specs.Tables.{HoldsRows}
 use Rattle.tables.specs.JointTable.{HoldsJoint, JointTablePre}
 use Rattle.sums.specs.Numbers.{sixWeights, cardPlaces}
-use Rattle.sums.specs.Labelling.{Tools, AllDone, LabelPre}
-use Rattle.sums.proofs.Sweeping.{six-card}
+use Rattle.sums.specs.Labelling.{AllDone}
+use Rattle.sums.proofs.Stepping.{six-card}
+use Rattle.weighted.specs.Labelling.{LabelPre}
 use Rattle.weights.specs.declared.Weighing.{Weighing}
 use Rattle.weights.specs.Walking.{Labelled}
 use Rattle.weights.specs.Searching.{SetsPre, Searched}
@@ -32,25 +32,25 @@ module _ {card weights sets work : List ℕ} {P : ℕ} (pre : SetsPre card weigh
     room = rw (counts, ← (pre .setting .states)) h;
   }
 
-  pub tools : {rs ins : List ℕ} {S : ℕ} → S ≡ symbolCount card → HoldsRows cs rs → HoldsJoint S (machinesOf card) emptySymbol cardPlaces ins → Tools card rs ins
-  tools k R H = record { rows = rw counts at R; insertions = rw k at H }
+  pub insertions-filled : {ins : List ℕ} {S : ℕ} → S ≡ symbolCount card → HoldsJoint S (machinesOf card) emptySymbol cardPlaces ins → HoldsJoint (symbolCount card) (machinesOf card) emptySymbol cardPlaces ins
+  insertions-filled k H = rw k at H
 
-  pub label-ready : {ws : List ℕ} → ws ≡ sixWeights weights → LabelPre card weights sets cs cardPlaces ws work P
-  label-ready w = record { setting = pre .setting; weighs = pre .weighs; room = pre .room; counts = counts; places = refl; costs = w }
+  pub label-ready : LabelPre card weights sets work P
+  label-ready = record { setting = pre .setting; weighs = pre .weighs; room = pre .room }
 
   module _ {after : List ℕ} (D : AllDone card weights sets work after) where
     pub after-pre : SetsPre card weights sets after P
     after-pre = record { setting = pre .setting; weighs = pre .weighs; bits = pre .bits; room = D .size ∙ pre .room }
 
-    pub labelled : {rs ins ws : List ℕ} → ws ≡ sixWeights weights → Tools card rs ins → Labelled card weights sets ins cs cardPlaces ws after P
-    labelled w T = record {
+    pub labelled : {ins ws : List ℕ} → ws ≡ sixWeights weights → HoldsJoint (symbolCount card) (machinesOf card) emptySymbol cardPlaces ins → Labelled card weights sets ins cs cardPlaces ws after P
+    labelled w H = record {
       weighted = record { setting = pre .setting; weighs = pre .weighs; room = D .size ∙ pre .room; top = D .top; attained = D .done .attained };
       closed = λ u. D .done .closed u (omega arith);
-      insertions = T .insertions;
+      insertions = H;
       counts = counts;
       places = refl;
       costs = w;
     }
 
 pub searched-by : {weights card sets word work after answer answerAfter : List ℕ} {b : Option Contender} {r : Weighing} → AllDone card weights sets work after → Searched weights b word after after answer answerAfter r → Searched weights b word work after answer answerAfter r
-searched-by D S = record { result = S .result; answer-slice = S .answer-slice; work-length = D .size }
+searched-by D S = let T = S .searched in record { searched = record { result = T .result; answer-slice = T .answer-slice; work-length = D .size }; its-sum = S .its-sum }

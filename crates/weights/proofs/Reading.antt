@@ -18,6 +18,7 @@ use Rattle.machine.specs.declared.Pair.{Pair}
 use Rattle.ranking.specs.declared.Profile.{Profile}
 use Rattle.card.specs.Layout.{symbolCount}
 use Rattle.card.specs.Card.{machinesOf}
+use Rattle.candidate.specs.declared.Evaluation.{Evaluation}
 use Rattle.candidate.specs.Candidates.{pairsOf, bytesOf, isComplete, profileOf}
 use Rattle.candidate.specs.Evaluating.{soundPair, soundCandidate, profileWith}
 use Rattle.candidate.proofs.Pairs.{sound-is}
@@ -25,7 +26,7 @@ use Rattle.paths.specs.Ranked.{Ranked}
 use Rattle.paths.specs.Graph.{Run, cost→run}
 use Rattle.product.specs.Best.{Contender, contenderOf}
 use Rattle.product.specs.Sets.{bestOfSetsIn, IsCandidateOf}
-use Rattle.product.specs.Optimizing.{filled}
+use Rattle.product.specs.Answering.{callRefusal, evaluationOf}
 use Rattle.product.specs.ProductGraph.{cardStart}
 use Rattle.product.specs.LabelTheorem.{BestAt, no-label-no-best, label-best}
 use Rattle.product.specs.SetsTheorem.{best-path-is-best-of-sets}
@@ -37,14 +38,14 @@ use Rattle.product.specs.Laws.Edges.{edge-of, moved}
 use Rattle.product.specs.Laws.Following.{Followed}
 use Rattle.product.specs.Laws.Preference.{length-bytes}
 use Rattle.product.specs.Laws.Setting.{few-nodes}
-use Rattle.optimizer.specs.Searching.{searchRefusal}
+use Rattle.optimizer.proofs.Answers.{search-refused, search-found}
 use Rattle.sums.specs.Weights.{weightedSum, bySum}
 use Rattle.sums.specs.WeightedPaths.{byWeights, weights-agree, weightedGraph}
 use Rattle.sums.specs.Numbers.{noLabel, costOf, labelFrom, labelOf}
 use Rattle.sums.proofs.Numbers.{label-at, label-some, label-none}
-use Rattle.sums.proofs.Sweeping.{label-small}
+use Rattle.sums.proofs.Stepping.{label-small}
 use Rattle.weights.specs.declared.Weighing.{Weighing}
-use Rattle.weights.specs.Weighing.{refusedWeighing, weighingOf}
+use Rattle.weights.specs.Weighing.{refusedWeighing, sumOf, answeredSum}
 use Rattle.weights.specs.Walking.{Labelled, StartsAt}
 use Rattle.weights.specs.Searching.{numberRefusal, SetsPre, Searched}
 
@@ -79,36 +80,36 @@ module _ {card weights sets ins cs ps ws xs : List ℕ} {P : ℕ} (pre : SetsPre
     at : BestAt (byWeights weights) (bySum weights) card sets (costOf (getD xs (cardStart card) 0))
     at = label-best (weights-agree weights) card sets (pre .setting .accepted) (pre .bits) (labelOf xs) (L .closed) (L .weighted .attained) (costOf (getD xs (cardStart card) 0)) (start-label ∙ label-some (getD xs (cardStart card) 0) h)
 
-  by-number : (room : ℕ) → numberRefusal (getD xs (cardStart card) 0) room ≡ searchRefusal (bestOfSetsIn (bySum weights) card sets) room
+  by-number : (room : ℕ) → numberRefusal (getD xs (cardStart card) 0) room ≡ callRefusal 0 (bestOfSetsIn (bySum weights) card sets) room
   by-number room = go (decLt (getD xs (cardStart card) 0) noLabel)
     where
-      go : Dec (getD xs (cardStart card) 0 < noLabel) → numberRefusal (getD xs (cardStart card) 0) room ≡ searchRefusal (bestOfSetsIn (bySum weights) card sets) room
+      go : Dec (getD xs (cardStart card) 0 < noLabel) → numberRefusal (getD xs (cardStart card) 0) room ≡ callRefusal 0 (bestOfSetsIn (bySum weights) card sets) room
       go (yes h) =
           let b = at h in
           let n : getD xs (cardStart card) 0 % 4096 ≡ length (b .contender .candidate) = ap (λ (c : Ranked 1). c .1) (b .cost) in
           ap (λ (t : Bool). firstOf (refuse 10 t ∷ refuse 12 (leb (2 * (getD xs (cardStart card) 0 % 4096)) room) ∷ [])) (lt-ltb (getD xs (cardStart card) 0) noLabel h)
           ∙ ap (λ (n : ℕ). firstOf (refuse 12 (leb (2 * n) room) ∷ [])) n
-          ∙ sym (ap (λ (o : Option Contender). searchRefusal o room) (b .is))
+          ∙ sym (ap (λ (o : Option Contender). callRefusal 0 o room) (b .is))
       go (no h) =
           let e = no-label-no-best (weights-agree weights) card sets (pre .setting .accepted) (pre .bits) (labelOf xs) (L .closed) (start-label ∙ label-none (getD xs (cardStart card) 0) (omega arith)) in
           ap (λ (t : Bool). firstOf (refuse 10 t ∷ refuse 12 (leb (2 * (getD xs (cardStart card) 0 % 4096)) room) ∷ [])) (le-ltb (getD xs (cardStart card) 0) noLabel (omega arith))
-          ∙ sym (ap (λ (o : Option Contender). searchRefusal o room) e)
+          ∙ sym (ap (λ (o : Option Contender). callRefusal 0 o room) e)
 
   -- x is the number found at the start
   module _ (x : ℕ) (x-is : x ≡ getD xs (cardStart card) 0) where
-    the-refusal : (room : ℕ) → numberRefusal x room ≡ searchRefusal (bestOfSetsIn (bySum weights) card sets) room
+    the-refusal : (room : ℕ) → numberRefusal x room ≡ callRefusal 0 (bestOfSetsIn (bySum weights) card sets) room
     the-refusal room = ap (λ (n : ℕ). numberRefusal n room) x-is ∙ by-number room
 
     -- a refusal
     pub refused-answered : (answer : List ℕ) (n : ℕ) (r : Weighing) → n ≡ numberRefusal x (length answer) → 0 < n → r ≡ refusedWeighing n → Searched weights (bestOfSetsIn (bySum weights) card sets) sets xs xs answer answer r
-    refused-answered answer n r e h q = record {
-      result = q ∙ refused-by (weighingOf weights (bestOfSetsIn (bySum weights) card sets) sets) refusedWeighing;
-      answer-slice = refused-by (filled (bestOfSetsIn (bySum weights) card sets) answer) (λ n. answer);
-      work-length = refl;
-    }
-      where
-        refused-by : {A : Type 0} (a : A) (f : ℕ → A) → f n ≡ unlessRefused (searchRefusal (bestOfSetsIn (bySum weights) card sets) (length answer)) a f
-        refused-by a f = sym (not-accepted n a f h) ∙ ap (λ (m : ℕ). unlessRefused m a f) (e ∙ the-refusal (length answer))
+    unfolding answeredSum
+    refused-answered answer n r e h q =
+        let b = bestOfSetsIn (bySum weights) card sets in
+        let m = e ∙ the-refusal (length answer) in
+        record {
+          searched = search-refused refl n m h (ap (λ (v : Weighing). v .evaluation) q);
+          its-sum = ap (λ (v : Weighing). v .sum) q ∙ sym (not-accepted n (sumOf weights b) (λ n. 0) h) ∙ ap (λ (k : ℕ). unlessRefused k (sumOf weights b) (λ n. 0)) m;
+        }
 
     module _ (answer : List ℕ) (passes : numberRefusal x (length answer) ≡ 0) where
       record Fits : Type 0 where
@@ -164,21 +165,20 @@ module _ {card weights sets ins cs ps ws xs : List ℕ} {P : ℕ} (pre : SetsPre
 
         pub best-answered : (s : Profile) → (isComplete (machinesOf card) (pairsOf (take (2 * n) after)) ≡ true → s ≡ profileWith (profileOf (machinesOf card) (pairsOf (take (2 * n) after))))
             → Searched weights (bestOfSetsIn (bySum weights) card sets) sets xs xs answer after (record { evaluation = record { number = 0; profile = s; pairs = n; «word_length» = length sets }; sum = x / 4096 })
+        unfolding answeredSum
         best-answered s S = record {
-          result = result ∙ sym (ap (λ (o : Option Contender). weighingOf weights o sets) the-best) ∙ sym (taken (weighingOf weights (bestOfSetsIn (bySum weights) card sets) sets) refusedWeighing unrefused);
-          answer-slice = F .written ∙ sym (ap (λ (o : Option Contender). filled o answer) the-best) ∙ sym (taken (filled (bestOfSetsIn (bySum weights) card sets) answer) (λ n. answer) unrefused);
-          work-length = refl;
+          searched = search-found refl the-best unrefused result (F .written);
+          its-sum = ap (λ (c : Ranked 1). c .0) cost ∙ sym (ap (sumOf weights) the-best) ∙ sym (taken (sumOf weights (bestOfSetsIn (bySum weights) card sets)) (λ n. 0) unrefused);
         }
           where
-            unrefused : searchRefusal (bestOfSetsIn (bySum weights) card sets) (length answer) ≡ 0
+            unrefused : callRefusal 0 (bestOfSetsIn (bySum weights) card sets) (length answer) ≡ 0
             unrefused = sym (the-refusal (length answer)) ∙ passes
 
             scored : isComplete (machinesOf card) (F .best) ≡ true → s ≡ profileWith (profileOf (machinesOf card) (F .best))
             scored = subst (λ (c : List Pair). isComplete (machinesOf card) c ≡ true → s ≡ profileWith (profileOf (machinesOf card) c)) (ap pairsOf front ∙ pairs-back (F .best)) S
 
-            result : _≡_ {A = Weighing} (record { evaluation = record { number = 0; profile = s; pairs = n; «word_length» = length sets }; sum = x / 4096 }) (weighingOf weights (some (contenderOf (machinesOf card) (F .best))) sets)
+            result : _≡_ {A = Evaluation} (record { number = 0; profile = s; pairs = n; «word_length» = length sets }) (evaluationOf (some (contenderOf (machinesOf card) (F .best))) sets)
             result =
                 let p = scored (candidate .is .complete) in
                 let m = F .count in
-                let q : x / 4096 ≡ weightedSum weights (profileOf (machinesOf card) (F .best)) = ap (λ (c : Ranked 1). c .0) cost in
-                λ i. record { evaluation = record { number = 0; profile = p i; pairs = m i; «word_length» = length sets }; sum = q i }
+                λ i. record { number = 0; profile = p i; pairs = m i; «word_length» = length sets }

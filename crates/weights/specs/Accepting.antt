@@ -1,17 +1,17 @@
 -- What input promises that the checks before the search accept.
 use mathlib.Core.Path.{_≡_}
 use mathlib.Core.Bool.{true}
-use mathlib.Core.List.{List, [], _∷_}
+use mathlib.Core.List.{List}
 use Prim.Native.Nat.{ℕ, _*_, _≤_}
 use lib.ListN.{length}
-use lib.Dec.{leb, lit<}
-use borrow.Author.Tests.{leb-true}
+use lib.Dec.{lit<}
 use Rattle.refusals.specs.Refusals.{refuse}
-use Rattle.refusals.proofs.Refusals.{passed, none-first}
+use Rattle.refusals.proofs.Refusals.{passed}
 use Rattle.card.specs.Layout.{machineCount, symbolCount}
 use Rattle.card.specs.Card.{cardRefusal, machinesOf}
 use Rattle.product.specs.Nodes.{nodeCount}
 use Rattle.product.specs.Optimizing.{soundWord}
+use Rattle.input.specs.AcceptedInput.{passes}
 use Rattle.sums.specs.Weights.{soundWeights}
 use Rattle.weights.specs.Weighing.{weightedRefusal}
 
@@ -26,14 +26,5 @@ unfolding weightedRefusal
 accepts card weights word room e =
     let r = soundWeights (machineCount card) weights in
     let w = soundWord (symbolCount card) word in
-    let n = leb (2 * nodeCount (machinesOf card) (length word)) room in
-    let a = none-first (cardRefusal card) (refuse 26 r ∷ refuse 8 w ∷ refuse 9 n ∷ []) e in
-    let b = none-first (refuse 26 r) (refuse 8 w ∷ refuse 9 n ∷ []) (a .1) in
-    let d = none-first (refuse 8 w) (refuse 9 n ∷ []) (b .1) in
-    let f = none-first (refuse 9 n) [] (d .1) in
-    record {
-      accepted = a .0;
-      weighs = passed 26 r (lit< tt) (b .0);
-      sound = passed 8 w (lit< tt) (d .0);
-      nodes-fit = leb-true (2 * nodeCount (machinesOf card) (length word)) room (passed 9 n (lit< tt) (f .0));
-    }
+    let p = passes card (refuse 26 r) (refuse 8 w) (2 * nodeCount (machinesOf card) (length word)) room e in
+    record { accepted = p .accepted; weighs = passed 26 r (lit< tt) (p .order); sound = passed 8 w (lit< tt) (p .word); nodes-fit = p .nodes-fit }

@@ -7,21 +7,20 @@ use mathlib.Core.Option.{some}
 use Prim.Native.Nat.{ℕ, zero, suc, _*_, _-_, max}
 use lib.ListN.{length, take, drop, replicate}
 use lib.Seq.{take-at}
-use Rattle.refusals.specs.Refusals.{refuse}
 use Rattle.machine.specs.declared.Pair.{Pair}
 use Rattle.ranking.specs.declared.Profile.{Profile}
 use Rattle.card.specs.Layout.{machineCount}
 use Rattle.card.specs.Card.{machinesOf}
 use Rattle.candidate.specs.declared.Evaluation.{Evaluation}
-use Rattle.candidate.specs.Candidates.{bytesOf, profileOf, isSome}
+use Rattle.candidate.specs.Candidates.{bytesOf, profileOf}
 use Rattle.candidate.specs.Evaluating.{profileWith}
 use Rattle.product.specs.Best.{Contender, contenderOf, best}
 use Rattle.product.specs.BestTheorem.{best-is-best-of-all}
-use Rattle.product.specs.Optimizing.{inputRefusal, answerFits, optimizerRefusal, evaluationOf, optimized}
+use Rattle.product.specs.BestCandidate.{IsBestCandidate}
 use Rattle.product.specs.Laws.Preference.{length-bytes}
 use Rattle.input.specs.AcceptedInput.{AcceptedInput, accepted-input}
 use Rattle.optimizer.specs.Optimizes as ranked
-use Rattle.optimizer.specs.Demands.{Answers}
+use Rattle.optimizer.specs.Demands.{AnswersBest, answered-accepts}
 use Rattle.optimizer.specs.Demand3 as ranked-demand
 use Rattle.sums.specs.Weights.{bestByWeights}
 use Rattle.sums.specs.Dominance.{Outweighs}
@@ -30,7 +29,6 @@ use Rattle.weights.specs.WeightedBest.{IsBestByWeights, weighs, weighted
 use Rattle.weights.specs.Agreement.{largest, agreement}
 use Rattle.weights.specs.Searching.{Optimizes}
 use Rattle.weights.specs.Accepting.{Accepts, accepts}
-use Rattle.weights.specs.Demand3.{first-passed}
 use Rattle.weights.specs.Demand3 as weighted-demand
 
 -- the zeros past the last machine are not the largest count
@@ -44,20 +42,13 @@ unfolding largest
 with-zeros [] n = largest-zeros n
 with-zeros (x ∷ v) n = rw (with-zeros v n)
 
--- the ranked call's number 0 says that the checks before its search passed
-ranked-accepts : {card ranking word work workAfter answer answerAfter : List ℕ} {r : Evaluation} → ranked.Optimizes card ranking word work workAfter answer answerAfter r → r .number ≡ 0 → inputRefusal card ranking word (length work) ≡ 0
-unfolding optimized optimizerRefusal
-ranked-accepts {card} {ranking} {word} {work} {answer = answer} c z =
-    let b = best card ranking word in
-    first-passed (inputRefusal card ranking word (length work)) (refuse 10 (isSome b) ∷ refuse 12 (answerFits b (length answer)) ∷ []) (evaluationOf b word) (sym (ap (λ (v : Evaluation). v .number) (c .result)) ∙ z)
-
 -- the same profile, as many pairs, and the same bytes in the front of the answer slices
 pub record SameAnswer (after afterByWeights : List ℕ) (r : Evaluation) (s : Weighing) : Type 0 where
   pub profile : s .evaluation .profile ≡ r .profile
   pub pairs : s .evaluation .pairs ≡ r .pairs
   pub candidate : take (2 * s .evaluation .pairs) afterByWeights ≡ take (2 * r .pairs) after
 
-module _ {card ranking weights word work workAfter answer after work′ workAfter′ answer′ after′ : List ℕ} {r : Evaluation} {s : Weighing} where
+module _ (ranking : List ℕ) {card weights word work workAfter answer after work′ workAfter′ answer′ after′ : List ℕ} {r : Evaluation} {s : Weighing} where
   pub two-engines : ranked.Optimizes card ranking word work workAfter answer after r → Optimizes card weights word work′ workAfter′ answer′ after′ s
       → r .number ≡ 0 → s .evaluation .number ≡ 0
       → Outweighs (max (largest (r .profile .counts)) (largest (s .evaluation .profile .counts))) weights ranking
@@ -65,28 +56,28 @@ module _ {card ranking weights word work workAfter answer after work′ workAfte
   two-engines A B a b d = same (D .answered a) (E .demands .answered b)
     where
       ra : AcceptedInput card ranking word (length work)
-      ra = accepted-input card ranking word (length work) (ranked-accepts A a)
+      ra = accepted-input card ranking word (length work) (answered-accepts A a)
 
       wa : Accepts card weights word (length work′)
-      wa = accepts card weights word (length work′) (weighted-demand.answered-accepts B b)
+      wa = accepts card weights word (length work′) (answered-accepts (B .answers) b)
 
       D : ranked-demand.Demand3 card ranking word answer after r
-      D = ranked-demand.demand-3 A (ranked-accepts A a)
+      D = ranked-demand.demand-3 card ranking A (answered-accepts A a)
 
       E : weighted-demand.Demand3 card weights word answer′ after′ s
-      E = weighted-demand.demand-3 B (weighted-demand.answered-accepts B b)
+      E = weighted-demand.demand-3 B (answered-accepts (B .answers) b)
 
-      same : (c : List Pair) × ranked-demand.AnswersBest card ranking word answer after r c → (c : List Pair) × Answers (machinesOf card) (IsBestByWeights weights (machinesOf card) word) word answer′ after′ (s .evaluation) c → SameAnswer after after′ r s
+      same : (c : List Pair) × AnswersBest (machinesOf card) (IsBestCandidate ranking (machinesOf card) word) word answer after r c → (c : List Pair) × AnswersBest (machinesOf card) (IsBestByWeights weights (machinesOf card) word) word answer′ after′ (s .evaluation) c → SameAnswer after after′ r s
       same p q = record {
         profile = Q .profile ∙ ap (λ (c : List Pair). profileWith (profileOf (machinesOf card) c)) e ∙ sym (P .profile);
         pairs = Q .pairs ∙ ap length e ∙ sym (P .pairs);
         candidate = front (q .0) (drop (2 * length (q .0)) answer′) (Q .pairs) (Q .bytes) ∙ ap bytesOf e ∙ sym (front (p .0) (drop (2 * length (p .0)) answer) (P .pairs) (P .bytes));
       }
         where
-          P : ranked-demand.AnswersBest card ranking word answer after r (p .0)
+          P : AnswersBest (machinesOf card) (IsBestCandidate ranking (machinesOf card) word) word answer after r (p .0)
           P = p .1
 
-          Q : Answers (machinesOf card) (IsBestByWeights weights (machinesOf card) word) word answer′ after′ (s .evaluation) (q .0)
+          Q : AnswersBest (machinesOf card) (IsBestByWeights weights (machinesOf card) word) word answer′ after′ (s .evaluation) (q .0)
           Q = q .1
 
           one : best card ranking word ≡ some (contenderOf (machinesOf card) (p .0))

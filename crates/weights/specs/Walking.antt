@@ -27,7 +27,7 @@ use Rattle.walk.specs.declared.Tried.{Tried}
 use Rattle.walk.specs.declared.Tried.the-variants.{Least, Without}
 use Rattle.sums.specs.Numbers.{labelOf, sixWeights, cardPlaces}
 use Rattle.sums.specs.WeightedPaths.{weightedGraph}
-use Rattle.sums.specs.Sweeping.{Weighted}
+use Rattle.sums.specs.Stepping.{Weighted}
 
 -- a pair at the node of a position and a code keeps to the labels
 abbrev pub KeepsAt : (card weights sets xs : List ℕ) (P i code : ℕ) → Pair → Type 0

@@ -1,53 +1,43 @@
 -- What the call with weights answers: the whole result, and the answer slice at exit.
-use mathlib.Core.List.{List, [], _∷_}
+use mathlib.Core.List.{List}
 use mathlib.Core.Option.{Option, some, none}
 use Prim.Native.Nat.{ℕ, _*_}
 use lib.ListN.{length}
-use lib.Dec.{leb}
-use Rattle.refusals.specs.Refusals.{refuse, firstOf, unlessRefused}
+use Rattle.refusals.specs.Refusals.{refuse, unlessRefused}
 use Rattle.card.specs.Layout.{machineCount, symbolCount}
-use Rattle.card.specs.Card.{cardRefusal, machinesOf}
-use Rattle.candidate.specs.Candidates.{isSome}
+use Rattle.card.specs.Card.{machinesOf}
 use Rattle.candidate.specs.Evaluating.{refused}
 use Rattle.product.specs.Nodes.{nodeCount}
 use Rattle.product.specs.Best.{Contender}
-use Rattle.product.specs.Optimizing.{soundWord, answerFits, evaluationOf, filled}
+use Rattle.product.specs.Answering.{beforeSearch, callRefusal, answered, answeredSlice}
+use Rattle.product.specs.Optimizing.{soundWord}
 use Rattle.sums.specs.Weights.{soundWeights, weightedSum, bestByWeights}
 use Rattle.weights.specs.declared.Weighing.{Weighing}
 
 -- the checks before the search, 1 to 6, 26, 8, 9: 0 where card, weights, word and work slice are accepted
 unfoldable pub weightedRefusal : List ℕ → List ℕ → List ℕ → ℕ → ℕ
 weightedRefusal card weights word room =
-    firstOf
-    (cardRefusal card
-    ∷ refuse 26 (soundWeights (machineCount card) weights)
-    ∷ refuse 8 (soundWord (symbolCount card) word)
-    ∷ refuse 9 (leb (2 * nodeCount (machinesOf card) (length word)) room)
-    ∷ [])
-
--- all in their order
-unfoldable pub callRefusal : List ℕ → List ℕ → List ℕ → ℕ → ℕ → ℕ
-callRefusal card weights word workRoom answerRoom =
-    firstOf
-    (weightedRefusal card weights word workRoom
-    ∷ refuse 10 (isSome (bestByWeights card weights word))
-    ∷ refuse 12 (answerFits (bestByWeights card weights word) answerRoom)
-    ∷ [])
+    beforeSearch card (refuse 26 (soundWeights (machineCount card) weights)) (refuse 8 (soundWord (symbolCount card) word)) (2 * nodeCount (machinesOf card) (length word)) room
 
 -- a refusal: its number, every other field 0
 abbrev pub refusedWeighing : ℕ → Weighing
 refusedWeighing n = record { evaluation = refused n; sum = 0 }
 
-abbrev pub weighingOf : List ℕ → Option Contender → List ℕ → Weighing
-weighingOf weights none word = refusedWeighing 10
-weighingOf weights (some b) word = record { evaluation = evaluationOf (some b) word; sum = weightedSum weights (b .profile) }
+abbrev pub sumOf : List ℕ → Option Contender → ℕ
+sumOf weights none = 0
+sumOf weights (some b) = weightedSum weights (b .profile)
+
+-- what every call answers, and the sum besides
+unfoldable pub answeredSum : ℕ → List ℕ → Option Contender → ℕ → ℕ
+answeredSum n weights best room = unlessRefused (callRefusal n best room) (sumOf weights best) (λ n. 0)
+
+abbrev pub answeredWeighing : ℕ → List ℕ → Option Contender → List ℕ → ℕ → Weighing
+answeredWeighing n weights best word room = record { evaluation = answered n best word room; sum = answeredSum n weights best room }
 
 -- the whole result
-unfoldable pub weighed : List ℕ → List ℕ → List ℕ → ℕ → ℕ → Weighing
-weighed card weights word workRoom answerRoom =
-    unlessRefused (callRefusal card weights word workRoom answerRoom) (weighingOf weights (bestByWeights card weights word) word) refusedWeighing
+abbrev pub weighed : List ℕ → List ℕ → List ℕ → ℕ → ℕ → Weighing
+weighed card weights word workRoom answerRoom = answeredWeighing (weightedRefusal card weights word workRoom) weights (bestByWeights card weights word) word answerRoom
 
--- the answer slice at exit: the pairs fill its front, its other bytes keep their values
-unfoldable pub weighedAnswer : List ℕ → List ℕ → List ℕ → ℕ → List ℕ → List ℕ
-weighedAnswer card weights word workRoom answer =
-    unlessRefused (callRefusal card weights word workRoom (length answer)) (filled (bestByWeights card weights word) answer) (λ n. answer)
+-- the answer slice at exit
+abbrev pub weighedAnswer : List ℕ → List ℕ → List ℕ → ℕ → List ℕ → List ℕ
+weighedAnswer card weights word workRoom answer = answeredSlice (weightedRefusal card weights word workRoom) (bestByWeights card weights word) answer

@@ -1,7 +1,6 @@
 -- The theorem on the best candidate, for weights: what the definition finds among the lists of fewer pairs than there are nodes is the best of the
 -- lists of any length. It holds for every accepted card, all weights, zero too, and every word.
 use mathlib.Core.Path.{_≡_}
-use mathlib.Core.Logic.{_≢_}
 use mathlib.Core.Bool.{true}
 use mathlib.Core.List.{List}
 use mathlib.Core.Option.{some}
@@ -19,13 +18,14 @@ use Rattle.card.specs.Layout.{machineCount}
 use Rattle.card.specs.Card.{machinesOf, cardRefusal}
 use Rattle.card.specs.Accepted.{accepted}
 use Rattle.candidate.specs.Candidates.{bytesOf, profileOf, IsCandidate}
-use Rattle.product.specs.Best.{Contender, contenderOf}
+use Rattle.product.specs.Best.{Contender}
 use Rattle.paths.specs.Total.{lex-total, same?}
 use Rattle.product.specs.ProductGraph.{pairs}
 use Rattle.product.specs.Prices.{Alike}
-use Rattle.product.specs.BestCandidate.{BeatsIn, by-profile, by-pairs, by-bytes, IsBestIn, BestOf}
+use Rattle.product.specs.BestCandidate.{IsBestBy, by-profile, by-pairs, by-bytes, BeatsOn, BestOf}
 use Rattle.product.specs.BestTheorem.{best-in-is-best-of-all}
 use Rattle.product.specs.CountsFit.{SmallBest, best-in-is-small}
+use Rattle.product.specs.Laws.BestCandidate.{best-of-by}
 use Rattle.sums.specs.Weights.{soundWeights, weightedSum, bySum, bestByWeights}
 use Rattle.sums.specs.Laws.Sums.{sum-bound}
 use Rattle.sums.specs.WeightedPaths.{weights-agree}
@@ -37,15 +37,14 @@ pub data BeatsBySum (weights : List ℕ) (ms : List Machine) (c d : List Pair) :
   smaller-bytes : weightedSum weights (profileOf ms c) ≡ weightedSum weights (profileOf ms d) → length c ≡ length d → smaller (bytesOf c) (bytesOf d) ≡ true → BeatsBySum weights ms c d
 
 -- c is a candidate for the word, and beats every other one, however long
-pub record IsBestByWeights (weights : List ℕ) (ms : List Machine) (word : List ℕ) (c : List Pair) : Type 0 where
-  pub candidate : IsCandidate ms word c
-  pub rivals : (d : List Pair) → IsCandidate ms word d → d ≢ c → BeatsBySum weights ms c d
+abbrev pub IsBestByWeights : (weights : List ℕ) (ms : List Machine) (word : List ℕ) → List Pair → Type 0
+IsBestByWeights weights ms word c = IsBestBy (BeatsBySum weights ms) (IsCandidate ms word) c
 
 module _ (weights : List ℕ) (ms : List Machine) where
   same-sums : (c d : List Pair) → Alike (bySum weights) (profileOf ms c) (profileOf ms d) → weightedSum weights (profileOf ms c) ≡ weightedSum weights (profileOf ms d)
   same-sums c d k = omega (arith, ltb-false (weightedSum weights (profileOf ms c)) (weightedSum weights (profileOf ms d)) (k .0), ltb-false (weightedSum weights (profileOf ms d)) (weightedSum weights (profileOf ms c)) (k .1))
 
-  beats-by-sum : (c d : List Pair) → BeatsIn (bySum weights) (contenderOf ms c) (contenderOf ms d) → BeatsBySum weights ms c d
+  beats-by-sum : (c d : List Pair) → BeatsOn (bySum weights) ms c d → BeatsBySum weights ms c d
   beats-by-sum c d (by-profile k) = smaller-sum (ltb-true (weightedSum weights (profileOf ms c)) (weightedSum weights (profileOf ms d)) k)
   beats-by-sum c d (by-pairs k l) = fewer-pairs (same-sums c d k) l
   beats-by-sum c d (by-bytes k l m) = smaller-bytes (same-sums c d k) l m
@@ -53,28 +52,18 @@ module _ (weights : List ℕ) (ms : List Machine) where
   alike-sums : (c d : List Pair) → weightedSum weights (profileOf ms c) ≡ weightedSum weights (profileOf ms d) → Alike (bySum weights) (profileOf ms c) (profileOf ms d)
   alike-sums c d e = (le-ltb (weightedSum weights (profileOf ms c)) (weightedSum weights (profileOf ms d)) (omega arith), le-ltb (weightedSum weights (profileOf ms d)) (weightedSum weights (profileOf ms c)) (omega arith))
 
-  sum-beats : (c d : List Pair) → BeatsBySum weights ms c d → BeatsIn (bySum weights) (contenderOf ms c) (contenderOf ms d)
+  pub sum-beats : (c d : List Pair) → BeatsBySum weights ms c d → BeatsOn (bySum weights) ms c d
   sum-beats c d (smaller-sum h) = by-profile (lt-ltb (weightedSum weights (profileOf ms c)) (weightedSum weights (profileOf ms d)) h)
   sum-beats c d (fewer-pairs e h) = by-pairs (alike-sums c d e) h
   sum-beats c d (smaller-bytes e h m) = by-bytes (alike-sums c d e) h m
 
-  pub best-by-sum : (word : List ℕ) (c : List Pair) → IsBestByWeights weights ms word c → IsBestIn (bySum weights) ms (IsCandidate ms word) c
-  best-by-sum word c k = record { candidate = k .candidate; rivals = λ d h n. sum-beats c d (k .rivals d h n) }
-
 -- the best of the definition is the best of the lists of pairs of any length
 abbrev pub BestOfAllByWeights : (card weights word : List ℕ) → Type 0
-BestOfAllByWeights card weights word = BestOf (machinesOf card) (IsCandidate (machinesOf card) word) (IsBestByWeights weights (machinesOf card) word) (bestByWeights card weights word)
+BestOfAllByWeights card weights word = BestOf (machinesOf card) (BeatsBySum weights (machinesOf card)) (IsCandidate (machinesOf card) word) (bestByWeights card weights word)
 
 pub weighted-best-is-best-of-all : (card weights word : List ℕ) → cardRefusal card ≡ 0 → BestOfAllByWeights card weights word
 unfolding bestByWeights
-weighted-best-is-best-of-all card weights word ok =
-    let all = best-in-is-best-of-all (weights-agree weights) card word ok in
-    record {
-      none-exactly = all .none-exactly;
-      is-best = λ b e. let k = all .is-best b e in record { candidate = k .candidate; rivals = λ d h n. beats-by-sum weights (machinesOf card) (b .candidate) d (k .rivals d h n) };
-      its-profile = all .its-profile;
-      only-it = λ c k. all .only-it c (best-by-sum weights (machinesOf card) word c k);
-    }
+weighted-best-is-best-of-all card weights word ok = best-of-by (beats-by-sum weights (machinesOf card)) (sum-beats weights (machinesOf card)) (best-in-is-best-of-all (weights-agree weights) card word ok)
 
 -- no candidate, however long, has a smaller sum
 pub smallest-sum : (card weights word : List ℕ) → cardRefusal card ≡ 0 → (b : Contender) → bestByWeights card weights word ≡ some b → (d : List Pair) → IsCandidate (machinesOf card) word d

@@ -111,14 +111,12 @@ fn search_with(
     size: usize,
     work: &mut [u64],
     insertions: &mut [u32],
-    lists: &mut [u64],
     joint: &mut [u32],
     answer: &mut [u8],
 ) -> Weighing
-    requires { ⌜ SetsPre (now card) (now weights) (now sets) (now work) size × TablesFit (now insertions) (now lists) (now joint) size ⌝ }
+    requires { ⌜ SetsPre (now card) (now weights) (now sets) (now work) size × TablesFit (now insertions) (now joint) size ⌝ }
     ensures { λ r. ⌜ Searched (now (weights .entry)) (bestOfSetsIn (bySum (now (weights .entry))) (now (card .entry)) (now (sets .entry))) (now (sets .entry)) (now (work .entry)) (now (work .exit)) (now (answer .entry)) (now (answer .exit)) r ⌝ }
 {
-    let mut rows = [0u16; 1024];
     let mut stretch = [0u16; 2048];
     let places = [0u8, 1, 2, 3, 4, 5];
     let costs = sums::six_weights(weights);
@@ -126,7 +124,6 @@ fn search_with(
     let machines = card::machine_count(card);
     let counts = &all[..machines];
     let symbols = card::symbol_count(card) as usize;
-    tables::fill_rows(counts, size, &mut rows);
     tables::joint_table::fill(
         card,
         Pair::EMPTY,
@@ -136,21 +133,7 @@ fn search_with(
         &mut stretch,
         insertions,
     );
-    sums::label(
-        work,
-        card,
-        weights,
-        sets,
-        &rows,
-        counts,
-        &places,
-        &costs,
-        insertions,
-        lists,
-        &mut stretch,
-        joint,
-        size,
-    );
+    weighted::label(work, card, weights, sets, size);
     read_out(
         card,
         weights,
@@ -180,7 +163,6 @@ fn search_tiny(
     ensures { λ r. ⌜ Searched (now (weights .entry)) (bestOfSetsIn (bySum (now (weights .entry))) (now (card .entry)) (now (sets .entry))) (now (sets .entry)) (now (work .entry)) (now (work .exit)) (now (answer .entry)) (now (answer .exit)) r ⌝ }
 {
     let mut insertions = [0u32; 512];
-    let mut lists = [0u64; 512];
     let mut joint = [0u32; 512];
     search_with(
         card,
@@ -189,7 +171,6 @@ fn search_tiny(
         size,
         work,
         &mut insertions,
-        &mut lists,
         &mut joint,
         answer,
     )
@@ -208,7 +189,6 @@ fn search_small(
     ensures { λ r. ⌜ Searched (now (weights .entry)) (bestOfSetsIn (bySum (now (weights .entry))) (now (card .entry)) (now (sets .entry))) (now (sets .entry)) (now (work .entry)) (now (work .exit)) (now (answer .entry)) (now (answer .exit)) r ⌝ }
 {
     let mut insertions = [0u32; 2048];
-    let mut lists = [0u64; 2048];
     let mut joint = [0u32; 2048];
     search_with(
         card,
@@ -217,7 +197,6 @@ fn search_small(
         size,
         work,
         &mut insertions,
-        &mut lists,
         &mut joint,
         answer,
     )
@@ -236,7 +215,6 @@ fn search_large(
     ensures { λ r. ⌜ Searched (now (weights .entry)) (bestOfSetsIn (bySum (now (weights .entry))) (now (card .entry)) (now (sets .entry))) (now (sets .entry)) (now (work .entry)) (now (work .exit)) (now (answer .entry)) (now (answer .exit)) r ⌝ }
 {
     let mut insertions = [0u32; 8192];
-    let mut lists = [0u64; 8192];
     let mut joint = [0u32; 8192];
     search_with(
         card,
@@ -245,7 +223,6 @@ fn search_large(
         size,
         work,
         &mut insertions,
-        &mut lists,
         &mut joint,
         answer,
     )

@@ -9,7 +9,7 @@ ghost use Rattle.product.specs.Laws.Following.{Followed};
 ghost use Rattle.tables.specs.JointTable.{HoldsJoint};
 ghost use Rattle.sums.specs.Numbers.{labelOf, cardPlaces};
 ghost use Rattle.sums.specs.WeightedPaths.{weightedGraph};
-ghost use Rattle.sums.specs.Sweeping.{SweepPre};
+ghost use Rattle.sums.specs.Stepping.{StepsPre};
 ghost use Rattle.sums.specs.Labelling.{Lent};
 ghost use Rattle.weights.specs.Walking.{Labelled, KeepsPair, Tries, TryPre, Filled, filledAfter, FillPre, StartsAt};
 use machine::Pair;
@@ -35,7 +35,7 @@ fn keeps(
     code: usize,
     output: usize,
 ) -> Kept
-    requires { ⌜ SweepPre (now card) (now weights) (now sets) (now joint) (now costs) (now work) size position next input first × (code < size) × (first ≤ output) × (output ≤ symbolCount (now card)) ⌝ }
+    requires { ⌜ StepsPre (now card) (now weights) (now sets) (now joint) (now costs) (now work) size position next input first × (code < size) × (first ≤ output) × (output ≤ symbolCount (now card)) ⌝ }
     ensures { λ r. ⌜ KeepsPair (now (card .entry)) (now (weights .entry)) (now (sets .entry)) (now (work .entry)) size position code input output r ⌝ }
 {
     let found = tables::joint_table::read(joint[code * 64 + output]);
@@ -68,7 +68,7 @@ fn try_outputs(
     first: usize,
     code: usize,
 ) -> Tried
-    requires { ⌜ SweepPre (now card) (now weights) (now sets) (now joint) (now costs) (now work) size position next input first × (code < size) ⌝ }
+    requires { ⌜ StepsPre (now card) (now weights) (now sets) (now joint) (now costs) (now work) size position next input first × (code < size) ⌝ }
     ensures { λ r. ⌜ Tries (now (card .entry)) (now (weights .entry)) (now (sets .entry)) (now (work .entry)) size position input code r ⌝ }
 {
     let symbols = card::symbol_count(card) as usize;

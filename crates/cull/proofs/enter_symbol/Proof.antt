@@ -9,7 +9,7 @@ use lib.ListN.{length}
 use Rattle.basics.specs.Sets.{member}
 use Rattle.card.specs.Layout.{symbolCount}
 use Rattle.product.specs.Laws.Setting.{few-nodes}
-use Rattle.positions.proofs.JointSteps.{joint-ready, joint-filled}
+use Rattle.cull.proofs.JointSteps.{joint-ready, joint-filled}
 use Rattle.cull.proofs.Positions.{position-there}
 use Rattle.cull.proofs.Culling.{SymbolsTried, symbols-start, symbol-runs-pre, symbol-pre, symbols-next, entered-symbols}
 use Rattle.cull.proofs.enter_symbol.Statement.{statement}

@@ -6,8 +6,8 @@ use lib.ListN.{take}
 use Rattle.card.specs.Card.{machinesOf}
 use Rattle.product.specs.Nodes.{stateCounts}
 use Rattle.product.specs.Laws.Setting.{few-codes}
-use Rattle.positions.proofs.Prefix.{places-six, front-is, front-fits, front-length, rows-ready, front-looked}
-use Rattle.positions.proofs.JointSteps.{joint-ready, joint-filled}
+use Rattle.tables.proofs.Prefix.{places-six, front-is, front-fits, front-length, rows-ready}
+use Rattle.cull.proofs.JointSteps.{joint-ready, joint-filled, looked-up}
 use Rattle.cull.proofs.Culling.{runs-ready, runs-are, steps-fit}
 use Rattle.cull.proofs.label_with.Statement.{statement}
 use Rattle.cull.proofs.label_with.Tie as tie
@@ -70,7 +70,7 @@ label-stages-requires c κs =
     let t = start k in (
       record {
         setting = t .pre .0 .setting;
-        looked = front-looked (t .args .card .now) (t .pre .0 .setting .accepted) (k .before .state-counts .result) (k .machine-count .result) (k .machine-count .ensures) (k .before .state-counts .ensures) (f .before .before .before .before .before .fill-rows .ensures) (s .before .places-of .ensures) (t .pre .0 .ranks);
+        looked = looked-up (t .args .card .now) (t .args .ranking .now) (t .pre .0 .setting .accepted) (counts-are k) (f .before .before .before .before .before .fill-rows .ensures) (s .before .places-of .ensures) (t .pre .0 .ranks);
         insertions = joint-filled (t .args .card .now) (t .args .ranking .now) (t .pre .0 .setting .accepted) (counts-are k) (s .before .places-of .ensures) (s .symbol-count .ensures) (f .fill .ensures);
         runs = runs-are (s .symbol-count .ensures) (c .before .before .before .before .before .before .before .before .before .find-runs .ensures);
         room = t .pre .0 .room;

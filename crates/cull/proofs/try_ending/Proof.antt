@@ -9,9 +9,8 @@ use Rattle.tables.specs.Places.{sixPlaces}
 use Rattle.tables.specs.JointNumbers.{endingFrom, jointEnded}
 use Rattle.tables.specs.Laws.Endings.{ending-below}
 use Rattle.product.specs.Laws.Setting.{machines-sound}
-use Rattle.positions.proofs.Ending.{ended-at}
 use Rattle.cull.proofs.Positions.{position-there}
-use Rattle.cull.proofs.Ending.{ending-nothing, ending-gone, ending-lowered}
+use Rattle.cull.proofs.Ending.{ended-at, ending-nothing, ending-gone, ending-lowered}
 use borrow.Author.Needs.{needs}
 use Rattle.cull.proofs.try_ending.Statement.{statement}
 use Rattle.cull.proofs.try_ending.Tie as tie

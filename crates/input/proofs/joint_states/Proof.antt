@@ -1,7 +1,7 @@
 use mathlib.Core.Path.{_∙_, ap}
 use borrow.Author.Needs.{needs}
 use Rattle.product.specs.Nodes.{product}
-use Rattle.positions.proofs.Prefix.{front-is, front-length, front-fits, front-counts}
+use Rattle.tables.proofs.Prefix.{front-is, front-length, front-fits, front-counts}
 use Rattle.input.proofs.joint_states.Statement.{statement}
 use Rattle.input.proofs.joint_states.Tie as tie
 

@@ -1,6 +1,6 @@
 -- `reached` meets its contract.
 use borrow.Author.Needs.{needs}
-use Rattle.labels.proofs.Lowering.{reached-test}
+use Rattle.labels.proofs.Work.{reached-test}
 use Rattle.labels.proofs.reached.Statement.{statement}
 use Rattle.labels.proofs.reached.Tie as tie
 

@@ -8,7 +8,7 @@ use Rattle.refusals.specs.Refusals.{checkedNumber}
 use Rattle.input.specs.AcceptedInput.{AcceptedInput, accepted-input}
 use Rattle.refusals.proofs.Refusals.{refused-number}
 use Rattle.input.proofs.Nodes.{node-room, nodes-few}
-use Rattle.optimizer.proofs.Answers.{call-refused, call-searched, front-room, same-room}
+use Rattle.optimizer.proofs.Answers.{call-refused, call-searched, word-best-small, front-room, same-room}
 use Rattle.optimizer.proofs.optimize.Statement.{statement}
 use Rattle.optimizer.proofs.optimize.Tie as tie
 
@@ -18,7 +18,7 @@ returns c =
     let n = c .before .number in
     let e = n .ensures ∙ k .check-input .ensures in
     let p : 0 < n .result = refused-number (c .before .before .enum-told2 .given .1) (sym (n .ensures)) in
-    call-refused (n .result) e p (c .refused .ensures)
+    call-refused (word-best-small _ _ _ _) (n .result) e p (c .refused .ensures)
 
 -- the input is accepted
 passed : (c : tie.After-enum-told) → inputRefusal (c .before .before .before .before .before .before .before .before .args .card .now) (c .before .before .before .before .before .before .before .before .args .ranking .now) (c .before .before .before .before .before .before .before .before .args .word .now) (length (c .before .before .before .before .before .before .before .before .args .work .now)) ≡ 0
@@ -61,7 +61,7 @@ returns-2 c =
     let j = c .before .before .before .before .before .before .before in
     let a = j .before .before .before .before .before .before .before .before .before .args in
     let s = c .before .before .before .before .search .ensures in
-    call-searched (passed (j .before)) (same-room _ (a .work .now) (c .before .before .before .before .search .last .1 .1 .1 .1 .0) (fits j) (s .work-length)) s
+    call-searched (word-best-small _ _ _ _) (passed (j .before)) (same-room _ (a .work .now) (c .before .before .before .before .search .last .1 .1 .1 .1 .0) (fits j) (s .work-length)) s
 
 pub optimize-spec : {M : Type 1} → statement M
 optimize-spec =

@@ -1,6 +1,6 @@
 use borrow.Author.Needs.{needs}
 use Rattle.card.specs.Card.{machinesOf}
-use Rattle.positions.proofs.Prefix.{front-is, front-length, front-fits}
+use Rattle.tables.proofs.Prefix.{front-is, front-length, front-fits}
 use Rattle.optimizer.proofs.start_node.Statement.{statement}
 use Rattle.optimizer.proofs.start_node.Tie as tie
 

@@ -1,5 +1,6 @@
 use mathlib.Core.Path.{ap, _∙_}
 use Rattle.weights.specs.declared.Weighing.{Weighing}
+use Rattle.weights.specs.Searching.{is-weighed}
 use Rattle.results.specs.Results.{weighingNumbers}
 use borrow.Author.Needs.{needs}
 use Rattle.pastaspur.proofs.pastaspur_optimize_weights.Statement.{statement}
@@ -8,11 +9,12 @@ use Rattle.pastaspur.proofs.pastaspur_optimize_weights.Tie as tie
 returns : tie.Need-returns
 returns c =
     let o = c .before .before .before .before .before .before .optimize .ensures in
+    let w = is-weighed o in
     let g = c .give-weighing .ensures in (
-      g .0 ∙ ap (λ (r : Weighing). r .evaluation .number) (o .result),
+      g .0 ∙ ap (λ (r : Weighing). r .evaluation .number) w,
       (
-        g .1 ∙ ap weighingNumbers (o .result),
-        rw (o .result) at o,
+        g .1 ∙ ap weighingNumbers w,
+        rw w at o,
       ),
     )
 

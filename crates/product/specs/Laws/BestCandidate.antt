@@ -3,7 +3,7 @@ use mathlib.Core.Path.{_≡_, sym, _∙_, ap}
 use mathlib.Core.Logic.{_⊎_, inl, inr, _≢_}
 use mathlib.Core.Bool.{true, false}
 use mathlib.Core.List.{List}
-use mathlib.Core.Option.{some}
+use mathlib.Core.Option.{Option, some}
 use Prim.Native.Nat.{ℕ, _<_, _≤_}
 use native.Mathlib.Decide.{decLt}
 use native.Mathlib.Omega.{arith}
@@ -17,14 +17,14 @@ use Rattle.ranking.specs.Harmony.{isBetter}
 use Rattle.ranking.specs.HarmonicInequality.{better-worse, neither-way, equal-means, itself}
 use Rattle.candidate.specs.Candidates.{marksOf, countOf, profileOf, IsCandidate}
 use Rattle.product.specs.Sets.{singletons, IsCandidateOf}
-use Rattle.product.specs.Best.{contenderOf, ProfileOrder, harmonic}
+use Rattle.product.specs.Best.{Contender, contenderOf, ProfileOrder, harmonic}
 use Rattle.paths.specs.Total.{lex-total, same?, asym, less-not-same}
 use Rattle.paths.specs.Costs.{Costs}
 use Rattle.paths.specs.Graph.{pathCost}
 use Rattle.paths.specs.Best.{Before, before-total, IsBest, IsCheapest}
-use Rattle.product.specs.Prices.{Price, Alike, Agrees, byRanking, ranking-agrees}
+use Rattle.product.specs.Prices.{Price, Alike, Agrees}
 use Rattle.product.specs.ProductGraph.{pairs, startNode, productGraph}
-use Rattle.product.specs.BestCandidate.{BeatsIn, by-profile, by-pairs, by-bytes, IsBestIn, IsUnbeatenIn, Beats, better-profile, fewer-pairs, smaller-bytes, IsBestCandidate, IsBestOfSets}
+use Rattle.product.specs.BestCandidate.{IsBestBy, BeatsIn, by-profile, by-pairs, by-bytes, BeatsOn, IsBestIn, IsUnbeatenIn, Beats, better-profile, fewer-pairs, smaller-bytes, BestOf}
 use Rattle.product.specs.Laws.JointStep.{AllSound}
 use Rattle.product.specs.Laws.Candidates.{fitting-cost, CostOfFitting, cost-fitting, as-sets, as-word}
 use Rattle.product.specs.Laws.Preference.{decided, fewer-cost-less, same-cost, beats-earlier, earlier-beats}
@@ -37,7 +37,7 @@ profile-length ms c = length-map ms (λ m. countOf (marksOf c m))
 -- ---- under a ranking the best candidate is the best in harmony
 
 module _ (r : List ℕ) (ms : List Machine) (c d : List Pair) where
-  beats-harmonic : Beats r ms c d → BeatsIn (harmonic r) (contenderOf ms c) (contenderOf ms d)
+  pub beats-harmonic : Beats r ms c d → BeatsIn (harmonic r) (contenderOf ms c) (contenderOf ms d)
   beats-harmonic = go
     where
       same : profileOf ms d ≡ profileOf ms c → Alike (harmonic r) (profileOf ms c) (profileOf ms d)
@@ -61,19 +61,21 @@ module _ (r : List ℕ) (ms : List Machine) (c d : List Pair) where
       go (by-pairs e h) = fewer-pairs (same e) h
       go (by-bytes e h k) = smaller-bytes (same e) (sym h) k
 
-module _ (r : List ℕ) (ms : List Machine) (word : List ℕ) (c : List Pair) where
-  pub best-harmonic : IsBestCandidate r ms word c → IsBestIn (harmonic r) ms (IsCandidate ms word) c
-  best-harmonic a = record { candidate = a .candidate; rivals = λ d h n. beats-harmonic r ms c d (a .rivals d h n) }
+-- what beats one way and the other alike has the same best
+module _ {beats beats′ : List Pair → List Pair → Type 0} {Meant : List Pair → Type 0} where
+  pub best-by : ((c d : List Pair) → beats c d → beats′ c d) → (c : List Pair) → IsBestBy beats Meant c → IsBestBy beats′ Meant c
+  best-by f c a = record { candidate = a .candidate; rivals = λ d h n. f c d (a .rivals d h n) }
 
-  pub harmonic-best : isRanking (length ms) r ≡ true → IsBestIn (harmonic r) ms (IsCandidate ms word) c → IsBestCandidate r ms word c
-  harmonic-best is a = record { candidate = a .candidate; rivals = λ d h n. harmonic-beats r ms c d is (a .rivals d h n) }
+  pub best-of-by : {ms : List Machine} {o : Option Contender} → ((c d : List Pair) → beats c d → beats′ c d) → ((c d : List Pair) → beats′ c d → beats c d) → BestOf ms beats Meant o → BestOf ms beats′ Meant o
+  best-of-by f g all = record {
+    none-exactly = all .none-exactly;
+    is-best = λ b e. best-by f (b .candidate) (all .is-best b e);
+    its-profile = all .its-profile;
+    only-it = λ c a. all .only-it c (record { candidate = a .candidate; rivals = λ d h n. g c d (a .rivals d h n) });
+  }
 
-module _ (r : List ℕ) (ms : List Machine) (sets : List ℕ) (c : List Pair) where
-  pub sets-harmonic : IsBestOfSets r ms sets c → IsBestIn (harmonic r) ms (IsCandidateOf ms sets) c
-  sets-harmonic a = record { candidate = a .candidate; rivals = λ d h n. beats-harmonic r ms c d (a .rivals d h n) }
-
-  pub harmonic-sets : isRanking (length ms) r ≡ true → IsBestIn (harmonic r) ms (IsCandidateOf ms sets) c → IsBestOfSets r ms sets c
-  harmonic-sets is a = record { candidate = a .candidate; rivals = λ d h n. harmonic-beats r ms c d is (a .rivals d h n) }
+pub best-of-ranked : (r : List ℕ) {ms : List Machine} {Meant : List Pair → Type 0} {o : Option Contender} → isRanking (length ms) r ≡ true → BestOf ms (BeatsOn (harmonic r) ms) Meant o → BestOf ms (Beats r ms) Meant o
+best-of-ranked r {ms} is = best-of-by (λ c d. harmonic-beats r ms c d is) (beats-harmonic r ms)
 
 -- ---- the best candidate is one that none beats by profile or pair count, whatever candidates are meant
 
@@ -158,7 +160,3 @@ module _ {costs : Costs} {price : Price costs} {better : ProfileOrder} (agrees :
 -- of a word and of its sets of one symbol each the same candidates are unbeaten
 pub unbeaten-sets : {better : ProfileOrder} {ms : List Machine} (word : List ℕ) {c : List Pair} → IsUnbeatenIn better ms (IsCandidate ms word) c → IsUnbeatenIn better ms (IsCandidateOf ms (singletons word)) c
 unbeaten-sets word {c} a = record { candidate = as-sets word c (a .candidate); none-better = λ d h. a .none-better d (as-word word d h); none-shorter = λ d h. a .none-shorter d (as-word word d h) }
-
--- under a ranking
-pub best-sets-path : {S : ℕ} {ms : List Machine} (sound : AllSound S ms) (r sets : List ℕ) (c : List Pair) → IsBestOfSets r ms sets c → IsBest (productGraph (byRanking r) sets ms) (startNode ms) c
-best-sets-path {ms = ms} sound r sets c a = best-of-sets-path (ranking-agrees r) sound sets c (sets-harmonic r ms sets c a)

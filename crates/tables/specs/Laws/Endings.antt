@@ -2,11 +2,10 @@
 use mathlib.Core.Path.{_≡_, refl, sym, _∙_, ap}
 use mathlib.Core.List.{List, [], _∷_}
 use mathlib.Core.Option.{Option, some, none, Option·none-ne-some}
-use Prim.Native.Nat.{ℕ, zero, suc, _+_, _^_, _<_, _≤_}
-use native.Mathlib.Omega.{arith}
+use Prim.Native.Nat.{ℕ, _^_, _<_, _≤_}
 use lib.ListN.{length, getD}
 use Rattle.machine.specs.Machine.{Machine}
-use Rattle.paths.specs.Ranked.{Ranked, add}
+use Rattle.paths.specs.Ranked.{Ranked}
 use Rattle.paths.specs.ByRanking.{ranked}
 use Rattle.product.specs.Nodes.{stateCounts, product, statesOf}
 use Rattle.product.specs.Prices.{byRanking}
@@ -21,18 +20,6 @@ use Rattle.tables.specs.JointNumbers.{endingNumber, endingFrom}
 use Rattle.tables.specs.Endings.{withoutPairs, endingCosts}
 use Rattle.tables.specs.Laws.Packing.{six-cost, six-below}
 use Rattle.tables.specs.Laws.Edges.{nodeAt}
-
--- added to nothing
-abbrev pub nothing : (k : ℕ) → Ranked k
-nothing zero = 0
-nothing (suc k) = (0, nothing k)
-
-pub without-nothing : (k : ℕ) (c : Ranked k) → withoutPairs k (add k c (nothing k)) ≡ withoutPairs k c
-without-nothing zero c = refl
-without-nothing (suc k) c =
-    let e : c .0 + 0 ≡ c .0 = omega arith in
-    let r = without-nothing k (c .1) in
-    λ i. (e i, r i)
 
 ranked-without : (places marks : List ℕ) (n : ℕ) → withoutPairs (length places) (ranked places marks n) ≡ ranked places marks 0
 ranked-without [] marks n = refl

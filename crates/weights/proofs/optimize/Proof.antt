@@ -58,7 +58,7 @@ returns-2 c =
     let j = c .before .before .before .before .before .before .before in
     let a = j .before .before .before .before .before .before .before .before .before .args in
     let s = c .before .before .before .before .search .ensures in
-    call-searched (passed (j .before)) (same-room _ (a .work .now) (c .before .before .before .before .search .last .1 .1 .1 .1 .0) (fits j) (s .work-length)) s
+    call-searched (passed (j .before)) (same-room _ (a .work .now) (c .before .before .before .before .search .last .1 .1 .1 .1 .0) (fits j) (s .searched .work-length)) s
 
 pub optimize-spec : {M : Type 1} → statement M
 optimize-spec =

@@ -5,13 +5,12 @@ use Rattle.weights.proofs.search_small.Statement.{statement}
 use Rattle.weights.proofs.search_small.Tie as tie
 
 search-with-requires : tie.Need-search-with-requires
-search-with-requires c κs = let t = c .before .before .before .before .before .before .before .before .before .before in (t .pre .0, tables-fit (t .args .size) 2048 (omega (arith, t .pre .1)))
+search-with-requires c κs = let t = c .before .before .before .before .before .before .before .before .before in (t .pre .0, tables-fit (t .args .size) 2048 (omega (arith, t .pre .1)))
 
 pub search-small-spec : {M : Type 1} → statement M
 search-small-spec =
     tie.close
     (tie.spec
-    (λ c. search needs)
     (λ c. search needs)
     (λ c. search needs)
     search-with-requires

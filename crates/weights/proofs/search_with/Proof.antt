@@ -1,30 +1,30 @@
--- `search_with`: the counts of states, the tables, the labels, and what is read off. Assumes nothing.
-use mathlib.Core.Path.{_≡_, refl, _∙_}
+-- `search_with`: the counts of states, the table of the insertions, the labels, and what is read off. Assumes nothing.
+use mathlib.Core.Path.{_≡_, refl}
 use native.Mathlib.Omega.{arith}
 use lib.ListN.{take}
 use borrow.Author.Needs.{needs}
 use Rattle.card.specs.Card.{machinesOf}
 use Rattle.product.specs.Nodes.{stateCounts}
-use Rattle.positions.proofs.Prefix.{front-is, front-fits, front-length, rows-ready}
-use Rattle.weights.proofs.Preparing.{insertions-ready, tools, label-ready, after-pre, labelled, searched-by}
+use Rattle.tables.proofs.Prefix.{front-is, front-fits, front-length}
+use Rattle.weights.proofs.Preparing.{insertions-ready, insertions-filled, label-ready, after-pre, labelled, searched-by}
 use Rattle.weights.proofs.search_with.Statement.{statement}
 use Rattle.weights.proofs.search_with.Tie as tie
 
 -- ---- the places on the way, from the last to the first
 
 abbrev start : tie.After-machine-count → tie.Start
-start c = c .before .before .before .before .before .before .before .before .before .before .before
+start c = c .before .before .before .before .before .before .before .before .before .before
 
 abbrev counted : tie.After-fill → tie.After-machine-count
-counted c = c .before .before .before .before .before .before .before .before .before
+counted c = c .before .before .before .before .before .before
 
-abbrev filled : tie.After-label-arg4 → tie.After-fill
-filled c = c .before .before .before .before .before .before .before .before .before .before .before
+abbrev filled : tie.After-label-arg → tie.After-fill
+filled c = c .before .before .before .before
 
 abbrev done : tie.After-read-out-arg4 → tie.After-label
-done c = c .before .before .before .before .before .before .before .before .before .before .before .before .before .before
+done c = c .before .before .before .before .before .before .before .before .before
 
-abbrev read : tie.After-slice-known11 → tie.After-read-out
+abbrev read : tie.After-slice-known8 → tie.After-read-out
 read c = c .before .before .before .before .before
 
 -- the counts of states
@@ -39,26 +39,13 @@ slice-aggregate-counts c =
     let k = c .before in
     front-length (start k .args .card .now) (start k .pre .0 .setting .accepted) (k .before .state-counts .result) (k .machine-count .result) (k .machine-count .ensures) (k .before .state-counts .ensures)
 
-fill-rows-requires : tie.Need-fill-rows-requires
-fill-rows-requires c κs =
-    let k = c .before .before .before in
-    rows-ready (start k .args .card .now) (start k .pre .0 .setting .accepted) (k .before .state-counts .result) (k .machine-count .result) (k .machine-count .ensures) (k .before .state-counts .ensures) _ _ (start k .pre .0 .setting .states) refl
-
 fill-requires : tie.Need-fill-requires
 fill-requires c κs =
-    let k = c .before .before .before .before .before .before .before .before in
-    insertions-ready (start k .pre .0) (counts-are k) (c .before .before .before .before .before .before .symbol-count .ensures) refl (start k .pre .1 .insertions)
+    let k = c .before .before .before .before .before in
+    insertions-ready (start k .pre .0) (counts-are k) (c .before .before .before .symbol-count .ensures) refl (start k .pre .1 .insertions)
 
 label-requires : tie.Need-label-requires
-label-requires c κs =
-    let f = filled c in
-    let k = counted f in
-    let t = start k in (
-      label-ready (t .pre .0) (counts-are k) (k .before .before .six-weights .ensures),
-      record { stretch = f .fill .kept .1 .1 .1 .1 .1 .0; joint = t .pre .1 .joint },
-      tools (t .pre .0) (counts-are k) (f .before .before .before .before .before .before .before .symbol-count .ensures) (f .before .before .before .before .before .fill-rows .ensures) (f .fill .ensures),
-      t .pre .1 .lists,
-    )
+label-requires c κs = let k = counted (filled c) in label-ready (start k .pre .0) (counts-are k)
 
 read-out-requires : tie.Need-read-out-requires
 read-out-requires c κs =
@@ -67,12 +54,8 @@ read-out-requires c κs =
     let k = counted f in
     let t = start k in (
       after-pre (t .pre .0) (counts-are k) (d .label .ensures),
-      labelled (t .pre .0) (counts-are k) (d .label .ensures) (k .before .before .six-weights .ensures)
-          (tools (t .pre .0) (counts-are k) (f .before .before .before .before .before .before .before .symbol-count .ensures) (f .before .before .before .before .before .fill-rows .ensures) (f .fill .ensures)),
-      record {
-        stretch = d .label .kept .1 .1 .1 .1 .1 .1 .1 .1 .1 .1 .0 ∙ f .fill .kept .1 .1 .1 .1 .1 .0;
-        joint = omega (arith, d .label .kept .1 .1 .1 .1 .1 .1 .1 .1 .1 .1 .1 .0, t .pre .1 .joint);
-      },
+      labelled (t .pre .0) (counts-are k) (d .label .ensures) (k .before .before .six-weights .ensures) (insertions-filled (t .pre .0) (counts-are k) (f .before .before .before .before .symbol-count .ensures) (f .fill .ensures)),
+      record { stretch = f .fill .kept .1 .1 .1 .1 .1 .0; joint = t .pre .1 .joint },
     )
 
 same-length-2 : tie.Need-same-length-2
@@ -93,17 +76,12 @@ search-with-spec =
     (λ c κs. search needs)
     (λ c. search needs)
     (λ c. search needs)
-    fill-rows-requires
-    (λ c. search needs)
     fill-requires
-    (λ c. search needs)
-    (λ c. search needs)
     label-requires
     (λ c. search needs)
     read-out-requires
     (λ c. search needs)
     same-length-2
-    (λ c. search needs)
     (λ c. search needs)
     (λ c. search needs)
     returns)

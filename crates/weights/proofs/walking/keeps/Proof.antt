@@ -2,7 +2,7 @@ use Prim.Native.Nat.{_+_, _*_}
 use native.Mathlib.Omega.{arith}
 use borrow.Author.Needs.{needs}
 use Rattle.product.specs.Laws.Setting.{few-nodes}
-use Rattle.sums.proofs.Sweeping.{six, entry-in, entry-few, node-there, EdgeTo, edge-to, number-small}
+use Rattle.sums.proofs.Stepping.{six, entry-in, entry-few, node-there, EdgeTo, edge-to, number-small}
 use Rattle.weights.proofs.Keeping.{kept-nothing, kept-not-less, kept-sum, kept-differs}
 use Rattle.weights.proofs.walking.keeps.Statement.{statement}
 use Rattle.weights.proofs.walking.keeps.Tie as tie

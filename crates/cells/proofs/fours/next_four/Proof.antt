@@ -1,0 +1,19 @@
+use borrow.Author.Needs.{needs}
+use Rattle.cells.proofs.fours.next_four.Statement.{statement}
+use Rattle.cells.proofs.fours.next_four.Tie as tie
+
+returns : tie.Need-returns
+returns c = cc
+
+pub next-four-spec : {M : Type 1} → statement M
+next-four-spec =
+    tie.close
+    (tie.spec
+    (λ c κs. search needs)
+    (λ c κs. search needs)
+    (λ c κs. search needs)
+    (λ c κs. search needs)
+    (λ c κs. search needs)
+    (λ c κs. search needs)
+    (λ c κs. search needs)
+    returns)

@@ -1,0 +1,4 @@
+pub mod PlaceCount
+pub mod Places
+pub mod Steps
+pub mod Endings

@@ -1,0 +1,257 @@
+// The columns of an input: the steps of all states of all machines with one output, a number each; the outputs worth trying; the endings.
+ghost use mathlib.Core.Path.{_≡_};
+ghost use mathlib.Core.Bool.{true, false};
+ghost use Prim.Native.Nat.{ℕ, _+_, _*_, _^_, _<_, _≤_};
+ghost use lib.ListN.{length, replicate};
+ghost use Rattle.basics.specs.Sets.{member};
+ghost use Rattle.machine.specs.Part.{machineOf};
+ghost use Rattle.card.specs.Card.{machinesOf};
+ghost use Rattle.tables.specs.Tables.{CountsOfSome};
+ghost use Rattle.cells.specs.Cells.{places};
+ghost use Rattle.columns.specs.Filling.{FirstSet, EnterPre, Entered, ArcPre, ArcEntered, MachinePre, MachineFilled, FillPre, Filled};
+ghost use Rattle.columns.specs.Prepared.{Prepared};
+ghost use Rattle.columns.specs.Endings.{EndingNumber, PartEndingsPre, PartEndings, EndingsPre, EndingsFilled};
+ghost use Rattle.columns.specs.Outputs.{SameColumn, Told, Worth, Wide};
+use basics::index;
+use machine::Arc;
+use machine::sets;
+use steps::NO_STEP;
+
+// The places of a column: one for each state of each machine.
+pub fn width_of(counts: &[u8]) -> usize
+    requires { ⌜ CountsOfSome (now counts) ⌝ }
+    ensures { λ r. ⌜ (r ≡ places (now (counts .entry))) × (r ≤ 40) ⌝ }
+{
+    let mut width = 0;
+    let mut m = 0;
+    while m < counts.len() {
+        width += index(counts[m]);
+        m += 1;
+    }
+    width
+}
+
+// Writes no step everywhere.
+fn clear(steps: &mut [u16])
+    ensures { λ _. ⌜ now (steps .exit) ≡ replicate (length (now (steps .entry))) 65535 ⌝ }
+{
+    let mut i = 0;
+    while i < steps.len() {
+        steps[i] = NO_STEP;
+        i += 1;
+    }
+}
+
+// A step as one number.
+fn step_code(to: u8, marks: u8) -> u16
+    requires { ⌜ (to < 32) × (marks ≤ 15) ⌝ }
+    ensures { λ r. ⌜ r ≡ to * 16 + marks ⌝ }
+{
+    (to as u16) * 16 + marks as u16
+}
+
+// Writes a step at each output of a set, in one place of the columns.
+fn enter_step(steps: &mut [u16], width: usize, place: usize, outputs: u64, step: u16)
+    requires { ⌜ EnterPre (now steps) width place step ⌝ }
+    ensures { λ _. ⌜ Entered (now (steps .entry)) (now (steps .exit)) width place outputs step ⌝ }
+{
+    let mut left = outputs;
+    while left > 0 {
+        let y = sets::least(left);
+        steps[y * width + place] = step;
+        left = sets::without_least(left);
+    }
+}
+
+// Writes the step by an arc at each pair of the input that the arc takes, by the set of the input; the machine's places start at `first`. The outputs
+// of those pairs.
+fn enter_arc(steps: &mut [u16], width: usize, first: usize, arc: Arc, input: u64) -> u64
+    requires { ⌜ ArcPre (now steps) width first arc ⌝ }
+    ensures { λ r. ⌜ ((x : ℕ) → input ≡ 2 ^ x → ArcEntered (now (steps .entry)) (now (steps .exit)) width first arc x r) ⌝ }
+{
+    let outputs = arc.outputs_for(input);
+    enter_step(
+        steps,
+        width,
+        first + index(arc.from),
+        outputs,
+        step_code(arc.to, arc.marks),
+    );
+    outputs
+}
+
+// Fills the places of a machine, from `first` on and blank so far, by the set of the input: the arcs from the last to the first, since the first that
+// takes a pair is the step. The outputs taken from some state.
+fn fill_machine(steps: &mut [u16], width: usize, first: usize, part: &[u8], input: u64) -> u64
+    requires { ⌜ MachinePre (now steps) (now part) width first ⌝ }
+    ensures { λ r. ⌜ ((x : ℕ) → input ≡ 2 ^ x → MachineFilled (machineOf (now (part .entry))) x width first (now (steps .entry)) (now (steps .exit)) r) ⌝ }
+{
+    let states = machine::state_count(part);
+    let mut taken: u64 = 0;
+    let mut left = machine::arc_count(part);
+    while left > 0 {
+        left -= 1;
+        let outputs = enter_arc(
+            steps,
+            width,
+            first,
+            machine::nth_arc(part, states, left),
+            input,
+        );
+        taken = taken | outputs;
+    }
+    taken
+}
+
+// All outputs that make a pair with an input.
+fn partners(input: u8) -> u64
+    ensures { λ r. ⌜ FirstSet input r ⌝ }
+{
+    if input == 0 {
+        18446744073709551614
+    } else {
+        18446744073709551615
+    }
+}
+
+// Fills the columns of an accepted card's machines for one input. The outputs that every machine takes from some state.
+pub fn fill(steps: &mut [u16], card: &[u8], counts: &[u8], width: usize, input: u8) -> u64
+    requires { ⌜ FillPre (now card) (now counts) (now steps) width input ⌝ }
+    ensures { λ r. ⌜ Filled (machinesOf (now (card .entry))) input width (now (steps .exit)) r ⌝ }
+{
+    let set = sets::set_of(input);
+    clear(steps);
+    let mut taken = partners(input);
+    let mut first = 0;
+    let mut m = 0;
+    while m < counts.len() {
+        let outputs = fill_machine(steps, width, first, card::part(card, m), set);
+        taken = taken & outputs;
+        first += index(counts[m]);
+        m += 1;
+    }
+    taken
+}
+
+// Whether two outputs have the same column.
+fn is_same(steps: &[u16], width: usize, a: usize, b: usize) -> bool
+    requires { ⌜ Wide (now steps) width × (a < 64) × (b < 64) ⌝ }
+    ensures { λ r. ⌜ (r ≡ true → SameColumn (now (steps .entry)) width a b) ⌝ }
+{
+    let mut place = 0;
+    while place < width {
+        if steps[a * width + place] != steps[b * width + place] {
+            return false;
+        }
+        place += 1;
+    }
+    true
+}
+
+// Whether an output has the column of one that is kept, none of which is behind it.
+fn is_repeated(steps: &[u16], width: usize, kept: u64, output: usize) -> bool
+    requires { ⌜ Wide (now steps) width × (output < 64) × ((k : ℕ) → member kept k ≡ true → k ≤ output) ⌝ }
+    ensures { λ r. ⌜ (r ≡ true → Told (now (steps .entry)) width kept output) ⌝ }
+{
+    let mut left = kept;
+    while left > 0 {
+        if is_same(steps, width, sets::least(left), output) {
+            return true;
+        }
+        left = sets::without_least(left);
+    }
+    false
+}
+
+// The key of an output's column: outputs with the same column have the same key.
+fn key_of(steps: &[u16], width: usize, output: usize) -> usize
+    requires { ⌜ Wide (now steps) width × (output < 64) ⌝ }
+    ensures { λ r. ⌜ r < 256 ⌝ }
+{
+    let mut sum = 0;
+    let mut place = 0;
+    while place < width {
+        sum += steps[output * width + place] as usize * (2 * place + 1);
+        place += 1;
+    }
+    sum % 256
+}
+
+// Whether an output has the column of one that is kept, none of which is behind it. `seen` has a bit for each key met so far: a new key is a new
+// column, and no columns are compared.
+fn is_known(steps: &[u16], width: usize, kept: u64, output: usize, seen: &mut [u64]) -> bool
+    requires { ⌜ Wide (now steps) width × (output < 64) × ((k : ℕ) → member kept k ≡ true → k ≤ output) × (length (now seen) ≡ 4) ⌝ }
+    ensures { λ r. ⌜ (r ≡ true → Told (now (steps .entry)) width kept output) ⌝ }
+{
+    let key = key_of(steps, width, output);
+    let one = sets::set_of((key % 64) as u8);
+    let keys = seen[key / 64];
+    seen[key / 64] = keys | one;
+    if sets::holds(keys, one) {
+        is_repeated(steps, width, kept, output)
+    } else {
+        false
+    }
+}
+
+// Of some outputs those worth trying: without those whose column is that of a smaller one.
+pub fn worth(steps: &[u16], width: usize, outputs: u64) -> u64
+    requires { ⌜ Wide (now steps) width ⌝ }
+    ensures { λ r. ⌜ Worth (now (steps .entry)) width outputs r ⌝ }
+{
+    let mut seen = [0u64; 4];
+    let mut kept: u64 = 0;
+    let mut left = outputs;
+    while left > 0 {
+        let output = sets::least(left);
+        let rest = sets::without_least(left);
+        if !is_known(steps, width, kept, output, &mut seen) {
+            kept = kept | sets::set_of(output as u8);
+        }
+        left = rest;
+    }
+    kept
+}
+
+// Fills the columns of an accepted card's machines for one input. The outputs worth trying.
+pub fn prepare(steps: &mut [u16], card: &[u8], counts: &[u8], width: usize, input: u8) -> u64
+    requires { ⌜ FillPre (now card) (now counts) (now steps) width input ⌝ }
+    ensures { λ r. ⌜ Prepared (machinesOf (now (card .entry))) input width (now (steps .exit)) r ⌝ }
+{
+    let outputs = fill(steps, card, counts, width, input);
+    worth(steps, width, outputs)
+}
+
+// A state byte as a number of a column: the marks, and no target; no step where the state is not final.
+fn ending_number(byte: u8) -> u16
+    ensures { λ r. ⌜ EndingNumber byte r ⌝ }
+{
+    if byte == 0 { NO_STEP } else { byte as u16 - 1 }
+}
+
+// Writes the endings of a machine, from the place `first` on.
+fn fill_part_endings(steps: &mut [u16], first: usize, part: &[u8])
+    requires { ⌜ PartEndingsPre (now steps) first (now part) ⌝ }
+    ensures { λ _. ⌜ PartEndings (machineOf (now (part .entry))) first (now (steps .entry)) (now (steps .exit)) ⌝ }
+{
+    let states = machine::state_count(part);
+    let mut state = 0;
+    while state < states {
+        steps[first + state] = ending_number(part[2 + state]);
+        state += 1;
+    }
+}
+
+// Writes the endings of an accepted card's machines as column 0.
+pub fn fill_endings(steps: &mut [u16], card: &[u8], counts: &[u8])
+    requires { ⌜ EndingsPre (now card) (now counts) (now steps) ⌝ }
+    ensures { λ _. ⌜ EndingsFilled (machinesOf (now (card .entry))) (now (steps .entry)) (now (steps .exit)) ⌝ }
+{
+    let mut first = 0;
+    let mut m = 0;
+    while m < counts.len() {
+        fill_part_endings(steps, first, card::part(card, m));
+        first += index(counts[m]);
+        m += 1;
+    }
+}

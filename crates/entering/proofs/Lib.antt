@@ -1,0 +1,3 @@
+pub mod Fours
+pub mod Symbols
+pub mod LastPosition

@@ -1,0 +1,86 @@
+use borrow.Author.Needs.{needs}
+use mathlib.Core.Path.{_≡_, sym, _∙_}
+use Prim.Native.Nat.{_^_, _<_}
+use native.Mathlib.Omega.{arith}
+use lib.ListN.{length}
+use Rattle.cells.specs.Laws.Fours.{without-less}
+use Rattle.entering.proofs.Fours.{FoursTried, four-few, four-or-after, counts-known, of-width, fill-ready, four-ready, try-ready, fours-start, fours-next, fours-end}
+use Rattle.entering.proofs.enter_input.Statement.{statement}
+use Rattle.entering.proofs.enter_input.Tie as tie
+
+abbrev Inv-loop : tie.InvT-loop
+Inv-loop own₀ next steps card counts weights g input high₀ low₀ width outputs₀ own high low outputs = FoursTried card weights own₀ own next input outputs₀ outputs × (outputs < 2 ^ 64) × (length high ≡ 264) × (length low ≡ 264)
+
+abbrev μ-loop : tie.MeasureT-loop
+μ-loop own₀ next steps card counts weights g input high₀ low₀ width outputs₀ own high low outputs = outputs
+
+width-of-requires : tie.Need-width-of-requires Inv-loop μ-loop
+width-of-requires c κs = counts-known (c .before .before .before .before .before .before .before .pre .0)
+
+prepare-requires : tie.Need-prepare-requires Inv-loop μ-loop
+prepare-requires c κs = let s = c .before .before .before .before .before .before .before .before .before in fill-ready (of-width (s .pre .0) (c .before .width-of .ensures .0)) (s .pre .4)
+
+loop-holds : tie.Need-loop-holds Inv-loop μ-loop
+loop-holds c = let s = c .before .before .before .before .before .before .before .before .before .before .before .before in (fours-start (s .pre .1), omega (arith, c .before .before .prepare .ok), s .pre .5, s .pre .6)
+
+join-four-requires : tie.Need-join-four-requires Inv-loop μ-loop
+join-four-requires c κs = let l = c .before .before .before .before .before .before .loop in
+    four-ready (of-width (c .before .before .before .before .before .before .before .before .before .before .before .before .before .before .before .before .before .before .before .pre .0) (c .before .before .before .before .before .before .before .before .before .before .before .width-of .ensures .0)) (c .before .before .before .before .before .before .before .before .before .prepare .ensures) (four-few (l .outputs) (c .before .before .before .before .next-four .ensures)) (l .inv .2) (l .inv .3)
+
+try-four-requires : tie.Need-try-four-requires Inv-loop μ-loop
+try-four-requires c κs = let s = c .before .before .before .before .before .before .before .before .before .before .before .before .before .before .before .before .before .before .before .before .before .before .before .before .before .before .before in
+    let l = c .before .before .before .before .before .before .before .before .before .before .before .before .before .before .loop in
+    let j = c .before .before .before .before .before .before .before .join-four in
+    try-ready (of-width (s .pre .0) (c .before .before .before .before .before .before .before .before .before .before .before .before .before .before .before .before .before .before .before .width-of .ensures .0)) (c .before .before .before .before .before .before .before .before .before .before .before .before .before .before .before .before .before .prepare .ensures) (four-few (l .outputs) (c .before .before .before .before .before .before .before .before .before .before .before .before .next-four .ensures)) (j .kept .1 .1 .1 .1 .1 .1 .0 ∙ l .inv .2) (j .kept .1 .1 .1 .1 .1 .1 .1 .0 ∙ l .inv .3) (s .pre .2) (l .inv .0 .position) (j .ensures)
+
+loop-less : tie.Need-loop-less Inv-loop μ-loop
+loop-less c = let l = c .before .before .before .before .before .before .before .before .before .before .before .before .before .before .before .before .before .before .loop in omega (arith, c .without-four .ensures, without-less (l .outputs) (l .inv .1) (omega (arith, c .before .before .before .before .before .before .before .before .before .before .before .before .before .before .before .before .before .loop-test .taken)))
+
+loop-again : tie.Need-loop-again Inv-loop μ-loop
+loop-again c = let s = c .before .before .before .before .before .before .before .before .before .before .before .before .before .before .before .before .before .before .before .before .before .before .before .before .before .before .before .before .before .before .before in
+    let l = c .before .before .before .before .before .before .before .before .before .before .before .before .before .before .before .before .before .before .loop in
+    let j = c .before .before .before .before .before .before .before .before .before .before .before .join-four in
+    let f = c .before .before .before .before .before .before .before .before .before .before .before .before .before .before .before .before .next-four .ensures in
+    let eh = j .kept .1 .1 .1 .1 .1 .1 .0 ∙ l .inv .2 in
+    let el = j .kept .1 .1 .1 .1 .1 .1 .1 .0 ∙ l .inv .3 in (
+      fours-next (of-width (s .pre .0) (c .before .before .before .before .before .before .before .before .before .before .before .before .before .before .before .before .before .before .before .before .before .before .before .width-of .ensures .0)) (c .before .before .before .before .before .before .before .before .before .before .before .before .before .before .before .before .before .before .before .before .before .prepare .ensures) (four-few (l .outputs) f) eh el (s .pre .2) (l .inv .0 .position) (j .ensures) (s .pre .3) (c .before .before .before .try-four .ensures) (four-or-after (l .outputs) (l .inv .1) f (c .without-four .ensures)) (l .inv .0),
+      omega (arith, c .without-four .ok),
+      eh,
+      el,
+    )
+
+same-length : tie.Need-same-length Inv-loop μ-loop
+same-length c = c .before .loop .inv .0 .position .size ∙ sym (c .before .before .before .before .before .before .before .before .before .before .before .before .before .before .pre .0 .size)
+
+same-length-2 : tie.Need-same-length-2 Inv-loop μ-loop
+same-length-2 c = c .before .before .before .before .prepare .kept .0
+
+same-length-3 : tie.Need-same-length-3 Inv-loop μ-loop
+same-length-3 c = c .before .loop .inv .2 ∙ sym (c .before .before .before .before .before .before .before .before .before .before .before .before .before .before .pre .5)
+
+same-length-4 : tie.Need-same-length-4 Inv-loop μ-loop
+same-length-4 c = c .before .loop .inv .3 ∙ sym (c .before .before .before .before .before .before .before .before .before .before .before .before .before .before .pre .6)
+
+returns : tie.Need-returns Inv-loop μ-loop
+returns c = let s = c .before .before .before .before .before .before .before .before .before .before .before .before .before .before in fours-end (s .pre .0 .accepted) (s .pre .3) (c .before .before .before .before .prepare .ensures) (omega (arith, c .loop-test .left)) (c .before .loop .inv .0)
+
+pub enter-input-spec : {M : Type 1} → statement M
+enter-input-spec =
+    tie.close
+    (tie.spec
+    Inv-loop
+    μ-loop
+    width-of-requires
+    prepare-requires
+    loop-holds
+    (λ c κs. search needs)
+    join-four-requires
+    try-four-requires
+    (λ c κs. search needs)
+    loop-less
+    loop-again
+    same-length
+    same-length-2
+    same-length-3
+    same-length-4
+    returns)

@@ -1,0 +1,4 @@
+pub mod Entering
+pub mod Symbols
+pub mod Endings
+pub mod Laws

@@ -1,0 +1,10 @@
+pub mod Lanes
+pub mod Adding
+pub mod Rows
+pub mod Sorting
+pub mod Steps
+pub mod Fours
+pub mod Totals
+pub mod Blocks
+pub mod Loops
+pub mod Theorem

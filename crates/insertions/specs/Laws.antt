@@ -1,0 +1,2 @@
+-- Laws of insertions.
+pub mod Ranked

@@ -1,0 +1,6 @@
+-- Laws of labelling.
+pub mod Packed
+pub mod Ranked
+pub mod LabelRoom
+pub mod Settled
+pub mod Tied

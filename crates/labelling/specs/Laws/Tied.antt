@@ -1,0 +1,273 @@
+-- The lists of insertions are the edges between the codes of a position; what settling it asks, and what it gives in ranked order.
+use mathlib.Core.Path.{_≡_, refl, sym, _∙_, ap, subst}
+use mathlib.Core.Logic.{_⊎_, inl, inr, _≢_}
+use mathlib.Core.Bool.{Bool, true}
+use mathlib.Core.Option.{Option, none, some, Option·none-ne-some}
+use mathlib.Core.List.{List}
+use Prim.Native.Nat.{ℕ, _+_, _*_, _-_, _/_, _%_, _^_, _<_, _≤_}
+use native.Mathlib.Omega.{arith}
+use lib.ListN.{length, getD}
+use borrow.Author.Tests.{ne-eqb}
+use Rattle.basics.specs.Sets.{member}
+use Rattle.basics.proofs.Bools.{clash}
+use Rattle.machine.specs.declared.Pair.{Pair}
+use Rattle.machine.specs.Symbols.{emptySymbol, isPair, pairOf}
+use Rattle.machine.specs.Machine.{Machine}
+use Rattle.card.specs.Card.{machinesOf}
+use Rattle.paths.specs.Costs.{Labels}
+use Rattle.paths.specs.Ranked.{Ranked, rankedCosts}
+use Rattle.paths.specs.Graph.{Edge}
+use Rattle.paths.specs.Labels.{Attained}
+use Rattle.paths.specs.Positions.{Entered, Done}
+use Rattle.paths.specs.Cheapest.{EdgeTo}
+use Rattle.product.specs.Nodes.{stateCounts, product, statesAt}
+use Rattle.product.specs.ProductGraph.{Move, move, pricedMove}
+use Rattle.product.specs.Codes.{movedBy}
+use Rattle.product.specs.Setting.{placeOf, Setting}
+use Rattle.product.specs.Laws.Codes.{insertion-move}
+use Rattle.product.specs.Laws.Edges.{moved, step-marks-bound}
+use Rattle.product.specs.Laws.Letters.{LetterAt, letter-at}
+use Rattle.product.specs.Laws.Setting.{machines-sound, symbols-few, few-codes, node-below, node-place, place-low, place-high}
+use Rattle.tables.specs.Places.{sixPlaces, markNumber}
+use Rattle.tables.specs.Laws.Cards.{card-machines}
+use Rattle.tables.specs.Laws.Packing.{six-number}
+use Rattle.cells.specs.declared.Cell.{Cell}
+use Rattle.cells.specs.Cells.{nowhere, highOf, lowOf}
+use Rattle.cells.specs.Columns.{weighed, WeightsOf}
+use Rattle.cells.specs.Labels.{cellAt}
+use Rattle.cells.specs.Trying.{labelFrom, cellPrice}
+use Rattle.cells.specs.Laws.Weighed.{weighed-whole}
+use Rattle.cells.specs.Laws.Trying.{label-there}
+use Rattle.cells.specs.Laws.Position.{placed, placed-in}
+use Rattle.columns.specs.Prepared.{NoSteps, Covered, Prepared}
+use Rattle.settling.specs.Prices.{SixWeights, RankedIf, marksPrice, mostPrice, insertionCost, rankedHighs, rankedLows}
+use Rattle.settling.specs.Insertions.{codeIn, isListed, listsOf}
+use Rattle.settling.specs.Labels.{labelOf}
+use Rattle.settling.specs.Settling.{Fits, SettlePre, Settled}
+use Rattle.settling.specs.Packing.{packedEdge}
+use Rattle.settling.specs.WeightedPacking.{weightedPacking}
+use Rattle.settling.proofs.Prices.{ranked-highs-few, ranked-lows-few}
+use Rattle.settling.proofs.Insertions.{edgeOf}
+use Rattle.settling.proofs.PositionDone.{Entry, Tied}
+use Rattle.insertions.specs.Listed.{insertionStep, Place, Listed}
+use Rattle.insertions.specs.RankedWeights.{RankedWeights}
+use Rattle.insertions.specs.Laws.Ranked.{ranked-high, ranked-low}
+use Rattle.entering.specs.Entering.{cellGraph, Position}
+use Rattle.labelling.specs.Laws.Packed.{move-length}
+use Rattle.labelling.specs.Laws.LabelRoom.{LabelRoom, ranked-room}
+use Rattle.labelling.specs.Laws.Settled.{numberGraph, number-over, path-of, cell-numbers, label-cell, settled-last, settled-position}
+
+-- marks, as a number by their places, are priced as their machines weigh them
+pub record SamePrices (places highs lows ws : List ℕ) : Type 0 where
+  pub high : (marks : List ℕ) → length marks ≤ 6 → ((m : ℕ) → getD marks m 0 ≤ 15) → marksPrice highs (markNumber places marks) ≡ weighed (highOf ws) 0 marks
+  pub low : (marks : List ℕ) → length marks ≤ 6 → ((m : ℕ) → getD marks m 0 ≤ 15) → marksPrice lows (markNumber places marks) ≡ weighed (lowOf ws) 0 marks
+
+-- ---- the ranked order
+
+-- six marks in one number, by six weights
+six-price : (ws : List ℕ) (a b c d e f n : ℕ) → a ≤ 15 → b ≤ 15 → c ≤ 15 → d ≤ 15 → e ≤ 15 → f ≤ 15 → n ≡ a * 1048576 + (b * 65536 + (c * 4096 + (d * 256 + (e * 16 + f))))
+    → marksPrice ws n ≡ getD ws 0 0 * a + (getD ws 1 0 * b + (getD ws 2 0 * c + (getD ws 3 0 * d + (getD ws 4 0 * e + getD ws 5 0 * f))))
+unfolding marksPrice
+six-price ws a b c d e f n ha hb hc hd he hf q =
+    let za : n / 1048576 ≡ a = omega arith in
+    let zb : n / 65536 % 16 ≡ b = omega arith in
+    let zc : n / 4096 % 16 ≡ c = omega arith in
+    let zd : n / 256 % 16 ≡ d = omega arith in
+    let ze : n / 16 % 16 ≡ e = omega arith in
+    let zf : n % 16 ≡ f = omega arith in
+    rw (za, zb, zc, zd, ze, zf) refl
+
+pub ranked-tie : {places ws : List ℕ} → RankedWeights places ws → length places ≡ 6 → SamePrices places rankedHighs rankedLows ws
+ranked-tie {places} R six = record {
+  high = λ marks few most. omega (arith, priced rankedHighs marks most, ranked-high R six marks few);
+  low = λ marks few most. omega (arith, priced rankedLows marks most, ranked-low R six marks few);
+}
+  where
+    marksAt : List ℕ → ℕ → ℕ
+    marksAt marks k = getD marks (getD places k 0) 0
+
+    priced : (weights marks : List ℕ) → ((m : ℕ) → getD marks m 0 ≤ 15)
+        → marksPrice weights (markNumber places marks)
+        ≡ getD weights 0 0 * marksAt marks 0 + (getD weights 1 0 * marksAt marks 1 + (getD weights 2 0 * marksAt marks 2 + (getD weights 3 0 * marksAt marks 3 + (getD weights 4 0 * marksAt marks 4 + getD weights 5 0 * marksAt marks 5))))
+    priced weights marks most =
+        six-price weights (marksAt marks 0) (marksAt marks 1) (marksAt marks 2) (marksAt marks 3) (marksAt marks 4) (marksAt marks 5) (markNumber places marks)
+        (most (getD places 0 0)) (most (getD places 1 0)) (most (getD places 2 0)) (most (getD places 3 0)) (most (getD places 4 0)) (most (getD places 5 0)) (six-number places marks six)
+
+-- ---- the marks of a move: 15 a machine at most
+
+record FewMarks (marks : List ℕ) : Type 0 where
+  pub count : length marks ≤ 6
+  pub most : (m : ℕ) → getD marks m 0 ≤ 15
+
+few-marks : {card sets : List ℕ} {P : ℕ} → Setting card sets P → (u : ℕ) (p : Pair) (m : Move) → move sets (machinesOf card) u p ≡ some m → FewMarks (m .marks)
+few-marks {card} {sets} s u p m h =
+    let k = moved sets (machinesOf card) u p m h in
+    record {
+      count = omega (arith, move-length sets (machinesOf card) u p m h, card-machines card (s .accepted) .machines);
+      most = rw (k .marks-are) (step-marks-bound (machines-sound s) (statesAt (stateCounts (machinesOf card)) u) p (k .steps) (k .steps-are));
+    }
+
+-- ---- the ties
+
+-- the edge of an insertion to the nodes from a number on
+abbrev insertionEdge : (base : ℕ) (places highs lows : List ℕ) → Move → Edge (Ranked 1)
+insertionEdge base places highs lows w = record { target = base + w .target; cost = insertionCost highs lows (markNumber places (w .marks)) }
+
+module _ {card sets : List ℕ} {P : ℕ} (s : Setting card sets P) (i : ℕ) (inside : i ≤ length sets) where
+  -- an insertion is a move at every position
+  inserting : (c y : ℕ) → c < P → y ≢ emptySymbol → move sets (machinesOf card) (i * P + c) (pairOf emptySymbol y) ≡ movedBy (i * P) (insertionStep (machinesOf card) c y)
+  inserting c y h n =
+      subst (λ (Q : ℕ). move sets (machinesOf card) (i * Q + c) (pairOf emptySymbol y) ≡ movedBy (i * Q) (insertionStep (machinesOf card) c y)) (sym (s .states))
+      (insertion-move sets (machinesOf card) i c (omega (arith, s .states)) (pairOf emptySymbol y) inside (rw (ne-eqb y 0 n)) refl)
+
+  -- its edge
+  module _ (ws : List ℕ) {places highs lows : List ℕ} (whole : (m : ℕ) → highOf ws m % 256 ≡ 0) (T : SamePrices places highs lows ws) (c y : ℕ) (w : Move) (b : c < P) (n : y ≢ emptySymbol) (e : insertionStep (machinesOf card) c y ≡ some w) where
+    marks-few : FewMarks (w .marks)
+    marks-few = few-marks s (i * P + c) (pairOf emptySymbol y) (record { target = i * P + w .target; marks = w .marks }) (inserting c y b n ∙ ap (movedBy (i * P)) e)
+
+    price-is : weightedPacking .edge (cellPrice ws .of (w .marks) 1) ≡ insertionCost highs lows (markNumber places (w .marks))
+    unfolding weightedPacking
+    price-is =
+        let F = marks-few in
+        let p : weighed (λ m. highOf ws m / 256) 0 (w .marks) * 256 ≡ marksPrice highs (markNumber places (w .marks)) = omega (arith, T .high (w .marks) (F .count) (F .most), weighed-whole (highOf ws) whole 0 (w .marks)) in
+        let q : weighed (lowOf ws) 0 (w .marks) + 1 ≡ 1 + marksPrice lows (markNumber places (w .marks)) = omega (arith, T .low (w .marks) (F .count) (F .most)) in
+        λ i. (p i, q i)
+
+    insertion-is : numberGraph ws card sets .edge (i * P + c) (pairOf emptySymbol y) ≡ some (insertionEdge (i * P) places highs lows w)
+    insertion-is =
+        ap (λ (o : Option Move). packedEdge weightedPacking (pricedMove (cellPrice ws) sets (machinesOf card) o)) (inserting c y b n ∙ ap (movedBy (i * P)) e)
+        ∙ ap {B = Option (Edge (Ranked 1))} (λ (k : Ranked 1). some (record { target = i * P + w .target; cost = k })) price-is
+
+  module _ (ws : List ℕ) {places highs lows entries ends steps : List ℕ} {W kept : ℕ} (ranked : Bool) (Z : WeightsOf (stateCounts (machinesOf card)) ws) (T : SamePrices places highs lows ws)
+      (X : Prepared (machinesOf card) 0 W steps kept) (Y : Listed (machinesOf card) places kept entries ends) where
+    -- a kept output is a symbol
+    kept-symbol : (y : ℕ) → member kept y ≡ true → y ≢ emptySymbol
+    kept-symbol y m q = clash m (ap (member kept) q ∙ X .no-pair refl)
+
+    edges : (v at : ℕ) → isListed ends v at ≡ true → EdgeTo (numberGraph ws card sets) (i * P + codeIn (getD entries at 0)) (i * P + v) (edgeOf (listsOf entries ends highs lows ranked) (v, at) .cost)
+    edges v at h =
+        let I = Y .entry v at h in
+        record {
+          letter = pairOf emptySymbol (I .output);
+          to = insertionEdge (i * P) places highs lows (I .move);
+          edge-is = insertion-is ws (Z .whole) T (codeIn (getD entries at 0)) (I .output) (I .move) (omega (arith, Y .from v at h, s .states)) (kept-symbol (I .output) (I .is-kept)) (I .is);
+          target-is = ap (λ (n : ℕ). i * P + n) (I .target-is);
+          cost-is = ap (insertionCost highs lows) (sym (I .marks-are));
+        }
+
+    -- an edge between two codes is an insertion, and a kept output has the same one
+    all : (j v : ℕ) (p : Pair) (e : Edge (Ranked 1)) → j < P → v < P → j ≢ v → numberGraph ws card sets .edge (i * P + j) p ≡ some e → e .target ≡ i * P + v → Entry (listsOf entries ends highs lows ranked) j v (e .cost)
+    all j v p e a b n h t = step (insertionStep (machinesOf card) j (p .output)) refl
+      where
+        l : LetterAt card sets i p (e .target)
+        l = letter-at (number-over ws s) (i * P + j) p e i (node-place s i j a) h
+
+        no-input : (p .input ≡ emptySymbol) ⊎ ((p .input ≢ emptySymbol) × (member (getD sets i 0) (p .input) ≡ true)) → p .input ≡ emptySymbol
+        no-input (inl z) = z
+        no-input (inr z) = absurd (omega (arith, l .leaves (z .0) .1, ap (placeOf card) t, node-place s i v b))
+
+        letter-is : p ≡ pairOf emptySymbol (p .output)
+        letter-is = let z = no-input (l .pair .input-there) in λ k. record { input = z k; output = p .output }
+
+        symbol : p .output ≢ emptySymbol
+        symbol z = clash (l .pair .is-pair) (ap isPair (letter-is ∙ ap (pairOf emptySymbol) z))
+
+        edge-is : numberGraph ws card sets .edge (i * P + j) (pairOf emptySymbol (p .output)) ≡ some e
+        edge-is = ap (numberGraph ws card sets .edge (i * P + j)) (sym letter-is) ∙ h
+
+        entry-at : (w : Move) → insertionEdge (i * P) places highs lows w ≡ e → w .target ≡ v → Place entries ends (w .target) j (markNumber places (w .marks)) → Entry (listsOf entries ends highs lows ranked) j v (e .cost)
+        entry-at w f z A = record {
+          at = A .at;
+          place = subst (λ (v : ℕ). isListed ends v (A .at) ≡ true) z (A .listed);
+          from = A .from-is;
+          cost = inr (ap (insertionCost highs lows) (A .marks-are) ∙ ap (λ (f : Edge (Ranked 1)). f .cost) f);
+        }
+
+        entry-of : (w : Move) → insertionStep (machinesOf card) j (p .output) ≡ some w → (y : ℕ) → member kept y ≡ true → insertionStep (machinesOf card) j y ≡ some w → Entry (listsOf entries ends highs lows ranked) j v (e .cost)
+        entry-of w k y m q =
+            let f : insertionEdge (i * P) places highs lows w ≡ e = cc (insertion-is ws (Z .whole) T j (p .output) w a symbol k, edge-is) in
+            let z : w .target ≡ v = omega (arith, ap (λ (f : Edge (Ranked 1)). f .target) f, t) in
+            entry-at w f z (Y .all j y w (omega (arith, s .states)) m q (λ r. n (sym r ∙ z)))
+
+        told : (w : Move) → insertionStep (machinesOf card) j (p .output) ≡ some w → (_≡_ {A = ℕ} 0 0 × (p .output ≡ 0)) ⊎ (NoSteps (machinesOf card) 0 (p .output) ⊎ Covered (machinesOf card) 0 kept (p .output)) → Entry (listsOf entries ends highs lows ranked) j v (e .cost)
+        told w k (inl z) = absurd (symbol (z .1))
+        told w k (inr (inl z)) = absurd (Option·none-ne-some w (sym (z j) ∙ k))
+        told w k (inr (inr C)) = entry-of w k (C .other) (C .is-kept) (C .same j (omega (arith, s .states)) ∙ k)
+
+        step : (o : Option Move) → insertionStep (machinesOf card) j (p .output) ≡ o → Entry (listsOf entries ends highs lows ranked) j v (e .cost)
+        step none k =
+            absurd (Option·none-ne-some e (sym (ap (λ (o : Option Move). packedEdge weightedPacking (pricedMove (cellPrice ws) sets (machinesOf card) o)) (inserting j (p .output) a symbol ∙ ap (movedBy (i * P)) k)) ∙ edge-is))
+        step (some w) k = told w k (X .covers (p .output) (omega (arith, l .pair .output-there, symbols-few s)))
+
+    pub tied : Tied (numberGraph ws card sets) (placeOf card) i (listsOf entries ends highs lows ranked) (i * P) P
+    tied = record {
+      code = λ u e. (u - i * P, omega (arith, place-low s u i e, place-high s u i e), omega (arith, place-low s u i e));
+      to-below = λ v at h. omega (arith, Y .to v at h, s .states);
+      edges = edges;
+      all = all;
+    }
+
+-- ---- what settling asks
+
+module _ {highs lows own : List ℕ} {P : ℕ} (ranked : Bool) (few : P ≤ 128) (A : Position own P) where
+  -- the lists, their weights, and labels with room
+  pub settle-ready : {ms : List Machine} {places entries ends : List ℕ} {kept : ℕ} → Listed ms places kept entries ends → P ≡ product (stateCounts ms) → SixWeights highs → SixWeights lows → RankedIf ranked highs lows
+      → ((c : ℕ) (x : Ranked 1) → c < P → labelOf own c ≡ some x → Fits (listsOf entries ends highs lows ranked) 128 x) → SettlePre (listsOf entries ends highs lows ranked) own P
+  settle-ready Y states h l r fits = record {
+    size = A .size;
+    sound = record {
+      rising = Y .rising;
+      sorted = Y .sorted;
+      within = Y .within;
+      from = λ v at p. omega (arith, Y .from v at p);
+      highs-few = h;
+      lows-few = l;
+      if-ranked = r;
+    };
+    few = few;
+    below = λ v at p. omega (arith, Y .to v at p);
+    from-below = λ v at p. omega (arith, Y .from v at p);
+    fits = fits;
+  }
+
+  -- the numbers of a label with room
+  pub settle-fits : (entries ends : List ℕ) {top : ℕ} → top ≤ nowhere → ((c : ℕ) (x : Ranked 1) → c < P → labelFrom (cellAt own c) ≡ some x → LabelRoom (mostPrice highs) (mostPrice lows) top x)
+      → (c : ℕ) (x : Ranked 1) → c < P → labelOf own c ≡ some x → Fits (listsOf entries ends highs lows ranked) 128 x
+  unfolding weightedPacking
+  settle-fits entries ends t room c x b l =
+      let k = path-of weightedPacking (labelFrom (cellAt own c)) x (cell-numbers (cellAt own c) (λ _. A .labels c b .last) ∙ sym (label-cell own c (A .size) (omega arith)) ∙ l) in
+      let r = room c (k .cost) b (k .is) in
+      subst (λ (x : Ranked 1). Fits (listsOf entries ends highs lows ranked) 128 x) (k .packed-is) (record { high = omega (arith, r .high); low = omega (arith, r .low) })
+
+-- ---- in ranked order, where the labels are attained
+
+-- a cell with room for 128 pairs, each of whose marks add at most these, and for what is added to its low number besides
+pub record CellRoom (highs lows : ℕ) (x : Cell) : Type 0 where
+  pub high : x .high + 128 * highs < 2 ^ 56
+  pub low : x .low + 128 * (lows + 1) + 2 ^ 56 ≤ 2 ^ 64
+
+module _ (ranking : List ℕ) {card sets ws : List ℕ} {P i : ℕ} (s : Setting card sets P) (inside : i ≤ length sets) (Z : WeightsOf (stateCounts (machinesOf card)) ws) (R : RankedWeights (sixPlaces ranking) ws)
+    (L : Labels (rankedCosts 1)) (own : List ℕ) (T : Attained (cellGraph ws card sets) (placed (i * P) P L (cellAt own))) where
+  label-room : (c : ℕ) (x : Ranked 1) → c < P → labelFrom (cellAt own c) ≡ some x → LabelRoom (mostPrice rankedHighs) (mostPrice rankedLows) (2 ^ 56) x
+  label-room c x b l = ranked-room s ranking Z R T (i * P + c) x (node-below s i (i * P + c) inside (omega arith)) (placed-in (i * P) P L (cellAt own) c b ∙ l)
+
+  -- a settled position: what closing it asks
+  pub ranked-cell : (c : ℕ) → c < P → cellAt own c .high < nowhere → cellAt own c .high % 256 ≡ 255 → CellRoom (mostPrice rankedHighs) (mostPrice rankedLows) (cellAt own c)
+  ranked-cell c b h last =
+      let r = label-room c (cellAt own c .high / 256, cellAt own c .low) b (label-there (cellAt own c) h) in
+      record { high = omega (arith, r .high); low = omega (arith, r .low) }
+
+  -- a position that was entered: what settling it asks
+  pub ranked-ready : {entries ends : List ℕ} {kept : ℕ} → Listed (machinesOf card) (sixPlaces ranking) kept entries ends → Position own P → SettlePre (listsOf entries ends rankedHighs rankedLows true) own P
+  ranked-ready {entries} {ends} Y A =
+      settle-ready true (few-codes s) A Y (s .states) ranked-highs-few ranked-lows-few (record { high = λ _. refl; low = λ _. refl }) (settle-fits true (few-codes s) A entries ends {top = 2 ^ 56} (omega arith) label-room)
+
+-- a position that was entered and settled is done
+module _ (ranking : List ℕ) {card sets ws entries ends steps own own′ : List ℕ} {P i W kept : ℕ} (s : Setting card sets P) (inside : i ≤ length sets) (Z : WeightsOf (stateCounts (machinesOf card)) ws) (R : RankedWeights (sixPlaces ranking) ws)
+    (X : Prepared (machinesOf card) 0 W steps kept) (Y : Listed (machinesOf card) (sixPlaces ranking) kept entries ends) (A : Position own P) (size : length own′ ≡ 256)
+    (S : Settled (listsOf entries ends rankedHighs rankedLows true) own own′) where
+  pub ranked-last : (c : ℕ) → c < P → cellAt own′ c .high < nowhere → cellAt own′ c .high % 256 ≡ 255
+  ranked-last = settled-last ws s (tied s i inside ws true Z (ranked-tie R refl) X Y) A size S
+
+  pub ranked-settled : (L : Labels (rankedCosts 1)) → Entered (cellGraph ws card sets) (placeOf card) (placed (i * P) P L (cellAt own)) i → Done (cellGraph ws card sets) (placeOf card) (placed (i * P) P L (cellAt own′)) i
+  ranked-settled = settled-position ws s (tied s i inside ws true Z (ranked-tie R refl) X Y) A size S

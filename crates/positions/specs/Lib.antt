@@ -1,3 +1,0 @@
-pub mod Engine
-pub mod Entering
-pub mod Labelling

@@ -1,0 +1,35 @@
+use borrow.Author.Needs.{needs}
+use mathlib.Core.Path.{_≡_, refl, _∙_}
+use native.Mathlib.Omega.{arith}
+use lib.ListN.{length}
+use Rattle.tables.proofs.Counts.{few-counts}
+use Rattle.weighted.specs.Laws.Sound.{Sound, sound-are}
+use Rattle.weighted.proofs.Numbers.{numbers-of, numbers-by}
+use Rattle.weighted.proofs.weights_of.Statement.{statement}
+use Rattle.weighted.proofs.weights_of.Tie as tie
+
+write-highs-requires : tie.Need-write-highs-requires
+write-highs-requires c κs = let s = c .before .before .before in let e = sound-are (length (s .args .counts .now)) (s .args .weights .now) (s .pre .1) .count in (omega (arith, few-counts (s .pre .0)), omega (arith, few-counts (s .pre .0)))
+
+write-scales-requires : tie.Need-write-scales-requires
+write-scales-requires c κs =
+    let s = c .before .before .before .before .before .before in
+    (s .pre .0, omega (arith, few-counts (s .pre .0), c .before .before .write-highs .ensures .size))
+
+returns : tie.Need-returns
+returns c =
+    let s = c .before .before .before .before .before .before .before .before in
+    let A = sound-are (length (s .args .counts .now)) (s .args .weights .now) (s .pre .1) in
+    let H = c .before .before .before .before .write-highs .ensures in
+    let S = c .before .write-scales .ensures in
+    (numbers-of (s .pre .0) A H S, numbers-by (s .pre .0) A H S, S .size ∙ H .size)
+
+pub weights-of-spec : {M : Type 1} → statement M
+weights-of-spec =
+    tie.close
+    (tie.spec
+    (λ c. search needs)
+    write-highs-requires
+    (λ c. search needs)
+    write-scales-requires
+    returns)

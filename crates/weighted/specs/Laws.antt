@@ -1,0 +1,6 @@
+-- Laws of the weighted order.
+pub mod Sound
+pub mod Weighing
+pub mod Done
+pub mod Prices
+pub mod Room

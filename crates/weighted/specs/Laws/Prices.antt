@@ -1,0 +1,106 @@
+-- The lists of insertions have marks as numbers: what settling makes of them by the weights is what the machines' numbers make of them.
+use mathlib.Core.Path.{_≡_, refl, sym, _∙_, ap}
+use mathlib.Core.Logic.{_⊎_, inl, inr}
+use mathlib.Core.List.{List, [], _∷_}
+use Prim.Native.Nat.{ℕ, zero, suc, _+_, _*_, _^_, _<_, _≤_}
+use native.Mathlib.Nat.{mul-comm, zero-mul}
+use native.Mathlib.Omega.{arith}
+use lib.ListN.{length, getD}
+use Rattle.tables.specs.Places.{markNumber}
+use Rattle.tables.specs.Laws.Packing.{six-number}
+use Rattle.settling.specs.Prices.{SixWeights, marksPrice, mostPrice}
+use Rattle.cells.specs.Cells.{highOf, lowOf}
+use Rattle.cells.specs.Columns.{weighed}
+use Rattle.labelling.specs.Laws.Tied.{SamePrices}
+use Rattle.sums.proofs.Weighing.{packed-sum}
+use Rattle.weighted.specs.WeighsBy.{WeighsBy, sixHighs, noLows}
+use Rattle.weighted.specs.Laws.Sound.{Sound}
+
+-- marks of at most six machines, one by one
+pub six-terms : (w : ℕ → ℕ) (xs : List ℕ) → length xs ≤ 6
+    → weighed w 0 xs ≡ w 0 * getD xs 0 0 + (w 1 * getD xs 1 0 + (w 2 * getD xs 2 0 + (w 3 * getD xs 3 0 + (w 4 * getD xs 4 0 + w 5 * getD xs 5 0))))
+unfolding weighed
+six-terms w [] h = omega arith
+six-terms w (a ∷ []) h = omega (arith, mul-comm a (w 0))
+six-terms w (a ∷ b ∷ []) h = omega (arith, mul-comm a (w 0), mul-comm b (w 1))
+six-terms w (a ∷ b ∷ c ∷ []) h = omega (arith, mul-comm a (w 0), mul-comm b (w 1), mul-comm c (w 2))
+six-terms w (a ∷ b ∷ c ∷ d ∷ []) h = omega (arith, mul-comm a (w 0), mul-comm b (w 1), mul-comm c (w 2), mul-comm d (w 3))
+six-terms w (a ∷ b ∷ c ∷ d ∷ e ∷ []) h = omega (arith, mul-comm a (w 0), mul-comm b (w 1), mul-comm c (w 2), mul-comm d (w 3), mul-comm e (w 4))
+six-terms w (a ∷ b ∷ c ∷ d ∷ e ∷ f ∷ []) h = omega (arith, mul-comm a (w 0), mul-comm b (w 1), mul-comm c (w 2), mul-comm d (w 3), mul-comm e (w 4), mul-comm f (w 5))
+six-terms w (a ∷ b ∷ c ∷ d ∷ e ∷ f ∷ g ∷ r) h = absurd (omega arith)
+
+-- six numbers for places price the number of marks, where a machine has the place of its own number, or counts nothing
+place-price : (places ns : List ℕ) (w : ℕ → ℕ) → length places ≡ 6 → ((m : ℕ) → m < 6 → (getD ns m 0 ≡ w m) × ((getD places m 0 ≡ m) ⊎ (w m ≡ 0)))
+    → (marks : List ℕ) → length marks ≤ 6 → ((m : ℕ) → getD marks m 0 ≤ 15) → marksPrice ns (markNumber places marks) ≡ weighed w 0 marks
+unfolding marksPrice
+place-price places ns w size same marks few most =
+    (λ i. marksPrice ns (six-number places marks size i))
+    ∙ packed-sum (at 0) (at 1) (at 2) (at 3) (at 4) (at 5) (most (getD places 0 0)) (most (getD places 1 0)) (most (getD places 2 0)) (most (getD places 3 0)) (most (getD places 4 0)) (most (getD places 5 0)) ns
+    ∙ omega (arith, part 0 (omega arith), part 1 (omega arith), part 2 (omega arith), part 3 (omega arith), part 4 (omega arith), part 5 (omega arith), six-terms w marks few)
+  where
+    at : ℕ → ℕ
+    at m = getD marks (getD places m 0) 0
+
+    part : (m : ℕ) → m < 6 → getD ns m 0 * at m ≡ w m * getD marks m 0
+    part m h = go (same m h .1)
+      where
+        go : (getD places m 0 ≡ m) ⊎ (w m ≡ 0) → getD ns m 0 * at m ≡ w m * getD marks m 0
+        go (inl e) = let p = same m h .0 in λ i. p i * getD marks (e i) 0
+        go (inr z) = ap (λ (n : ℕ). n * at m) (same m h .0 ∙ z) ∙ zero-mul (at m) ∙ sym (ap (λ (n : ℕ). n * getD marks m 0) z ∙ zero-mul (getD marks m 0))
+
+no-low : (m : ℕ) → getD noLows m 0 ≡ 0
+no-low zero = refl
+no-low (suc zero) = refl
+no-low (suc (suc zero)) = refl
+no-low (suc (suc (suc zero))) = refl
+no-low (suc (suc (suc (suc zero)))) = refl
+no-low (suc (suc (suc (suc (suc zero))))) = refl
+no-low (suc (suc (suc (suc (suc (suc m)))))) = refl
+
+-- the machines in card order, of which no more than these count
+pub record InCardOrder (places ws : List ℕ) : Type 0 where
+  pub size : length places ≡ 6
+  pub place : (m : ℕ) → m < 6 → (getD places m 0 ≡ m) ⊎ (highOf ws m ≡ 0)
+
+pub weights-tie : {places weights ws : List ℕ} → WeighsBy weights ws → InCardOrder places ws → SamePrices places (sixHighs ws) noLows ws
+weights-tie {places} {ws = ws} W O = record { high = place-price places (sixHighs ws) (highOf ws) (O .size) highs; low = place-price places noLows (lowOf ws) (O .size) lows }
+  where
+    highs : (m : ℕ) → m < 6 → (getD (sixHighs ws) m 0 ≡ highOf ws m) × ((getD places m 0 ≡ m) ⊎ (highOf ws m ≡ 0))
+    highs zero h = (refl, O .place 0 h)
+    highs (suc zero) h = (refl, O .place 1 h)
+    highs (suc (suc zero)) h = (refl, O .place 2 h)
+    highs (suc (suc (suc zero))) h = (refl, O .place 3 h)
+    highs (suc (suc (suc (suc zero)))) h = (refl, O .place 4 h)
+    highs (suc (suc (suc (suc (suc zero))))) h = (refl, O .place 5 h)
+    highs (suc (suc (suc (suc (suc (suc m)))))) h = absurd (omega arith)
+
+    lows : (m : ℕ) → m < 6 → (getD noLows m 0 ≡ lowOf ws m) × ((getD places m 0 ≡ m) ⊎ (lowOf ws m ≡ 0))
+    lows m h = (omega (arith, no-low m, W .low m), inr (W .low m))
+
+-- what settling asks of the weights
+module _ {K : ℕ} {weights ws : List ℕ} (A : Sound K weights) (W : WeighsBy weights ws) where
+  high-few : (m : ℕ) → highOf ws m ≤ 1024000000000
+  high-few m = omega (arith, W .high m, A .most m)
+
+  pub highs-few : SixWeights (sixHighs ws)
+  highs-few = record { most = most }
+    where
+      most : (i : ℕ) → getD (sixHighs ws) i 0 ≤ 2 ^ 48
+      most zero = omega (arith, high-few 0)
+      most (suc zero) = omega (arith, high-few 1)
+      most (suc (suc zero)) = omega (arith, high-few 2)
+      most (suc (suc (suc zero))) = omega (arith, high-few 3)
+      most (suc (suc (suc (suc zero)))) = omega (arith, high-few 4)
+      most (suc (suc (suc (suc (suc zero))))) = omega (arith, high-few 5)
+      most (suc (suc (suc (suc (suc (suc i)))))) = omega arith
+
+  pub high-most : mostPrice (sixHighs ws) ≤ 92160000000000
+  unfolding mostPrice
+  high-most = omega (arith, high-few 0, high-few 1, high-few 2, high-few 3, high-few 4, high-few 5)
+
+pub lows-few : SixWeights noLows
+lows-few = record { most = λ i. omega (arith, no-low i) }
+
+pub low-most : mostPrice noLows ≡ 0
+unfolding mostPrice
+low-most = refl

@@ -1,0 +1,4 @@
+pub mod WeighsBy
+pub mod Closing
+pub mod Labelling
+pub mod Laws
