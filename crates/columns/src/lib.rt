@@ -9,6 +9,7 @@ ghost use Rattle.card.specs.Card.{machinesOf};
 ghost use Rattle.tables.specs.Tables.{CountsOfSome};
 ghost use Rattle.cells.specs.Cells.{places};
 ghost use Rattle.columns.specs.Filling.{FirstSet, EnterPre, Entered, ArcPre, ArcEntered, MachinePre, MachineFilled, FillPre, Filled};
+ghost use Rattle.columns.specs.AtHand.{AtHandPre, FilledAtHand, FromPre, FromEntered, StatePre, StateFilled};
 ghost use Rattle.columns.specs.Prepared.{Prepared};
 ghost use Rattle.columns.specs.Endings.{EndingNumber, PartEndingsPre, PartEndings, EndingsPre, EndingsFilled};
 ghost use Rattle.columns.specs.Outputs.{SameColumn, Told, Worth, Wide};
@@ -128,6 +129,71 @@ pub fn fill(steps: &mut [u16], card: &[u8], counts: &[u8], width: usize, input: 
         let outputs = fill_machine(steps, width, first, card::part(card, m), set);
         taken = taken & outputs;
         first += index(counts[m]);
+        m += 1;
+    }
+    taken
+}
+
+// Writes the step by an arc, if it is an arc of the state, in one place at each pair of the input that the arc takes, by the set of the input. The
+// outputs of those pairs.
+fn enter_from(steps: &mut [u16], width: usize, place: usize, arc: Arc, state: u8, input: u64) -> u64
+    requires { ⌜ FromPre (now steps) width place arc ⌝ }
+    ensures { λ r. ⌜ ((x : ℕ) → input ≡ 2 ^ x → FromEntered (now (steps .entry)) (now (steps .exit)) width place arc state x r) ⌝ }
+{
+    let from = arc.from;
+    if from != state {
+        return 0;
+    }
+    let outputs = arc.outputs_for(input);
+    enter_step(steps, width, place, outputs, step_code(arc.to, arc.marks));
+    outputs
+}
+
+// Fills a place, blank so far, with the steps of a machine from one state, by the set of the input: the arcs from the last to the first, as above. The
+// outputs taken from that state.
+fn fill_state(
+    steps: &mut [u16],
+    width: usize,
+    place: usize,
+    part: &[u8],
+    state: u8,
+    input: u64,
+) -> u64
+    requires { ⌜ StatePre (now steps) (now part) width place ⌝ }
+    ensures { λ r. ⌜ ((x : ℕ) → input ≡ 2 ^ x → StateFilled (machineOf (now (part .entry))) state x width place (now (steps .entry)) (now (steps .exit)) r) ⌝ }
+{
+    let states = machine::state_count(part);
+    let mut taken: u64 = 0;
+    let mut left = machine::arc_count(part);
+    while left > 0 {
+        left -= 1;
+        let entered = enter_from(
+            steps,
+            width,
+            place,
+            machine::nth_arc(part, states, left),
+            state,
+            input,
+        );
+        taken = taken | entered;
+    }
+    taken
+}
+
+// Fills the columns of an accepted card's machines for one input, from one state of each: a place for each machine. The outputs that every machine
+// takes from its state.
+pub fn fill_at(steps: &mut [u16], card: &[u8], states: &[u8], input: u8) -> u64
+    requires { ⌜ AtHandPre (now card) (now states) (now steps) input ⌝ }
+    ensures { λ r. ⌜ FilledAtHand (machinesOf (now (card .entry))) (now (states .entry)) input (now (steps .exit)) r ⌝ }
+{
+    let width = states.len();
+    let set = sets::set_of(input);
+    clear(steps);
+    let mut taken = partners(input);
+    let mut m = 0;
+    while m < width {
+        let outputs = fill_state(steps, width, m, card::part(card, m), states[m], set);
+        taken = taken & outputs;
         m += 1;
     }
     taken

@@ -1,41 +1,48 @@
 -- The loops over the positions of a stage, and over the stages.
-use mathlib.Core.Path.{_≡_, refl, sym, _∙_, subst}
-use mathlib.Core.Logic.{inr}
-use mathlib.Core.Bool.{Bool, true, not, _&&_}
-use mathlib.Core.Option.{Option, none}
+use mathlib.Core.Path.{_≡_, refl, sym, _∙_, ap, subst}
+use mathlib.Core.Logic.{inr, _≢_}
+use mathlib.Core.Bool.{true, not, _&&_}
+use mathlib.Core.Option.{Option, none, some, Option·map}
 use mathlib.Core.List.{List}
-use Prim.Native.Nat.{ℕ, suc, _+_, _*_, _-_, _≤_, _<_}
+use Prim.Native.Nat.{ℕ, zero, suc, _+_, _*_, _-_, _≤_, _<_}
 use native.Mathlib.Omega.{arith}
 use native.Mathlib.Decide.{ℕ-discrete, decLt}
 use lib.Dec.{eqb}
-use lib.ListN.{length, getD, set, replicate, length-set, length-replicate, List·getD-eq-default}
+use lib.ListN.{length, getD, set, length-set, length-map, List·getD-eq-default}
 use lib.Seq.{getD-set-same, getD-set-other}
-use Rattle.card.specs.Layout.{symbolCount}
 use Rattle.card.specs.Card.{machinesOf}
 use Rattle.labels.specs.Work.{stateOf}
 use Rattle.paths.specs.Labels.{Closed}
 use Rattle.paths.specs.Costs.{Labels}
-use Rattle.paths.specs.Ranked.{countAt, rankedCosts}
+use Rattle.paths.specs.Graph.{Graph}
+use Rattle.paths.specs.Ranked.{Ranked, countAt, rankedCosts}
 use Rattle.paths.specs.Positions.{Done, Entering, done-start}
-use Rattle.tables.specs.Places.{sixPlaces}
-use Rattle.tables.specs.JointTable.{HoldsJoint}
+use Rattle.product.specs.Nodes.{stateCountOf}
+use Rattle.tables.specs.Laws.Cards.{card-machines}
 use Rattle.basics.specs.Sets.{member}
 use Rattle.basics.proofs.Bools.{left as left-passes}
+use Rattle.product.specs.ProductGraph.{pairs}
 use Rattle.product.specs.Setting.{placeOf, Setting}
-use Rattle.product.specs.Laws.Setting.{symbols-few, few-codes}
+use Rattle.product.specs.Laws.Setting.{symbols-few}
+use Rattle.cells.specs.declared.Groups.{Groups}
 use Rattle.product.specs.Laws.Letters.{over-positioned}
 use Rattle.product.specs.Laws.Entering.{NotLeft, symbols-begun, symbols-entered}
 use Rattle.tables.specs.Engine.{engineGraph}
 use Rattle.labelling.specs.Labelling.{PositionsDone}
 use Rattle.cull.specs.Cull.{FewestBelow}
+use Rattle.cull.specs.Left.{left-same, fewest-same}
+use Rattle.cull.specs.OneConstraint.{stageMarks, LeastPrices}
+use Rattle.cull.specs.Idle.{unmarked, idle-stage}
 use Rattle.cull.specs.Stages.{cull-start}
-use Rattle.cull.specs.StageLabels.{countOf, stageLabel, fewestIn}
-use Rattle.cull.specs.Relaxing.{Runs, RunsPre, RelaxPre, Relaxed, SettledBy}
-use Rattle.cull.specs.Culling.{pairsCounted, stageGraph, Culled, StageAt, CullPre, PositionPre, PositionEntered, PositionDone, EndPre, EndsTried, StagePre, StageDone, Blanked}
+use Rattle.cull.specs.StageLabels.{countOf, pairCountOf, stageLabel, fewestIn}
+use Rattle.cull.specs.Entering.{NodesPre, InputPre, InputTried}
+use Rattle.cull.specs.Settling.{SettlePre, SettledBy}
+use Rattle.cull.specs.Culling.{pairsCounted, stageGraph, leftBy, Culled, StageAt, CullPre, LentTables, PositionPre, PositionEntered, PositionDone, EndPre, EndsTried, StagePre, StageDone, Blanked, PlaceCleared}
 use Rattle.cull.specs.Survivors.{counts-fewest}
-use Rattle.cull.proofs.StageWork.{stage-unlabelled, spaced}
-use Rattle.cull.proofs.Positions.{culled-kept, stage-over, symbol-ready, insertion-ready, symbol-entering, position-settled}
+use Rattle.cull.proofs.StageWork.{stage-labelled, stage-unlabelled, stage-alike, spaced}
+use Rattle.cull.proofs.Positions.{culled-kept, stage-over, symbol-nodes, insertion-ready, symbol-entering, position-settled}
 use Rattle.cull.proofs.Ending.{ends-entered}
+use Rattle.cull.proofs.Unused.{ways-unmarked}
 use Rattle.cull.proofs.NextStage.{stage-count-told, fewest-told, least-told, last-closed, last-attained}
 
 -- ---- taking the labels of the stage before
@@ -57,13 +64,17 @@ blank-next {xs} {ys} {n} r B = record {
 pub blank-end : {xs ys : List ℕ} {i n : ℕ} → Blanked xs ys i → i ≡ n → Blanked xs ys n
 blank-end B q = rw q at B
 
--- ---- runs in a table of joint steps
+-- ---- what is lent stays
 
-pub runs-ready : {card sets places js es : List ℕ} {P x S : ℕ} → Setting card sets P → HoldsJoint (symbolCount card) (machinesOf card) x places js → S ≡ symbolCount card → P * 64 ≤ length es → RunsPre js es P S
-runs-ready s H q h = record { table-room = rw (s .states) (H .room); room = h; few = few-codes s; outputs = omega (arith, q, symbols-few s) }
-
-pub runs-are : {js es : List ℕ} {P S T : ℕ} → S ≡ T → Runs js es P S → Runs js es P T
-runs-are {js} {es} {P} q R = subst (λ (n : ℕ). Runs js es P n) q R
+pub lent-kept : {card ranking counts ws steps steps′ high high′ low low′ : List ℕ} {g : Groups} {P : ℕ} → LentTables card ranking counts ws steps high low g P → length steps′ ≡ length steps → length high′ ≡ length high → length low′ ≡ length low
+    → LentTables card ranking counts ws steps′ high′ low′ g P
+lent-kept L a b c = record {
+  tables = record { accepted = L .tables .accepted; counts-are = L .tables .counts-are; weights = L .tables .weights; groups = L .tables .groups; few = L .tables .few; room = omega (arith, a, L .tables .room) };
+  order = L .order;
+  codes = L .codes;
+  high-size = b ∙ L .high-size;
+  low-size = c ∙ L .low-size;
+}
 
 -- ---- one symbol of the set at a position after the other
 
@@ -79,28 +90,33 @@ pub record SymbolsTried (card ranking sets xs ys : List ℕ) (i k left : ℕ) : 
 pub symbols-start : {card ranking sets xs : List ℕ} {i k : ℕ} → SymbolsTried card ranking sets xs xs i k (getD sets i 0)
 symbols-start = record { size = refl; counts = λ j w h. refl; inside = λ x m. m; enters = λ f C K E. E }
 
-module _ {card ranking sets rs cs ps ins es xs : List ℕ} {P i k : ℕ} (Q : PositionPre card ranking sets rs cs ps ins es xs P i k) {ys : List ℕ} {left : ℕ} (T : SymbolsTried card ranking sets xs ys i k left) where
+module _ {card ranking sets cs entries ends xs : List ℕ} {P i k : ℕ} (Q : PositionPre card ranking sets cs entries ends xs P i k) {ys : List ℕ} {left : ℕ} (T : SymbolsTried card ranking sets xs ys i k left) where
   begun : Entering (stageGraph card ranking sets (Q .later .fewest) k) (placeOf card) (stageLabel xs k) (stageLabel ys k) i (λ _. ⊥) (NotLeft left)
   begun = T .enters (Q .later .fewest) (Q .later .culled) (stageLabel xs k) (symbols-begun (Q .given .setting) (stage-over (Q .given .setting) ranking (Q .later .fewest) k (Q .later .culled)) (Q .later .done))
 
-  module _ {js : List ℕ} {x : ℕ} (m : member left x ≡ true) (H : HoldsJoint (symbolCount card) (machinesOf card) x (sixPlaces ranking) js) where
-    pub symbol-pre : {S : ℕ} → S ≡ symbolCount card → i < length sets → RelaxPre ys js k (i * P) ((i + 1) * P) P 0 S
-    symbol-pre q h = rw q (symbol-ready (Q .given .setting) ranking (Q .later .fewest) k (Q .given .stage) (T .size ∙ Q .given .room) (culled-kept (T .counts) (Q .later .culled)) i x h (T .inside x m) H (begun .attained))
+  module _ {x : ℕ} (m : member left x ≡ true) where
+    pub symbol-reads : 1 ≤ x
+    symbol-reads = Q .given .setting .symbols i x (T .inside x m) .0
 
-    pub symbol-runs-pre : {es : List ℕ} {S : ℕ} → S ≡ symbolCount card → P * 64 ≤ length es → RunsPre js es P S
-    symbol-runs-pre q h = runs-ready (Q .given .setting) H q h
+    pub input-pre : {counts ws steps high low : List ℕ} {g : Groups} → LentTables card ranking counts ws steps high low g P → i < length sets → InputPre ys card counts ws steps high low (record { groups = g; base = i * P; stage = k }) x
+    input-pre {g = g} L h = record {
+      given = subst (λ (n : ℕ). NodesPre ys (i * P) n k) (L .codes)
+          (symbol-nodes (Q .given .setting) ranking (Q .later .fewest) k (Q .given .stage) (T .size ∙ Q .given .room) (culled-kept (T .counts) (Q .later .culled)) i h (begun .attained));
+      tables = L .tables;
+      input = omega (arith, symbols-few (Q .given .setting), Q .given .setting .symbols i x (T .inside x m));
+      high-size = L .high-size;
+      low-size = L .low-size;
+    }
 
-    pub symbols-next : {zs : List ℕ} {S after : ℕ} {r : Bool} → S ≡ symbolCount card → ((n : ℕ) → member after n ≡ (member left n && not (eqb n x)))
-        → Relaxed ys zs js k (i * P) ((i + 1) * P) P 0 S (i * P) (i * P + P) 0 (S + 1) r → SymbolsTried card ranking sets xs zs i k after
-    symbols-next {zs} {S} {after} {r} q f R = record {
+    pub symbols-next : {zs counts ws steps high low : List ℕ} {g : Groups} {after : ℕ} → LentTables card ranking counts ws steps high low g P → ((n : ℕ) → member after n ≡ (member left n && not (eqb n x)))
+        → InputTried card ws ys zs x (i * P) (g .front * g .back) k → SymbolsTried card ranking sets xs zs i k after
+    symbols-next {zs} {ws = ws} {after = after} L f R = record {
       size = R .size ∙ T .size;
       counts = λ j w h. R .counts j w h ∙ T .counts j w h;
       inside = λ n z. T .inside n (left-passes (member left n) (not (eqb n x)) (sym (f n) ∙ z));
-      enters = λ g C K E. symbol-entering (Q .given .setting) ranking g k (Q .given .stage) (T .size ∙ Q .given .room) (culled-kept (T .counts) C) i left after x (T .inside x m) H f R′ (T .enters g C K E);
+      enters = λ g C K E. symbol-entering (Q .given .setting) ranking g k (Q .given .stage) (T .size ∙ Q .given .room) (culled-kept (T .counts) C) i left after x (T .inside x m) (L .order) f
+          (subst (λ (n : ℕ). InputTried card ws ys zs x (i * P) n k) (sym (L .codes)) R) (T .enters g C K E);
     }
-      where
-        R′ : Relaxed ys zs js k (i * P) ((i + 1) * P) P 0 (symbolCount card) (i * P) (i * P + P) 0 (symbolCount card + 1) r
-        R′ = subst (λ (n : ℕ). Relaxed ys zs js k (i * P) ((i + 1) * P) P 0 n (i * P) (i * P + P) 0 (n + 1) r) q R
 
   pub entered-symbols : i < length sets → left ≤ 0 → PositionEntered card ranking sets xs ys i k
   entered-symbols h z =
@@ -114,9 +130,21 @@ module _ {card ranking sets rs cs ps ins es xs : List ℕ} {P i k : ℕ} (Q : Po
 
 -- ---- a position
 
-module _ {card ranking sets rs cs ps ins es xs : List ℕ} {P i k : ℕ} (Q : PositionPre card ranking sets rs cs ps ins es xs P i k) where
-  pub end-pre : EndPre card ranking sets rs cs ps xs P k
-  end-pre = record { setting = Q .given .setting; looked = Q .given .looked; room = Q .given .room; stage = Q .given .stage }
+module _ {card ranking sets cs entries ends xs : List ℕ} {P i k : ℕ} (Q : PositionPre card ranking sets cs entries ends xs P i k) where
+  pub end-pre : {ws steps high low : List ℕ} {g : Groups} → LentTables card ranking cs ws steps high low g P → EndPre card ranking sets cs ws xs high low g P k
+  end-pre L = record {
+    setting = Q .given .setting;
+    counts-are = Q .given .counts-are;
+    weights = L .tables .weights;
+    groups = L .tables .groups;
+    few = L .tables .few;
+    order = L .order;
+    codes = L .codes;
+    room = Q .given .room;
+    stage = Q .given .stage;
+    high-size = L .high-size;
+    low-size = L .low-size;
+  }
 
   pub entered-last : {ys : List ℕ} → length sets ≤ i → EndsTried card ranking sets xs ys k (length sets * P) (length sets * P + P) → PositionEntered card ranking sets xs ys i k
   entered-last {ys} h T =
@@ -129,32 +157,29 @@ module _ {card ranking sets rs cs ps ins es xs : List ℕ} {P i k : ℕ} (Q : Po
         entered = rw q (ends-entered (Q .given .setting) ranking (Q .later .fewest) (Q .later .culled) d T);
       }
 
-  module _ {ys : List ℕ} (E : PositionEntered card ranking sets xs ys i k) {S : ℕ} (q : S ≡ symbolCount card) where
-    pub settle-ready : RelaxPre ys ins k (i * P) (i * P) P 1 S
-    settle-ready = rw q (insertion-ready (Q .given .setting) ranking (E .fewest) k (Q .given .stage) (E .size ∙ Q .given .room) (E .culled) i (Q .within) (Q .given .insertions) (E .entered .attained))
+  module _ {ys : List ℕ} (E : PositionEntered card ranking sets xs ys i k) where
+    pub settle-ready : SettlePre ys entries ends k (i * P) P
+    settle-ready = insertion-ready (Q .given .setting) ranking (E .fewest) k (Q .given .stage) (E .size ∙ Q .given .room) (E .culled) i (Q .within) (Q .given .lists) (E .entered .attained)
 
-    pub settle-runs : Runs ins es P S
-    settle-runs = runs-are (sym q) (Q .given .runs)
-
-    pub position-labelled : {zs : List ℕ} → SettledBy ys zs ins k (i * P) P 1 S → PositionDone card ranking sets xs zs i k
+    pub position-labelled : {zs : List ℕ} → SettledBy ys zs entries ends k (i * P) P → PositionDone card ranking sets xs zs i k
     position-labelled {zs} D = record {
       size = D .size ∙ E .size;
       done = record {
         fewest = E .fewest;
         culled = culled-kept (D .counts) (E .culled);
-        done = position-settled (Q .given .setting) ranking (E .fewest) k (Q .given .stage) (E .size ∙ Q .given .room) (E .culled) i (Q .within) (Q .given .insertions) (E .entered) (subst (λ (T : ℕ). SettledBy ys zs ins k (i * P) P 1 T) q D);
+        done = position-settled (Q .given .setting) ranking (E .fewest) k (Q .given .stage) (E .size ∙ Q .given .room) (E .culled) i (Q .within) (Q .given .lists) D (E .entered);
       };
     }
 
 -- ---- a stage
 
-pub stage-given : {card ranking sets rs cs ps ins es xs ys : List ℕ} {P j k : ℕ} → length ys ≡ length xs → k < 6 → CullPre card ranking sets rs cs ps ins es xs P j → CullPre card ranking sets rs cs ps ins es ys P k
-stage-given e h Q = record { setting = Q .setting; looked = Q .looked; insertions = Q .insertions; runs = Q .runs; room = e ∙ Q .room; stage = h }
+pub stage-given : {card ranking sets cs entries ends xs ys : List ℕ} {P j k : ℕ} → length ys ≡ length xs → k < 6 → CullPre card ranking sets cs entries ends xs P j → CullPre card ranking sets cs entries ends ys P k
+stage-given e h Q = record { setting = Q .setting; counts-are = Q .counts-are; lists = Q .lists; room = e ∙ Q .room; ranked = Q .ranked; stage = h }
 
-given-next : {card ranking sets rs cs ps ins es xs ys : List ℕ} {P k : ℕ} → length ys ≡ length xs → CullPre card ranking sets rs cs ps ins es xs P k → CullPre card ranking sets rs cs ps ins es ys P k
+given-next : {card ranking sets cs entries ends xs ys : List ℕ} {P k : ℕ} → length ys ≡ length xs → CullPre card ranking sets cs entries ends xs P k → CullPre card ranking sets cs entries ends ys P k
 given-next e Q = stage-given e (Q .stage) Q
 
-module _ {card ranking sets rs cs ps ins es xs : List ℕ} {P k : ℕ} (Q : StagePre card ranking sets rs cs ps ins es xs P k) where
+module _ {card ranking sets cs entries ends xs : List ℕ} {P k : ℕ} (Q : StagePre card ranking sets cs entries ends xs P k) where
   pub stage-begun : {ys : List ℕ} → Blanked xs ys ((length sets + 1) * P) → PositionDone card ranking sets xs ys (length sets + 1) k
   stage-begun {ys} B = record {
     size = B .size;
@@ -178,7 +203,7 @@ module _ {card ranking sets rs cs ps ins es xs : List ℕ} {P k : ℕ} (Q : Stag
   pub stage-start : {ys : List ℕ} → Blanked xs ys ((length sets + 1) * P) → PositionDone card ranking sets ys ys (length sets + 1) k
   stage-start B = record { size = refl; done = stage-begun B .done }
 
-  pub position-ready : {ys : List ℕ} (left : ℕ) → 0 < left → left ≤ length sets + 1 → PositionDone card ranking sets xs ys left k → PositionPre card ranking sets rs cs ps ins es ys P (left - 1) k
+  pub position-ready : {ys : List ℕ} (left : ℕ) → 0 < left → left ≤ length sets + 1 → PositionDone card ranking sets xs ys left k → PositionPre card ranking sets cs entries ends ys P (left - 1) k
   position-ready left a b D = let q : suc (left - 1) ≡ left = omega arith in record { given = given-next (D .size) (Q .given); within = omega arith; later = rw q (D .done) }
 
 pub position-passed : {card ranking sets xs ys zs : List ℕ} {i j k : ℕ} → PositionDone card ranking sets xs ys i k → PositionDone card ranking sets ys zs j k → PositionDone card ranking sets xs zs j k
@@ -209,11 +234,82 @@ pub record StagesGone (card ranking sets xs ys : List ℕ) (k : ℕ) : Type 0 wh
 pub stages-start : {card ranking sets xs : List ℕ} → StagesGone card ranking sets xs xs 0
 stages-start {card} {ranking} {sets} {xs} = record { size = refl; before = cull-start 6 (engineGraph (machinesOf card) ranking sets) (fewestIn xs); last = λ j e. absurd (omega arith) }
 
+-- the stage k is done
+stages-done : {card ranking sets xs ys : List ℕ} {k : ℕ} → StageDone card ranking sets xs ys k → StagesGone card ranking sets xs ys (k + 1)
+stages-done {k = k} D = let q : k + 1 ≡ suc k = omega arith in rw q (record { size = D .size; before = counts-fewest D; last = λ j e. let z : j ≡ k = omega arith in rw z D })
+
 pub stages-next : {card ranking sets xs ys zs : List ℕ} {k : ℕ} → StagesGone card ranking sets xs ys k → StageDone card ranking sets ys zs k → StagesGone card ranking sets xs zs (k + 1)
-stages-next {card} {ranking} {sets} {xs} {ys} {zs} {k} A D =
-    let q : k + 1 ≡ suc k = omega arith in
-    let E : StageDone card ranking sets xs zs k = record { size = D .size ∙ A .size; before = D .before; labels = D .labels } in
-    rw q (record { size = E .size; before = counts-fewest D; last = λ j e. let z : j ≡ k = omega arith in rw z E })
+stages-next A D = stages-done (record { size = D .size ∙ A .size; before = D .before; labels = D .labels })
+
+-- ---- the places past the last machine
+
+machines-few : {card sets : List ℕ} {P : ℕ} → Setting card sets P → length (machinesOf card) ≤ 6
+machines-few {card} s = card-machines card (s .accepted) .machines
+
+module _ {card ranking sets cs entries ends xs : List ℕ} {P j : ℕ} (Q : CullPre card ranking sets cs entries ends xs P j) where
+  counts-length : length cs ≡ length (machinesOf card)
+  counts-length = ap length (Q .counts-are) ∙ length-map (machinesOf card) stateCountOf
+
+  counts-some : 1 ≤ length cs
+  counts-some = omega (arith, counts-length, card-machines card (Q .setting .accepted) .some-machine)
+
+  pub counts-few : length cs ≤ 6
+  counts-few = omega (arith, counts-length, machines-few (Q .setting))
+
+pub clear-start : (xs : List ℕ) (k : ℕ) → PlaceCleared xs xs 0 k
+clear-start xs k = record { size = refl; states = λ w. refl; pair-counts = λ w. refl; counts = λ i w h. refl; cleared = λ w h. absurd (omega arith) }
+
+pub clear-next : {xs ys : List ℕ} {n k : ℕ} → k < 6 → n * 8 + 1 + k < length ys → PlaceCleared xs ys n k → PlaceCleared xs (set ys (n * 8 + 1 + k) 0) (n + 1) k
+clear-next {xs} {ys} {n} {k} few r B = record {
+  size = length-set ys (n * 8 + 1 + k) 0 ∙ B .size;
+  states = λ w. let q : w * 8 + 0 ≡ w * 8 = omega arith in (rw q at (other w 0 (omega arith) (omega arith))) ∙ B .states w;
+  pair-counts = λ w. other w 7 (omega arith) (omega arith) ∙ B .pair-counts w;
+  counts = λ i w h. let q : w * 8 + (1 + i) ≡ w * 8 + 1 + i = omega arith in (rw q at (other w (1 + i) (omega arith) (omega arith))) ∙ B .counts i w h;
+  cleared = λ w h. count w h (ℕ-discrete w n);
+}
+  where
+    other : (w j : ℕ) → j < 8 → j ≢ 1 + k → getD (set ys (n * 8 + 1 + k) 0) (w * 8 + j) 0 ≡ getD ys (w * 8 + j) 0
+    other w j h d = getD-set-other ys (n * 8 + 1 + k) (w * 8 + j) 0 0 (λ e. spaced w n j (1 + k) h (omega arith) (inr d) (omega (arith, e)))
+
+    count : (w : ℕ) → w < n + 1 → Dec (w ≡ n) → countOf (set ys (n * 8 + 1 + k) 0) k w ≡ 0
+    count w h (yes q) = rw q (getD-set-same ys (n * 8 + 1 + k) 0 0 r)
+    count w h (no d) = getD-set-other ys (n * 8 + 1 + k) (w * 8 + 1 + k) 0 0 (λ e. d (omega (arith, e))) ∙ B .cleared w (omega arith)
+
+pub clear-end : {xs ys : List ℕ} {i n k : ℕ} → PlaceCleared xs ys i k → i ≡ n → PlaceCleared xs ys n k
+clear-end B q = rw q at B
+
+-- the labels that a stage rests on are the same in another slice
+done-carried : {card ranking sets xs ys zs : List ℕ} {k : ℕ} → length zs ≡ length ys → ((i : ℕ) → i < suc k → stageLabel ys i ≡ stageLabel zs i) → StageDone card ranking sets xs ys k → StageDone card ranking sets xs zs k
+done-carried {card} {ranking} {sets} {xs} {ys} {zs} {k} e same D = record {
+  size = e ∙ D .size;
+  before = fewest-same (engineGraph (machinesOf card) ranking sets) (countAt 6) (fewestIn ys) (fewestIn zs) k fewest (D .before);
+  labels = subst (λ (L : Labels (rankedCosts 1)). LeastPrices 6 k (leftBy card ranking sets zs k) L) (same k (omega arith))
+      (subst (λ (B : Graph (rankedCosts 6) pairs). LeastPrices 6 k B (stageLabel ys k)) (left-same (engineGraph (machinesOf card) ranking sets) (countAt 6) (fewestIn ys) (fewestIn zs) k fewest) (D .labels));
+}
+  where
+    fewest : (i : ℕ) → i < k → fewestIn ys i ≡ fewestIn zs i
+    fewest i l = let q = same i (omega arith) in λ j u. stageMarks (q j u)
+
+-- a constraint that the machines do not have: its place is cleared, and its stage is done
+pub stages-idle : {card ranking sets xs ys zs vs cs entries ends : List ℕ} {P j k : ℕ} → CullPre card ranking sets cs entries ends vs P j → length ys ≡ length vs → length cs ≤ k → k < 6 → StagesGone card ranking sets xs ys k → PlaceCleared ys zs ((length sets + 1) * P) k
+    → StagesGone card ranking sets xs zs (k + 1)
+stages-idle {card} {ranking} {sets} {xs} {ys} {zs} {cs = cs} {P = P} {k = zero} Q room past few A C = absurd (omega (arith, past, counts-some Q))
+stages-idle {card} {ranking} {sets} {xs} {ys} {zs} {cs = cs} {P = P} {k = suc j} Q room past few A C = stages-done (record {
+  size = D .size;
+  before = counts-fewest D;
+  labels = idle-stage 6 j (engineGraph (machinesOf card) ranking sets) (fewestIn zs) (D .before) (D .labels) (λ u. refl) (ways-unmarked card ranking sets (machines-few (Q .setting)) (suc j) few (omega (arith, past, Q .ranked))) (λ u. label u (ℕ-discrete (stateOf zs u) 0));
+})
+  where
+    D : StageDone card ranking sets xs zs j
+    D = done-carried (C .size) (λ i l. λ h w. stage-alike zs i w ys (sym (C .states w)) (sym (C .counts i w (omega arith))) (sym (C .pair-counts w)) h) (A .last j refl)
+
+    no-marks : (u : ℕ) → stateOf zs u ≢ 0 → Dec (u < (length sets + 1) * P) → countOf zs (suc j) u ≡ 0
+    no-marks u n (yes h) = C .cleared u h
+    no-marks u n (no h) = absurd (n (List·getD-eq-default zs 0 (omega (arith, C .size, room, Q .room))))
+
+    label : (u : ℕ) → Dec (stateOf zs u ≡ 0) → stageLabel zs (suc j) u ≡ Option·map unmarked (stageLabel zs j u)
+    label u (yes e) = stage-unlabelled zs (suc j) u e ∙ sym (ap (Option·map unmarked) (stage-unlabelled zs j u e))
+    label u (no n) = stage-labelled zs (suc j) u n ∙ ap {B = Option (Ranked 1)} (λ (m : ℕ). some (m, pairCountOf zs u)) (no-marks u n (decLt u ((length sets + 1) * P))) ∙ sym (ap (Option·map unmarked) (stage-labelled zs j u n))
 
 pub stages-end : {card ranking sets xs ys : List ℕ} {k : ℕ} → StagesGone card ranking sets xs ys k → k ≡ 6 → PositionsDone card ranking sets xs ys 0
 stages-end {card} {ranking} {sets} {xs} {ys} A q =
@@ -226,7 +322,3 @@ stages-end {card} {ranking} {sets} {xs} {ys} A q =
         blank = λ u h. absurd (omega arith);
       };
     }
-
--- a table for 128 codes is large enough for P
-pub steps-fit : (P n : ℕ) → P ≤ 128 → 8192 ≤ n → P * 64 ≤ length (replicate {A = ℕ} n 0)
-steps-fit P n h k = omega (arith, length-replicate {A = ℕ} n 0)

@@ -1,26 +1,21 @@
 -- What the theory of paths asks of the engine's graph, and its edges by position and code.
-use mathlib.Core.Path.{_≡_, refl, ap}
+use mathlib.Core.Path.{_≡_}
 use mathlib.Core.Bool.{true}
 use mathlib.Core.List.{List}
-use mathlib.Core.Option.{Option, some, none, Option·none-ne-some}
 use Prim.Native.Nat.{ℕ, _+_, _*_, _<_}
 use native.Mathlib.Omega.{arith}
 use lib.ListN.{length, getD}
 use Rattle.basics.specs.Sets.{member}
-use Rattle.machine.specs.declared.Pair.{Pair}
 use Rattle.card.specs.Card.{machinesOf}
 use Rattle.paths.specs.Graph.{Within}
 use Rattle.product.specs.Prices.{byRanking}
-use Rattle.product.specs.ProductGraph.{Move}
-use Rattle.product.specs.Codes.{codeStep}
 use Rattle.product.specs.Setting.{Setting}
-use Rattle.product.specs.Laws.Codes.{code-step-below}
 use Rattle.product.specs.Laws.Edges.{product-within}
 use Rattle.product.specs.Laws.Setting.{machines-sound}
 use Rattle.product.specs.Laws.Letters.{OverSets, priced-over}
 use Rattle.tables.specs.Engine.{engineGraph}
-use Rattle.tables.specs.Places.{sixPlaces, markNumber}
-use Rattle.tables.specs.JointNumbers.{numbered, jointFrom}
+use Rattle.tables.specs.Places.{sixPlaces}
+use Rattle.tables.specs.JointNumbers.{jointFrom}
 use Rattle.tables.specs.Laws.Edges.{edgeFrom, symbol-edge}
 
 module _ {card sets : List ℕ} {P : ℕ} (s : Setting card sets P) (ranking : List ℕ) where
@@ -37,14 +32,3 @@ module _ {card sets : List ℕ} {P : ℕ} (s : Setting card sets P) (ranking : L
   pub symbol-at : (i x z y : ℕ) → member (getD sets i 0) x ≡ true → z < P
       → engineGraph (machinesOf card) ranking sets .edge (i * P + z) (record { input = x; output = y }) ≡ edgeFrom ((i + 1) * P) (jointFrom (sixPlaces ranking) (machinesOf card) z (record { input = x; output = y }))
   symbol-at i x z y h k = rw (s .states) (symbol-edge ranking sets (machines-sound s) i z (omega (arith, s .states)) (record { input = x; output = y }) (omega (arith, s .symbols i x h)) h)
-
-  -- it leads to a code
-  pub joint-below : (z to e : ℕ) (p : Pair) → jointFrom (sixPlaces ranking) (machinesOf card) z p ≡ some (to, e) → to < P
-  joint-below z to e p h = go (codeStep (machinesOf card) z p) refl h
-    where
-      go : (o : Option Move) → codeStep (machinesOf card) z p ≡ o → numbered (sixPlaces ranking) o ≡ some (to, e) → to < P
-      go none k q = absurd (Option·none-ne-some (to, e) q)
-      go (some m) k q =
-          let w : _≡_ {A = ℕ × ℕ} (m .target, markNumber (sixPlaces ranking) (m .marks)) (to, e) = cc in
-          let x : m .target ≡ to = ap (λ (r : ℕ × ℕ). r .0) w in
-          omega (arith, s .states, code-step-below (machines-sound s) z p m k)

@@ -2,32 +2,61 @@
 use mathlib.Core.Path.{_≡_, refl, sym, _∙_, ap, subst}
 use mathlib.Core.Bool.{Bool, true, false}
 use mathlib.Core.Option.{Option, none, some}
-use mathlib.Core.List.{List}
-use Prim.Native.Nat.{ℕ, suc, _+_, _*_, _≤_, _<_}
+use mathlib.Core.List.{List, [], _∷_}
+use Prim.Native.Nat.{ℕ, zero, suc, _+_, _*_, _/_, _%_, _≤_, _<_}
+use native.Mathlib.Nat.{mod-lt, div-lt-iff-lt-mul, div-add-mod', mul-le-mul-right}
+use native.Mathlib.Decide.{decLt}
 use native.Mathlib.Omega.{arith}
-use lib.ListN.{length}
+use lib.ListN.{length, getD, replicate, length-replicate, getD-replicate, List·getD-eq-default}
+use borrow.Author.Tests.{lt-ltb, le-ltb}
+use Rattle.machine.specs.Machine.{Machine, endingOf}
+use Rattle.card.specs.Layout.{symbolCount}
 use Rattle.card.specs.Card.{machinesOf}
 use Rattle.paths.specs.Ranked.{countAt, rankedCosts}
 use Rattle.paths.specs.Graph.{Graph}
 use Rattle.paths.specs.Positions.{Done, Entered}
 use Rattle.labels.specs.Marks.{marksCost}
 use Rattle.product.specs.ProductGraph.{pairs}
-use Rattle.tables.specs.Places.{sixPlaces}
+use Rattle.product.specs.Nodes.{stateCounts, product, statesOf}
+use Rattle.product.specs.Codes.{codeEnding}
+use Rattle.product.specs.Laws.Nodes.{product-positive}
+use Rattle.product.specs.Laws.JointStep.{counts-positive}
+use Rattle.product.specs.Laws.Edges.{ending-marks-bound}
+use Rattle.tables.specs.Places.{sixPlaces, markNumber}
+use Rattle.tables.specs.Tables.{CardMachines}
+use Rattle.tables.specs.Laws.Cards.{card-machines}
+use Rattle.tables.specs.Laws.Packing.{six-number}
+use Rattle.cells.specs.declared.Groups.{Groups}
+use Rattle.cells.specs.Cells.{nowhere, places, highAt, lowAt, cellSum}
+use Rattle.cells.specs.Laws.Numbers.{high-small, low-small}
+use Rattle.cells.specs.Laws.Sums.{sum-small}
+use Rattle.cells.specs.Columns.{WeightsOf}
+use Rattle.cells.specs.Groups.{GroupsOf, sumAt, FourPre, FourJoined}
+use Rattle.cells.specs.Laws.Groups.{all-codes}
+use Rattle.cells.specs.Laws.Tried.{laneSum}
+use Rattle.columns.specs.Filling.{Small}
+use Rattle.columns.specs.Endings.{EndingsFilled}
+use Rattle.columns.specs.Endings as columns
+use Rattle.columns.specs.Laws.Endings.{EndingCell, endings-four-pre, ending-sum}
+use Rattle.insertions.specs.Laws.Ranked.{ranked-high, ranked-low}
+use Rattle.insertions.proofs.Steps.{marks-are}
 use Rattle.tables.specs.Endings.{endingCosts}
-use Rattle.tables.specs.JointNumbers.{endingFrom, jointEnded}
-use Rattle.tables.specs.declared.JointEnding.{JointEnding}
+use Rattle.tables.specs.JointNumbers.{endingNumber, endingFrom}
 use Rattle.tables.specs.Laws.Endings.{ending-edge}
 use Rattle.product.specs.Setting.{placeOf, Setting}
-use Rattle.product.specs.Laws.Setting.{machines-sound}
+use Rattle.product.specs.Laws.Setting.{machines-sound, few-nodes}
 use Rattle.product.specs.Laws.Entering.{no-ending-tried, ending-tried, endings-begun, endings-entered}
 use Rattle.tables.specs.Engine.{engineGraph}
 use Rattle.cull.specs.Stages.{stage-no-ending}
-use Rattle.cull.specs.StageLabels.{stageLabel}
-use Rattle.cull.specs.Engine.{Looked}
+use Rattle.cull.specs.StageLabels.{countOf, stageLabel}
+use Rattle.cull.specs.Entering.{marksBy, codesAt, laneEnding, EndingTried, not-final, dropped-ending, lowered-ending, endSum, InOrder, EndingsPre}
+use Rattle.cull.specs.declared.Site.{Site}
 use Rattle.cull.specs.Relaxing.{noCounts, LeftTold, Lowered}
-use Rattle.cull.specs.Culling.{pairsCounted, stageGraph, Culled, EndsTried}
+use Rattle.cull.specs.Culling.{pairsCounted, stageGraph, Culled, EndPre, EndsTried, CodesEnded}
 use Rattle.cull.proofs.Linking.{ending-kept, ending-dropped}
-use Rattle.cull.proofs.Positions.{culled-kept, stage-over}
+use Rattle.cull.proofs.Positions.{culled-kept, stage-over, position-there}
+use Rattle.cull.proofs.Unused.{each-length}
+use Rattle.cull.proofs.Lanes.{CodePlaces}
 
 pub ends-first : {card ranking sets xs : List ℕ} {k u : ℕ} → EndsTried card ranking sets xs xs k u (u + 0)
 ends-first {u = u} = let q : u + 0 ≡ u = omega arith in rw q (record { size = refl; counts = λ i w h. refl; enters = λ f C K E. E })
@@ -41,10 +70,6 @@ ends-trans a b = record {
 
 pub ends-whole : {card ranking sets xs ys : List ℕ} {k u c n : ℕ} → EndsTried card ranking sets xs ys k u (u + c) → c ≤ n → n ≤ c → EndsTried card ranking sets xs ys k u (u + n)
 ends-whole {c = c} {n = n} T a b = let q : n ≡ c = omega arith in rw q T
-
--- what the joint ending says, by the ranking
-pub ended-at : {card ranking rs cs ps : List ℕ} → Looked card ranking rs cs ps → (z : ℕ) (r : JointEnding) → jointEnded r ≡ endingFrom ps (machinesOf card) z → endingFrom (sixPlaces ranking) (machinesOf card) z ≡ jointEnded r
-ended-at L z r e = sym (rw (L .places) at e)
 
 module _ {card sets : List ℕ} {P : ℕ} (s : Setting card sets P) (ranking : List ℕ) where
   abbrev G : Graph (rankedCosts 6) pairs
@@ -82,3 +107,154 @@ module _ {card sets : List ℕ} {P : ℕ} (s : Setting card sets P) (ranking : L
   pub ends-entered : {k : ℕ} {xs ys : List ℕ} (f : ℕ → ℕ → Option ℕ) → Culled card ranking sets f xs k → Done (stageGraph card ranking sets f k) (placeOf card) (stageLabel xs k) (suc (length sets))
       → EndsTried card ranking sets xs ys k (length sets * P) (length sets * P + P) → Entered (stageGraph card ranking sets f k) (placeOf card) (stageLabel ys k) (length sets)
   ends-entered {k} {xs} f C d T = endings-entered s (stage-over s ranking f k C) d (T .enters f C (stageLabel xs k) (endings-begun s (stage-over s ranking f k C) d))
+
+-- ---- by two numbers
+
+pub ending-none : (h l : ℕ) → nowhere ≤ h → laneEnding h l ≡ none
+unfolding laneEnding
+ending-none h l k = rw (le-ltb h nowhere k)
+
+pub ending-some : (h l : ℕ) → h < nowhere → laneEnding h l ≡ some (marksBy h l)
+unfolding laneEnding
+ending-some h l k = rw (lt-ltb h nowhere k)
+
+-- one node was tried
+pub ends-one : {card ranking sets : List ℕ} {P k : ℕ} {xs ys : List ℕ} {o : Option ℕ} (s : Setting card sets P) (z : ℕ) → z < P → o ≡ endingFrom (sixPlaces ranking) (machinesOf card) z → EndingTried xs ys o (length sets * P + z) k
+    → EndsTried card ranking sets xs ys k (length sets * P + z) (length sets * P + (z + 1))
+ends-one {card} {ranking} {sets} {P} {k} {xs} s z h q (not-final e r) = subst (λ (zs : List ℕ). EndsTried card ranking sets xs zs k (length sets * P + z) (length sets * P + (z + 1))) (sym r) (ending-nothing s ranking z h (sym q ∙ e))
+ends-one {card} {ranking} {sets} {P} {k} {xs} s z h q (dropped-ending m e b t f r) = subst (λ (zs : List ℕ). EndsTried card ranking sets xs zs k (length sets * P + z) (length sets * P + (z + 1))) (sym r) (ending-gone s ranking z h m (sym q ∙ e) t f)
+ends-one {card} {ranking} {sets} {P} {k} {xs} s z h q (lowered-ending m e r t f a g b L) = ending-lowered s ranking z h m (sym q ∙ e) t f g L
+
+tried-facts : {xs ys : List ℕ} {o : Option ℕ} {u k : ℕ} → EndingTried xs ys o u k → (length ys ≡ length xs) × ((i w : ℕ) → i < k → countOf ys i w ≡ countOf xs i w)
+tried-facts {k = k} (not-final e r) = (ap length r, λ i w h. ap (λ (zs : List ℕ). countOf zs i w) r)
+tried-facts {k = k} (dropped-ending m e b t f r) = (ap length r, λ i w h. ap (λ (zs : List ℕ). countOf zs i w) r)
+tried-facts (lowered-ending m e r t f a g b L) = (L .size, L .counts)
+
+pub ended-start : {xs high low : List ℕ} {front back k b : ℕ} → CodesEnded xs xs high low front back k b 0
+ended-start = record { size = refl; counts = λ i w h. refl; ends = λ card ranking sets P s q h f. ends-first }
+
+pub ended-next : {xs ys zs high low : List ℕ} {front back k b n : ℕ} → CodesEnded xs ys high low front back k b n → EndingTried ys zs (laneEnding (endSum high front back n) (endSum low front back n)) (b + n) k → CodesEnded xs zs high low front back k b (n + 1)
+ended-next {xs} {ys} {zs} {high} {low} {front} {back} {k} {b} {n} C T = record {
+  size = tried-facts T .0 ∙ C .size;
+  counts = λ i w h. tried-facts T .1 i w h ∙ C .counts i w h;
+  ends = λ card ranking sets P s q h f.
+      ends-trans (C .ends card ranking sets P s q (omega arith) (λ c l. f c (omega arith)))
+      (ends-one s n (omega arith) (f n (omega arith)) (subst (λ (u : ℕ). EndingTried ys zs (laneEnding (endSum high front back n) (endSum low front back n)) (u + n) k) q T));
+}
+
+pub ended-end : {xs ys high low : List ℕ} {front back k b i n : ℕ} → CodesEnded xs ys high low front back k b i → i ≡ n → CodesEnded xs ys high low front back k b n
+ended-end {xs} {ys} {high} {low} {front} {back} {k} {b} C q = subst (λ (j : ℕ). CodesEnded xs ys high low front back k b j) q C
+
+-- ---- the numbers of a joint ending
+
+module _ {S : ℕ} {ms : List Machine} {ranking ws : List ℕ} (M : CardMachines S ms) (O : InOrder ranking ws) where
+  lane-ending : (c : ℕ) {h l : ℕ} → EndingCell ws (codeEnding ms c) h l → laneEnding h l ≡ endingFrom (sixPlaces ranking) ms c
+  lane-ending c {h} {l} J = go (codeEnding ms c) refl
+    where
+      go : (o : Option (List ℕ)) → codeEnding ms c ≡ o → laneEnding h l ≡ endingNumber (sixPlaces ranking) (codeEnding ms c)
+      go none e = ending-none h l (J .nothing e) ∙ ap (endingNumber (sixPlaces ranking)) (sym e)
+      go (some v) e =
+          let m : ℕ → ℕ = (λ i. getD v (getD (sixPlaces ranking) i 0) 0) in
+          let few : (i : ℕ) → m i ≤ 15 = (λ i. ending-marks-bound (M .sound) (statesOf (stateCounts ms) c) v e (getD (sixPlaces ranking) i 0)) in
+          let size : length v ≤ 6 = omega (arith, each-length endingOf ms (statesOf (stateCounts ms) c) v e, M .machines) in
+          let high : h ≡ 0 + (m 0 * 1099511627776 + (m 1 * 16777216 + m 2 * 256)) = omega (arith, J .high v e, ranked-high (O .ranked) (O .six .size) v size) in
+          let low = J .low v e ∙ ranked-low (O .ranked) (O .six .size) v size in
+          let number : markNumber (sixPlaces ranking) v ≡ m 0 * 1048576 + (m 1 * 65536 + (m 2 * 4096 + (m 3 * 256 + (m 4 * 16 + m 5)))) = six-number (sixPlaces ranking) v (O .six .size) in
+          let b = marks-are 0 (m 0) (m 1) (m 2) (m 3) (m 4) (m 5) h l (few 0) (few 1) (few 2) (few 3) (few 4) (few 5) (omega arith) high low ∙ sym number in
+          ending-some h l (J .there v e) ∙ ap some b ∙ ap (endingNumber (sixPlaces ranking)) (sym e)
+
+-- ---- the endings as a column
+
+first-sum : (table : List ℕ) (front back c : ℕ) → sumAt table front (c / back) (c % back) 0 ≡ endSum table front back c
+first-sum table front back c =
+    let p : c / back * 4 + 0 ≡ c / back * 4 = omega arith in
+    let q : (front + c % back) * 4 + 0 ≡ (front + c % back) * 4 = omega arith in
+    λ i. getD table (p i) 0 + getD table (q i) 0
+
+pub column-small : Small (replicate 2600 65535)
+column-small i = at (decLt i 2600)
+  where
+    at : Dec (i < 2600) → getD (replicate {A = ℕ} 2600 65535) i 0 ≤ 65535
+    at (yes h) = omega (arith, getD-replicate {A = ℕ} 2600 i 65535 0 h)
+    at (no h) = omega (arith, List·getD-eq-default (replicate {A = ℕ} 2600 65535) 0 {n = i} (omega (arith, length-replicate {A = ℕ} 2600 65535)))
+
+pub ending-places : {xs high low : List ℕ} {at : Site} → EndingsPre xs high low at → (code : ℕ) → code < codesAt at → CodePlaces code (at .groups .front) (at .groups .back)
+ending-places Q code h = record { front-is = div-lt-iff-lt-mul (Q .some-back) .1 h; back-is = mod-lt code (Q .some-back) }
+
+module _ {card ranking sets counts ws xs high low : List ℕ} {g : Groups} {P k : ℕ} (Q : EndPre card ranking sets counts ws xs high low g P k) where
+  M : CardMachines (symbolCount card) (machinesOf card)
+  M = card-machines card (Q .setting .accepted)
+
+  Z : WeightsOf (stateCounts (machinesOf card)) ws
+  Z = subst (λ (l : List ℕ). WeightsOf l ws) (Q .counts-are) (Q .weights)
+
+  N : GroupsOf (stateCounts (machinesOf card)) g
+  N = subst (λ (l : List ℕ). GroupsOf l g) (Q .counts-are) (Q .groups)
+
+  codes-are : g .front * g .back ≡ product (stateCounts (machinesOf card))
+  codes-are = all-codes N
+
+  some-back : 0 < g .back
+  some-back = positive (g .back) refl
+    where
+      some-codes : 0 < g .front * g .back
+      some-codes = rw codes-are (product-positive (stateCounts (machinesOf card)) (counts-positive (M .sound)))
+
+      positive : (n : ℕ) → g .back ≡ n → 0 < g .back
+      positive zero e = let z : g .front * g .back ≡ 0 = ap (λ (k : ℕ). g .front * k) e ∙ omega arith in absurd (omega (arith, z, some-codes))
+      positive (suc n) e = omega arith
+
+  pub fill-ready : {steps : List ℕ} → places counts ≤ length steps → columns.EndingsPre card counts steps
+  fill-ready h = record { accepted = Q .setting .accepted; counts-are = Q .counts-are; room = h }
+
+  module _ {steps ys : List ℕ} {W : ℕ} (small : Small steps) (E : EndingsFilled (machinesOf card) steps ys) (w : W ≡ places counts) (room : 65 * W ≤ length ys) where
+    pub join-ready : {high′ low′ : List ℕ} → length high′ ≡ 264 → length low′ ≡ 264 → FourPre ys (0 ∷ 64 ∷ 64 ∷ 64 ∷ []) counts ws high′ low′ W g
+    join-ready {high′} {low′} eh el =
+        subst (λ (l : List ℕ). FourPre ys (0 ∷ 64 ∷ 64 ∷ 64 ∷ []) l ws high′ low′ W g) (sym (Q .counts-are))
+        (endings-four-pre M E Z N (0 ∷ 64 ∷ 64 ∷ 64 ∷ []) high′ low′ small (w ∙ ap places (Q .counts-are)) room (Q .few) outputs eh el)
+      where
+        outputs : (j : ℕ) → getD (0 ∷ 64 ∷ 64 ∷ 64 ∷ []) j 0 ≤ 64
+        outputs zero = omega arith
+        outputs (suc zero) = omega arith
+        outputs (suc (suc zero)) = omega arith
+        outputs (suc (suc (suc zero))) = omega arith
+        outputs (suc (suc (suc (suc j)))) = omega arith
+
+    module _ {high′ low′ : List ℕ} (eh : length high′ ≡ 264) (el : length low′ ≡ 264) (J : FourJoined ys (0 ∷ 64 ∷ 64 ∷ 64 ∷ []) counts ws high′ low′ W g) where
+      cell-at : (c : ℕ) → c < g .front * g .back → EndingCell ws (codeEnding (machinesOf card) c) (laneSum high′ g c 0) (laneSum low′ g c 0)
+      cell-at c h =
+          let a : c / g .back < g .front = div-lt-iff-lt-mul some-back .1 h in
+          let e : c / g .back * g .back + c % g .back ≡ c = div-add-mod' c (g .back) in
+          let z = ending-sum M E Z N (subst (λ (l : List ℕ). FourJoined ys (0 ∷ 64 ∷ 64 ∷ 64 ∷ []) l ws high′ low′ W g) (Q .counts-are) J) (c / g .back) (c % g .back) 0 a (mod-lt c some-back) (omega arith) refl in
+          rw e at z
+
+      pub endings-ready : EndingsPre xs high′ low′ (record { groups = g; base = length sets * P; stage = k })
+      endings-ready =
+          let t = position-there (Q .setting) (length sets) (omega arith) in
+          let p : length sets * P + g .front * g .back ≡ length sets * P + P = ap (λ (n : ℕ). length sets * P + n) (sym (Q .codes)) in
+          record {
+            nodes = omega (arith, Q .room, t, p);
+            few-nodes = omega (arith, t, p, few-nodes (Q .setting));
+            stage = Q .stage;
+            few = omega (arith, codes-are, M .joint-states);
+            small = Q .few;
+            some-back = some-back;
+            high-room = omega (arith, eh, Q .few);
+            low-room = omega (arith, el, Q .few);
+            high-sums = λ c h. omega (arith, first-sum high′ (g .front) (g .back) c, J .highs (c / g .back) (c % g .back) 0 (div-lt-iff-lt-mul some-back .1 h) (mod-lt c some-back) (omega arith), mul-le-mul-right nowhere (R .machines), highs (c / g .back * g .back + c % g .back));
+            low-sums = λ c h. omega (arith, first-sum low′ (g .front) (g .back) c, J .lows (c / g .back) (c % g .back) 0 (div-lt-iff-lt-mul some-back .1 h) (mod-lt c some-back) (omega arith), mul-le-mul-right nowhere (R .machines), lows (c / g .back * g .back + c % g .back));
+          }
+        where
+          R : FourPre ys (0 ∷ 64 ∷ 64 ∷ 64 ∷ []) counts ws high′ low′ W g
+          R = join-ready eh el
+
+          highs : (n : ℕ) → cellSum (highAt ys ws W 0) 0 0 counts n ≤ length counts * nowhere
+          highs n = sum-small nowhere (highAt ys ws W 0) (λ m p. high-small _ _ _ (R .columns .small _) (R .weights m .scale-few) (R .weights m .high-few)) 0 0 counts n
+
+          lows : (n : ℕ) → cellSum (lowAt ys ws W 0) 0 0 counts n ≤ length counts * nowhere
+          lows n = sum-small nowhere (lowAt ys ws W 0) (λ m p. low-small _ _ (R .weights m .low-few)) 0 0 counts n
+
+      pub endings-tried : {zs : List ℕ} → CodesEnded xs zs high′ low′ (g .front) (g .back) k (length sets * P) (g .front * g .back) → EndsTried card ranking sets xs zs k (length sets * P) (length sets * P + P)
+      endings-tried {zs} C =
+          subst (λ (n : ℕ). EndsTried card ranking sets xs zs k (length sets * P) (length sets * P + n)) (sym (Q .codes))
+          (C .ends card ranking sets P (Q .setting) refl (omega (arith, Q .codes)) (λ c h. (λ j. laneEnding (sym (first-sum high′ (g .front) (g .back) c) j) (sym (first-sum low′ (g .front) (g .back) c) j)) ∙ lane-ending M (Q .order) c (cell-at c h)))

@@ -1,12 +1,15 @@
+pub mod Columns
 pub mod Marks
 pub mod Totals
 pub mod StageWork
 pub mod Relaxing
-pub mod Runs
+pub mod Unused
+pub mod Lanes
+pub mod Spreading
 pub mod Linking
 pub mod Edges
-pub mod JointSteps
 pub mod Positions
 pub mod NextStage
 pub mod Ending
+pub mod Listing
 pub mod Culling

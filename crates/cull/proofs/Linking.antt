@@ -1,6 +1,6 @@
 -- The arcs and the endings that the tests on the counts keep are those of the stage's graph.
-use mathlib.Core.Path.{_≡_, refl, sym, _∙_, ap}
-use mathlib.Core.Bool.{false}
+use mathlib.Core.Path.{_≡_, refl, sym, _∙_, ap, subst}
+use mathlib.Core.Bool.{true, false}
 use mathlib.Core.Option.{Option, none, some, map-eq-some-iff}
 use mathlib.Core.List.{List, [], _∷_}
 use Prim.Native.Nat.{ℕ, zero, suc, _+_, _<_}
@@ -16,7 +16,7 @@ use Rattle.product.specs.ProductGraph.{pairs}
 use Rattle.tables.specs.Endings.{withoutPairs, endingCost}
 use Rattle.tables.specs.Laws.Edges.{edgeFrom}
 use Rattle.cull.specs.Below.{Below}
-use Rattle.cull.specs.Cull.{exact, exact-is, left, FewestBelow, survivors, way-left}
+use Rattle.cull.specs.Cull.{exact, exact-is, keepsEdge, left, FewestBelow, survivors, way-left}
 use Rattle.cull.specs.Left.{left-edge, left-ending}
 use Rattle.cull.specs.OneConstraint.{price, pricedEdge, seen-run}
 use Rattle.cull.specs.Stages.{left-sized, stage, stage-edge, stage-edge-gone, stage-no-edge, stage-ending, stage-ending-gone}
@@ -82,6 +82,19 @@ module _ (G : Graph (rankedCosts 6) pairs) (Z : Sized G (letterCount 6)) (fewest
           let z : g .0 ≡ e = cc (g .1, arc) in
           g .2 ∙ ap (λ (y : Edge (Ranked 6)). y .target) z
 
+      -- an edge of what is left is the arc, and the counts tell that it was kept
+      pub edge-kept : (f : Edge (Ranked 1)) → S .edge u p ≡ some f → (f ≡ record { target = t + to; cost = (countAt 6 k (marksCost m), 1) }) × Below (Makes xs u m (countsOf xs (t + to))) k
+      edge-kept f h =
+          let g = map-eq-some-iff (pricedEdge 6 k) (left G (countAt 6) fewest k .edge u p) .0 h in
+          let a = left-edge G (countAt 6) fewest k u p (g .0) .0 (g .1) in
+          let z : g .0 ≡ e = cc (a .0, arc) in (
+            sym (g .2) ∙ ap (pricedEdge 6 k) z ∙ (λ j. record { target = t + to; cost = (countAt 6 k (marksCost m), nibbles-letters 6 m j) }),
+            λ i l.
+                let b : keepsEdge (countAt 6 i) (fewest i) u e ≡ true = subst (λ (y : Edge (Ranked 6)). keepsEdge (countAt 6 i) (fewest i) u y ≡ true) z (a .1 i l) in
+                let x = exact-is (fewest i u) (countAt 6 i (marksCost m)) (fewest i (t + to)) .0 b in
+                omega (arith, told i u (countAt 6 i (marksCost m) + x .rest) l (x .is), told i (t + to) (x .rest) l (x .rest-is)),
+          )
+
       module _ (ps : List Pair) (d : Ranked 1) (w : pathCost S (t + to) ps ≡ some d) where
         there : (i : ℕ) → i < k → fewest i (t + to) ≡ some (countOf xs i (t + to))
         there = let c = whole-way (t + to) ps d w in has-count (t + to) ps (c .0) (c .1)
@@ -89,7 +102,7 @@ module _ (G : Graph (rankedCosts 6) pairs) (Z : Sized G (letterCount 6)) (fewest
         here : (i : ℕ) → i < k → fewest i u ≡ some (countOf xs i u)
         here = let c = whole-way (t + to) ps d w in has-count u (p ∷ ps) _ (run→cost G (Run.step e (c .0) arc (cost→run G (t + to) ps (c .0) (c .1)) refl))
 
-        kept : Below (Makes xs u m (countsOf xs (t + to))) k → S .edge u p ≡ some (record { target = t + to; cost = (countAt 6 k (marksCost m), 1) })
+        pub kept : Below (Makes xs u m (countsOf xs (t + to))) k → S .edge u p ≡ some (record { target = t + to; cost = (countAt 6 k (marksCost m), 1) })
         kept f =
             stage-edge 6 G Z fewest k u p e arc (λ i l. exact-is (fewest i u) (countAt 6 i (marksCost m)) (fewest i (t + to)) .1 (record { rest = countOf xs i (t + to); rest-is = there i l; is = here i l ∙ ap some (f i l) }))
             ∙ (λ j. some (record { target = t + to; cost = (countAt 6 k (marksCost m), nibbles-letters 6 m j) }))

@@ -2,7 +2,7 @@
 use mathlib.Core.Path.{_≡_, refl, sym, _∙_, ap, subst}
 use mathlib.Core.Option.{Option, none, some, Option·none-ne-some, Option·map}
 use mathlib.Core.List.{List}
-use Prim.Native.Nat.{ℕ, zero, suc, _+_, _*_, _≤_, _<_}
+use Prim.Native.Nat.{ℕ, zero, suc, _+_, _*_, _<_}
 use native.Mathlib.Omega.{arith}
 use native.Mathlib.Decide.{ℕ-discrete}
 use lib.ListN.{getD}
@@ -14,8 +14,8 @@ use Rattle.paths.specs.Labels.{Closed, Attained, run-lower-bound, held→run}
 use Rattle.labels.specs.Work.{stateOf, costAt, labelOf}
 use Rattle.labels.proofs.Work.{labelled, unlabelled}
 use Rattle.product.specs.ProductGraph.{pairs}
-use Rattle.cull.specs.Cull.{Fewest, left, FewestBelow, places, survivors, way-left}
-use Rattle.cull.specs.Left.{left-same}
+use Rattle.cull.specs.Cull.{left, FewestBelow, places, survivors, way-left}
+use Rattle.cull.specs.Left.{left-same, fewest-same}
 use Rattle.cull.specs.OneConstraint.{price, stageMarks, LeastPrices, labels-least, run-seen}
 use Rattle.cull.specs.Stages.{left-sized, stage}
 use Rattle.cull.specs.CullLabels.{PutTogether, cull-closed, cull-attained}
@@ -64,16 +64,11 @@ module _ (G : Graph (rankedCosts 6) pairs) (Z : Sized G (letterCount 6)) (fewest
   same-fewest : (i : ℕ) → i < k → fewest i ≡ fewestIn xs i
   same-fewest i l = λ j u. slice-tells i l u (ℕ-discrete (stateOf xs u) 0) j
 
-  same-left : (i : ℕ) → i ≤ k → left G (countAt 6) fewest i ≡ left G (countAt 6) (fewestIn xs) i
-  same-left i h = left-same G (countAt 6) fewest (fewestIn xs) i (λ j l. same-fewest j (omega arith))
-
   pub fewest-told : FewestBelow G (countAt 6) (fewestIn xs) k
-  fewest-told i l =
-      subst (λ (f : ℕ → Option ℕ). Fewest (left G (countAt 6) (fewestIn xs) i) (countAt 6 i) f) (same-fewest i l)
-      (subst (λ (B : Graph (rankedCosts 6) pairs). Fewest B (countAt 6 i) (fewest i)) (same-left i (omega arith)) (F i l))
+  fewest-told = fewest-same G (countAt 6) fewest (fewestIn xs) k same-fewest F
 
   pub least-told : LeastPrices 6 k (left G (countAt 6) (fewestIn xs) k) (stageLabel xs k)
-  least-told = subst (λ (B : Graph (rankedCosts 6) pairs). LeastPrices 6 k B (stageLabel xs k)) (same-left k (omega arith)) (labels-least 6 k H (left-sized 6 G Z fewest k) C A)
+  least-told = subst (λ (B : Graph (rankedCosts 6) pairs). LeastPrices 6 k B (stageLabel xs k)) (left-same G (countAt 6) fewest (fewestIn xs) k same-fewest) (labels-least 6 k H (left-sized 6 G Z fewest k) C A)
 
 -- ---- after the last stage
 

@@ -1,31 +1,31 @@
 -- A position in a stage: its symbol's arcs are tried, its insertions until nothing changes, and it is done.
-use mathlib.Core.Path.{_≡_, refl, sym, _∙_, ap}
+use mathlib.Core.Path.{_≡_, refl, sym, _∙_, ap, subst, subst₂}
 use mathlib.Core.Logic.{_⊎_, inl, inr, _≢_}
 use mathlib.Core.Bool.{Bool, true, false, not, _&&_}
-use mathlib.Core.Option.{Option, some}
+use mathlib.Core.Option.{Option, none, some, Option·none-ne-some}
 use mathlib.Core.List.{List}
-use Prim.Native.Nat.{ℕ, zero, suc, _+_, _*_, _≤_, _<_}
+use Prim.Native.Nat.{ℕ, zero, suc, _+_, _-_, _*_, _≤_, _<_}
 use native.Mathlib.Nat.{mul-le-mul-right, suc-mul}
 use native.Mathlib.Omega.{arith}
-use native.Mathlib.Decide.{decLt}
+use native.Mathlib.Decide.{ℕ-discrete, decLt}
 use lib.Dec.{eqb}
 use lib.ListN.{length, getD}
 use borrow.Author.Tests.{eqb-true, ne-eqb}
 use Rattle.machine.specs.declared.Pair.{Pair}
-use Rattle.card.specs.Layout.{symbolCount}
 use Rattle.card.specs.Card.{machinesOf}
 use Rattle.paths.specs.Costs.{Labels, AtMost}
 use Rattle.paths.specs.Ranked.{Ranked, add, Less, letterCount, countAt, rankedCosts}
 use Rattle.paths.specs.RankedGraph.{ranked-counts}
-use Rattle.paths.specs.Graph.{Edge, Graph, Within}
+use Rattle.paths.specs.Graph.{Edge, Graph, Within, pathCost}
 use Rattle.paths.specs.Labels.{Attained}
 use Rattle.paths.specs.Bounds.{attained-size, attained-count-size}
 use Rattle.paths.specs.Settling.{Settling}
 use Rattle.paths.specs.Positions.{Done, Entering, Entered, position-done}
-use Rattle.product.specs.ProductGraph.{pairs}
-use Rattle.tables.specs.Places.{sixPlaces}
-use Rattle.tables.specs.JointNumbers.{jointFrom}
-use Rattle.tables.specs.JointTable.{HoldsJoint}
+use Rattle.labels.specs.Marks.{marksCost}
+use Rattle.product.specs.ProductGraph.{pairs, Move}
+use Rattle.product.specs.Codes.{codeStep}
+use Rattle.tables.specs.Places.{sixPlaces, markNumber}
+use Rattle.tables.specs.JointNumbers.{numbered, jointFrom}
 use Rattle.basics.specs.Sets.{member}
 use Rattle.basics.proofs.Bools.{clash}
 use Rattle.machine.proofs.SetLoops.{with-true}
@@ -37,13 +37,19 @@ use Rattle.product.specs.Laws.Letters.{LetterAt, OverSets, letter-at, over-posi
 use Rattle.product.specs.Laws.Edges.{edge-counts, ending-counts}
 use Rattle.tables.specs.Engine.{engineGraph}
 use Rattle.tables.specs.Laws.Edges.{edgeFrom, insertion-edge}
-use Rattle.cull.proofs.Edges.{over, within, symbol-at, joint-below}
+use Rattle.columns.specs.Prepared.{NoSteps, Covered}
+use Rattle.settling.specs.Insertions.{codeIn, isListed}
+use Rattle.cull.proofs.Edges.{over, within, symbol-at}
+use Rattle.cull.specs.Below.{Below}
 use Rattle.cull.specs.Stages.{stage-alike-edges, stage-within, stage-sized, stage-count}
 use Rattle.cull.specs.StageLabels.{countOf, stageLabel}
-use Rattle.cull.specs.Relaxation.{Relaxes, Closes}
-use Rattle.cull.specs.Relaxing.{Fits, Linked, Among, RelaxPre, Relaxed, SettledBy}
+use Rattle.cull.specs.Relaxation.{Relaxes}
+use Rattle.cull.specs.Relaxing.{Makes, countsOf, Fits}
+use Rattle.cull.specs.Tables.{ListsOf}
+use Rattle.cull.specs.Entering.{NodesPre, InOrder, SymbolLinked, Among, InputTried}
+use Rattle.cull.specs.Settling.{Kept, wayBy, marksOf, fromOf, ArcsOf, SettlePre, SettledBy}
 use Rattle.cull.specs.Culling.{pairsCounted, stageGraph, Culled}
-use Rattle.cull.proofs.Linking.{linked-entry, whole-edge, whole-ending}
+use Rattle.cull.proofs.Linking.{linked-entry, kept as kept-edge, edge-kept, whole-edge, whole-ending}
 
 pub culled-kept : {card ranking sets : List ℕ} {fewest : ℕ → ℕ → Option ℕ} {xs ys : List ℕ} {k : ℕ} → ((i w : ℕ) → i < k → countOf ys i w ≡ countOf xs i w) → Culled card ranking sets fewest xs k → Culled card ranking sets fewest ys k
 culled-kept C K = record { below = K .below; told = λ i u m h e. C i u h ∙ K .told i u m h e }
@@ -94,69 +100,73 @@ module _ {card sets : List ℕ} {P : ℕ} (s : Setting card sets P) where
     insertion-at i z y h l n = rw (s .states) (insertion-edge ranking sets (machines-sound s) i z (omega (arith, s .states)) (record { input = 0; output = y }) h (rw (ne-eqb y 0 (omega arith))) refl)
 
     module _ (few : k < 6) {xs : List ℕ} (room : length xs ≡ (length sets + 1) * P * 8) (C : Culled card ranking sets fewest xs k) (i : ℕ) where
-      -- ---- the tables tell the edges
+      -- ---- the joint steps of a symbol are edges
 
-      symbol-linked : {js : List ℕ} (x : ℕ) → member (getD sets i 0) x ≡ true → HoldsJoint (symbolCount card) (machinesOf card) x (sixPlaces ranking) js → Linked S xs js k x (i * P) ((i + 1) * P) P 0 (symbolCount card)
-      symbol-linked x m H = record {
-        step = λ c y. jointFrom (sixPlaces ranking) (machinesOf card) c (record { input = x; output = y });
-        told = λ c y a l n. H .entry c y (omega (arith, s .states)) n;
-        within = λ c y r a l n e. joint-below s ranking c (r .0) (r .1) (record { input = x; output = y }) e;
-        entry = λ c y a l n. linked-entry G (pairsCounted card ranking sets) fewest k (C .below) xs (C .told) (i * P + c) (record { input = x; output = y }) ((i + 1) * P) (jointFrom (sixPlaces ranking) (machinesOf card) c (record { input = x; output = y })) (symbol-at s ranking i x c y m a);
-        alike = λ c y n a l z j w q. stage-alike-edges 6 G (pairsCounted card ranking sets) fewest k (i * P + c) (record { input = x; output = y }) (record { input = x; output = n }) (symbol-at s ranking i x c y m a ∙ ap (edgeFrom ((i + 1) * P)) q ∙ sym (symbol-at s ranking i x c n m a));
+      next-is : (i + 1) * P ≡ i * P + P
+      next-is = let a : (i + 1) * P ≡ suc i * P = ap (λ (n : ℕ). n * P) (omega arith) in omega (arith, a, suc-mul i P)
+
+      symbol-edge : (x z y : ℕ) → member (getD sets i 0) x ≡ true → z < P → G .edge (i * P + z) (record { input = x; output = y }) ≡ edgeFrom (i * P + P) (jointFrom (sixPlaces ranking) (machinesOf card) z (record { input = x; output = y }))
+      symbol-edge x z y m a = symbol-at s ranking i x z y m a ∙ ap (λ (t : ℕ). edgeFrom t (jointFrom (sixPlaces ranking) (machinesOf card) z (record { input = x; output = y }))) next-is
+
+      symbol-linked : (x : ℕ) → member (getD sets i 0) x ≡ true → SymbolLinked S xs card ranking k x (i * P) (i * P + P) P
+      symbol-linked x m = record {
+        entry = λ c y a. linked-entry G (pairsCounted card ranking sets) fewest k (C .below) xs (C .told) (i * P + c) (record { input = x; output = y }) (i * P + P) (jointFrom (sixPlaces ranking) (machinesOf card) c (record { input = x; output = y })) (symbol-edge x c y m a);
+        alike = λ c y n a q. stage-alike-edges 6 G (pairsCounted card ranking sets) fewest k (i * P + c) (record { input = x; output = y }) (record { input = x; output = n }) (symbol-edge x c y m a ∙ ap (edgeFrom (i * P + P)) q ∙ sym (symbol-edge x c n m a));
       }
 
-      insertion-linked : {js : List ℕ} → i ≤ length sets → HoldsJoint (symbolCount card) (machinesOf card) 0 (sixPlaces ranking) js → Linked S xs js k 0 (i * P) (i * P) P 1 (symbolCount card)
-      insertion-linked h H = record {
-        step = λ c y. jointFrom (sixPlaces ranking) (machinesOf card) c (record { input = 0; output = y });
-        told = λ c y a l n. H .entry c y (omega (arith, s .states)) n;
-        within = λ c y r a l n e. joint-below s ranking c (r .0) (r .1) (record { input = 0; output = y }) e;
-        entry = λ c y a l n. linked-entry G (pairsCounted card ranking sets) fewest k (C .below) xs (C .told) (i * P + c) (record { input = 0; output = y }) (i * P) (jointFrom (sixPlaces ranking) (machinesOf card) c (record { input = 0; output = y })) (insertion-at i c y h a l);
-        alike = λ c y n a l z j w q. stage-alike-edges 6 G (pairsCounted card ranking sets) fewest k (i * P + c) (record { input = 0; output = y }) (record { input = 0; output = n }) (insertion-at i c y h a l ∙ ap (edgeFrom (i * P)) q ∙ sym (insertion-at i c n h a j));
-      }
+      pub symbol-nodes : i < length sets → Attained S (stageLabel xs k) → NodesPre xs (i * P) P k
+      symbol-nodes h A =
+          let t = position-there (i + 1) (omega arith) in
+          let n = next-is in
+          record {
+            nodes = omega (arith, room, t, n);
+            few = omega (arith, t, n, few-nodes s);
+            stage = few;
+            fits = λ v d a b e. stage-fits (stageLabel xs k) A v d (omega (arith, b, t, n)) e;
+          }
 
-      pub symbol-ready : {js : List ℕ} (x : ℕ) → i < length sets → member (getD sets i 0) x ≡ true → HoldsJoint (symbolCount card) (machinesOf card) x (sixPlaces ranking) js → Attained S (stageLabel xs k) → RelaxPre xs js k (i * P) ((i + 1) * P) P 0 (symbolCount card)
-      symbol-ready x h m H A = record {
-        graph = S;
-        input = x;
-        linked = symbol-linked x m H;
-        attained = A;
-        fits = λ L B v d l n e. stage-fits L B v d (omega (arith, n, position-there (i + 1) (omega arith))) e;
-        nodes = omega (arith, room, position-there i (omega arith));
-        targets = omega (arith, room, position-there (i + 1) (omega arith));
-        few-nodes = omega (arith, position-there i (omega arith), few-nodes s);
-        few-targets = omega (arith, position-there (i + 1) (omega arith), few-nodes s);
-        room = rw (s .states) (H .room);
-        few = few-codes s;
-        outputs = omega (arith, symbols-few s);
-        order = omega arith;
-        stage = few;
-      }
+      -- ---- the insertions in lists are edges
 
-      pub insertion-ready : {js : List ℕ} → i ≤ length sets → HoldsJoint (symbolCount card) (machinesOf card) 0 (sixPlaces ranking) js → Attained S (stageLabel xs k) → RelaxPre xs js k (i * P) (i * P) P 1 (symbolCount card)
-      insertion-ready h H A = record {
-        graph = S;
-        input = 0;
-        linked = insertion-linked h H;
-        attained = A;
-        fits = λ L B v d l n e. stage-fits L B v d (omega (arith, n, position-there i h)) e;
-        nodes = omega (arith, room, position-there i h);
-        targets = omega (arith, room, position-there i h);
-        few-nodes = omega (arith, position-there i h, few-nodes s);
-        few-targets = omega (arith, position-there i h, few-nodes s);
-        room = rw (s .states) (H .room);
-        few = few-codes s;
-        outputs = omega (arith, symbols-few s);
-        order = omega arith;
-        stage = few;
-      }
+      module _ {entries ends : List ℕ} (here : i ≤ length sets) (N : ListsOf card ranking entries ends) where
+        insertion-arcs : ArcsOf S xs entries ends k (i * P)
+        insertion-arcs = record { edge = λ v at l ps d w f. edge v at l ps d w f }
+          where
+            edge : (v at : ℕ) → isListed ends v at ≡ true → (ps : List Pair) (d : Ranked 1) → pathCost S (i * P + v) ps ≡ some d → Kept xs k (fromOf entries (i * P) at) (i * P + v) (marksOf entries at)
+                → (p : Pair) × (S .edge (fromOf entries (i * P) at) p ≡ some (record { target = i * P + v; cost = (countAt 6 k (marksCost (marksOf entries at)), 1) }))
+            edge v at l ps d w f =
+                let e = N .listed .entry v at l in
+                let y = e .output in
+                let n : 0 < y = positive y (e .is-kept) in
+                let z = codeIn (getD entries at 0) in
+                let q : jointFrom (sixPlaces ranking) (machinesOf card) z (record { input = 0; output = y }) ≡ some (v, marksOf entries at) = ap (numbered (sixPlaces ranking)) (e .is) ∙ (λ j. some (e .target-is j, sym (e .marks-are) j)) in
+                (record { input = 0; output = y }, kept-edge G (pairsCounted card ranking sets) fewest k (C .below) xs (C .told) (i * P + z) (record { input = 0; output = y }) (i * P) (jointFrom (sixPlaces ranking) (machinesOf card) z (record { input = 0; output = y })) (insertion-at i z y here (omega (arith, N .listed .from v at l, s .states)) n) v (marksOf entries at) q ps d w f)
+              where
+                positive : (y : ℕ) → member (N .kept) y ≡ true → 0 < y
+                positive zero t = absurd (clash t (N .prepared .no-pair refl))
+                positive (suc y) t = omega arith
+
+        pub insertion-ready : Attained S (stageLabel xs k) → SettlePre xs entries ends k (i * P) P
+        insertion-ready A = record {
+          graph = S;
+          arcs = insertion-arcs;
+          attained = A;
+          fits = λ L B v d l n e. stage-fits L B v d (omega (arith, n, position-there i here)) e;
+          nodes = omega (arith, room, position-there i here);
+          few-nodes = omega (arith, position-there i here, few-nodes s);
+          few = few-codes s;
+          stage = few;
+          within = N .listed .within;
+          to = λ v at l. omega (arith, N .listed .to v at l, s .states);
+          from = λ v at l. omega (arith, N .listed .from v at l, s .states);
+        }
 
       -- ---- the arcs of a symbol were tried
 
-      pub symbol-entering : {ys js : List ℕ} {r : Bool} {K : Labels (rankedCosts 1)} (left after x : ℕ) → member (getD sets i 0) x ≡ true → HoldsJoint (symbolCount card) (machinesOf card) x (sixPlaces ranking) js
+      pub symbol-entering : {ys ws : List ℕ} {K : Labels (rankedCosts 1)} (left after x : ℕ) → member (getD sets i 0) x ≡ true → InOrder ranking ws
           → ((n : ℕ) → member after n ≡ (member left n && not (eqb n x)))
-          → Relaxed xs ys js k (i * P) ((i + 1) * P) P 0 (symbolCount card) (i * P) (i * P + P) 0 (symbolCount card + 1) r
+          → InputTried card ws xs ys x (i * P) P k
           → Entering S (placeOf card) K (stageLabel xs k) i (λ _. ⊥) (NotLeft left) → Entering S (placeOf card) K (stageLabel ys k) i (λ _. ⊥) (NotLeft after)
-      symbol-entering {ys} {K = K} left after x m H f R E = record {
+      symbol-entering {ys} {K = K} left after x m O f R E = record {
         attained = T .attained;
         others = λ w n. others w n ∙ E .others w n;
         falls = λ w c n. T .falls w c (E .falls w c n);
@@ -164,8 +174,8 @@ module _ {card sets : List ℕ} {P : ℕ} (s : Setting card sets P) where
         leaving = λ u p e c a b z h l. leaving u p e c a b z h (sym (others (e .target) b) ∙ l) (eqb (p .input) x) refl;
       }
         where
-          T : Relaxes S (stageLabel xs k) (stageLabel ys k) (Among x (i * P) (i * P + P) 0 (symbolCount card + 1))
-          T = R .relaxes S x (symbol-linked x m H) (E .attained)
+          T : Relaxes S (stageLabel xs k) (stageLabel ys k) (Among x (i * P) P)
+          T = R .relaxes ranking O S (symbol-linked x m) (E .attained)
 
           others : (w : ℕ) → placeOf card w ≢ i → stageLabel ys k w ≡ stageLabel xs k w
           others w n = R .others w (outside i w n)
@@ -174,36 +184,79 @@ module _ {card sets : List ℕ} {P : ℕ} (s : Setting card sets P) where
               → (b : Bool) → eqb (p .input) x ≡ b → AtMost (Less 1) (stageLabel ys k u) (add 1 (e .cost) c)
           leaving u p e c a b z h l true q =
               let o = letter-at (stage-over C) u p e i a h .pair .output-there in
-              T .tried u p e c (eqb-true (p .input) x q, place-low s u i a, place-high s u i a, omega arith, omega (arith, o)) h l
+              T .tried u p e c (eqb-true (p .input) x q, place-low s u i a, place-high s u i a, omega (arith, o, symbols-few s)) h l
           leaving u p e c a b z h l false q =
               let n : member left (p .input) ≡ false = sym (f (p .input) ∙ ap (λ (t : Bool). member left (p .input) && not t) q ∙ with-true (member left (p .input))) ∙ z in
               T .falls u (add 1 (e .cost) c) (E .leaving u p e c a b n h l)
 
-      -- ---- the insertions were tried until nothing changed: the position is done
+      -- ---- no insertion gives less: the position is done
 
-      pub position-settled : {ys js : List ℕ} → i ≤ length sets → HoldsJoint (symbolCount card) (machinesOf card) 0 (sixPlaces ranking) js → Entered S (placeOf card) (stageLabel xs k) i
-          → SettledBy xs ys js k (i * P) P 1 (symbolCount card) → Done S (placeOf card) (stageLabel ys k) i
-      position-settled {ys} h H E D = position-done S (placeOf card) (over-positioned (stage-over C)) (λ u. yes tt) E settling (λ w a n. absurd (n tt))
-        where
-          T : Closes S (stageLabel xs k) (stageLabel ys k) (Among 0 (i * P) (i * P + P) 1 (symbolCount card + 1))
-          T = D .closes S 0 (insertion-linked h H) (E .attained)
-
-          some-output : (p : Pair) → isPair p ≡ true → p .input ≡ 0 → 0 < p .output
-          some-output p t z = no (p .output) refl
+      module _ {ys entries ends : List ℕ} (here : i ≤ length sets) (N : ListsOf card ranking entries ends) (D : SettledBy xs ys entries ends k (i * P) P) where
+        -- the edge of an insertion: from a code, with an output
+        module _ (z y : ℕ) (h : z < P) (n : 0 < y) (small : y < 64) (f : Edge (Ranked 1)) (d : Ranked 1) (e : S .edge (i * P + z) (record { input = 0; output = y }) ≡ some f) (l : stageLabel ys k (f .target) ≡ some d) where
+          -- by a joint step
+          stepped : (w : Move) → codeStep (machinesOf card) z (record { input = 0; output = y }) ≡ some w → Covered (machinesOf card) 0 (N .kept) y → AtMost (Less 1) (stageLabel ys k (i * P + z)) (add 1 (f .cost) d)
+          stepped w q c = go (ℕ-discrete (w .target) z)
             where
-              no : (y : ℕ) → p .output ≡ y → 0 < p .output
-              no zero q = let w : isPair p ≡ false = rw (z, q) in absurd (clash t w)
-              no (suc y) q = omega arith
+              m : ℕ
+              m = markNumber (sixPlaces ranking) (w .marks)
 
-          among : (u : ℕ) (p : Pair) (f : Edge (Ranked 1)) → placeOf card u ≡ i → placeOf card (f .target) ≡ i → (l : LetterAt card sets i p (f .target)) → (p .input ≡ emptySymbol) ⊎ ((p .input ≢ emptySymbol) × (member (getD sets i 0) (p .input) ≡ true)) → Among 0 (i * P) (i * P + P) 1 (symbolCount card + 1) u p
-          among u p f a b l (inl x) = (x, place-low s u i a, place-high s u i a, some-output p (l .pair .is-pair) x, omega (arith, l .pair .output-there))
-          among u p f a b l (inr x) = absurd (omega (arith, b, l .leaves (x .0) .1))
+              its : (f ≡ record { target = i * P + w .target; cost = (countAt 6 k (marksCost m), 1) }) × Below (Makes xs (i * P + z) m (countsOf xs (i * P + w .target))) k
+              its = edge-kept G (pairsCounted card ranking sets) fewest k (C .below) xs (C .told) (i * P + z) (record { input = 0; output = y }) (i * P) (jointFrom (sixPlaces ranking) (machinesOf card) z (record { input = 0; output = y })) (insertion-at i z y here h n) (w .target) m (ap (numbered (sixPlaces ranking)) q) f e
 
-          settling : Settling S (placeOf card) i (stageLabel xs k) (stageLabel ys k) (λ _. Unit {0})
-          settling = record {
-            attained = T .attained;
-            others = λ w n. D .others w (outside i w n);
-            falls = T .falls;
-            ahead = λ u w c a b x n l. absurd (n tt);
-            relaxed = λ u p f d a b x z l. let t = letter-at (stage-over C) u p f i a z in T .closed u p f d (among u p f a b t (t .pair .input-there)) z l;
-          }
+              target-is : f .target ≡ i * P + w .target
+              target-is = ap (λ (g : Edge (Ranked 1)). g .target) (its .0)
+
+              go : Dec (w .target ≡ z) → AtMost (Less 1) (stageLabel ys k (i * P + z)) (add 1 (f .cost) d)
+              go (yes t) = record { val = d; is = ap (stageLabel ys k) (omega (arith, target-is, t)) ∙ l; upto = inl (S .positive (i * P + z) (record { input = 0; output = y }) f e d) }
+              go (no t) =
+                  let p = N .listed .all z (c .other) w (omega (arith, h, s .states)) (c .is-kept) (c .same z (omega (arith, h, s .states)) ∙ q) t in
+                  let keeps : Kept ys k (i * P + z) (i * P + w .target) m = (λ j g. omega (arith, its .1 j g, D .counts j (i * P + z) g, D .counts j (i * P + w .target) g)) in
+                  let u : fromOf entries (i * P) (p .at) ≡ i * P + z = ap (λ (a : ℕ). i * P + a) (p .from-is) in
+                  let r : AtMost (Less 1) (stageLabel ys k (fromOf entries (i * P) (p .at))) (wayBy k (marksOf entries (p .at)) d) = D .closed (w .target) (p .at) (p .listed) d (ap (stageLabel ys k) (sym target-is) ∙ l) (subst₂ (λ (a b : ℕ). Kept ys k a (i * P + w .target) b) (sym u) (sym (p .marks-are)) keeps) in
+                  let r′ : AtMost (Less 1) (stageLabel ys k (i * P + z)) (wayBy k m d) = subst₂ (λ (a b : ℕ). AtMost (Less 1) (stageLabel ys k a) (wayBy k b d)) u (p .marks-are) r in
+                  subst (λ (g : Edge (Ranked 1)). AtMost (Less 1) (stageLabel ys k (i * P + z)) (add 1 (g .cost) d)) (sym (its .0)) r′
+
+          no-edge : codeStep (machinesOf card) z (record { input = 0; output = y }) ≡ none → ⊥
+          no-edge q =
+              let g = whole-edge G (pairsCounted card ranking sets) fewest k (C .below) xs (C .told) (i * P + z) (record { input = 0; output = y }) f e in
+              Option·none-ne-some (g .0) (sym (insertion-at i z y here h n ∙ ap (λ (o : Option Move). edgeFrom (i * P) (numbered (sixPlaces ranking) o)) q) ∙ g .1)
+
+          pub insertion-closed : AtMost (Less 1) (stageLabel ys k (i * P + z)) (add 1 (f .cost) d)
+          insertion-closed = go (N .prepared .covers y small) (codeStep (machinesOf card) z (record { input = 0; output = y })) refl
+            where
+              go : (_≡_ {A = ℕ} 0 0 × (y ≡ 0)) ⊎ (NoSteps (machinesOf card) 0 y ⊎ Covered (machinesOf card) 0 (N .kept) y) → (o : Option Move) → codeStep (machinesOf card) z (record { input = 0; output = y }) ≡ o → AtMost (Less 1) (stageLabel ys k (i * P + z)) (add 1 (f .cost) d)
+              go c none q = absurd (no-edge q)
+              go (inl c) (some w) q = absurd (omega (arith, n, c .1))
+              go (inr (inl c)) (some w) q = absurd (no-edge (c z))
+              go (inr (inr c)) (some w) q = stepped w q c
+
+        pub position-settled : Entered S (placeOf card) (stageLabel xs k) i → Done S (placeOf card) (stageLabel ys k) i
+        position-settled E = position-done S (placeOf card) (over-positioned (stage-over C)) (λ u. yes tt) E settling (λ w a n. absurd (n tt))
+          where
+            some-output : (p : Pair) → isPair p ≡ true → p .input ≡ 0 → 0 < p .output
+            some-output p t z = no (p .output) refl
+              where
+                no : (y : ℕ) → p .output ≡ y → 0 < p .output
+                no zero q = let w : isPair p ≡ false = rw (z, q) in absurd (clash t w)
+                no (suc y) q = omega arith
+
+            by : (u : ℕ) (p : Pair) (f : Edge (Ranked 1)) (d : Ranked 1) → placeOf card u ≡ i → placeOf card (f .target) ≡ i → LetterAt card sets i p (f .target) → (p .input ≡ emptySymbol) ⊎ ((p .input ≢ emptySymbol) × (member (getD sets i 0) (p .input) ≡ true))
+                → S .edge u p ≡ some f → stageLabel ys k (f .target) ≡ some d → AtMost (Less 1) (stageLabel ys k u) (add 1 (f .cost) d)
+            by u p f d a b t (inr x) h l = absurd (omega (arith, b, t .leaves (x .0) .1))
+            by u p f d a b t (inl x) h l =
+                let z = u - i * P in
+                let q : i * P + z ≡ u = omega (arith, place-low s u i a) in
+                let r : _≡_ {A = Pair} p (record { input = 0; output = p .output }) = (λ j. record { input = x j; output = p .output }) in
+                let e : S .edge (i * P + z) (record { input = 0; output = p .output }) ≡ some f = (λ j. S .edge (q j) (sym r j)) ∙ h in
+                subst (λ (w : ℕ). AtMost (Less 1) (stageLabel ys k w) (add 1 (f .cost) d)) q
+                (insertion-closed z (p .output) (omega (arith, place-high s u i a, place-low s u i a)) (some-output p (t .pair .is-pair) x) (omega (arith, t .pair .output-there, symbols-few s)) f d e l)
+
+            settling : Settling S (placeOf card) i (stageLabel xs k) (stageLabel ys k) (λ _. Unit {0})
+            settling = record {
+              attained = D .attained S (insertion-arcs here N) (E .attained);
+              others = λ w n. D .others w (outside i w n);
+              falls = D .falls;
+              ahead = λ u w c a b x n l. absurd (n tt);
+              relaxed = λ u p f d a b x z l. let t = letter-at (stage-over C) u p f i a z in by u p f d a b t (t .pair .input-there) z l;
+            }

@@ -1,10 +1,10 @@
 -- The stages of the cull on a card: what holds in one, position by position, and between them.
 use mathlib.Core.Path.{_≡_}
+use mathlib.Core.Logic.{_≢_}
 use mathlib.Core.Option.{Option, some}
 use mathlib.Core.List.{List}
 use Prim.Native.Nat.{ℕ, suc, _+_, _*_, _≤_, _<_}
 use lib.ListN.{length}
-use Rattle.card.specs.Layout.{symbolCount}
 use Rattle.card.specs.Card.{machinesOf}
 use Rattle.paths.specs.Bounds.{Sized}
 use Rattle.paths.specs.Graph.{Graph}
@@ -12,18 +12,22 @@ use Rattle.paths.specs.Costs.{Labels}
 use Rattle.paths.specs.Positions.{Done, Entering, Entered}
 use Rattle.paths.specs.Ranked.{letterCount, countAt, rankedCosts}
 use Rattle.labels.specs.Work.{stateOf}
+use Rattle.product.specs.Nodes.{stateCounts}
 use Rattle.product.specs.ProductGraph.{pairs}
 use Rattle.product.specs.Laws.Edges.{product-sized}
-use Rattle.tables.specs.JointTable.{HoldsJoint}
 use Rattle.tables.specs.Places.{sixPlaces}
 use Rattle.product.specs.Setting.{placeOf, Setting}
 use Rattle.tables.specs.Engine.{engineGraph}
-use Rattle.cull.specs.Engine.{Looked, Lent}
+use Rattle.tables.specs.JointNumbers.{endingFrom}
+use Rattle.cells.specs.declared.Groups.{Groups}
+use Rattle.cells.specs.Columns.{WeightsOf}
+use Rattle.cells.specs.Groups.{GroupsOf}
+use Rattle.cull.specs.Tables.{ListPre, ListsOf}
+use Rattle.cull.specs.Entering.{InOrder, laneEnding, endSum}
 use Rattle.cull.specs.Cull.{left, FewestBelow}
 use Rattle.cull.specs.OneConstraint.{LeastPrices}
 use Rattle.cull.specs.Stages.{stage}
-use Rattle.cull.specs.StageLabels.{countOf, stageLabel, fewestIn}
-use Rattle.cull.specs.Relaxing.{Runs}
+use Rattle.cull.specs.StageLabels.{countOf, pairCountOf, stageLabel, fewestIn}
 
 abbrev pub pairsCounted : (card ranking sets : List ℕ) → Sized (engineGraph (machinesOf card) ranking sets) (letterCount 6)
 pairsCounted card ranking sets = product-sized (sixPlaces ranking) sets (machinesOf card)
@@ -47,18 +51,18 @@ pub record StageAt (card ranking sets xs : List ℕ) (k i : ℕ) : Type 0 where
   pub culled : Culled card ranking sets fewest xs k
   pub done : Done (stageGraph card ranking sets fewest k) (placeOf card) (stageLabel xs k) i
 
--- what a stage is given: an accepted card, a ranking and sets, tables to look up, and the joint steps of the insertions with their runs
-pub record CullPre (card ranking sets rs cs ps ins es xs : List ℕ) (P k : ℕ) : Type 0 where
+-- what a stage is given: an accepted card, a ranking and sets, tables to look up, and the insertions in lists
+pub record CullPre (card ranking sets cs entries ends xs : List ℕ) (P k : ℕ) : Type 0 where
   pub setting : Setting card sets P
-  pub looked : Looked card ranking rs cs ps
-  pub insertions : HoldsJoint (symbolCount card) (machinesOf card) 0 (sixPlaces ranking) ins
-  pub runs : Runs ins es P (symbolCount card)
+  pub counts-are : cs ≡ stateCounts (machinesOf card)
+  pub lists : ListsOf card ranking entries ends
   pub room : length xs ≡ (length sets + 1) * P * 8
+  pub ranked : length ranking ≡ length cs
   pub stage : k < 6
 
 -- the position i, past which the positions are done
-pub record PositionPre (card ranking sets rs cs ps ins es xs : List ℕ) (P i k : ℕ) : Type 0 where
-  pub given : CullPre card ranking sets rs cs ps ins es xs P k
+pub record PositionPre (card ranking sets cs entries ends xs : List ℕ) (P i k : ℕ) : Type 0 where
+  pub given : CullPre card ranking sets cs entries ends xs P k
   pub within : i ≤ length sets
   pub later : StageAt card ranking sets xs k (suc i)
 
@@ -73,21 +77,31 @@ pub record PositionEntered (card ranking sets xs ys : List ℕ) (i k : ℕ) : Ty
   pub culled : Culled card ranking sets fewest ys k
   pub entered : Entered (stageGraph card ranking sets fewest k) (placeOf card) (stageLabel ys k) i
 
--- what a position is lent: room for the joint steps of a symbol, and for their runs
-pub record LentTables (stretch joint es : List ℕ) (P : ℕ) : Type 0 where
-  pub steps : Lent stretch joint P
-  pub runs : P * 64 ≤ length es
+-- what a position is lent: the tables of the machines, with their weights in the order of the ranking; room for columns and for four joint steps
+pub record LentTables (card ranking counts ws steps high low : List ℕ) (g : Groups) (P : ℕ) : Type 0 where
+  pub tables : ListPre card counts ws steps g
+  pub order : InOrder ranking ws
+  pub codes : P ≡ g .front * g .back
+  pub high-size : length high ≡ 264
+  pub low-size : length low ≡ 264
 
 -- what trying the endings of the last position needs
-pub record EndPre (card ranking sets rs cs ps xs : List ℕ) (P k : ℕ) : Type 0 where
+pub record EndPre (card ranking sets counts ws xs high low : List ℕ) (g : Groups) (P k : ℕ) : Type 0 where
   pub setting : Setting card sets P
-  pub looked : Looked card ranking rs cs ps
+  pub counts-are : counts ≡ stateCounts (machinesOf card)
+  pub weights : WeightsOf counts ws
+  pub groups : GroupsOf counts g
+  pub few : g .front + g .back ≤ 66
+  pub order : InOrder ranking ws
+  pub codes : P ≡ g .front * g .back
   pub room : length xs ≡ (length sets + 1) * P * 8
   pub stage : k < 6
+  pub high-size : length high ≡ 264
+  pub low-size : length low ≡ 264
 
 -- before the stage k: the counts below k are the fewest marks of the stages below k
-pub record StagePre (card ranking sets rs cs ps ins es xs : List ℕ) (P k : ℕ) : Type 0 where
-  pub given : CullPre card ranking sets rs cs ps ins es xs P k
+pub record StagePre (card ranking sets cs entries ends xs : List ℕ) (P k : ℕ) : Type 0 where
+  pub given : CullPre card ranking sets cs entries ends xs P k
   pub before : FewestBelow (engineGraph (machinesOf card) ranking sets) (countAt 6) (fewestIn xs) k
 
 -- after the stage k: they still are, and the labels are the least in what those stages left
@@ -102,6 +116,14 @@ pub record Blanked (xs ys : List ℕ) (n : ℕ) : Type 0 where
   pub states : (u : ℕ) → u < n → stateOf ys u ≡ 0
   pub counts : (i w : ℕ) → i < 6 → countOf ys i w ≡ countOf xs i w
 
+-- ys is xs with no marks of the constraint k at the first n nodes
+pub record PlaceCleared (xs ys : List ℕ) (n k : ℕ) : Type 0 where
+  pub size : length ys ≡ length xs
+  pub states : (w : ℕ) → stateOf ys w ≡ stateOf xs w
+  pub pair-counts : (w : ℕ) → pairCountOf ys w ≡ pairCountOf xs w
+  pub counts : (i w : ℕ) → i < k → countOf ys i w ≡ countOf xs i w
+  pub cleared : (w : ℕ) → w < n → countOf ys k w ≡ 0
+
 -- the endings of the nodes from u on, up to the node u′, were tried
 pub record EndsTried (card ranking sets xs ys : List ℕ) (k u u′ : ℕ) : Type 0 where
   pub size : length ys ≡ length xs
@@ -109,3 +131,11 @@ pub record EndsTried (card ranking sets xs ys : List ℕ) (k u u′ : ℕ) : Typ
   pub enters : (fewest : ℕ → ℕ → Option ℕ) → Culled card ranking sets fewest xs k → (K : Labels (rankedCosts 1))
       → Entering (stageGraph card ranking sets fewest k) (placeOf card) K (stageLabel xs k) (length sets) (λ w. w < u) (λ _ _. ⊥)
       → Entering (stageGraph card ranking sets fewest k) (placeOf card) K (stageLabel ys k) (length sets) (λ w. w < u′) (λ _ _. ⊥)
+
+-- the first n of the nodes from b on were tried by their endings: by those of a card, if the numbers are theirs
+pub record CodesEnded (xs ys high low : List ℕ) (front back k b n : ℕ) : Type 0 where
+  pub size : length ys ≡ length xs
+  pub counts : (i w : ℕ) → i < k → countOf ys i w ≡ countOf xs i w
+  pub ends : (card ranking sets : List ℕ) (P : ℕ) → Setting card sets P → b ≡ length sets * P → n ≤ P
+      → ((c : ℕ) → c < n → laneEnding (endSum high front back c) (endSum low front back c) ≡ endingFrom (sixPlaces ranking) (machinesOf card) c)
+      → EndsTried card ranking sets xs ys k (length sets * P) (length sets * P + n)

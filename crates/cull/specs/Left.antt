@@ -1,5 +1,5 @@
 -- What is left after the first k constraints, told by the graph's own edges and endings and the labels of the k stages alone.
-use mathlib.Core.Path.{_≡_, refl, ap}
+use mathlib.Core.Path.{_≡_, refl, ap, subst}
 use mathlib.Core.Logic.{_↔_}
 use mathlib.Core.Bool.{Bool, true, false}
 use mathlib.Core.Option.{Option, none, some}
@@ -8,7 +8,7 @@ use native.Mathlib.Omega.{arith}
 use Rattle.paths.specs.Costs.{Costs}
 use Rattle.paths.specs.Graph.{Alphabet, Edge, Graph}
 use Rattle.cull.specs.Below.{Below, below-none, below-next}
-use Rattle.cull.specs.Cull.{keep, keep-is, keepsEdge, keepsEnding, cull, left}
+use Rattle.cull.specs.Cull.{keep, keep-is, keepsEdge, keepsEnding, cull, Fewest, left, FewestBelow}
 use Rattle.cull.specs.Subgraph.{Subgraph}
 
 -- one stage more keeps what the test k passes
@@ -45,6 +45,11 @@ module _ {costs : Costs} {alphabet : Alphabet} (G : Graph costs alphabet) (marks
   pub left-same : (f : ℕ → ℕ → Option ℕ) (k : ℕ) → ((i : ℕ) → i < k → fewest i ≡ f i) → left G marks fewest k ≡ left G marks f k
   left-same f zero e = refl
   left-same f (suc k) e = λ j. cull (left-same f k (λ i l. e i (omega arith)) j) (marks k) (e k (omega arith) j)
+
+  pub fewest-same : (f : ℕ → ℕ → Option ℕ) (k : ℕ) → ((i : ℕ) → i < k → fewest i ≡ f i) → FewestBelow G marks fewest k → FewestBelow G marks f k
+  fewest-same f k e F i l =
+      subst (λ (g : ℕ → Option ℕ). Fewest (left G marks f i) (marks i) g) (e i l)
+      (subst (λ (B : Graph costs alphabet). Fewest B (marks i) (fewest i)) (left-same f i (λ j h. e j (omega arith))) (F i l))
 
   pub left-edge : (k u : ℕ) (p : Letter) (e : Edge Cost) → (left G marks fewest k .edge u p ≡ some e) ↔ ((G .edge u p ≡ some e) × Below (λ i. keepsEdge (marks i) (fewest i) u e ≡ true) k)
   left-edge zero u p e = (λ h. (h, below-none (λ i. keepsEdge (marks i) (fewest i) u e ≡ true)), λ h. h .0)

@@ -20,12 +20,6 @@ module _ {costs : Costs} {alphabet : Alphabet} (S : Graph costs alphabet) where
     pub falls : Falls _≺_ L M
     pub tried : (u : ℕ) (p : Letter) (e : Edge Cost) (d : Cost) → Did u p → edge u p ≡ some e → L (e .target) ≡ some d → AtMost _≺_ (M u) (e .cost ⊕ d)
 
-  -- and with the label that it has: no edge in Did gives its node less
-  pub record Closes (L M : Labels costs) (Did : ℕ → Letter → Type 0) : Type 0 where
-    pub attained : Attained S M
-    pub falls : Falls _≺_ L M
-    pub closed : (u : ℕ) (p : Letter) (e : Edge Cost) (d : Cost) → Did u p → edge u p ≡ some e → M (e .target) ≡ some d → AtMost _≺_ (M u) (e .cost ⊕ d)
-
   -- one letter of one node
   abbrev pub Only : ℕ → Letter → ℕ → Letter → Type 0
   Only u p w q = (w ≡ u) × (q ≡ p)
@@ -49,10 +43,6 @@ module _ {costs : Costs} {alphabet : Alphabet} (S : Graph costs alphabet) where
 
   pub relaxes-some : {L M : Labels costs} {D : ℕ → Letter → Type 0} → Relaxes L M D → (E : ℕ → Letter → Type 0) → ((u : ℕ) (p : Letter) → E u p → D u p) → Relaxes L M E
   relaxes-some a E f = record { attained = a .attained; falls = a .falls; tried = λ u p e d x h l. a .tried u p e d (f u p x) h l }
-
-  -- after a round that changed nothing
-  pub relaxes-closes : {L M : Labels costs} {D D′ : ℕ → Letter → Type 0} → Relaxes L M D → Relaxes M M D′ → Closes L M D′
-  relaxes-closes a b = record { attained = b .attained; falls = a .falls; closed = b .tried }
 
   module _ {L : Labels costs} (A : Attained S L) (u : ℕ) (p : Letter) where
     here : (w : ℕ) (q : Letter) (e : Edge Cost) → Only u p w q → edge w q ≡ some e → edge u p ≡ some e

@@ -1,26 +1,36 @@
 // Ellison's cull as an engine: constraint by constraint, the fewest marks from each node to an end are found, and the arcs and the endings that
 // cost more are dropped.
 ghost use mathlib.Core.Path.{_≡_};
-ghost use Prim.Native.Nat.{_+_, _*_, _^_, _≤_, _<_};
+ghost use mathlib.Core.List.{List};
+ghost use Prim.Native.Nat.{ℕ, _+_, _*_, _^_, _≤_, _<_};
 ghost use Rattle.paths.specs.Ranked.{countAt};
 ghost use Rattle.labels.specs.Marks.{marksCost};
-ghost use Rattle.machine.specs.Symbols.{firstSymbol};
 ghost use lib.ListN.{length};
 ghost use Rattle.labels.specs.Work.{HasNode, HasNodes};
-ghost use Rattle.tables.specs.Places.{sixPlaces};
+ghost use Rattle.tables.specs.Places.{sixPlaces, SixPlaces};
+ghost use Rattle.settling.specs.OpenCodes.{OneIn, OneMore, OneLess, Chosen};
+ghost use Rattle.insertions.specs.RankedWeights.{RankedWeights};
+ghost use Rattle.insertions.specs.Lanes.{narrowed};
+ghost use mathlib.Core.Bool.{true};
+ghost use Rattle.ranking.specs.Rankings.{isRanking};
+ghost use Rattle.card.specs.Layout.{machineCount};
 ghost use Rattle.labelling.specs.Labelling.{LabelPre, PositionsDone};
 ghost use Rattle.optimizer.specs.Optimizes.{Optimizes, OptimizesSets};
 ghost use Rattle.product.specs.Best.{best};
 ghost use Rattle.product.specs.Sets.{bestOfSets};
-ghost use Rattle.optimizer.specs.Searching.{SetsPre, SearchPre, Searched};
-ghost use Rattle.cull.specs.Relaxing.{countsOf, noCounts, LeftTold, NodePre, Compared, Written, Lowered, ArcPre, ArcTried, EntryPre, EntryTried, RunEnd, RowRuns, Runs, RunsPre, RowFound, RelaxPre, Relaxed, SettledBy};
-ghost use Rattle.cull.specs.Culling.{LentTables, CullPre, PositionPre, PositionEntered, PositionDone, EndPre, EndsTried, StagePre, StageDone, Blanked};
-use basics::index;
+ghost use Rattle.readout.specs.Searching.{SetsPre, SearchPre, Searched};
+ghost use Rattle.grid.specs.Grids.{GridOf};
+ghost use Rattle.cull.specs.Relaxing.{countsOf, noCounts, LeftTold, NodePre, Compared, Written, Lowered, ArcPre, ArcTried};
+ghost use Rattle.cull.specs.Tables.{TablesPre, ListPre, ListsOf};
+ghost use Rattle.cull.specs.Entering.{marksBy, LanePre, LaneTried, CodePre, LanesTried, codesAt, FourPre, CodesTried, InputPre, InputTried, laneEnding, EndingTried, EndingsPre};
+ghost use Rattle.cull.specs.Settling.{OpenIn, SomeIn, EntryPre, EntryTried, SettlePre, Spread, OpenedIf, Opened, SettledBy};
+ghost use Rattle.cull.specs.Culling.{LentTables, CullPre, PositionPre, PositionEntered, PositionDone, EndPre, EndsTried, CodesEnded, StagePre, StageDone, Blanked, PlaceCleared};
 use candidate::Evaluation;
 use candidate::refused;
+use cells::Groups;
+use cells::NOWHERE;
+use grid::Grid;
 use refusals::Checked;
-use tables::Joint;
-use tables::JointEnding;
 
 // The marks of the constraint at a place of the ranking, of those that a number stands for.
 fn marks_at(marks: u32, place: usize) -> u16
@@ -141,156 +151,294 @@ fn try_arc(work: &mut [u16], node: usize, target: usize, marks: u32, stage: usiz
     lower(work, node, stage, count, pairs)
 }
 
-// Tries the node by an entry of a table of joint steps, whose targets are the nodes from `targets` on.
-fn try_entry(
+// ---- the joint steps of a symbol
+
+// Three counts below 16 from 16 bits each to four bits each.
+fn narrow(three: u64) -> u64
+    requires { ⌜ three < 2 ^ 56 ⌝ }
+    ensures { λ r. ⌜ r ≡ narrowed three ⌝ }
+{
+    (three + three / 4096 + three / 16777216) % 4096
+}
+
+// The marks of a joint step by its two numbers.
+fn marks_of(step: u64, rest: u64) -> u32
+    ensures { λ r. ⌜ r ≡ marksBy step rest ⌝ }
+{
+    (narrow(step / 256) * 4096 + narrow(rest / 65536)) as u32
+}
+
+// Tries the node by a joint step, if it is one, to the nodes from `targets` on.
+fn try_lane(work: &mut [u16], step: u64, rest: u64, node: usize, targets: usize, stage: usize)
+    requires { ⌜ LanePre (now work) step node targets stage ⌝ }
+    ensures { λ _. ⌜ LaneTried (now (work .entry)) (now (work .exit)) step rest node targets stage ⌝ }
+{
+    if step >= NOWHERE {
+        return;
+    }
+    let to = (step % 128) as usize;
+    try_arc(work, node, targets + to, marks_of(step, rest), stage);
+}
+
+// Tries the node by four joint steps. They are the sums of the numbers at a place of either group.
+fn try_code(
     work: &mut [u16],
-    entry: u32,
+    high: &[u64],
+    low: &[u64],
+    a: usize,
+    b: usize,
     node: usize,
     targets: usize,
-    size: usize,
     stage: usize,
-) -> bool
-    requires { ⌜ EntryPre (now work) entry node targets size stage ⌝ }
-    ensures { λ r. ⌜ EntryTried (now (work .entry)) (now (work .exit)) entry node targets stage r ⌝ }
+)
+    requires { ⌜ CodePre (now work) (now high) (now low) a b node targets stage ⌝ }
+    ensures { λ _. ⌜ LanesTried (now (work .entry)) (now (work .exit)) (now (high .entry)) (now (low .entry)) a b node targets stage 4 ⌝ }
 {
-    let found = tables::joint_table::read(entry);
-    let Joint::To(to, marks) = found else {
-        return false;
-    };
-    try_arc(work, node, targets + to, marks, stage)
-}
-
-// Behind which output the run of equal entries that starts with this one ends; of the outputs after it `ends` has that.
-fn run_end(table: &[u32], ends: &[u8], size: usize, last: usize, code: usize, output: usize) -> u8
-    requires { ⌜ RunsPre (now table) (now ends) size last × (code < size) × (output ≤ last) × RowRuns (now table) (now ends) code (output + 1) last ⌝ }
-    ensures { λ r. ⌜ RunEnd (now (table .entry)) code output last r ⌝ }
-{
-    let at = code * 64 + output;
-    if output == last {
-        return (output + 1) as u8;
-    }
-    if table[at + 1] != table[at] {
-        return (output + 1) as u8;
-    }
-    ends[at + 1]
-}
-
-// The runs of equal entries in the row of a code, the outputs up to the last.
-fn find_row(table: &[u32], ends: &mut [u8], size: usize, last: usize, code: usize)
-    requires { ⌜ RunsPre (now table) (now ends) size last × (code < size) ⌝ }
-    ensures { λ _. ⌜ RowFound (now (table .entry)) (now (ends .entry)) (now (ends .exit)) code 0 last ⌝ }
-{
-    let mut output = last + 1;
-    while output > 0 {
-        output -= 1;
-        ends[code * 64 + output] = run_end(table, ends, size, last, code, output);
+    let mut j = 0;
+    while j < 4 {
+        try_lane(
+            work,
+            high[a + j] + high[b + j],
+            low[a + j] + low[b + j],
+            node,
+            targets,
+            stage,
+        );
+        j += 1;
     }
 }
 
-// The runs in all rows. A card's arcs have sets of outputs, so runs are long, and the first entry of a run stands for all.
-fn find_runs(table: &[u32], ends: &mut [u8], size: usize, last: usize)
-    requires { ⌜ RunsPre (now table) (now ends) size last ⌝ }
-    ensures { λ _. ⌜ Runs (now (table .entry)) (now (ends .exit)) size last ⌝ }
+// A position in a stage: the machines in two groups, the first of its nodes, the stage.
+struct Site {
+    groups: Groups,
+    base: usize,
+    stage: usize,
+}
+
+// Tries the nodes of a position by four outputs.
+fn try_four(work: &mut [u16], high: &[u64], low: &[u64], at: Site)
+    requires { ⌜ FourPre (now work) (now high) (now low) at ⌝ }
+    ensures { λ _. ⌜ CodesTried (now (work .entry)) (now (work .exit)) (now (high .entry)) (now (low .entry)) (at .groups .front) (at .groups .back) (at .stage) (at .base) (at .base + codesAt at) (codesAt at) ⌝ }
 {
+    let g = at.groups;
+    let front = g.front;
+    let back = g.back;
+    let base = at.base;
+    let stage = at.stage;
+    let size = front * back;
     let mut code = 0;
     while code < size {
-        find_row(table, ends, size, last, code);
+        try_code(
+            work,
+            high,
+            low,
+            code / back * 4,
+            (front + code % back) * 4,
+            base + code,
+            base + size,
+            stage,
+        );
         code += 1;
     }
 }
 
-// Tries the node of a code by the entries of its row, one of each run, the outputs first to last.
-fn relax_node(
+// Tries the nodes of a position by the pairs with one input: the outputs worth trying, four at a time. `steps`, `high` and `low` are lent.
+fn enter_input(
     work: &mut [u16],
-    table: &[u32],
-    ends: &[u8],
-    base: usize,
-    targets: usize,
-    size: usize,
-    code: usize,
-    first: usize,
-    last: usize,
-    stage: usize,
-) -> bool
-    requires { ⌜ RelaxPre (now work) (now table) stage base targets size first last × Runs (now table) (now ends) size last × (code < size) ⌝ }
-    ensures { λ r. ⌜ Relaxed (now (work .entry)) (now (work .exit)) (now (table .entry)) stage base targets size first last (base + code) (base + code + 1) first (last + 1) r ⌝ }
+    steps: &mut [u16],
+    card: &[u8],
+    counts: &[u8],
+    weights: &[u64],
+    at: Site,
+    input: u8,
+    high: &mut [u64],
+    low: &mut [u64],
+)
+    requires { ⌜ InputPre (now work) (now card) (now counts) (now weights) (now steps) (now high) (now low) at input × (1 ≤ input) ⌝ }
+    ensures { λ _. ⌜ InputTried (now (card .entry)) (now (weights .entry)) (now (work .entry)) (now (work .exit)) input (at .base) (codesAt at) (at .stage) ⌝ }
 {
-    let mut changed = false;
-    let mut output = first;
-    while output <= last {
-        let entry = table[code * 64 + output];
-        let fewer = try_entry(work, entry, base + code, targets, size, stage);
-        changed = changed | fewer;
-        output = index(ends[code * 64 + output]);
+    let g = at.groups;
+    let width = columns::width_of(counts);
+    let mut outputs = columns::prepare(steps, card, counts, width, input);
+    while outputs > 0 {
+        let four = cells::fours::next_four(outputs);
+        cells::join_four(steps, width, &four, counts, weights, g, high, low);
+        try_four(work, high, low, at);
+        outputs = cells::fours::without_four(outputs);
     }
-    changed
 }
 
-// Tries each of the size nodes from base on by its row of the table: whether that gave one of them less.
-fn relax(
-    work: &mut [u16],
-    table: &[u32],
-    ends: &[u8],
-    base: usize,
-    targets: usize,
-    size: usize,
-    first: usize,
-    last: usize,
-    stage: usize,
-) -> bool
-    requires { ⌜ RelaxPre (now work) (now table) stage base targets size first last × Runs (now table) (now ends) size last ⌝ }
-    ensures { λ r. ⌜ Relaxed (now (work .entry)) (now (work .exit)) (now (table .entry)) stage base targets size first last base (base + size) first (last + 1) r ⌝ }
+// ---- settling
+
+// In an entry of a list of insertions the code that one leads from stands in front of its marks, four bits a place of the ranking.
+const MARKS: u32 = 16777216;
+
+fn place(x: u16) -> usize
+    ensures { λ r. ⌜ (r ≡ x) × (r < 2 ^ 16) ⌝ }
 {
-    let mut changed = false;
-    let mut left = size;
+    x as usize
+}
+
+// Opens a code.
+fn put(opened: &mut [u64; 2], code: usize)
+    requires { ⌜ (code < 128) × (length (now opened) ≡ 2) ⌝ }
+    ensures { λ _. ⌜ OneMore (now (opened .entry)) (now (opened .exit)) code ⌝ }
+{
+    let half = code / 64;
+    opened[half] = opened[half] | machine::sets::set_of((code % 64) as u8);
+}
+
+// Closes a code.
+fn take(opened: &mut [u64; 2], code: usize)
+    requires { ⌜ (code < 128) × (length (now opened) ≡ 2) ⌝ }
+    ensures { λ _. ⌜ OneLess (now (opened .entry)) (now (opened .exit)) code ⌝ }
+{
+    let half = code / 64;
+    opened[half] = machine::sets::of_kind(
+        opened[half],
+        2,
+        machine::sets::set_of((code % 64) as u8),
+    );
+}
+
+// Opens the code of a node, if that has a label.
+fn open_if_labelled(work: &[u16], opened: &mut [u64; 2], node: usize, code: usize)
+    requires { ⌜ HasNode (now work) node × (node < 3200) × (code < 128) × (length (now opened) ≡ 2) ⌝ }
+    ensures { λ _. ⌜ OpenedIf (now (work .entry)) (now (opened .entry)) (now (opened .exit)) node code ⌝ }
+{
+    if work[node * 8] == 0 {
+        return;
+    }
+    put(opened, code);
+}
+
+// Opens the codes below size that have a label; the nodes of the position are from base on.
+fn open_labelled(work: &[u16], opened: &mut [u64; 2], base: usize, size: usize)
+    requires { ⌜ HasNodes (now work) (base + size) × (base + size ≤ 3200) × (size ≤ 128) × (length (now opened) ≡ 2) ⌝ }
+    ensures { λ _. ⌜ Opened (now (work .entry)) (now (opened .entry)) (now (opened .exit)) base size ⌝ }
+{
+    let mut code = 0;
+    while code < size {
+        open_if_labelled(work, opened, base + code, code);
+        code += 1;
+    }
+}
+
+// Whether the marks and the pairs of the node a are fewer than those of b, both labelled.
+fn is_before(work: &[u16], a: usize, b: usize, stage: usize) -> bool
+    requires { ⌜ NodePre (now work) a stage × HasNode (now work) b ⌝ }
+{
+    let here = work[a * 8 + 1 + stage];
+    let there = work[b * 8 + 1 + stage];
+    (here < there) | ((here == there) & (work[a * 8 + 7] < work[b * 8 + 7]))
+}
+
+// A code of one half of the open ones, which is not empty; one with the fewest marks, and then pairs.
+fn choose_in(work: &[u16], set: u64, first: usize, base: usize, stage: usize) -> usize
+    requires { ⌜ (0 < set) × SomeIn (now work) set first base × (stage < 6) ⌝ }
+    ensures { λ r. ⌜ OneIn set first r ⌝ }
+{
+    let mut best = first + machine::sets::least(set);
+    let mut left = machine::sets::without_least(set);
     while left > 0 {
-        left -= 1;
-        let fewer = relax_node(
-            work,
-            table,
-            ends,
-            base,
-            targets,
-            size,
-            left,
-            first,
-            last,
-            stage,
-        );
-        changed = changed | fewer;
+        let code = first + machine::sets::least(left);
+        if is_before(work, base + code, base + best, stage) {
+            best = code;
+        }
+        left = machine::sets::without_least(left);
     }
-    changed
+    best
 }
 
-// Tries the nodes of a position by their insertions, until none is given less.
-fn settle(
+// An open code, 128 where none is open. Which one matters to the time alone: one with the fewest marks is not taken twice.
+fn choose(work: &[u16], opened: &[u64; 2], base: usize, stage: usize) -> usize
+    requires { ⌜ OpenIn (now work) (now opened) base × (stage < 6) ⌝ }
+    ensures { λ r. ⌜ Chosen (now (opened .entry)) r ⌝ }
+{
+    let front = opened[0];
+    let back = opened[1];
+    if front == 0 {
+        if back == 0 {
+            return 128;
+        }
+        return choose_in(work, back, 64, base, stage);
+    }
+    let best = choose_in(work, front, 0, base, stage);
+    if back == 0 {
+        return best;
+    }
+    let other = choose_in(work, back, 64, base, stage);
+    if is_before(work, base + other, base + best, stage) {
+        return other;
+    }
+    best
+}
+
+// Tries the code of an entry by it, an insertion to the code `to`: where that gives it less it is open.
+fn try_entry(
     work: &mut [u16],
-    insertions: &[u32],
-    ends: &[u8],
+    opened: &mut [u64; 2],
+    entry: u32,
     base: usize,
-    size: usize,
-    symbols: usize,
+    to: usize,
     stage: usize,
 )
-    requires { ⌜ RelaxPre (now work) (now insertions) stage base base size firstSymbol symbols × Runs (now insertions) (now ends) size symbols ⌝ }
-    ensures { λ _. ⌜ SettledBy (now (work .entry)) (now (work .exit)) (now (insertions .entry)) stage base size firstSymbol symbols ⌝ }
+    requires { ⌜ EntryPre (now work) (now opened) entry stage base to ⌝ }
+    ensures { λ _. ⌜ EntryTried (now (work .entry)) (now (work .exit)) (now (opened .entry)) (now (opened .exit)) entry stage base to ⌝ }
 {
-    loop {
-        if !relax(
-            work,
-            insertions,
-            ends,
-            base,
-            base,
-            size,
-            machine::Pair::FIRST,
-            symbols,
-            stage,
-        ) {
-            return;
-        }
+    let from = (entry / MARKS) as usize;
+    if try_arc(work, base + from, base + to, entry % MARKS, stage) {
+        put(opened, from);
     }
 }
+
+// Tries the insertions to one code.
+fn spread(
+    work: &mut [u16],
+    opened: &mut [u64; 2],
+    entries: &[u32],
+    ends: &[u16; 514],
+    base: usize,
+    size: usize,
+    to: usize,
+    stage: usize,
+)
+    requires { ⌜ SettlePre (now work) (now entries) (now ends) stage base size × (length (now opened) ≡ 2) × (to < size) ⌝ }
+    ensures { λ _. ⌜ Spread (now (work .entry)) (now (work .exit)) (now (opened .entry)) (now (opened .exit)) (now (entries .entry)) (now (ends .entry)) stage base size to ⌝ }
+{
+    let end = place(ends[4 * to + 4]);
+    let mut at = place(ends[4 * to]);
+    while at < end {
+        try_entry(work, opened, entries[at], base, to, stage);
+        at += 1;
+    }
+}
+
+// Tries the nodes of a position by insertions in lists, until none is given less: the open codes one after the other.
+fn settle(
+    work: &mut [u16],
+    entries: &[u32],
+    ends: &[u16; 514],
+    base: usize,
+    size: usize,
+    stage: usize,
+)
+    requires { ⌜ SettlePre (now work) (now entries) (now ends) stage base size ⌝ }
+    ensures { λ _. ⌜ SettledBy (now (work .entry)) (now (work .exit)) (now (entries .entry)) (now (ends .entry)) stage base size ⌝ }
+{
+    let mut opened = [0u64; 2];
+    open_labelled(work, &mut opened, base, size);
+    loop {
+        let code = choose(work, &opened, base, stage);
+        if code >= 128 {
+            return;
+        }
+        take(&mut opened, code);
+        spread(work, &mut opened, entries, ends, base, size, code, stage);
+    }
+}
+
+// ---- the positions of a stage
 
 // Takes the labels of the stage before from the first count nodes. Their counts stay.
 fn blank(work: &mut [u16], count: usize)
@@ -304,106 +452,115 @@ fn blank(work: &mut [u16], count: usize)
     }
 }
 
+// Takes the marks of the constraint at a place from the first count nodes.
+fn clear_place(work: &mut [u16], count: usize, place: usize)
+    requires { ⌜ HasNodes (now work) count × (place < 6) ⌝ }
+    ensures { λ _. ⌜ PlaceCleared (now (work .entry)) (now (work .exit)) count place ⌝ }
+{
+    let mut i = 0;
+    while i < count {
+        work[i * 8 + 1 + place] = 0;
+        i += 1;
+    }
+}
+
 // Enters a position before the last one: tries its nodes by the pairs of one symbol of its set after the other.
 fn enter_symbol(
     work: &mut [u16],
     card: &[u8],
     ranking: &[u8],
     sets: &[u64],
-    rows: &[u16],
     counts: &[u8],
-    places: &[u8; 6],
-    insertions: &[u32],
-    insertion_ends: &[u8],
-    stretch: &mut [u16],
-    joint: &mut [u32],
-    joint_ends: &mut [u8],
+    weights: &[u64],
+    entries: &[u32],
+    ends: &[u16; 514],
+    steps: &mut [u16],
+    high: &mut [u64],
+    low: &mut [u64],
+    g: Groups,
     size: usize,
     position: usize,
     stage: usize,
 )
-    requires { ⌜ PositionPre (now card) (now ranking) (now sets) (now rows) (now counts) (now places) (now insertions) (now «insertion_ends») (now work) size position stage × LentTables (now stretch) (now joint) (now «joint_ends») size × (position < length (now sets)) ⌝ }
+    requires { ⌜ PositionPre (now card) (now ranking) (now sets) (now counts) (now entries) (now ends) (now work) size position stage × LentTables (now card) (now ranking) (now counts) (now weights) (now steps) (now high) (now low) g size × (position < length (now sets)) ⌝ }
     ensures { λ _. ⌜ PositionEntered (now (card .entry)) (now (ranking .entry)) (now (sets .entry)) (now (work .entry)) (now (work .exit)) position stage ⌝ }
 {
-    let symbols = card::symbol_count(card) as usize;
     let mut left = sets[position];
     while left > 0 {
         let symbol = machine::sets::least(left) as u8;
-        tables::joint_table::fill(card, symbol, counts, places, symbols, stretch, joint);
-        find_runs(joint, joint_ends, size, symbols);
-        relax(
-            work,
-            joint,
-            joint_ends,
-            position * size,
-            (position + 1) * size,
-            size,
-            tables::DELETION,
-            symbols,
+        let at = Site {
+            groups: g,
+            base: position * size,
             stage,
-        );
+        };
+        enter_input(work, steps, card, counts, weights, at, symbol, high, low);
         left = machine::sets::without_least(left);
     }
 }
 
-// Tries the node of the last position and a code by its ending.
-fn try_ending(
-    work: &mut [u16],
-    card: &[u8],
-    ranking: &[u8],
-    sets: &[u64],
-    rows: &[u16],
-    counts: &[u8],
-    places: &[u8; 6],
-    size: usize,
-    code: usize,
-    stage: usize,
-)
-    requires { ⌜ EndPre (now card) (now ranking) (now sets) (now rows) (now counts) (now places) (now work) size stage × (code < size) ⌝ }
-    ensures { λ _. ⌜ EndsTried (now (card .entry)) (now (ranking .entry)) (now (sets .entry)) (now (work .entry)) (now (work .exit)) stage (length (now (sets .entry)) * size + code) (length (now (sets .entry)) * size + (code + 1)) ⌝ }
+// Tries the node by its ending, if it has one, by the two numbers of that.
+fn try_ending(work: &mut [u16], ending: u64, rest: u64, node: usize, stage: usize)
+    requires { ⌜ NodePre (now work) node stage × (node < 3200) ⌝ }
+    ensures { λ _. ⌜ EndingTried (now (work .entry)) (now (work .exit)) (laneEnding ending rest) node stage ⌝ }
 {
-    let ending = tables::joint_ending(card, rows, places, code);
-    let JointEnding::Marks(marks) = ending else {
+    if ending >= NOWHERE {
         return;
-    };
-    let node = sets.len() * size + code;
+    }
+    let marks = marks_of(ending, rest);
     if !ending_left(work, node, marks, stage) {
         return;
     }
     lower(work, node, stage, marks_at(marks, stage), 0);
 }
 
-// Enters the last position.
+// Tries the nodes of a position by their endings, which are the first of four numbers of either group.
+fn try_endings(work: &mut [u16], high: &[u64], low: &[u64], at: Site)
+    requires { ⌜ EndingsPre (now work) (now high) (now low) at ⌝ }
+    ensures { λ _. ⌜ CodesEnded (now (work .entry)) (now (work .exit)) (now (high .entry)) (now (low .entry)) (at .groups .front) (at .groups .back) (at .stage) (at .base) (codesAt at) ⌝ }
+{
+    let g = at.groups;
+    let front = g.front;
+    let back = g.back;
+    let base = at.base;
+    let stage = at.stage;
+    let size = front * back;
+    let mut code = 0;
+    while code < size {
+        let a = code / back * 4;
+        let b = (front + code % back) * 4;
+        try_ending(work, high[a] + high[b], low[a] + low[b], base + code, stage);
+        code += 1;
+    }
+}
+
+// Enters the last position. The endings are joined as a column of their own.
 fn enter_last(
     work: &mut [u16],
     card: &[u8],
     ranking: &[u8],
     sets: &[u64],
-    rows: &[u16],
     counts: &[u8],
-    places: &[u8; 6],
+    weights: &[u64],
+    high: &mut [u64],
+    low: &mut [u64],
+    g: Groups,
     size: usize,
     stage: usize,
 )
-    requires { ⌜ EndPre (now card) (now ranking) (now sets) (now rows) (now counts) (now places) (now work) size stage ⌝ }
+    requires { ⌜ EndPre (now card) (now ranking) (now sets) (now counts) (now weights) (now work) (now high) (now low) g size stage ⌝ }
     ensures { λ _. ⌜ EndsTried (now (card .entry)) (now (ranking .entry)) (now (sets .entry)) (now (work .entry)) (now (work .exit)) stage (length (now (sets .entry)) * size) (length (now (sets .entry)) * size + size) ⌝ }
 {
-    let mut code = 0;
-    while code < size {
-        try_ending(
-            work,
-            card,
-            ranking,
-            sets,
-            rows,
-            counts,
-            places,
-            size,
-            code,
-            stage,
-        );
-        code += 1;
-    }
+    let mut column = [65535u16; 2600];
+    let width = columns::width_of(counts);
+    columns::fill_endings(&mut column, card, counts);
+    let four = [0u8, 64, 64, 64];
+    cells::join_four(&column, width, &four, counts, weights, g, high, low);
+    let at = Site {
+        groups: g,
+        base: sets.len() * size,
+        stage,
+    };
+    try_endings(work, high, low, at);
 }
 
 // Enters a position.
@@ -412,19 +569,19 @@ fn enter(
     card: &[u8],
     ranking: &[u8],
     sets: &[u64],
-    rows: &[u16],
     counts: &[u8],
-    places: &[u8; 6],
-    insertions: &[u32],
-    insertion_ends: &[u8],
-    stretch: &mut [u16],
-    joint: &mut [u32],
-    joint_ends: &mut [u8],
+    weights: &[u64],
+    entries: &[u32],
+    ends: &[u16; 514],
+    steps: &mut [u16],
+    high: &mut [u64],
+    low: &mut [u64],
+    g: Groups,
     size: usize,
     position: usize,
     stage: usize,
 )
-    requires { ⌜ PositionPre (now card) (now ranking) (now sets) (now rows) (now counts) (now places) (now insertions) (now «insertion_ends») (now work) size position stage × LentTables (now stretch) (now joint) (now «joint_ends») size ⌝ }
+    requires { ⌜ PositionPre (now card) (now ranking) (now sets) (now counts) (now entries) (now ends) (now work) size position stage × LentTables (now card) (now ranking) (now counts) (now weights) (now steps) (now high) (now low) g size ⌝ }
     ensures { λ _. ⌜ PositionEntered (now (card .entry)) (now (ranking .entry)) (now (sets .entry)) (now (work .entry)) (now (work .exit)) position stage ⌝ }
 {
     if position < sets.len() {
@@ -433,20 +590,32 @@ fn enter(
             card,
             ranking,
             sets,
-            rows,
             counts,
-            places,
-            insertions,
-            insertion_ends,
-            stretch,
-            joint,
-            joint_ends,
+            weights,
+            entries,
+            ends,
+            steps,
+            high,
+            low,
+            g,
             size,
             position,
             stage,
         );
     } else {
-        enter_last(work, card, ranking, sets, rows, counts, places, size, stage);
+        enter_last(
+            work,
+            card,
+            ranking,
+            sets,
+            counts,
+            weights,
+            high,
+            low,
+            g,
+            size,
+            stage,
+        );
     }
 }
 
@@ -456,19 +625,19 @@ fn label_position(
     card: &[u8],
     ranking: &[u8],
     sets: &[u64],
-    rows: &[u16],
     counts: &[u8],
-    places: &[u8; 6],
-    insertions: &[u32],
-    insertion_ends: &[u8],
-    stretch: &mut [u16],
-    joint: &mut [u32],
-    joint_ends: &mut [u8],
+    weights: &[u64],
+    entries: &[u32],
+    ends: &[u16; 514],
+    steps: &mut [u16],
+    high: &mut [u64],
+    low: &mut [u64],
+    g: Groups,
     size: usize,
     position: usize,
     stage: usize,
 )
-    requires { ⌜ PositionPre (now card) (now ranking) (now sets) (now rows) (now counts) (now places) (now insertions) (now «insertion_ends») (now work) size position stage × LentTables (now stretch) (now joint) (now «joint_ends») size ⌝ }
+    requires { ⌜ PositionPre (now card) (now ranking) (now sets) (now counts) (now entries) (now ends) (now work) size position stage × LentTables (now card) (now ranking) (now counts) (now weights) (now steps) (now high) (now low) g size ⌝ }
     ensures { λ _. ⌜ PositionDone (now (card .entry)) (now (ranking .entry)) (now (sets .entry)) (now (work .entry)) (now (work .exit)) position stage ⌝ }
 {
     enter(
@@ -476,28 +645,19 @@ fn label_position(
         card,
         ranking,
         sets,
-        rows,
         counts,
-        places,
-        insertions,
-        insertion_ends,
-        stretch,
-        joint,
-        joint_ends,
+        weights,
+        entries,
+        ends,
+        steps,
+        high,
+        low,
+        g,
         size,
         position,
         stage,
     );
-    let symbols = card::symbol_count(card) as usize;
-    settle(
-        work,
-        insertions,
-        insertion_ends,
-        position * size,
-        size,
-        symbols,
-        stage,
-    );
+    settle(work, entries, ends, position * size, size, stage);
 }
 
 // A stage: finds the fewest marks of one constraint from every node to an end, over what the stages before left.
@@ -506,18 +666,18 @@ fn label_stage(
     card: &[u8],
     ranking: &[u8],
     sets: &[u64],
-    rows: &[u16],
     counts: &[u8],
-    places: &[u8; 6],
-    insertions: &[u32],
-    insertion_ends: &[u8],
-    stretch: &mut [u16],
-    joint: &mut [u32],
-    joint_ends: &mut [u8],
+    weights: &[u64],
+    entries: &[u32],
+    ends: &[u16; 514],
+    steps: &mut [u16],
+    high: &mut [u64],
+    low: &mut [u64],
+    g: Groups,
     size: usize,
     stage: usize,
 )
-    requires { ⌜ StagePre (now card) (now ranking) (now sets) (now rows) (now counts) (now places) (now insertions) (now «insertion_ends») (now work) size stage × LentTables (now stretch) (now joint) (now «joint_ends») size ⌝ }
+    requires { ⌜ StagePre (now card) (now ranking) (now sets) (now counts) (now entries) (now ends) (now work) size stage × LentTables (now card) (now ranking) (now counts) (now weights) (now steps) (now high) (now low) g size ⌝ }
     ensures { λ _. ⌜ StageDone (now (card .entry)) (now (ranking .entry)) (now (sets .entry)) (now (work .entry)) (now (work .exit)) stage ⌝ }
 {
     blank(work, (sets.len() + 1) * size);
@@ -529,14 +689,14 @@ fn label_stage(
             card,
             ranking,
             sets,
-            rows,
             counts,
-            places,
-            insertions,
-            insertion_ends,
-            stretch,
-            joint,
-            joint_ends,
+            weights,
+            entries,
+            ends,
+            steps,
+            high,
+            low,
+            g,
             size,
             left,
             stage,
@@ -544,145 +704,162 @@ fn label_stage(
     }
 }
 
-// Goes down the ranking, stage by stage.
+// Goes down the ranking, stage by stage. Past the last machine there are no marks, so that there is nothing to be dropped.
 fn label_stages(
     work: &mut [u16],
     card: &[u8],
     ranking: &[u8],
     sets: &[u64],
-    rows: &[u16],
     counts: &[u8],
-    places: &[u8; 6],
-    insertions: &[u32],
-    insertion_ends: &[u8],
-    stretch: &mut [u16],
-    joint: &mut [u32],
-    joint_ends: &mut [u8],
+    weights: &[u64],
+    entries: &[u32],
+    ends: &[u16; 514],
+    steps: &mut [u16],
+    high: &mut [u64],
+    low: &mut [u64],
+    g: Groups,
     size: usize,
 )
-    requires { ⌜ CullPre (now card) (now ranking) (now sets) (now rows) (now counts) (now places) (now insertions) (now «insertion_ends») (now work) size 0 × LentTables (now stretch) (now joint) (now «joint_ends») size ⌝ }
+    requires { ⌜ CullPre (now card) (now ranking) (now sets) (now counts) (now entries) (now ends) (now work) size 0 × LentTables (now card) (now ranking) (now counts) (now weights) (now steps) (now high) (now low) g size ⌝ }
     ensures { λ _. ⌜ PositionsDone (now (card .entry)) (now (ranking .entry)) (now (sets .entry)) (now (work .entry)) (now (work .exit)) 0 ⌝ }
 {
     let mut stage = 0;
-    while stage < 6 {
+    while stage < counts.len() {
         label_stage(
             work,
             card,
             ranking,
             sets,
-            rows,
             counts,
-            places,
-            insertions,
-            insertion_ends,
-            stretch,
-            joint,
-            joint_ends,
+            weights,
+            entries,
+            ends,
+            steps,
+            high,
+            low,
+            g,
             size,
             stage,
         );
         stage += 1;
     }
+    while stage < 6 {
+        clear_place(work, (sets.len() + 1) * size, stage);
+        stage += 1;
+    }
 }
 
-// The machine at each place of the ranking: the order in which the constraints are gone down.
-fn places_of(ranking: &[u8]) -> [u8; 6]
-    ensures { λ r. ⌜ r ≡ sixPlaces (now (ranking .entry)) ⌝ }
+// Writes the insertions of a card in lists. `steps` is lent for its columns.
+fn list_insertions(
+    entries: &mut [u32],
+    ends: &mut [u16; 514],
+    steps: &mut [u16],
+    card: &[u8],
+    counts: &[u8],
+    weights: &[u64],
+    g: Groups,
+)
+    requires { ⌜ ListPre (now card) (now counts) (now weights) (now steps) g × (length (now ends) ≡ 514) × (8064 ≤ length (now entries)) ⌝ }
+    ensures { λ _. ⌜ ((ranking : List ℕ) → RankedWeights (sixPlaces ranking) (now (weights .entry)) → SixPlaces (sixPlaces ranking) → ListsOf (now (card .entry)) ranking (now (entries .exit)) (now (ends .exit))) ⌝ }
 {
-    tables::six_places(ranking)
+    let width = columns::width_of(counts);
+    let kept = columns::prepare(steps, card, counts, width, machine::Pair::EMPTY);
+    insertions::count(ends, steps, kept, width, counts, weights, g);
+    insertions::list(entries, ends, steps, kept, width, counts, weights, g);
 }
 
-// Labels all nodes, with room lent for tables of the joint steps of the insertions and of a symbol.
-fn label_with(
+// Labels all nodes, by the weights of the machines in the order of the ranking.
+fn label_by(
     work: &mut [u16],
     card: &[u8],
     ranking: &[u8],
+    counts: &[u8],
+    weights: &[u64],
     sets: &[u64],
-    size: usize,
-    insertions: &mut [u32],
-    joint: &mut [u32],
+    steps: &mut [u16],
+    g: Groups,
 )
-    requires { ⌜ LabelPre (now card) (now ranking) (now sets) (now work) size × (size * 64 ≤ length (now insertions)) × (size * 64 ≤ length (now joint)) ⌝ }
+    requires { ⌜ TablesPre (now work) (now card) (now counts) (now weights) (now sets) (now steps) g × RankedWeights (sixPlaces (now ranking)) (now weights) × (isRanking (machineCount (now card)) (now ranking) ≡ true) ⌝ }
     ensures { λ _. ⌜ PositionsDone (now (card .entry)) (now (ranking .entry)) (now (sets .entry)) (now (work .entry)) (now (work .exit)) 0 ⌝ }
 {
-    let mut rows = [0u16; 1024];
-    let mut stretch = [0u16; 2048];
-    let mut insertion_ends = [0u8; 8192];
-    let mut joint_ends = [0u8; 8192];
-    let all = tables::state_counts(card);
-    let machines = card::machine_count(card);
-    let counts = &all[..machines];
-    let places = places_of(ranking);
-    let symbols = card::symbol_count(card) as usize;
-    tables::fill_rows(counts, size, &mut rows);
-    tables::joint_table::fill(
-        card,
-        machine::Pair::EMPTY,
-        counts,
-        &places,
-        symbols,
-        &mut stretch,
-        insertions,
-    );
-    find_runs(insertions, &mut insertion_ends, size, symbols);
+    let size = g.front * g.back;
+    let mut high = [0u64; 264];
+    let mut low = [0u64; 264];
+    let mut entries = [0u32; 8064];
+    let mut ends = [0u16; 514];
+    list_insertions(&mut entries, &mut ends, steps, card, counts, weights, g);
     label_stages(
         work,
         card,
         ranking,
         sets,
-        &rows,
         counts,
-        &places,
-        insertions,
-        &insertion_ends,
-        &mut stretch,
-        joint,
-        &mut joint_ends,
+        weights,
+        &entries,
+        &ends,
+        steps,
+        &mut high,
+        &mut low,
+        g,
         size,
     );
 }
 
 // Labels all nodes: the label of a node is the cost of a best path from it.
-fn label(work: &mut [u16], card: &[u8], ranking: &[u8], sets: &[u64], size: usize)
-    requires { ⌜ LabelPre (now card) (now ranking) (now sets) (now work) size ⌝ }
+fn label(work: &mut [u16], card: &[u8], grid: Grid, ranking: &[u8], sets: &[u64])
+    requires { ⌜ LabelPre (now card) (now ranking) (now sets) (now work) (grid .size) × GridOf (now card) grid ⌝ }
     ensures { λ _. ⌜ PositionsDone (now (card .entry)) (now (ranking .entry)) (now (sets .entry)) (now (work .entry)) (now (work .exit)) 0 ⌝ }
 {
-    let mut insertions = [0u32; 8192];
-    let mut joint = [0u32; 8192];
-    label_with(work, card, ranking, sets, size, &mut insertions, &mut joint);
+    let all = grid.counts;
+    let machines = grid.machines;
+    let counts = &all[..machines];
+    let numbers = labelling::weights::ranked_weights(counts, ranking);
+    let columns = grid.states * 65;
+    let g = cells::grouped(counts, grid.size);
+    let mut steps = [65535u16; 2600];
+    label_by(
+        work,
+        card,
+        ranking,
+        counts,
+        &numbers[..3 * machines],
+        sets,
+        &mut steps[..columns],
+        g,
+    );
 }
 
 // The search for accepted sets: culls, and reads the answer off.
 fn search_sets(
     card: &[u8],
+    grid: Grid,
     ranking: &[u8],
     sets: &[u64],
-    size: usize,
     work: &mut [u16],
     answer: &mut [u8],
 ) -> Evaluation
-    requires { ⌜ SetsPre (now card) (now ranking) (now sets) (now work) size ⌝ }
+    requires { ⌜ SetsPre (now card) (now ranking) (now sets) (now work) (grid .size) × GridOf (now card) grid ⌝ }
     ensures { λ r. ⌜ Searched (bestOfSets (now (card .entry)) (now (ranking .entry)) (now (sets .entry))) (now (sets .entry)) (now (work .entry)) (now (work .exit)) (now (answer .entry)) (now (answer .exit)) r ⌝ }
 {
-    label(work, card, ranking, sets, size);
-    optimizer::read_out(card, ranking, sets, size, work, answer)
+    label(work, card, grid, ranking, sets);
+    readout::read_out(card, grid, ranking, sets, work, answer)
 }
 
 // The search for an accepted word: that for its sets of one symbol each.
 fn search(
     card: &[u8],
+    grid: Grid,
     ranking: &[u8],
     word: &[u8],
-    size: usize,
     work: &mut [u16],
     answer: &mut [u8],
 ) -> Evaluation
-    requires { ⌜ SearchPre (now card) (now ranking) (now word) (now work) size ⌝ }
+    requires { ⌜ SearchPre (now card) (now ranking) (now word) (now work) (grid .size) × GridOf (now card) grid ⌝ }
     ensures { λ r. ⌜ Searched (best (now (card .entry)) (now (ranking .entry)) (now (word .entry))) (now (word .entry)) (now (work .entry)) (now (work .exit)) (now (answer .entry)) (now (answer .exit)) r ⌝ }
 {
     let mut sets = [0u64; 24];
-    optimizer::fill_sets(word, &mut sets);
-    search_sets(card, ranking, &sets[..word.len()], size, work, answer)
+    input::fill_sets(word, &mut sets);
+    search_sets(card, grid, ranking, &sets[..word.len()], work, answer)
 }
 
 // Answers the best candidate for a word under a ranking, by Ellison's method: 1 to 10, 12.
@@ -695,13 +872,14 @@ pub fn cull(
 ) -> Evaluation
     ensures { λ r. ⌜ Optimizes (now (card .entry)) (now (ranking .entry)) (now (word .entry)) (now (work .entry)) (now (work .exit)) (now (answer .entry)) (now (answer .exit)) r ⌝ }
 {
-    let checked = input::check_input(card, ranking, word, work.len());
+    let ready = input::check_input(card, ranking, word, work.len());
+    let checked = ready.checked;
     let Checked::Passed = checked else {
         return refused(checked.number());
     };
-    let size = input::joint_states(card);
-    let nodes = (word.len() + 1) * size;
-    search(card, ranking, word, size, &mut work[..nodes * 8], answer)
+    let grid = ready.grid;
+    let nodes = (word.len() + 1) * grid.size;
+    search(card, grid, ranking, word, &mut work[..nodes * 8], answer)
 }
 
 // Answers the best candidate over all words with one symbol from each set, by Ellison's method: 1 to 8, 25, 9, 10, 12.
@@ -714,11 +892,12 @@ pub fn cull_sets(
 ) -> Evaluation
     ensures { λ r. ⌜ OptimizesSets (now (card .entry)) (now (ranking .entry)) (now (sets .entry)) (now (work .entry)) (now (work .exit)) (now (answer .entry)) (now (answer .exit)) r ⌝ }
 {
-    let checked = input::check_sets_input(card, ranking, sets, work.len());
+    let ready = input::check_sets_input(card, ranking, sets, work.len());
+    let checked = ready.checked;
     let Checked::Passed = checked else {
         return refused(checked.number());
     };
-    let size = input::joint_states(card);
-    let nodes = (sets.len() + 1) * size;
-    search_sets(card, ranking, sets, size, &mut work[..nodes * 8], answer)
+    let grid = ready.grid;
+    let nodes = (sets.len() + 1) * grid.size;
+    search_sets(card, grid, ranking, sets, &mut work[..nodes * 8], answer)
 }

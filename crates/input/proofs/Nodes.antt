@@ -1,4 +1,4 @@
--- The room for the nodes. Assumes nothing.
+-- The room for the nodes, and the sizes of an accepted card. Assumes nothing.
 use mathlib.Core.Path.{_≡_, ap}
 use mathlib.Core.Bool.{true}
 use mathlib.Core.List.{List}
@@ -8,9 +8,13 @@ use native.Mathlib.Omega.{arith}
 use lib.ListN.{length}
 use Rattle.card.specs.Layout.{symbolCount}
 use Rattle.card.specs.Card.{cardRefusal, machinesOf}
+use Rattle.card.specs.Accepted.{accepted}
 use Rattle.product.specs.Nodes.{product, stateCounts, nodeCount}
 use Rattle.product.specs.Optimizing.{soundWord}
 use Rattle.product.specs.Laws.Accepted.{accepted-machines}
+use Rattle.grid.specs.declared.Grid.{Grid}
+use Rattle.grid.specs.Grids.{GridOf}
+use Rattle.input.specs.Readiness.{FewSizes}
 use Rattle.input.specs.AcceptedInput.{short-word}
 
 -- of at most 24 symbols or sets and at most 128 joint states
@@ -31,3 +35,10 @@ module _ (card word : List ℕ) (ok : cardRefusal card ≡ 0) (P : ℕ) (e : P �
 
   pub nodes-few : soundWord (symbolCount card) word ≡ true → (length word + 1) * P ≤ 3200
   nodes-few t = few-for card ok P e (length word) (short-word (symbolCount card) word t)
+
+pub few-sizes : (card : List ℕ) → cardRefusal card ≡ 0 → (g : Grid) → GridOf card g → FewSizes g
+few-sizes card ok g G = record {
+  machines = omega (arith, G .machines, accepted card ok .head .counts);
+  symbols = omega (arith, G .symbols, accepted card ok .head .counts);
+  joint-states = omega (arith, G .size, accepted-machines card ok .few-states);
+}

@@ -1,3 +1,4 @@
 -- definitions
+pub mod Readiness
 -- what accepted input promises
 pub mod AcceptedInput

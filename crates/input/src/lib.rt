@@ -1,98 +1,112 @@
-// The checks of the input that every search shares, 1 to 9: card, ranking, word, or sets in its place, work slice.
+// The input that every search shares: its checks, 1 to 9 (card, ranking, word, or sets in its place, work slice), which make the card's sizes, and a
+// word as sets.
 ghost use mathlib.Core.Path.{_≡_};
-ghost use Prim.Native.Nat.{_*_, _≤_};
-ghost use lib.Dec.{leb};
-ghost use lib.ListN.{length};
-ghost use Rattle.refusals.specs.Refusals.{refuse, checkedNumber};
+ghost use mathlib.Core.Bool.{true};
+ghost use mathlib.Core.List.{[], _∷_};
+ghost use Prim.Native.Nat.{_+_, _*_, _≤_};
+ghost use lib.Dec.{leb, ltb};
+ghost use lib.ListN.{length, take};
+ghost use Rattle.basics.specs.Search.{allOf};
+ghost use Rattle.refusals.specs.Refusals.{refuse, firstOf, checkedNumber};
 ghost use Rattle.ranking.specs.Rankings.{isRanking};
-ghost use Rattle.card.specs.Layout.{machineCount, symbolCount};
-ghost use Rattle.card.specs.Card.{cardRefusal, machinesOf};
-ghost use Rattle.product.specs.Nodes.{product, stateCounts, nodeCount};
+ghost use Rattle.product.specs.Sets.{singletons};
 ghost use Rattle.product.specs.Optimizing.{soundWord, inputRefusal};
+ghost use Rattle.product.specs.Sets.{singletons};
 ghost use Rattle.product.specs.OptimizingSets.{setsRefusal, setsInputRefusal};
+ghost use Rattle.input.specs.Readiness.{Readies, FewSizes};
+use grid::Grid;
 use refusals::Checked;
 use refusals::Refusal;
 
-// P, the product of the state counts of an accepted card's machines.
-pub fn joint_states(card: &[u8]) -> usize
-    requires { ⌜ cardRefusal (now card) ≡ 0 ⌝ }
-    ensures { λ r. ⌜ r ≡ product (stateCounts (machinesOf (now (card .entry)))) ⌝ }
-{
-    let counts = tables::state_counts(card);
-    let machines = card::machine_count(card);
-    tables::joint_states(&counts[..machines])
+// What the checks before a search answer: what they found and, where they passed, the card's sizes.
+pub struct Ready {
+    pub checked: Checked,
+    pub grid: Grid,
 }
 
-// Refusal 7, for an accepted card.
-fn check_ranking(card: &[u8], ranking: &[u8]) -> Checked
-    requires { ⌜ cardRefusal (now card) ≡ 0 ⌝ }
-    ensures { λ r. ⌜ checkedNumber r ≡ refuse 7 (isRanking (machineCount (now (card .entry))) (now (ranking .entry))) ⌝ }
+// Refusal 9, for that many symbols or sets: whether a work slice of `room` numbers has so many for each node.
+pub fn check_work(grid: Grid, count: usize, numbers: usize, room: usize) -> Checked
+    requires { ⌜ FewSizes grid × (count ≤ 24) × (numbers ≤ 8) ⌝ }
+    ensures { λ r. ⌜ checkedNumber r ≡ refuse 9 (leb (numbers * ((count + 1) * grid .size)) room) ⌝ }
 {
-    let machines = card::machine_count(card) as u8;
-    ranking::rankings::check_ranking(machines, ranking)
-}
-
-// Refusal 8, for an accepted card.
-pub fn check_word(card: &[u8], word: &[u8]) -> Checked
-    requires { ⌜ cardRefusal (now card) ≡ 0 ⌝ }
-    ensures { λ r. ⌜ checkedNumber r ≡ refuse 8 (soundWord (symbolCount (now (card .entry))) (now (word .entry))) ⌝ }
-{
-    product::check_word(word, card::symbol_count(card))
-}
-
-// The length limit of 8 and refusal 25, for an accepted card.
-fn check_sets(card: &[u8], sets: &[u64]) -> Checked
-    requires { ⌜ cardRefusal (now card) ≡ 0 ⌝ }
-    ensures { λ r. ⌜ checkedNumber r ≡ setsRefusal (symbolCount (now (card .entry))) (now (sets .entry)) ⌝ }
-{
-    product::check_sets(sets, card::symbol_count(card))
-}
-
-// Refusal 9, for an accepted card and that many symbols or sets: whether a work slice of `room` numbers has eight for each node.
-fn check_work(card: &[u8], count: usize, room: usize) -> Checked
-    requires { ⌜ (cardRefusal (now card) ≡ 0) × (count ≤ 24) ⌝ }
-    ensures { λ r. ⌜ checkedNumber r ≡ refuse 9 (leb (8 * nodeCount (machinesOf (now (card .entry))) count) room) ⌝ }
-{
-    if room < (count + 1) * joint_states(card) * 8 {
+    if room < (count + 1) * grid.size * numbers {
         return Checked::Refused(Refusal::Work);
     }
     Checked::Passed
 }
 
-// The first of refusals 1 to 9 that the input meets, for a work slice of `room` numbers.
-pub fn check_input(card: &[u8], ranking: &[u8], word: &[u8], room: usize) -> Checked
-    ensures { λ r. ⌜ checkedNumber r ≡ inputRefusal (now (card .entry)) (now (ranking .entry)) (now (word .entry)) room ⌝ }
+// The first of refusals 7 to 9.
+fn check_word(grid: Grid, ranking: &[u8], word: &[u8], room: usize) -> Checked
+    requires { ⌜ FewSizes grid ⌝ }
+    ensures { λ r. ⌜ checkedNumber r ≡ firstOf (refuse 7 (isRanking (grid .machines) (now (ranking .entry))) ∷ refuse 8 (soundWord (grid .symbols) (now (word .entry))) ∷ refuse 9 (leb (8 * ((length (now (word .entry)) + 1) * grid .size)) room) ∷ []) ⌝ }
 {
-    let answer = card::check(card);
+    let answer = ranking::rankings::check_ranking(grid.machines as u8, ranking);
     let Checked::Passed = answer else {
         return answer;
     };
-    let answer = check_ranking(card, ranking);
+    let answer = product::check_word(word, grid.symbols);
     let Checked::Passed = answer else {
         return answer;
     };
-    let answer = check_word(card, word);
+    check_work(grid, word.len(), 8, room)
+}
+
+// The first of refusals 7, 8, 25 and 9.
+fn check_sets(grid: Grid, ranking: &[u8], sets: &[u64], room: usize) -> Checked
+    requires { ⌜ FewSizes grid ⌝ }
+    ensures { λ r. ⌜ checkedNumber r ≡ firstOf (refuse 7 (isRanking (grid .machines) (now (ranking .entry))) ∷ setsRefusal (grid .symbols) (now (sets .entry)) ∷ refuse 9 (leb (8 * ((length (now (sets .entry)) + 1) * grid .size)) room) ∷ []) ⌝ }
+{
+    let answer = ranking::rankings::check_ranking(grid.machines as u8, ranking);
     let Checked::Passed = answer else {
         return answer;
     };
-    check_work(card, word.len(), room)
+    let answer = product::check_sets(sets, grid.symbols);
+    let Checked::Passed = answer else {
+        return answer;
+    };
+    check_work(grid, sets.len(), 8, room)
+}
+
+// The first of refusals 1 to 9 that the input meets, for a work slice of `room` numbers.
+pub fn check_input(card: &[u8], ranking: &[u8], word: &[u8], room: usize) -> Ready
+    ensures { λ r. ⌜ Readies (now (card .entry)) (inputRefusal (now (card .entry)) (now (ranking .entry)) (now (word .entry)) room) r ⌝ }
+{
+    let checked = card::check(card);
+    let Checked::Passed = checked else {
+        return Ready {
+            checked,
+            grid: grid::no_grid(),
+        };
+    };
+    let grid = grid::grid_of(card);
+    let checked = check_word(grid, ranking, word, room);
+    Ready { checked, grid }
 }
 
 // The first of refusals 1 to 8, 25 and 9 that the input meets with sets in the word's place, for a work slice of `room` numbers.
-pub fn check_sets_input(card: &[u8], ranking: &[u8], sets: &[u64], room: usize) -> Checked
-    ensures { λ r. ⌜ checkedNumber r ≡ setsInputRefusal (now (card .entry)) (now (ranking .entry)) (now (sets .entry)) room ⌝ }
+pub fn check_sets_input(card: &[u8], ranking: &[u8], sets: &[u64], room: usize) -> Ready
+    ensures { λ r. ⌜ Readies (now (card .entry)) (setsInputRefusal (now (card .entry)) (now (ranking .entry)) (now (sets .entry)) room) r ⌝ }
 {
-    let answer = card::check(card);
-    let Checked::Passed = answer else {
-        return answer;
+    let checked = card::check(card);
+    let Checked::Passed = checked else {
+        return Ready {
+            checked,
+            grid: grid::no_grid(),
+        };
     };
-    let answer = check_ranking(card, ranking);
-    let Checked::Passed = answer else {
-        return answer;
-    };
-    let answer = check_sets(card, sets);
-    let Checked::Passed = answer else {
-        return answer;
-    };
-    check_work(card, sets.len(), room)
+    let grid = grid::grid_of(card);
+    let checked = check_sets(grid, ranking, sets, room);
+    Ready { checked, grid }
+}
+
+// The sets of one symbol each of a word.
+pub fn fill_sets(word: &[u8], sets: &mut [u64])
+    requires { ⌜ (length (now word) ≤ length (now sets)) × (allOf (λ x. ltb x 64) (now word) ≡ true) ⌝ }
+    ensures { λ _. ⌜ take (length (now (word .entry))) (now (sets .exit)) ≡ singletons (now (word .entry)) ⌝ }
+{
+    let mut i = 0;
+    while i < word.len() {
+        sets[i] = machine::sets::set_of(word[i]);
+        i += 1;
+    }
 }

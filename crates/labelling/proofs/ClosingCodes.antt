@@ -1,27 +1,28 @@
 -- What closing a position does: labels taken apart into counts and written, code by code.
 use mathlib.Core.Path.{_≡_, refl, sym, _∙_, ap, subst}
-use mathlib.Core.Logic.{_⊎_, inl, inr, _≢_}
 use mathlib.Core.List.{List}
-use mathlib.Core.Option.{some, none, Option·none-ne-some}
-use Prim.Native.Nat.{ℕ, _+_, _-_, _*_, _/_, _%_, _^_, _<_, _≤_}
-use native.Mathlib.Decide.{decLt, ℕ-discrete}
+use mathlib.Core.Option.{Option, some, none, Option·none-ne-some}
+use Prim.Native.Nat.{ℕ, _+_, _*_, _/_, _%_, _^_, _<_, _≤_}
 use native.Mathlib.Omega.{arith}
-use borrow.Author.Tests.{le-ltb, lt-ltb}
-use lib.ListN.{length, getD, set, length-set}
+use lib.ListN.{length, set, length-set}
 use lib.Seq.{getD-set-same, getD-set-other}
 use Rattle.paths.specs.Ranked.{Ranked}
 use Rattle.labels.specs.Work.{labelOf, AlikeAt, Stored}
 use Rattle.labels.specs.LabelCost.{AllShort}
-use Rattle.labels.proofs.Work.{labelled, unlabelled, label-alike, alike-trans, alike-numbers}
+use Rattle.labels.proofs.Work.{labelled, unlabelled, label-alike, alike-numbers}
 use Rattle.settling.specs.Packing.{packedPath}
 use Rattle.cells.specs.declared.Cell.{Cell}
 use Rattle.cells.specs.Cells.{nowhere}
-use Rattle.cells.specs.Labels.{noLabel, cellAt, OwnCell, nextCell, NextFits}
-use Rattle.cells.specs.Trying.{labelFrom}
-use Rattle.cells.specs.Laws.Labels.{written, written-here, written-other}
+use Rattle.cells.specs.Labels.{cellAt}
+use Rattle.cells.specs.Laws.Labels.{written}
 use Rattle.cells.specs.Laws.Trying.{label-there, label-none}
 use Rattle.labelling.specs.CountsPacking.{firstCounts, lastCounts, countsPacking}
-use Rattle.labelling.specs.Closing.{ClosePre, ClosedAt, LabelStored, PassAllPre, AllPassed}
+use Rattle.labelling.specs.Closing.{CountsHeld, CountsStored, CountsPre, CountsClosed}
+use Rattle.labelling.proofs.Writing.{written-start, written-next}
+
+-- a node whose numbers stay keeps its label
+still-held : {xs ys : List ℕ} {w : ℕ} {o : Option (Ranked 1)} → AlikeAt xs ys w → CountsHeld xs w o → CountsHeld ys w o
+still-held a h = record { stored = h .stored ∙ sym (ap (packedPath countsPacking) (label-alike a)); short = λ k e. h .short k (sym (label-alike a) ∙ e) }
 
 -- ---- two numbers taken apart into counts
 
@@ -68,23 +69,21 @@ module _ (h l : ℕ) where
   abbrev cell : Cell
   cell = record { high = h; low = l }
 
-  pub label-stored : (xs ys : List ℕ) (u : ℕ) → h < nowhere → h < 2 ^ 56 → l < 2 ^ 64 → Stored xs ys u countsOf → LabelStored xs ys u h l
+  pub label-stored : (xs ys : List ℕ) (u : ℕ) → h < nowhere → h < 2 ^ 56 → l < 2 ^ 64 → Stored xs ys u countsOf → CountsStored xs ys u h l
   label-stored xs ys u k p q s = record {
     size = s .size;
-    stored = ap (packedPath countsPacking) is ∙ packed-are ∙ sym (label-there cell k);
-    short = λ c e. let z : countsOf ≡ c = cc (is, e) in subst (AllShort 6) z (counts-short p q);
-    others = s .others;
+    held = record { stored = label-there cell k ∙ sym (ap (packedPath countsPacking) is ∙ packed-are); short = λ c e. let z : countsOf ≡ c = cc (is, e) in subst (AllShort 6) z (counts-short p q) };
+    others = λ w o n. still-held (s .others w n);
   }
     where
       is : labelOf ys u ≡ some countsOf
       is = labelled ys u (λ e. omega (arith, s .state)) ∙ ap some (s .cost)
 
-  pub none-stored : (xs : List ℕ) (u : ℕ) → u * 8 + 7 < length xs → nowhere ≤ h → LabelStored xs (set xs (u * 8) 0) u h l
+  pub none-stored : (xs : List ℕ) (u : ℕ) → u * 8 + 7 < length xs → nowhere ≤ h → CountsStored xs (set xs (u * 8) 0) u h l
   none-stored xs u r k = record {
     size = length-set xs (u * 8) 0;
-    stored = ap (packedPath countsPacking) is ∙ sym (label-none cell k);
-    short = λ c e. absurd (Option·none-ne-some c (sym is ∙ e));
-    others = λ w n. alike-numbers xs (set xs (u * 8) 0) w (λ j a b. getD-set-other xs (u * 8) j 0 0 (λ e. n (omega arith)));
+    held = record { stored = label-none cell k ∙ sym (ap (packedPath countsPacking) is); short = λ c e. absurd (Option·none-ne-some c (sym is ∙ e)) };
+    others = λ w o n. still-held (alike-numbers xs (set xs (u * 8) 0) w (λ j a b. getD-set-other xs (u * 8) j 0 0 (λ e. n (omega arith))));
   }
     where
       is : labelOf (set xs (u * 8) 0) u ≡ none
@@ -92,54 +91,12 @@ module _ (h l : ℕ) where
 
 -- ---- the loop: the labels of the codes below n are written
 
-pub record StoredBelow (work work′ own : List ℕ) (base n : ℕ) : Type 0 where
-  pub size : length work′ ≡ length work
-  pub others : (w : ℕ) → (w < base) ⊎ (base + n ≤ w) → AlikeAt work work′ w
-  pub stored : (c : ℕ) → c < n → packedPath countsPacking (labelOf work′ (base + c)) ≡ labelFrom (cellAt own c)
-  pub short : (c : ℕ) (k : Ranked 6) → c < n → labelOf work′ (base + c) ≡ some k → AllShort 6 k
+pub stored-start : (work own : List ℕ) (base : ℕ) → CountsClosed work work own base 0
+stored-start work own base = record { size = refl; written = written-start }
 
-pub stored-start : (work own : List ℕ) (base : ℕ) → StoredBelow work work own base 0
-stored-start work own base = record { size = refl; others = λ w d. record { state = refl; cost = refl }; stored = λ c h. absurd (omega arith); short = λ c k h. absurd (omega arith) }
-
-module _ (work work′ own : List ℕ) (base n : ℕ) (B : StoredBelow work work′ own base n) where
-  pub has-node : {next : List ℕ} {P : ℕ} → ClosePre work own next base P → n < P → (base + n) * 8 + 7 < length work′
+module _ {work work′ own : List ℕ} {base n : ℕ} (B : CountsClosed work work′ own base n) where
+  pub has-node : {P : ℕ} → CountsPre work own base P → n < P → (base + n) * 8 + 7 < length work′
   has-node pre k = omega (arith, B .size, pre .nodes)
 
-  pub stored-next : (work″ : List ℕ) → LabelStored work′ work″ (base + n) (cellAt own n .high) (cellAt own n .low) → StoredBelow work work″ own base (n + 1)
-  stored-next work″ S = record { size = S .size ∙ B .size; others = others; stored = λ c h. stored c h (ℕ-discrete c n); short = λ c k h. short c k h (ℕ-discrete c n) }
-    where
-      others : (w : ℕ) → (w < base) ⊎ (base + (n + 1) ≤ w) → AlikeAt work work″ w
-      others w (inl h) = alike-trans (B .others w (inl h)) (S .others w (λ e. omega arith))
-      others w (inr h) = alike-trans (B .others w (inr (omega arith))) (S .others w (λ e. omega arith))
-
-      same : (c : ℕ) → c ≢ n → labelOf work″ (base + c) ≡ labelOf work′ (base + c)
-      same c d = label-alike (S .others (base + c) (λ e. d (omega arith)))
-
-      stored : (c : ℕ) → c < n + 1 → Dec (c ≡ n) → packedPath countsPacking (labelOf work″ (base + c)) ≡ labelFrom (cellAt own c)
-      stored c h (yes e) = rw e (S .stored)
-      stored c h (no d) = ap (packedPath countsPacking) (same c d) ∙ B .stored c (omega arith)
-
-      short : (c : ℕ) (k : Ranked 6) → c < n + 1 → Dec (c ≡ n) → labelOf work″ (base + c) ≡ some k → AllShort 6 k
-      short c k h (yes e) l = S .short k (ap (λ (c : ℕ). labelOf work″ (base + c)) (sym e) ∙ l)
-      short c k h (no d) l = B .short c k (omega arith) (sym (same c d) ∙ l)
-
--- ---- closed
-
-module _ {work own next : List ℕ} {base P : ℕ} (pre : ClosePre work own next base P) where
-  pub pass-ready : PassAllPre own next P
-  pass-ready = record { few = pre .few; own-size = pre .own-size; next-size = pre .next-size; last = pre .last; low = pre .low }
-
-  pub closed-all : {work′ own′ next′ : List ℕ} → StoredBelow work work′ own base P → AllPassed own own′ next next′ P → ClosedAt work work′ own own′ next next′ base P
-  closed-all S A = record {
-    size = S .size;
-    others = S .others;
-    stored = S .stored;
-    short = S .short;
-    labels = A .labels;
-    same = A .same;
-    high-same = A .high-same;
-    fits = A .fits;
-    blank = A .blank;
-    own-size = A .own-size;
-    next-size = A .next-size;
-  }
+  pub stored-next : {work″ : List ℕ} → CountsStored work′ work″ (base + n) (cellAt own n .high) (cellAt own n .low) → CountsClosed work work″ own base (n + 1)
+  stored-next S = record { size = S .size ∙ B .size; written = written-next (B .written) (S .held) (S .others) }

@@ -1,6 +1,6 @@
--- What `close` asks can be met: two codes, one of them with a label. Assumes nothing.
+-- What closing a position asks can be met: two codes, one of them with a label. Assumes nothing.
 use mathlib.Core.Path.{_≡_, refl}
-use mathlib.Core.List.{List, _∷_}
+use mathlib.Core.List.{List, [], _∷_}
 use Prim.Native.Nat.{ℕ, zero, suc, _+_, _%_, _^_, _<_, _≤_}
 use native.Mathlib.Omega.{arith}
 use lib.ListN.{replicate, length-replicate}
@@ -11,15 +11,11 @@ use Rattle.labelling.specs.Closing.{ClosePre}
 abbrev labels : List ℕ
 labels = 511 ∷ 7 ∷ nowhere ∷ replicate 253 0
 
-pub can-close : ClosePre (replicate 16 0) labels (replicate 256 0) 0 2
+pub can-close : ClosePre (replicate 16 0) [] labels (replicate 256 0) 0 2
 can-close = record {
-  nodes = omega (arith, length-replicate {A = ℕ} 16 0);
-  few = omega arith;
-  own-size = omega (arith, length-replicate {A = ℕ} 253 0);
-  next-size = length-replicate {A = ℕ} 256 0;
-  last = last;
-  high = high;
-  low = low;
+  counts = λ e. record { nodes = omega (arith, length-replicate {A = ℕ} 16 0); high = high };
+  numbers = λ n. absurd (n refl);
+  pass = record { few = omega arith; own-size = omega (arith, length-replicate {A = ℕ} 253 0); next-size = length-replicate {A = ℕ} 256 0; last = last; low = low };
 }
   where
     last : (c : ℕ) → c < 2 → cellAt labels c .high < nowhere → cellAt labels c .high % 256 ≡ 255

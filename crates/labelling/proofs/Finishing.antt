@@ -1,85 +1,108 @@
 -- A position that was entered, settled and closed: one position more is labelled.
-use mathlib.Core.Path.{_≡_, refl, sym, _∙_, ap, subst}
+use mathlib.Core.Path.{_≡_, sym, _∙_, subst}
+use mathlib.Core.Bool.{Bool}
 use mathlib.Core.List.{List}
-use mathlib.Core.Option.{some}
-use Prim.Native.Nat.{ℕ, suc, _+_, _*_, _/_, _%_, _^_, _<_, _≤_}
+use Prim.Native.Nat.{ℕ, suc, _+_, _*_, _/_, _%_, _<_, _≤_}
+use native.Mathlib.Nat.{suc-mul, mul-le-mul-right}
 use native.Mathlib.Omega.{arith}
+use borrow.Author.Tests.{eq-eqb, ne-eqb}
 use lib.ListN.{length}
 use Rattle.card.specs.Card.{machinesOf}
 use Rattle.paths.specs.Costs.{Labels}
 use Rattle.paths.specs.Ranked.{rankedCosts}
 use Rattle.paths.specs.Positions.{Done, Entered}
-use Rattle.product.specs.Nodes.{stateCounts, product}
 use Rattle.product.specs.Setting.{placeOf, Setting}
 use Rattle.product.specs.Laws.Setting.{few-codes, node-below}
-use Rattle.tables.specs.Laws.Cards.{card-machines}
-use Rattle.labels.specs.Work.{HasNodes}
 use Rattle.settling.specs.Settling.{SettlePre, Settled}
-use Rattle.cells.specs.declared.Cell.{Cell}
-use Rattle.cells.specs.Cells.{nowhere, highOf, lowOf}
-use Rattle.cells.specs.Columns.{WeightsOf}
-use Rattle.cells.specs.Labels.{cellAt, nextCell, NextFits}
-use Rattle.cells.specs.Trying.{labelFrom}
+use Rattle.settling.proofs.PositionDone.{Tied}
+use Rattle.cells.specs.Cells.{nowhere}
+use Rattle.cells.specs.Labels.{cellAt, NextFits}
 use Rattle.cells.specs.Laws.Position.{placed, placed-in}
-use Rattle.entering.specs.Entering.{cellGraph, mostOf, Blank, Position, NextRoom}
+use Rattle.cells.specs.Laws.Trying.{label-there}
+use Rattle.columns.specs.Prepared.{Prepared}
+use Rattle.insertions.specs.Listed.{Listed}
+use Rattle.entering.specs.Entering.{cellGraph, Blank, Position, NextRoom}
+use Rattle.labelling.specs.Kinds.{inCounts, listsBy}
 use Rattle.labelling.specs.Closing.{ClosePre, ClosedAt}
-use Rattle.labelling.specs.Labelling.{Labelled, ListsPre, rankedLists, FinishPre, Finished}
-use Rattle.labelling.specs.Laws.LabelRoom.{LabelRoom, ranked-room-most}
-use Rattle.labelling.specs.Laws.Tied.{ranked-ready, ranked-last, ranked-settled}
-use Rattle.labelling.proofs.Labelled.{Followed, labelled-next, followed-next, label-of-cell}
+use Rattle.labelling.specs.Labelling.{KeptShort, OrderPre, Room, Labelled, FinishPre, Finished}
+use Rattle.labelling.specs.Laws.Settled.{numberGraph, settled-last, settled-position}
+use Rattle.labelling.specs.Laws.Tied.{tied, settle-ready, settle-fits}
+use Rattle.labelling.proofs.Labelled.{Followed, labelled-next}
 
 -- what holds when the position i is closed
-pub record PositionClosed (card ws sets work own next : List ℕ) (K P i : ℕ) : Type 0 where
+pub record PositionClosed (card ws sets ranked sums own next : List ℕ) (K P i : ℕ) : Type 0 where
   pub labels : Labels (rankedCosts 1)
-  pub labelled : Labelled card ws sets work i labels
+  pub labelled : Labelled card ws sets ranked sums i labels
   pub followed : Followed next P i labels
   pub room : NextRoom next ws K P
   pub blank : Blank own P
   pub own-size : length own ≡ 256
   pub next-size : length next ≡ 256
 
-module _ {card ws sets entries ends : List ℕ} {P : ℕ} (s : Setting card sets P) (W : WeightsOf (stateCounts (machinesOf card)) ws) (Z : ListsPre card ws entries ends) {i : ℕ} (within : i ≤ length sets)
+module _ {card ws marks sets steps entries ends : List ℕ} {P W kept : ℕ} {counts : Bool} (s : Setting card sets P) (O : OrderPre counts card sets ws marks P) (X : Prepared (machinesOf card) 0 W steps kept)
+    (Y : Listed (machinesOf card) (O .order) kept entries ends) {i : ℕ} (within : i ≤ length sets)
     {own : List ℕ} (L : Labels (rankedCosts 1)) (A : Position own P) (E : Entered (cellGraph ws card sets) (placeOf card) (placed (i * P) P L (cellAt own)) i) where
-  module _ {ys : List ℕ} (S : Settled (rankedLists entries ends) own ys) where
-    pub done : Done (cellGraph ws card sets) (placeOf card) (placed (i * P) P L (cellAt ys)) i
-    done = ranked-settled (Z .by .ranking) s within W (Z .by .ranked) (Z .prepared) (Z .listed) A (S .size) S L E
+  ties : Tied (numberGraph ws card sets) (placeOf card) i (listsBy counts ws entries ends) (i * P) P
+  ties = tied s i within ws counts (O .weights) (O .same) X Y
 
-    -- a label has room for more
-    room : (K : ℕ) → K ≤ 6 → (c : ℕ) → c < P → cellAt ys c .high < nowhere → LabelRoom (mostOf (highOf ws) K) (mostOf (lowOf ws) K) (2 ^ 56) (cellAt ys c .high / 256, cellAt ys c .low)
-    room K six c b h =
-        ranked-room-most s (Z .by .ranking) W (Z .by .ranked) K six (done .attained) (i * P + c) (cellAt ys c .high / 256, cellAt ys c .low) (node-below s i (i * P + c) within (omega arith))
-        (placed-in (i * P) P L (cellAt ys) c b ∙ label-of-cell (cellAt ys c .high) (cellAt ys c .low) h)
+  its-node : (c : ℕ) → c < P → i * P + c < (length sets + 1) * P
+  its-node c b = node-below s i (i * P + c) within (omega arith)
+
+  settle-pre : SettlePre (listsBy counts ws entries ends) own P
+  settle-pre =
+      settle-ready counts (few-codes s) A Y (s .states) (O .highs-few) (O .lows-few) (O .if-ranked)
+      (settle-fits counts (few-codes s) A entries ends {top = nowhere} (omega arith) (λ c x b l. O .short (E .attained) (i * P + c) x (its-node c b) (placed-in (i * P) P L (cellAt own) c b ∙ l) .room))
+
+  module _ {ys : List ℕ} (S : Settled (listsBy counts ws entries ends) own ys) where
+    done : Done (cellGraph ws card sets) (placeOf card) (placed (i * P) P L (cellAt ys)) i
+    done = settled-position ws s ties A (S .size) S L E
 
     last : (c : ℕ) → c < P → cellAt ys c .high < nowhere → cellAt ys c .high % 256 ≡ 255
-    last = ranked-last (Z .by .ranking) s within W (Z .by .ranked) (Z .prepared) (Z .listed) A (S .size) S
+    last = settled-last ws s ties A (S .size) S
 
-    pub close-ready : {work next : List ℕ} → HasNodes work (i * P + P) → length next ≡ 256 → ClosePre work ys next (i * P) P
-    close-ready there e = record {
-      nodes = there;
-      few = few-codes s;
-      own-size = S .size;
-      next-size = e;
-      last = last;
-      high = λ c b h. omega (arith, room 0 (omega arith) c b h .high, last c b h);
-      low = λ c b h. omega (arith, room 0 (omega arith) c b h .low);
+    short : (c : ℕ) → c < P → cellAt ys c .high < nowhere → KeptShort counts ws (cellAt ys c .high / 256, cellAt ys c .low)
+    short c b h = O .short (done .attained) (i * P + c) (cellAt ys c .high / 256, cellAt ys c .low) (its-node c b) (placed-in (i * P) P L (cellAt ys) c b ∙ label-there (cellAt ys c) h)
+
+    close-ready : {ranked sums next : List ℕ} → counts ≡ inCounts sums → Room ranked sums ((length sets + 1) * P) → length next ≡ 256 → ClosePre ranked sums ys next (i * P) P
+    close-ready {sums = sums} kind R e =
+        let m : suc i * P ≤ (length sets + 1) * P = mul-le-mul-right P (omega arith) in
+        record {
+          counts = λ z. record { nodes = omega (arith, R .counts z, suc-mul i P); high = λ c b h. omega (arith, short c b h .in-counts (kind ∙ eq-eqb (length sums) 0 z)) };
+          numbers = λ z. record {
+            nodes = omega (arith, R .numbers z, suc-mul i P);
+            few = λ c b h. let k = short c b h .in-number (kind ∙ ne-eqb (length sums) 0 z) in (omega (arith, k .0), k .1);
+          };
+          pass = record { few = few-codes s; own-size = S .size; next-size = e; last = last; low = λ c b h. omega (arith, short c b h .room .low) };
+        }
+
+    closed-next : {ranked ranked′ sums sums′ own′ next next′ : List ℕ} (K : ℕ) → K ≤ 6 → Labelled card ws sets ranked sums (suc i) L → NextFits next → ClosedAt ranked ranked′ sums sums′ ys own′ next next′ (i * P) P
+        → PositionClosed card ws sets ranked′ sums′ own′ next′ K P i
+    closed-next K six B N C =
+        let N′ = C .passed in
+        record {
+          labels = placed (i * P) P L (cellAt ys);
+          labelled = labelled-next s B done C;
+          followed = record { labels = λ t h. placed-in (i * P) P L (cellAt ys) t h ∙ sym (N′ .same t h) };
+          room = record {
+            labels = N′ .labels;
+            fits = N′ .fits N;
+            room = λ t b h.
+                let q = N′ .high-same t b h in
+                let k : cellAt ys t .high < nowhere = omega arith in
+                omega (arith, short t b k .room .high, last t b k, O .most K six);
+          };
+          blank = N′ .blank;
+          own-size = N′ .own-size;
+          next-size = N′ .next-size;
+        }
+
+  module _ {ranked sums : List ℕ} (kind : counts ≡ inCounts sums) where
+    pub finish-ready : {next : List ℕ} → Room ranked sums ((length sets + 1) * P) → length next ≡ 256 → FinishPre ranked sums ws own next entries ends (i * P) P
+    finish-ready R e = record {
+      settle = subst (λ (k : Bool). SettlePre (listsBy k ws entries ends) own P) kind settle-pre;
+      close = λ ys S. close-ready (subst (λ (k : Bool). Settled (listsBy k ws entries ends) own ys) (sym kind) S) kind R e;
     }
 
-    pub closed-next : {work work′ own′ next next′ : List ℕ} (K : ℕ) → K ≤ 6 → Labelled card ws sets work (suc i) L → NextFits next → ClosedAt work work′ ys own′ next next′ (i * P) P → PositionClosed card ws sets work′ own′ next′ K P i
-    closed-next K six B N C = record {
-      labels = placed (i * P) P L (cellAt ys);
-      labelled = labelled-next s B done C;
-      followed = followed-next L C;
-      room = record { labels = C .labels; fits = C .fits N; room = λ t b h. omega (arith, C .high-same t b h, room K six t b (omega (arith, C .high-same t b h)) .high, last t b (omega (arith, C .high-same t b h))) };
-      blank = C .blank;
-      own-size = C .own-size;
-      next-size = C .next-size;
-    }
-
-  pub finish-ready : {work next : List ℕ} → HasNodes work (i * P + P) → length next ≡ 256 → FinishPre work own next entries ends (i * P) P
-  finish-ready there e = record {
-    settle = ranked-ready (Z .by .ranking) s within W (Z .by .ranked) L own (E .attained) (Z .listed) A;
-    close = λ ys S. close-ready S there e;
-  }
-
-  pub finished : {work work′ own′ next next′ : List ℕ} (K : ℕ) → K ≤ 6 → Labelled card ws sets work (suc i) L → NextFits next → Finished work work′ own own′ next next′ entries ends (i * P) P → PositionClosed card ws sets work′ own′ next′ K P i
-  finished K six B N F = closed-next (F .settled) K six B N (F .closed)
+    pub finished : {ranked′ sums′ own′ next next′ : List ℕ} (K : ℕ) → K ≤ 6 → Labelled card ws sets ranked sums (suc i) L → NextFits next
+        → Finished ranked ranked′ sums sums′ ws own own′ next next′ entries ends (i * P) P → PositionClosed card ws sets ranked′ sums′ own′ next′ K P i
+    finished K six B N F = closed-next (subst (λ (k : Bool). Settled (listsBy k ws entries ends) own (F .labels)) (sym kind) (F .settled)) K six B N (F .closed)

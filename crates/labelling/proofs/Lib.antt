@@ -1,9 +1,12 @@
+pub mod Sizes
 pub mod Passing
 pub mod Weighing
+pub mod Writing
 pub mod ClosingCodes
+pub mod ClosingNumbers
 pub mod ClosingExample
+pub mod Closed
 pub mod Labelled
 pub mod Finishing
 pub mod Looping
-pub mod Ends
 pub mod Preparing

@@ -1,139 +1,116 @@
 -- One position after the other.
 use mathlib.Core.Path.{_≡_, refl, sym, _∙_, ap, subst}
-use mathlib.Core.Bool.{true}
 use mathlib.Core.List.{List}
 use mathlib.Core.Option.{none}
 use Prim.Native.Nat.{ℕ, suc, _+_, _-_, _*_, _<_, _≤_}
-use native.Mathlib.Nat.{suc-mul, mul-le-mul-right}
+use native.Mathlib.Nat.{mul-le-mul-right}
 use native.Mathlib.Decide.{decLt}
 use native.Mathlib.Omega.{arith}
-use lib.ListN.{length, getD, replicate, getD-replicate, length-replicate, length-map, List·getD-eq-default}
-use Rattle.basics.specs.Sets.{member}
-use Rattle.basics.specs.Products.{product}
-use Rattle.card.specs.Layout.{symbolCount}
+use lib.Dec.{eqb}
+use lib.ListN.{length, getD, take, replicate, getD-replicate, length-replicate, List·getD-eq-default}
 use Rattle.card.specs.Card.{machinesOf}
-use Rattle.product.specs.Nodes.{stateCounts, stateCountOf}
-use Rattle.product.specs.Setting.{placeOf, Setting}
-use Rattle.product.specs.Laws.Setting.{few-codes, few-nodes}
-use Rattle.tables.specs.Laws.Cards.{card-machines, card-counts}
-use Rattle.tables.specs.Tables.{CountsOfSome}
-use Rattle.labels.specs.Work.{HasNodes, labelOf}
-use Rattle.labels.proofs.Work.{past-end}
-use Rattle.cells.specs.declared.Groups.{Groups}
-use Rattle.cells.specs.Cells.{places}
-use Rattle.cells.specs.Columns.{WeightsOf}
 use Rattle.paths.specs.Positions.{Entered}
+use Rattle.product.specs.Nodes.{stateCounts, product}
+use Rattle.product.specs.Setting.{placeOf, Setting}
+use Rattle.product.specs.Laws.Setting.{few-nodes}
+use Rattle.cells.specs.declared.Groups.{Groups}
+use Rattle.cells.specs.Columns.{WeightsOf}
+use Rattle.cells.specs.Groups.{GroupsOf}
+use Rattle.cells.specs.Cells.{places}
 use Rattle.cells.specs.Labels.{cellAt, NextFits}
 use Rattle.cells.specs.Laws.Position.{placed}
-use Rattle.cells.specs.Laws.Groups.{all-codes}
 use Rattle.entering.specs.Entering.{cellGraph, Ready, Blank, Position, NextRoom, SymbolsEntered, EndingsEntered}
-use Rattle.labelling.specs.Labelling.{Labelled, SearchPre, ListsPre, FinishPre, Finished, AllLabelled}
+use Rattle.grid.specs.declared.Grid.{Grid}
+use Rattle.labelling.specs.Kinds.{inCounts}
+use Rattle.labelling.specs.Labelling.{Room, PositionsPre, Labelled, FinishPre, Finished, AllLabelled}
+use Rattle.labelling.proofs.Sizes.{counts-are, counts-few, size-is}
 use Rattle.labelling.proofs.Labelled.{labelled-start}
 use Rattle.labelling.proofs.Finishing.{PositionClosed, finish-ready, finished}
 
-module _ {work card counts ws sets steps : List ℕ} {g : Groups} (Q : SearchPre work card counts ws sets steps g) where
-  pub codes : g .front * g .back ≡ product counts
-  codes = all-codes (Q .groups)
+-- slices of other contents and the same lengths
+room-kept : {ranked ranked′ sums sums′ : List ℕ} {n : ℕ} → length ranked′ ≡ length ranked → length sums′ ≡ length sums → Room ranked sums n → Room ranked′ sums′ n
+room-kept r s R = record { counts = λ e. r ∙ R .counts (sym s ∙ e); numbers = λ z. s ∙ R .numbers (λ e. z (s ∙ e)) }
 
-  counts-of : product counts ≡ product (stateCounts (machinesOf card))
-  counts-of = ap product (Q .counts-are)
+kind-kept : (sums sums′ : List ℕ) → length sums′ ≡ length sums → inCounts sums ≡ inCounts sums′
+kind-kept sums sums′ s = ap (λ (n : ℕ). eqb n 0) (sym s)
 
-  pub at-hand : Setting card sets (g .front * g .back)
-  at-hand = record { accepted = Q .setting .accepted; few = Q .setting .few; symbols = Q .setting .symbols; states = codes ∙ counts-of }
+module _ {ranked sums card : List ℕ} {grid : Grid} {ws sets steps entries ends : List ℕ} (Z : PositionsPre ranked sums card grid ws sets steps entries ends) where
+  its-setting : Setting card sets (grid .size)
+  its-setting = Z .search .setting
 
-  pub weights-of : WeightsOf (stateCounts (machinesOf card)) ws
-  weights-of = subst (λ (l : List ℕ). WeightsOf l ws) (Q .counts-are) (Q .weights)
-
-  pub few-machines : length counts ≤ 6
-  few-machines = omega (arith, ap length (Q .counts-are), length-map (machinesOf card) stateCountOf, card-machines card (Q .setting .accepted) .machines)
-
-  pub enter-ready : {own steps′ : List ℕ} {W : ℕ} → W ≡ places counts → length steps′ ≡ length steps → length own ≡ 256 → Ready card counts ws own steps′ W g
-  enter-ready {W = W} w e z = record {
-    accepted = Q .setting .accepted;
-    counts-are = Q .counts-are;
+  pub enter-ready : {own steps′ : List ℕ} {W : ℕ} {g : Groups} → W ≡ places (take (grid .machines) (grid .counts)) → length steps′ ≡ length steps → length own ≡ 256
+      → GroupsOf (take (grid .machines) (grid .counts)) g × (g .front + g .back ≤ 66) → Ready card (take (grid .machines) (grid .counts)) ws own steps′ W g
+  enter-ready {W = W} w e z G = record {
+    accepted = its-setting .accepted;
+    counts-are = counts-are (its-setting .accepted) (Z .search .grid-of);
     width = w;
-    weights = Q .weights;
-    groups = Q .groups;
-    few = Q .few;
-    room = omega (arith, Q .columns, ap (λ (n : ℕ). 65 * n) w);
+    weights = subst (λ (l : List ℕ). WeightsOf l ws) (sym (counts-are (its-setting .accepted) (Z .search .grid-of))) (Z .search .order-pre .weights);
+    groups = G .0;
+    few = G .1;
+    room = omega (arith, Z .columns, w, Z .search .grid-of .states, ap places (counts-are (its-setting .accepted) (Z .search .grid-of)));
     size = z;
   }
 
-  -- the work slice has the nodes of a position
-  there : (work′ : List ℕ) → length work′ ≡ length work → (i : ℕ) → i ≤ length sets → HasNodes work′ (i * (g .front * g .back) + g .front * g .back)
-  there work′ e i h =
-      let m : suc i * (g .front * g .back) ≤ (length sets + 1) * (g .front * g .back) = mul-le-mul-right (g .front * g .back) (omega arith) in
-      let q : (length sets + 1) * product counts ≡ (length sets + 1) * (g .front * g .back) = ap (λ (n : ℕ). (length sets + 1) * n) (sym codes) in
-      omega (arith, Q .room, suc-mul i (g .front * g .back))
-
-  pub base-few : (i : ℕ) → i ≤ length sets → i * (g .front * g .back) ≤ 3200
+  pub base-few : (i : ℕ) → i ≤ length sets → i * grid .size ≤ 3200
   base-few i h =
-      let m : i * (g .front * g .back) ≤ (length sets + 1) * (g .front * g .back) = mul-le-mul-right (g .front * g .back) (omega arith) in
-      omega (arith, few-nodes at-hand)
+      let m : i * grid .size ≤ (length sets + 1) * grid .size = mul-le-mul-right (grid .size) (omega arith) in
+      omega (arith, few-nodes its-setting)
 
-  pub last-few : length sets * (g .front * g .back) ≤ 3200
-  last-few = base-few (length sets) (omega arith)
+  position-of : {own : List ℕ} → Position own (product (stateCounts (machinesOf card))) → Position own (grid .size)
+  position-of {own} A = subst (λ (n : ℕ). Position own n) (sym (its-setting .states)) A
 
-  pub codes-few : g .front * g .back ≤ 128
-  codes-few = few-codes at-hand
+  few-machines : length (take (grid .machines) (grid .counts)) ≤ 6
+  few-machines = counts-few (its-setting .accepted) (Z .search .grid-of)
 
-  pub counts-known : CountsOfSome counts
-  counts-known = card-counts card (Q .setting .accepted) (Q .counts-are)
+  -- ---- the last position
+  module _ {own next : List ℕ} (E : EndingsEntered card ws own) where
+    pub last-ready : length next ≡ 256 → FinishPre ranked sums ws own next entries ends (length sets * grid .size) (grid .size)
+    last-ready e =
+        finish-ready its-setting (Z .search .order-pre) (Z .prepared) (Z .listed) (omega arith) (λ _. none) (position-of (E .position)) (E .entered sets (grid .size) its-setting) refl (Z .search .room) e
 
-  pub position-of : {own : List ℕ} → Position own (product (stateCounts (machinesOf card))) → Position own (g .front * g .back)
-  position-of {own} A = subst (λ (n : ℕ). Position own n) (sym (codes ∙ counts-of)) A
+    pub last-closed : {ranked′ sums′ own′ next′ : List ℕ} → NextFits next → Finished ranked ranked′ sums sums′ ws own own′ next next′ entries ends (length sets * grid .size) (grid .size)
+        → PositionClosed card ws sets ranked′ sums′ own′ next′ (length (take (grid .machines) (grid .counts))) (grid .size) (length sets)
+    last-closed N F =
+        finished its-setting (Z .search .order-pre) (Z .prepared) (Z .listed) (omega arith) (λ _. none) (position-of (E .position)) (E .entered sets (grid .size) its-setting) {ranked = ranked} {sums = sums} refl
+        (length (take (grid .machines) (grid .counts))) few-machines (labelled-start its-setting (Z .search .room)) N F
 
-  -- nothing is past the last position
-  past-none : (u : ℕ) → (length sets + 1) * (g .front * g .back) ≤ u → labelOf work u ≡ none
-  past-none u h =
-      let q : (length sets + 1) * product counts ≡ (length sets + 1) * (g .front * g .back) = ap (λ (n : ℕ). (length sets + 1) * n) (sym codes) in
-      past-end work u (omega (arith, Q .room))
+  -- ---- another one
+  module _ {ranked′ sums′ own next : List ℕ} {i : ℕ} (below : i < length sets)
+      (B : PositionClosed card ws sets ranked′ sums′ own next (length (take (grid .machines) (grid .counts))) (grid .size) (suc i)) where
+    pub blank-there : Blank own (product (take (grid .machines) (grid .counts)))
+    blank-there c h = B .blank c (omega (arith, size-is (its-setting .accepted) (Z .search .grid-of)))
 
-  module _ {entries ends : List ℕ} (Z : ListsPre card ws entries ends) {own next : List ℕ} where
-    -- ---- the last position
-    module _ (E : EndingsEntered card ws own) where
-      pub last-ready : length next ≡ 256 → FinishPre work own next entries ends (length sets * (g .front * g .back)) (g .front * g .back)
-      last-ready e = finish-ready at-hand weights-of Z (omega arith) (λ _. none) (position-of (E .position)) (E .entered sets (g .front * g .back) at-hand) (there work refl (length sets) (omega arith)) e
+    pub next-there : NextRoom next ws (length (take (grid .machines) (grid .counts))) (product (take (grid .machines) (grid .counts)))
+    next-there = subst (λ (n : ℕ). NextRoom next ws (length (take (grid .machines) (grid .counts))) n) (size-is (its-setting .accepted) (Z .search .grid-of)) (B .room)
 
-      pub last-closed : {work′ own′ next′ : List ℕ} → NextFits next → Finished work work′ own own′ next next′ entries ends (length sets * (g .front * g .back)) (g .front * g .back)
-          → PositionClosed card ws sets work′ own′ next′ (length counts) (g .front * g .back) (length sets)
-      last-closed N F =
-          finished at-hand weights-of Z (omega arith) (λ _. none) (position-of (E .position)) (E .entered sets (g .front * g .back) at-hand) (length counts) few-machines
-          (labelled-start at-hand past-none) N F
+    module _ {own′ : List ℕ} (E : SymbolsEntered card ws own′ next (getD sets i 0)) (sums-size : length sums′ ≡ length sums) where
+      entered : Entered (cellGraph ws card sets) (placeOf card) (placed (i * grid .size) (grid .size) (B .labels) (cellAt own′)) i
+      entered =
+          let q : i + 1 ≡ suc i = omega arith in
+          E .entered sets (grid .size) i (B .labels) its-setting below refl (B .labelled .done) (λ t h. ap (λ (n : ℕ). B .labels (n * grid .size + t)) q ∙ B .followed .labels t h)
 
-    -- ---- another one
-    module _ {work′ : List ℕ} {i : ℕ} (below : i < length sets) (B : PositionClosed card ws sets work′ own next (length counts) (g .front * g .back) (suc i)) where
-      pub blank-there : Blank own (product counts)
-      blank-there c h = B .blank c (omega (arith, codes))
+      pub symbols-ready : length ranked′ ≡ length ranked → FinishPre ranked′ sums′ ws own′ next entries ends (i * grid .size) (grid .size)
+      symbols-ready ranked-size =
+          finish-ready its-setting (Z .search .order-pre) (Z .prepared) (Z .listed) (omega arith) (B .labels) (position-of (E .position)) entered (kind-kept sums sums′ sums-size) (room-kept ranked-size sums-size (Z .search .room)) (B .next-size)
 
-      pub next-there : NextRoom next ws (length counts) (product counts)
-      next-there = subst (λ (n : ℕ). NextRoom next ws (length counts) n) codes (B .room)
-
-      module _ {own′ : List ℕ} (E : SymbolsEntered card ws own′ next (getD sets i 0)) where
-        entered : Entered (cellGraph ws card sets) (placeOf card) (placed (i * (g .front * g .back)) (g .front * g .back) (B .labels) (cellAt own′)) i
-        entered =
-            let q : i + 1 ≡ suc i = omega arith in
-            E .entered sets (g .front * g .back) i (B .labels) at-hand below refl (B .labelled .done) (λ t h. ap (λ (n : ℕ). B .labels (n * (g .front * g .back) + t)) q ∙ B .followed .labels t h)
-
-        pub symbols-ready : length work′ ≡ length work → FinishPre work′ own′ next entries ends (i * (g .front * g .back)) (g .front * g .back)
-        symbols-ready e =
-            finish-ready at-hand weights-of Z (omega arith) (B .labels) (position-of (E .position)) entered (there work′ e i (omega arith)) (B .next-size)
-
-        pub symbols-closed : {work″ own″ next″ : List ℕ} → Finished work′ work″ own′ own″ next next″ entries ends (i * (g .front * g .back)) (g .front * g .back)
-            → PositionClosed card ws sets work″ own″ next″ (length counts) (g .front * g .back) i
-        symbols-closed F =
-            finished at-hand weights-of Z (omega arith) (B .labels) (position-of (E .position)) entered (length counts) few-machines
-            (B .labelled) (B .room .fits) F
+      pub symbols-closed : {ranked″ sums″ own″ next″ : List ℕ} → Finished ranked′ ranked″ sums′ sums″ ws own′ own″ next next″ entries ends (i * grid .size) (grid .size)
+          → PositionClosed card ws sets ranked″ sums″ own″ next″ (length (take (grid .machines) (grid .counts))) (grid .size) i
+      symbols-closed F =
+          finished its-setting (Z .search .order-pre) (Z .prepared) (Z .listed) (omega arith) (B .labels) (position-of (E .position)) entered {ranked = ranked′} {sums = sums′} (kind-kept sums sums′ sums-size)
+          (length (take (grid .machines) (grid .counts))) few-machines (B .labelled) (B .room .fits) F
 
 -- all positions are closed
-pub all-closed : {card ws sets work work′ own next : List ℕ} {K P i : ℕ} → i ≤ 0 → length work′ ≡ length work → PositionClosed card ws sets work′ own next K P i → AllLabelled card ws sets work work′
-all-closed {card} {ws} {sets} {work′ = work′} {i = i} h e B =
+pub all-closed : {card ws sets ranked ranked′ sums sums′ own next : List ℕ} {K P i : ℕ} → i ≤ 0 → length ranked′ ≡ length ranked → length sums′ ≡ length sums → PositionClosed card ws sets ranked′ sums′ own next K P i
+    → AllLabelled card ws sets ranked ranked′ sums sums′
+all-closed {card} {ws} {sets} {ranked′ = ranked′} {sums′ = sums′} {i = i} h r s B =
     let q : i ≡ 0 = omega arith in
-    record { size = e; labels = B .labels; labelled = subst (λ (n : ℕ). Labelled card ws sets work′ n (B .labels)) q (B .labelled) }
+    record { ranked-size = r; sums-size = s; labels = B .labels; labelled = subst (λ (n : ℕ). Labelled card ws sets ranked′ sums′ n (B .labels)) q (B .labelled) }
 
 -- a position before another one
-pub one-before : {card ws sets work own next : List ℕ} {K P i : ℕ} → 0 < i → PositionClosed card ws sets work own next K P i → PositionClosed card ws sets work own next K P (suc (i - 1))
-one-before {card} {ws} {sets} {work} {own} {next} {K} {P} {i} h B = let q : i ≡ suc (i - 1) = omega arith in subst (λ (n : ℕ). PositionClosed card ws sets work own next K P n) q B
+pub one-before : {card ws sets ranked sums own next : List ℕ} {K P i : ℕ} → 0 < i → PositionClosed card ws sets ranked sums own next K P i → PositionClosed card ws sets ranked sums own next K P (suc (i - 1))
+one-before {card} {ws} {sets} {ranked} {sums} {own} {next} {K} {P} {i} h B =
+    let q : i ≡ suc (i - 1) = omega arith in
+    subst (λ (n : ℕ). PositionClosed card ws sets ranked sums own next K P n) q B
 
 -- a new array of labels
 pub zeros-fit : NextFits (replicate 256 0)

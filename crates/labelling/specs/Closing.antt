@@ -1,15 +1,16 @@
--- Closing a position: its labels are written into the work slice, and become those of the next position; then no code has a label.
+-- Closing a position: its labels are written into a work slice, and become those of the next position; then no code has a label.
 use mathlib.Core.Path.{_≡_}
 use mathlib.Core.Logic.{_⊎_, _≢_}
 use mathlib.Core.Bool.{cond}
 use mathlib.Core.List.{List}
-use mathlib.Core.Option.{some}
-use Prim.Native.Nat.{ℕ, _+_, _%_, _^_, _<_, _≤_}
+use mathlib.Core.Option.{Option, some}
+use Prim.Native.Nat.{ℕ, _+_, _*_, _/_, _%_, _^_, _<_, _≤_}
 use lib.Dec.{ltb}
 use lib.ListN.{length}
 use Rattle.paths.specs.Ranked.{Ranked}
-use Rattle.labels.specs.Work.{HasNodes, AlikeAt, labelOf}
+use Rattle.labels.specs.Work.{HasNodes, labelOf}
 use Rattle.labels.specs.LabelCost.{AllShort}
+use Rattle.sums.specs.Numbers as numbers
 use Rattle.settling.specs.Packing.{packedPath}
 use Rattle.cells.specs.declared.Cell.{Cell}
 use Rattle.cells.specs.Cells.{nowhere}
@@ -18,37 +19,58 @@ use Rattle.cells.specs.Trying.{labelFrom}
 use Rattle.entering.specs.Entering.{Blank}
 use Rattle.labelling.specs.CountsPacking.{countsPacking}
 
--- a settled position: a label is below 2 ^ 56 with the last byte 255, and low leaves room for a pair
-pub record ClosePre (work own next : List ℕ) (base P : ℕ) : Type 0 where
-  pub nodes : HasNodes work (base + P)
-  pub few : P ≤ 128
-  pub own-size : length own ≡ 256
-  pub next-size : length next ≡ 256
-  pub last : (c : ℕ) → c < P → cellAt own c .high < nowhere → cellAt own c .high % 256 ≡ 255
-  pub high : (c : ℕ) → c < P → cellAt own c .high < nowhere → cellAt own c .high < 2 ^ 56
-  pub low : (c : ℕ) → c < P → cellAt own c .high < nowhere → cellAt own c .low + 2 ^ 56 ≤ 2 ^ 64
+-- ---- the label of a node in a work slice
 
-pub record ClosedAt (work work′ own own′ next next′ : List ℕ) (base P : ℕ) : Type 0 where
-  pub size : length work′ ≡ length work
-  pub others : (w : ℕ) → (w < base) ⊎ (base + P ≤ w) → AlikeAt work work′ w
-  pub stored : (c : ℕ) → c < P → packedPath countsPacking (labelOf work′ (base + c)) ≡ labelFrom (cellAt own c)
-  pub short : (c : ℕ) (k : Ranked 6) → c < P → labelOf work′ (base + c) ≡ some k → AllShort 6 k
-  pub labels : (c : ℕ) → c < P → OwnCell (nextCell next′ c)
-  pub same : (c : ℕ) → c < P → labelFrom (nextCell next′ c) ≡ labelFrom (cellAt own c)
-  pub high-same : (c : ℕ) → c < P → nextCell next′ c .high < nowhere → nextCell next′ c .high ≡ cellAt own c .high
-  pub fits : NextFits next → NextFits next′
-  pub blank : Blank own′ P
-  pub own-size : length own′ ≡ 256
-  pub next-size : length next′ ≡ 256
+-- as counts
+pub record CountsHeld (work : List ℕ) (u : ℕ) (o : Option (Ranked 1)) : Type 0 where
+  pub stored : o ≡ packedPath countsPacking (labelOf work u)
+  pub short : (k : Ranked 6) → labelOf work u ≡ some k → AllShort 6 k
 
--- ---- one code
+-- as one number
+abbrev pub NumberHeld : (work : List ℕ) (u : ℕ) (o : Option (Ranked 1)) → Type 0
+NumberHeld work u o = o ≡ numbers.labelOf work u
+
+-- in the slice that is there
+pub record Held (ranked sums : List ℕ) (u : ℕ) (o : Option (Ranked 1)) : Type 0 where
+  pub counts : length sums ≡ 0 → CountsHeld ranked u o
+  pub number : length sums ≢ 0 → NumberHeld sums u o
+
+-- ---- writing labels
+
+-- the labels of n codes are written from the node base on: Had tells the labels of nodes before, and Has after
+pub record Written (Had Has : ℕ → Option (Ranked 1) → Type 0) (own : List ℕ) (base n : ℕ) : Type 0 where
+  pub held : (c : ℕ) → c < n → Has (base + c) (labelFrom (cellAt own c))
+  pub others : (w : ℕ) (o : Option (Ranked 1)) → (w < base) ⊎ (base + n ≤ w) → Had w o → Has w o
 
 -- the two numbers of a label are written at a node as counts
-pub record LabelStored (work work′ : List ℕ) (node high low : ℕ) : Type 0 where
+pub record CountsStored (work work′ : List ℕ) (node high low : ℕ) : Type 0 where
   pub size : length work′ ≡ length work
-  pub stored : packedPath countsPacking (labelOf work′ node) ≡ labelFrom (record { high = high; low = low })
-  pub short : (k : Ranked 6) → labelOf work′ node ≡ some k → AllShort 6 k
-  pub others : (w : ℕ) → w ≢ node → AlikeAt work work′ w
+  pub held : CountsHeld work′ node (labelFrom (record { high = high; low = low }))
+  pub others : (w : ℕ) (o : Option (Ranked 1)) → w ≢ node → CountsHeld work w o → CountsHeld work′ w o
+
+-- a settled position: a label is below 2 ^ 56
+pub record CountsPre (work own : List ℕ) (base P : ℕ) : Type 0 where
+  pub nodes : HasNodes work (base + P)
+  pub high : (c : ℕ) → c < P → cellAt own c .high < nowhere → cellAt own c .high < 2 ^ 56
+
+pub record CountsClosed (work work′ own : List ℕ) (base n : ℕ) : Type 0 where
+  pub size : length work′ ≡ length work
+  pub written : Written (CountsHeld work) (CountsHeld work′) own base n
+
+-- the number of a cell's label
+unfoldable pub numberOf : Cell → ℕ
+numberOf x = cond (ltb (x .high) nowhere) (x .high / 256 * 4096 + x .low) numbers.noLabel
+
+-- a label's number is below that of none
+pub record NumbersPre (work own : List ℕ) (base P : ℕ) : Type 0 where
+  pub nodes : base + P ≤ length work
+  pub few : (c : ℕ) → c < P → cellAt own c .high < nowhere → (cellAt own c .high < 2 ^ 59) × (cellAt own c .low < 4096)
+
+pub record NumbersClosed (work work′ own : List ℕ) (base n : ℕ) : Type 0 where
+  pub size : length work′ ≡ length work
+  pub written : Written (NumberHeld work) (NumberHeld work′) own base n
+
+-- ---- passing labels on
 
 -- the cell, or noLabel and 0 where it stands for no label
 unfoldable pub orNone : Cell → Cell
@@ -69,8 +91,6 @@ pub record Passed (own own′ next next′ : List ℕ) (code : ℕ) : Type 0 whe
   pub own-others : (c : ℕ) → c ≢ code → cellAt own′ c ≡ cellAt own c
   pub next-others : (c : ℕ) → c ≢ code → cellAt next′ c ≡ cellAt next c
 
--- ---- all codes
-
 pub record PassAllPre (own next : List ℕ) (P : ℕ) : Type 0 where
   pub few : P ≤ 128
   pub own-size : length own ≡ 256
@@ -87,3 +107,16 @@ pub record AllPassed (own own′ next next′ : List ℕ) (P : ℕ) : Type 0 whe
   pub blank : Blank own′ P
   pub own-size : length own′ ≡ 256
   pub next-size : length next′ ≡ 256
+
+-- ---- closing
+
+pub record ClosePre (ranked sums own next : List ℕ) (base P : ℕ) : Type 0 where
+  pub counts : length sums ≡ 0 → CountsPre ranked own base P
+  pub numbers : length sums ≢ 0 → NumbersPre sums own base P
+  pub pass : PassAllPre own next P
+
+pub record ClosedAt (ranked ranked′ sums sums′ own own′ next next′ : List ℕ) (base P : ℕ) : Type 0 where
+  pub ranked-size : length ranked′ ≡ length ranked
+  pub sums-size : length sums′ ≡ length sums
+  pub written : Written (Held ranked sums) (Held ranked′ sums′) own base P
+  pub passed : AllPassed own own′ next next′ P

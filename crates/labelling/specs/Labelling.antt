@@ -1,38 +1,37 @@
 -- Labelling all nodes, position by position, from the last to the first.
 use mathlib.Core.Path.{_≡_}
-use mathlib.Core.Bool.{true}
+use mathlib.Core.Logic.{_≢_}
+use mathlib.Core.Bool.{Bool, true, false}
 use mathlib.Core.List.{List}
 use mathlib.Core.Option.{some}
-use Prim.Native.Nat.{ℕ, _+_, _*_, _≤_}
+use Prim.Native.Nat.{ℕ, _+_, _*_, _^_, _<_, _≤_}
 use lib.ListN.{length}
 use Rattle.ranking.specs.Rankings.{isRanking}
 use Rattle.card.specs.Layout.{machineCount}
 use Rattle.card.specs.Card.{machinesOf}
 use Rattle.paths.specs.Costs.{Labels}
 use Rattle.paths.specs.Ranked.{Ranked, rankedCosts}
+use Rattle.paths.specs.Labels.{Attained}
 use Rattle.paths.specs.Positions.{Done}
-use Rattle.product.specs.Nodes.{stateCounts, product}
+use Rattle.product.specs.Nodes.{stateCounts}
 use Rattle.product.specs.Setting.{placeOf, Setting}
 use Rattle.labels.specs.Work.{labelOf}
-use Rattle.labels.specs.LabelCost.{AllShort}
 use Rattle.tables.specs.Engine.{engineGraph}
-use Rattle.tables.specs.Places.{sixPlaces, SixPlaces}
-use Rattle.settling.specs.Packing.{packedPath}
-use Rattle.settling.specs.Prices.{rankedHighs, rankedLows}
-use Rattle.settling.specs.Insertions.{Lists, listsOf}
+use Rattle.tables.specs.Places.{SixPlaces}
+use Rattle.settling.specs.Prices.{SixWeights, RankedIf, mostPrice}
 use Rattle.settling.specs.Settling.{SettlePre, Settled}
-use Rattle.cells.specs.declared.Groups.{Groups}
-use Rattle.cells.specs.Cells.{places}
+use Rattle.cells.specs.Cells.{nowhere, highOf}
 use Rattle.cells.specs.Columns.{WeightsOf}
-use Rattle.cells.specs.Groups.{GroupsOf}
-use Rattle.columns.specs.Filling.{Small}
 use Rattle.columns.specs.Prepared.{Prepared}
+use Rattle.grid.specs.declared.Grid.{Grid}
+use Rattle.grid.specs.Grids.{GridOf}
 use Rattle.insertions.specs.RankedWeights.{RankedWeights}
 use Rattle.insertions.specs.Listed.{Listed}
-use Rattle.insertions.specs.Listing.{Counted}
-use Rattle.entering.specs.Entering.{cellGraph}
-use Rattle.labelling.specs.CountsPacking.{countsPacking}
-use Rattle.labelling.specs.Closing.{ClosePre, ClosedAt}
+use Rattle.entering.specs.Entering.{cellGraph, mostOf}
+use Rattle.labelling.specs.Kinds.{inCounts, highsBy, lowsBy, listsBy}
+use Rattle.labelling.specs.Closing.{Held, ClosePre, ClosedAt}
+use Rattle.labelling.specs.Laws.LabelRoom.{LabelRoom}
+use Rattle.labelling.specs.Laws.Tied.{SamePrices}
 
 -- what labelling needs
 pub record LabelPre (card ranking sets xs : List ℕ) (P : ℕ) : Type 0 where
@@ -45,60 +44,72 @@ pub record PositionsDone (card ranking sets xs ys : List ℕ) (i : ℕ) : Type 0
   pub size : length ys ≡ length xs
   pub done : Done (engineGraph (machinesOf card) ranking sets) (placeOf card) (labelOf ys) i
 
--- the same by two numbers: the positions from i on are done, and the work slice has their labels
-pub record Labelled (card ws sets work : List ℕ) (i : ℕ) (L : Labels (rankedCosts 1)) : Type 0 where
+-- ---- the order, by the numbers of the machines
+
+-- a label leaves settling room for 128 pairs more, and can be stored
+pub record KeptShort (counts : Bool) (ws : List ℕ) (c : Ranked 1) : Type 0 where
+  pub room : LabelRoom (mostPrice (highsBy counts ws)) (mostPrice (lowsBy counts)) nowhere c
+  pub in-counts : counts ≡ true → c .0 < 2 ^ 48
+  pub in-number : counts ≡ false → (c .0 < 2 ^ 51) × (c .1 < 4096)
+
+-- what labelling asks of an order: the numbers `ws` of the machines make it; `marks` are those by which the lists have marks, in ranked order, and
+-- the lists price these as the machines do; labels are short
+pub record OrderPre (counts : Bool) (card sets ws marks : List ℕ) (P : ℕ) : Type 0 where
+  pub weights : WeightsOf (stateCounts (machinesOf card)) ws
+  pub marks-are : WeightsOf (stateCounts (machinesOf card)) marks
+  pub order : List ℕ
+  pub six : SixPlaces order
+  pub ranked : RankedWeights order marks
+  pub same : SamePrices order (highsBy counts ws) (lowsBy counts) ws
+  pub highs-few : SixWeights (highsBy counts ws)
+  pub lows-few : SixWeights (lowsBy counts)
+  pub if-ranked : RankedIf counts (highsBy counts ws) (lowsBy counts)
+  pub most : (K : ℕ) → K ≤ 6 → mostOf (highOf ws) K ≤ mostPrice (highsBy counts ws)
+  pub short : {M : Labels (rankedCosts 1)} → Attained (cellGraph ws card sets) M → (u : ℕ) (c : Ranked 1) → u < (length sets + 1) * P → M u ≡ some c → KeptShort counts ws c
+
+-- ---- the search
+
+-- the slice that is there has room for n labels
+pub record Room (ranked sums : List ℕ) (n : ℕ) : Type 0 where
+  pub counts : length sums ≡ 0 → length ranked ≡ n * 8
+  pub numbers : length sums ≢ 0 → length sums ≡ n
+
+-- a setting with the card's sizes, an order, and room for the labels
+pub record SearchPre (ranked sums card : List ℕ) (grid : Grid) (ws marks sets : List ℕ) : Type 0 where
+  pub setting : Setting card sets (grid .size)
+  pub grid-of : GridOf card grid
+  pub order-pre : OrderPre (inCounts sums) card sets ws marks (grid .size)
+  pub room : Room ranked sums ((length sets + 1) * grid .size)
+
+-- and lists that have the insertions of outputs that tell of all others
+pub record PositionsPre (ranked sums card : List ℕ) (grid : Grid) (ws sets steps entries ends : List ℕ) : Type 0 where
+  pub marks : List ℕ
+  pub search : SearchPre ranked sums card grid ws marks sets
+  pub kept : ℕ
+  pub prepared : Prepared (machinesOf card) 0 (grid .states) steps kept
+  pub columns : 65 * grid .states ≤ length steps
+  pub listed : Listed (machinesOf card) (search .order-pre .order) kept entries ends
+
+-- the positions from i on are done, and the work slices have their labels
+pub record Labelled (card ws sets ranked sums : List ℕ) (i : ℕ) (L : Labels (rankedCosts 1)) : Type 0 where
   pub done : Done (cellGraph ws card sets) (placeOf card) L i
-  pub stored : (u : ℕ) → i ≤ placeOf card u → L u ≡ packedPath countsPacking (labelOf work u)
-  pub short : (u : ℕ) (c : Ranked 6) → i ≤ placeOf card u → labelOf work u ≡ some c → AllShort 6 c
+  pub held : (u : ℕ) → i ≤ placeOf card u → Held ranked sums u (L u)
 
--- the lists in ranked order
-abbrev pub rankedLists : (entries ends : List ℕ) → Lists
-rankedLists entries ends = listsOf entries ends rankedHighs rankedLows true
+pub record AllLabelled (card ws sets ranked ranked′ sums sums′ : List ℕ) : Type 0 where
+  pub ranked-size : length ranked′ ≡ length ranked
+  pub sums-size : length sums′ ≡ length sums
+  pub labels : Labels (rankedCosts 1)
+  pub labelled : Labelled card ws sets ranked′ sums′ 0 labels
 
--- a position that may be settled, and closed then
-pub record FinishPre (work own next entries ends : List ℕ) (base P : ℕ) : Type 0 where
-  pub settle : SettlePre (rankedLists entries ends) own P
-  pub close : (ys : List ℕ) → Settled (rankedLists entries ends) own ys → ClosePre work ys next base P
+-- ---- one position
+
+-- it may be settled, and closed then
+pub record FinishPre (ranked sums ws own next entries ends : List ℕ) (base P : ℕ) : Type 0 where
+  pub settle : SettlePre (listsBy (inCounts sums) ws entries ends) own P
+  pub close : (ys : List ℕ) → Settled (listsBy (inCounts sums) ws entries ends) own ys → ClosePre ranked sums ys next base P
 
 -- it was settled, and closed
-pub record Finished (work work′ own own′ next next′ entries ends : List ℕ) (base P : ℕ) : Type 0 where
+pub record Finished (ranked ranked′ sums sums′ ws own own′ next next′ entries ends : List ℕ) (base P : ℕ) : Type 0 where
   pub labels : List ℕ
-  pub settled : Settled (rankedLists entries ends) own labels
-  pub closed : ClosedAt work work′ labels own′ next next′ base P
-
--- a setting with the tables' sizes: state counts, weights in ranked order, groups, room for the labels and for 65 columns
-pub record SearchPre (work card counts ws sets steps : List ℕ) (g : Groups) : Type 0 where
-  pub setting : Setting card sets (product counts)
-  pub counts-are : counts ≡ stateCounts (machinesOf card)
-  pub weights : WeightsOf counts ws
-  pub groups : GroupsOf counts g
-  pub few : g .front + g .back ≤ 66
-  pub room : length work ≡ (length sets + 1) * product counts * 8
-  pub columns : 65 * places counts ≤ length steps
-  pub small : Small steps
-
--- the weights are those of a ranked order
-pub record RankedBy (ws : List ℕ) : Type 0 where
-  pub ranking : List ℕ
-  pub ranked : RankedWeights (sixPlaces ranking) ws
-  pub six : SixPlaces (sixPlaces ranking)
-
--- the weights are those of a ranked order, and the lists have the insertions of outputs that tell of all others
-pub record ListsPre (card ws entries ends : List ℕ) : Type 0 where
-  pub by : RankedBy ws
-  pub width : ℕ
-  pub steps : List ℕ
-  pub kept : ℕ
-  pub prepared : Prepared (machinesOf card) 0 width steps kept
-  pub listed : Listed (machinesOf card) (sixPlaces (by .ranking)) kept entries ends
-
--- the columns of the insertions, whose outputs tell of all others; they are counted, and the weights are those of a ranked order
-pub record ListedPre (card counts ws steps ends : List ℕ) (kept : ℕ) : Type 0 where
-  pub by : RankedBy ws
-  pub prepared : Prepared (machinesOf card) 0 (places counts) steps kept
-  pub counted : Counted steps counts ws (places counts) kept ends
-
-pub record AllLabelled (card ws sets work work′ : List ℕ) : Type 0 where
-  pub size : length work′ ≡ length work
-  pub labels : Labels (rankedCosts 1)
-  pub labelled : Labelled card ws sets work′ 0 labels
+  pub settled : Settled (listsBy (inCounts sums) ws entries ends) own labels
+  pub closed : ClosedAt ranked ranked′ sums sums′ labels own′ next next′ base P

@@ -1,9 +1,9 @@
-// Closing a position: its labels are written into the work slice as ranked counts, and become those of the next position.
+// Closing a position: its labels are written into a work slice, as ranked counts or as one number, and become those of the next position.
 ghost use mathlib.Core.Path.{_≡_};
 ghost use Prim.Native.Nat.{_^_, _<_};
 ghost use Rattle.labels.specs.Work.{HasNode};
 ghost use Rattle.cells.specs.Cells.{nowhere};
-ghost use Rattle.labelling.specs.Closing.{orNone, ClosePre, ClosedAt, LabelStored, PassPre, Passed, PassAllPre, AllPassed};
+ghost use Rattle.labelling.specs.Closing.{orNone, numberOf, CountsPre, CountsClosed, NumbersPre, NumbersClosed, CountsStored, PassPre, Passed, PassAllPre, AllPassed};
 use cells::Cell;
 use cells::NOWHERE;
 
@@ -13,7 +13,7 @@ const NO_LABEL: u64 = NOWHERE + 255;
 // Writes a label at a node: 1 and its seven counts, 16 bits each; 0 where there is none.
 fn store(work: &mut [u16], node: usize, high: u64, low: u64)
     requires { ⌜ HasNode (now work) node × (high < nowhere → high < 2 ^ 56) ⌝ }
-    ensures { λ _. ⌜ LabelStored (now (work .entry)) (now (work .exit)) node high low ⌝ }
+    ensures { λ _. ⌜ CountsStored (now (work .entry)) (now (work .exit)) node high low ⌝ }
 {
     if NOWHERE <= high {
         work[node * 8] = 0;
@@ -71,20 +71,50 @@ pub fn pass_all(own: &mut [u64; 256], next: &mut [u64; 256], size: usize)
     }
 }
 
-// Closes the position of the size nodes from base on.
-pub fn close(
+// Closes the position of the size nodes from base on, in counts.
+pub fn close_counts(
     work: &mut [u16],
     base: usize,
     size: usize,
     own: &mut [u64; 256],
     next: &mut [u64; 256],
 )
-    requires { ⌜ ClosePre (now work) (now own) (now next) base size ⌝ }
-    ensures { λ _. ⌜ ClosedAt (now (work .entry)) (now (work .exit)) (now (own .entry)) (now (own .exit)) (now (next .entry)) (now (next .exit)) base size ⌝ }
+    requires { ⌜ CountsPre (now work) (now own) base size × PassAllPre (now own) (now next) size ⌝ }
+    ensures { λ _. ⌜ CountsClosed (now (work .entry)) (now (work .exit)) (now (own .entry)) base size × AllPassed (now (own .entry)) (now (own .exit)) (now (next .entry)) (now (next .exit)) size ⌝ }
 {
     let mut code = 0;
     while code < size {
         store(work, base + code, own[code * 2], own[code * 2 + 1]);
+        code += 1;
+    }
+    pass_all(own, next, size);
+}
+
+// The number of a label by weights: its sum times 4,096, and its pairs; all bits set where there is none.
+fn number_of(high: u64, low: u64) -> u64
+    requires { ⌜ (high < nowhere → (high < 2 ^ 59) × (low < 4096)) ⌝ }
+    ensures { λ r. ⌜ r ≡ numberOf (record { high = high; low = low }) ⌝ }
+{
+    if NOWHERE <= high {
+        return sums::NO_LABEL;
+    }
+    high / 256 * 4096 + low
+}
+
+// Closes the position of the size nodes from base on, in numbers.
+pub fn close_numbers(
+    work: &mut [u64],
+    base: usize,
+    size: usize,
+    own: &mut [u64; 256],
+    next: &mut [u64; 256],
+)
+    requires { ⌜ NumbersPre (now work) (now own) base size × PassAllPre (now own) (now next) size ⌝ }
+    ensures { λ _. ⌜ NumbersClosed (now (work .entry)) (now (work .exit)) (now (own .entry)) base size × AllPassed (now (own .entry)) (now (own .exit)) (now (next .entry)) (now (next .exit)) size ⌝ }
+{
+    let mut code = 0;
+    while code < size {
+        work[base + code] = number_of(own[code * 2], own[code * 2 + 1]);
         code += 1;
     }
     pass_all(own, next, size);

@@ -1,10 +1,10 @@
-// The labels of all nodes, position by position, from the last to the first: labels are two numbers while a position is at hand, and ranked counts
-// in the work slice.
-ghost use Prim.Native.Nat.{_+_, _*_, _≤_, _<_};
-ghost use mathlib.Core.Path.{_≡_};
-ghost use lib.ListN.{length, getD};
-ghost use Rattle.labelling.specs.Labelling.{LabelPre, PositionsDone, SearchPre, ListsPre, AllLabelled, FinishPre, Finished, RankedBy, ListedPre};
-use cells::Groups;
+// The labels of all nodes, position by position, from the last to the first. Labels are two numbers while a position is at hand; then they stand in one
+// of two work slices, the other being empty: as ranked counts, or as one number by weights.
+ghost use Prim.Native.Nat.{_*_, _≤_};
+ghost use lib.ListN.{length};
+ghost use Rattle.grid.specs.Grids.{GridOf};
+ghost use Rattle.labelling.specs.Labelling.{LabelPre, PositionsDone, FinishPre, Finished, PositionsPre, SearchPre, AllLabelled};
+use grid::Grid;
 use machine::Pair;
 
 pub mod weights; // weights.rt: what states and marks count, in ranked order
@@ -12,7 +12,9 @@ pub mod closing; // closing.rt: a settled position is stored, and is the next on
 
 // Settles a position that was entered, by insertions in lists, and closes it.
 fn finish(
-    work: &mut [u16],
+    ranked: &mut [u16],
+    sums: &mut [u64],
+    numbers: &[u64],
     base: usize,
     size: usize,
     own: &mut [u64; 256],
@@ -20,40 +22,52 @@ fn finish(
     entries: &[u32],
     ends: &[u16; 514],
 )
-    requires { ⌜ FinishPre (now work) (now own) (now next) (now entries) (now ends) base size ⌝ }
-    ensures { λ _. ⌜ Finished (now (work .entry)) (now (work .exit)) (now (own .entry)) (now (own .exit)) (now (next .entry)) (now (next .exit)) (now (entries .entry)) (now (ends .entry)) base size ⌝ }
+    requires { ⌜ FinishPre (now ranked) (now sums) (now numbers) (now own) (now next) (now entries) (now ends) base size ⌝ }
+    ensures { λ _. ⌜ Finished (now (ranked .entry)) (now (ranked .exit)) (now (sums .entry)) (now (sums .exit)) (now (numbers .entry)) (now (own .entry)) (now (own .exit)) (now (next .entry)) (now (next .exit)) (now (entries .entry)) (now (ends .entry)) base size ⌝ }
 {
-    let highs = weights::HIGHS;
-    let lows = weights::LOWS;
-    settling::settle(own, entries, ends, &highs, &lows, true, size);
-    closing::close(work, base, size, own, next);
+    if sums.len() == 0 {
+        let highs = weights::HIGHS;
+        let lows = weights::LOWS;
+        settling::settle(own, entries, ends, &highs, &lows, true, size);
+        closing::close_counts(ranked, base, size, own, next);
+    } else {
+        let highs = weights::six_highs(numbers);
+        let lows = [0u64; 6];
+        settling::settle(own, entries, ends, &highs, &lows, false, size);
+        closing::close_numbers(sums, base, size, own, next);
+    }
 }
 
 // Labels the nodes of all positions, by insertions in lists.
 fn label_positions(
-    work: &mut [u16],
+    ranked: &mut [u16],
+    sums: &mut [u64],
     card: &[u8],
-    counts: &[u8],
-    weights: &[u64],
+    grid: Grid,
+    numbers: &[u64],
     sets: &[u64],
     steps: &mut [u16],
     entries: &[u32],
     ends: &[u16; 514],
-    g: Groups,
 )
-    requires { ⌜ SearchPre (now work) (now card) (now counts) (now weights) (now sets) (now steps) g × ListsPre (now card) (now weights) (now entries) (now ends) ⌝ }
-    ensures { λ _. ⌜ AllLabelled (now (card .entry)) (now (weights .entry)) (now (sets .entry)) (now (work .entry)) (now (work .exit)) ⌝ }
+    requires { ⌜ PositionsPre (now ranked) (now sums) (now card) grid (now numbers) (now sets) (now steps) (now entries) (now ends) ⌝ }
+    ensures { λ _. ⌜ AllLabelled (now (card .entry)) (now (numbers .entry)) (now (sets .entry)) (now (ranked .entry)) (now (ranked .exit)) (now (sums .entry)) (now (sums .exit)) ⌝ }
 {
-    let width = columns::width_of(counts);
-    let size = g.front * g.back;
+    let all = grid.counts;
+    let machines = grid.machines;
+    let size = grid.size;
+    let counts = &all[..machines];
+    let g = cells::grouped(counts, size);
     let mut own = [0u64; 256];
     let mut next = [0u64; 256];
     let mut high = [0u64; 264];
     let mut low = [0u64; 264];
     let mut position = sets.len();
-    entering::endings::enter_endings(&mut own, steps, card, counts, weights, width, g);
+    entering::endings::enter_endings(&mut own, steps, card, counts, numbers, grid.states, g);
     finish(
-        work,
+        ranked,
+        sums,
+        numbers,
         position * size,
         size,
         &mut own,
@@ -69,14 +83,16 @@ fn label_positions(
             steps,
             card,
             counts,
-            weights,
+            numbers,
             g,
             sets[position],
             &mut high,
             &mut low,
         );
         finish(
-            work,
+            ranked,
+            sums,
+            numbers,
             position * size,
             size,
             &mut own,
@@ -87,91 +103,129 @@ fn label_positions(
     }
 }
 
-// Labels all nodes, with at most 1,024 insertions.
-fn label_few(
-    work: &mut [u16],
+// Labels all nodes. `marks` has the numbers by which the lists have the marks; `steps` and `entries` are overwritten.
+fn label_with(
+    ranked: &mut [u16],
+    sums: &mut [u64],
     card: &[u8],
-    counts: &[u8],
-    weights: &[u64],
+    grid: Grid,
+    numbers: &[u64],
+    marks: &[u64],
     sets: &[u64],
     steps: &mut [u16],
-    ends: &mut [u16; 514],
-    kept: u64,
-    g: Groups,
+    entries: &mut [u32],
 )
-    requires { ⌜ SearchPre (now work) (now card) (now counts) (now weights) (now sets) (now steps) g × ListedPre (now card) (now counts) (now weights) (now steps) (now ends) kept × (getD (now ends) 513 0 ≤ 1024) ⌝ }
-    ensures { λ _. ⌜ AllLabelled (now (card .entry)) (now (weights .entry)) (now (sets .entry)) (now (work .entry)) (now (work .exit)) ⌝ }
+    requires { ⌜ SearchPre (now ranked) (now sums) (now card) grid (now numbers) (now marks) (now sets) × (65 * grid .states ≤ length (now steps)) × (63 * grid .size ≤ length (now entries)) ⌝ }
+    ensures { λ _. ⌜ AllLabelled (now (card .entry)) (now (numbers .entry)) (now (sets .entry)) (now (ranked .entry)) (now (ranked .exit)) (now (sums .entry)) (now (sums .exit)) ⌝ }
 {
-    let mut entries = [0u32; 1024];
-    let width = columns::width_of(counts);
-    insertions::list(&mut entries, ends, steps, kept, width, counts, weights, g);
-    label_positions(work, card, counts, weights, sets, steps, &entries, ends, g);
-}
-
-// Labels all nodes, with as many insertions as there can be.
-fn label_many(
-    work: &mut [u16],
-    card: &[u8],
-    counts: &[u8],
-    weights: &[u64],
-    sets: &[u64],
-    steps: &mut [u16],
-    ends: &mut [u16; 514],
-    kept: u64,
-    g: Groups,
-)
-    requires { ⌜ SearchPre (now work) (now card) (now counts) (now weights) (now sets) (now steps) g × ListedPre (now card) (now counts) (now weights) (now steps) (now ends) kept ⌝ }
-    ensures { λ _. ⌜ AllLabelled (now (card .entry)) (now (weights .entry)) (now (sets .entry)) (now (work .entry)) (now (work .exit)) ⌝ }
-{
-    let mut entries = [0u32; 8064];
-    let width = columns::width_of(counts);
-    insertions::list(&mut entries, ends, steps, kept, width, counts, weights, g);
-    label_positions(work, card, counts, weights, sets, steps, &entries, ends, g);
-}
-
-// Labels all nodes. Few insertions take a small table, since a table has to be written whole when it is made.
-fn label_by(
-    work: &mut [u16],
-    card: &[u8],
-    counts: &[u8],
-    weights: &[u64],
-    sets: &[u64],
-    steps: &mut [u16],
-    g: Groups,
-)
-    requires { ⌜ SearchPre (now work) (now card) (now counts) (now weights) (now sets) (now steps) g × RankedBy (now weights) ⌝ }
-    ensures { λ _. ⌜ AllLabelled (now (card .entry)) (now (weights .entry)) (now (sets .entry)) (now (work .entry)) (now (work .exit)) ⌝ }
-{
-    let width = columns::width_of(counts);
+    let all = grid.counts;
+    let machines = grid.machines;
+    let states = grid.states;
+    let counts = &all[..machines];
+    let g = cells::grouped(counts, grid.size);
     let mut ends = [0u16; 514];
-    let kept = columns::prepare(steps, card, counts, width, Pair::EMPTY);
-    let found = insertions::count(&mut ends, steps, kept, width, counts, weights, g);
-    if found <= 1024 {
-        label_few(work, card, counts, weights, sets, steps, &mut ends, kept, g);
+    let kept = columns::prepare(steps, card, counts, states, Pair::EMPTY);
+    insertions::count(&mut ends, steps, kept, states, counts, marks, g);
+    insertions::list(entries, &mut ends, steps, kept, states, counts, marks, g);
+    label_positions(
+        ranked,
+        sums,
+        card,
+        grid,
+        numbers,
+        sets,
+        steps,
+        entries,
+        &ends,
+    );
+}
+
+// Labels all nodes of at most 16 codes.
+fn label_few(
+    ranked: &mut [u16],
+    sums: &mut [u64],
+    card: &[u8],
+    grid: Grid,
+    numbers: &[u64],
+    marks: &[u64],
+    sets: &[u64],
+)
+    requires { ⌜ SearchPre (now ranked) (now sums) (now card) grid (now numbers) (now marks) (now sets) × (grid .size ≤ 16) ⌝ }
+    ensures { λ _. ⌜ AllLabelled (now (card .entry)) (now (numbers .entry)) (now (sets .entry)) (now (ranked .entry)) (now (ranked .exit)) (now (sums .entry)) (now (sums .exit)) ⌝ }
+{
+    let places = 65 * grid.states;
+    let mut steps = [65535u16; 2600];
+    let mut entries = [0u32; 1008];
+    label_with(
+        ranked,
+        sums,
+        card,
+        grid,
+        numbers,
+        marks,
+        sets,
+        &mut steps[..places],
+        &mut entries,
+    );
+}
+
+// Labels all nodes of any number of codes.
+fn label_many(
+    ranked: &mut [u16],
+    sums: &mut [u64],
+    card: &[u8],
+    grid: Grid,
+    numbers: &[u64],
+    marks: &[u64],
+    sets: &[u64],
+)
+    requires { ⌜ SearchPre (now ranked) (now sums) (now card) grid (now numbers) (now marks) (now sets) ⌝ }
+    ensures { λ _. ⌜ AllLabelled (now (card .entry)) (now (numbers .entry)) (now (sets .entry)) (now (ranked .entry)) (now (ranked .exit)) (now (sums .entry)) (now (sums .exit)) ⌝ }
+{
+    let places = 65 * grid.states;
+    let mut steps = [65535u16; 2600];
+    let mut entries = [0u32; 8064];
+    label_with(
+        ranked,
+        sums,
+        card,
+        grid,
+        numbers,
+        marks,
+        sets,
+        &mut steps[..places],
+        &mut entries,
+    );
+}
+
+// Labels all nodes, in the order that the numbers of the machines make. Few codes take a small table, since a table has to be written whole when it is made.
+pub fn label_all(
+    ranked: &mut [u16],
+    sums: &mut [u64],
+    card: &[u8],
+    grid: Grid,
+    numbers: &[u64],
+    marks: &[u64],
+    sets: &[u64],
+)
+    requires { ⌜ SearchPre (now ranked) (now sums) (now card) grid (now numbers) (now marks) (now sets) ⌝ }
+    ensures { λ _. ⌜ AllLabelled (now (card .entry)) (now (numbers .entry)) (now (sets .entry)) (now (ranked .entry)) (now (ranked .exit)) (now (sums .entry)) (now (sums .exit)) ⌝ }
+{
+    if grid.size <= 16 {
+        label_few(ranked, sums, card, grid, numbers, marks, sets);
     } else {
-        label_many(work, card, counts, weights, sets, steps, &mut ends, kept, g);
+        label_many(ranked, sums, card, grid, numbers, marks, sets);
     }
 }
 
 // Labels all nodes: the label of a node is the cost of a best path from it.
-pub fn label(work: &mut [u16], card: &[u8], ranking: &[u8], sets: &[u64], size: usize)
-    requires { ⌜ LabelPre (now card) (now ranking) (now sets) (now work) size ⌝ }
+pub fn label(work: &mut [u16], card: &[u8], grid: Grid, ranking: &[u8], sets: &[u64])
+    requires { ⌜ LabelPre (now card) (now ranking) (now sets) (now work) (grid .size) × GridOf (now card) grid ⌝ }
     ensures { λ _. ⌜ PositionsDone (now (card .entry)) (now (ranking .entry)) (now (sets .entry)) (now (work .entry)) (now (work .exit)) 0 ⌝ }
 {
-    let all = tables::state_counts(card);
-    let machines = card::machine_count(card);
-    let counts = &all[..machines];
-    let numbers = weights::ranked_weights(counts, ranking);
-    let places = columns::width_of(counts) * 65;
-    let g = cells::grouped(counts, size);
-    let mut steps = [65535u16; 2600];
-    label_by(
-        work,
-        card,
-        counts,
-        &numbers[..3 * machines],
-        sets,
-        &mut steps[..places],
-        g,
-    );
+    let all = grid.counts;
+    let machines = grid.machines;
+    let numbers = weights::ranked_weights(&all[..machines], ranking);
+    let used = &numbers[..3 * machines];
+    label_all(work, &mut [], card, grid, used, used, sets);
 }

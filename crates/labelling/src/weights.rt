@@ -1,14 +1,16 @@
-// What states and marks count in the numbers of joint steps and labels, by a ranking.
+// What states and marks count in the numbers of joint steps and labels.
 ghost use mathlib.Core.Path.{_≡_};
 ghost use mathlib.Core.Bool.{true};
-ghost use Prim.Native.Nat.{_*_};
+ghost use Prim.Native.Nat.{_*_, _<_};
 ghost use lib.ListN.{length, take};
 ghost use Rattle.ranking.specs.Rankings.{isRanking};
 ghost use Rattle.tables.specs.Tables.{CountsOfSome};
 ghost use Rattle.tables.specs.Places.{sixPlaces};
+ghost use Rattle.cells.specs.Cells.{highOf};
 ghost use Rattle.cells.specs.Columns.{WeightsOf};
 ghost use Rattle.settling.specs.Prices.{SixWeights};
 ghost use Rattle.insertions.specs.RankedWeights.{weightBy, RankedWeights};
+ghost use Rattle.labelling.specs.Kinds.{sixHighs};
 use basics::index;
 
 // What a mark counts in a high number, by the place of its machine in the ranking: 16 bits for each of the first three, above the 8 of a code.
@@ -53,4 +55,30 @@ pub fn ranked_weights(counts: &[u8], ranking: &[u8]) -> [u64; 18]
         scale *= index(counts[m]);
     }
     weights
+}
+
+// What a mark of a machine counts in high, 0 past the last one.
+fn high_at(numbers: &[u64], machine: usize) -> u64
+    requires { ⌜ machine < 6 ⌝ }
+    ensures { λ r. ⌜ r ≡ highOf (now (numbers .entry)) machine ⌝ }
+{
+    let at = 3 * machine + 1;
+    if at < numbers.len() {
+        return numbers[at];
+    }
+    0
+}
+
+// What marks of six machines count in high.
+pub fn six_highs(numbers: &[u64]) -> [u64; 6]
+    ensures { λ r. ⌜ r ≡ sixHighs (now (numbers .entry)) ⌝ }
+{
+    [
+        high_at(numbers, 0),
+        high_at(numbers, 1),
+        high_at(numbers, 2),
+        high_at(numbers, 3),
+        high_at(numbers, 4),
+        high_at(numbers, 5),
+    ]
 }

@@ -1,3 +1,1 @@
-pub mod Comparing
 pub mod Work
-pub mod Room

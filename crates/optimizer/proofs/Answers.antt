@@ -1,27 +1,25 @@
 -- What the calls answer, by the checks that the input passes and by the best candidate: for every order, a word or sets. Assumes nothing.
-use mathlib.Core.Path.{_≡_, refl, sym, _∙_, ap}
+use mathlib.Core.Path.{_≡_, refl, _∙_, ap}
 use mathlib.Core.Logic.{_≢_}
 use mathlib.Core.List.{List, [], _∷_, _++_}
 use mathlib.Core.Option.{Option, some}
 use Prim.Native.Nat.{ℕ, zero, suc, _<_, _≤_}
 use native.Mathlib.Omega.{arith}
 use lib.ListN.{length, take, drop, length-append, length-drop}
-use Rattle.refusals.specs.Refusals.{unlessRefused}
-use Rattle.refusals.proofs.Refusals.{accepted as taken, not-accepted}
 use Rattle.card.specs.Layout.{symbolCount}
 use Rattle.candidate.specs.declared.Evaluation.{Evaluation}
 use Rattle.candidate.specs.Evaluating.{refused}
 use Rattle.product.specs.Best.{Contender, best}
 use Rattle.product.specs.Sets.{bestOfSets}
 use Rattle.product.specs.Prices.{ranking-agrees}
-use Rattle.product.specs.Answering.{callRefusal, evaluationOf, filled, answered, answeredSlice}
+use Rattle.product.specs.Answering.{answered, answeredSlice}
 use Rattle.product.specs.Optimizing.{inputRefusal}
 use Rattle.product.specs.OptimizingSets.{setsInputRefusal}
 use Rattle.product.specs.CountsFit.{SmallBest, best-in-is-small, best-of-sets-is-small}
 use Rattle.input.specs.AcceptedInput.{accepted-input, short-word, accepted-sets-input}
 use Rattle.optimizer.specs.SmallAnswers.{small-answer}
 use Rattle.optimizer.specs.Optimizes.{Answers}
-use Rattle.optimizer.specs.Searching.{Searched}
+use Rattle.readout.specs.Searching.{Searched}
 
 -- ---- the contract, where the best of accepted input is small
 
@@ -39,27 +37,6 @@ module _ {n : ℕ} {best : Option Contender} (small : n ≡ 0 → (b : Contender
   -- accepted input: what the search answers is the call's answer
   pub call-searched : {front frontAfter workAfter answerAfter : List ℕ} → n ≡ 0 → length workAfter ≡ length work → Searched best word front frontAfter answer answerAfter r → Answers n best word work workAfter answer answerAfter r
   call-searched ok w s = call-answers (rw ok (s .result)) (rw ok (s .answer-slice)) w (λ z. absurd (z ok))
-
--- ---- what a search answers
-
-module _ {best : Option Contender} {word work workAfter answer : List ℕ} {r : Evaluation} (w : length workAfter ≡ length work) where
-  -- 10 or 12
-  pub search-refused : (n : ℕ) → n ≡ callRefusal 0 best (length answer) → 0 < n → r ≡ refused n → Searched best word work workAfter answer answer r
-  unfolding answered answeredSlice
-  search-refused n e h q = record { result = q ∙ by (evaluationOf best word) refused; answer-slice = by (filled best answer) (λ n. answer); work-length = w }
-    where
-      by : {A : Type 0} (a : A) (f : ℕ → A) → f n ≡ unlessRefused (callRefusal 0 best (length answer)) a f
-      by a f = sym (not-accepted n a f h) ∙ ap (λ (m : ℕ). unlessRefused m a f) e
-
-  -- or the best
-  pub search-found : {b : Contender} {answerAfter : List ℕ} → best ≡ some b → callRefusal 0 best (length answer) ≡ 0 → r ≡ evaluationOf (some b) word → answerAfter ≡ filled (some b) answer
-      → Searched best word work workAfter answer answerAfter r
-  unfolding answered answeredSlice
-  search-found is ok e s = record {
-    result = e ∙ sym (ap (λ (o : Option Contender). evaluationOf o word) is) ∙ sym (taken (evaluationOf best word) refused ok);
-    answer-slice = s ∙ sym (ap (λ (o : Option Contender). filled o answer) is) ∙ sym (taken (filled best answer) (λ n. answer) ok);
-    work-length = w;
-  }
 
 -- ---- the best of accepted input is small, under a ranking
 

@@ -14,7 +14,7 @@ use Rattle.labels.specs.declared.Label.{Label}
 use Rattle.labels.specs.LabelCost.{costOf}
 use Rattle.tables.specs.Places.{sixPlaces}
 use Rattle.tables.specs.Laws.Harmony.{any-default}
-use Rattle.optimizer.specs.Searching.{RankingOfSome, CardOrder}
+use Rattle.optimizer.specs.Telling.{RankingOfSome, CardOrder}
 
 -- a label's counts as a list
 abbrev pub countsOf : Label → List ℕ

@@ -10,6 +10,7 @@ use Rattle.ranking.specs.declared.Profile.{Profile}
 use Rattle.ranking.specs.Lemmas.Rankings.{ranking-facts}
 use Rattle.card.specs.Layout.{machineCount}
 use Rattle.card.specs.Card.{machinesOf}
+use Rattle.card.specs.Accepted.{accepted}
 use Rattle.candidate.specs.Candidates.{isSome}
 use Rattle.product.specs.Best.{best}
 use Rattle.product.specs.Sets.{singletons, bestOfSets}
@@ -23,10 +24,15 @@ use Rattle.product.specs.Laws.Accepted.{accepted-machines}
 use Rattle.product.specs.Laws.BestCandidate.{profile-length}
 use Rattle.tables.specs.Engine.{engineGraph}
 use Rattle.labelling.specs.Labelling.{PositionsDone}
-use Rattle.optimizer.specs.Searching.{SetsPre, SearchPre, CardOrder}
-use Rattle.optimizer.specs.Telling.{profileTold, TellsBest}
-use Rattle.optimizer.proofs.Words.{word-small}
-use Rattle.optimizer.proofs.Found.{FoundAt, not-found, found}
+use Rattle.readout.specs.Searching.{SetsPre, SearchPre}
+use Rattle.optimizer.specs.Telling.{RankingOfSome, CardOrder, profileTold, TellsBest}
+use Rattle.readout.proofs.Words.{word-small}
+use Rattle.readout.proofs.Found.{FoundAt, not-found, found}
+
+pub some-ranking : {card ranking sets work : List ℕ} {size : ℕ} → SetsPre card ranking sets work size → RankingOfSome ranking
+some-ranking {card} {ranking} pre =
+    let p = ranking-facts (machineCount card) ranking (pre .ranks) .places in
+    record { few = omega (arith, p, accepted card (pre .setting .accepted) .head); ranks = rw p (pre .ranks) }
 
 module _ {card ranking sets work : List ℕ} {size : ℕ} (pre : SetsPre card ranking sets work size) {after : List ℕ} (done : PositionsDone card ranking sets work after 0) where
   closed : Closed (engineGraph (machinesOf card) ranking sets) (labelOf after)

@@ -1,7 +1,6 @@
 -- definitions
 pub mod SmallAnswers
 pub mod Optimizes
-pub mod Searching
 pub mod Telling
 -- the theorems that join the calls' contracts with demand 3
 pub mod Demands

@@ -17,7 +17,7 @@ use Rattle.paths.specs.RankedGraph.{one-letter-positive, ranked-sized}
 use Rattle.paths.specs.Labels.{Closed, Attained, Held}
 use Rattle.paths.specs.Bounds.{Sized}
 use Rattle.paths.specs.Best.{before-total, IsBest}
-use Rattle.paths.specs.Walk.{Tight, LeastTight, done, next, tight-sum, no-edge-not-tight, walk-best}
+use Rattle.paths.specs.Walk.{Tight, LeastTight, done, next, tight-sum, no-edge-not-tight, sized-labels, walk-best}
 
 abbrev numbers : Alphabet
 numbers = record { Letter = ℕ; _◃_ = _<_; total = ℕ-total }
@@ -142,7 +142,7 @@ first-2 = record { tight = record { to = record { target = 1; cost = (0, 1) }; r
 
 best : IsBest small 0 (2 ∷ 1 ∷ [])
 unfolding first-0 first-2
-best = walk-best small labels sized closed attained 0 (0, 2) (2 ∷ 1 ∷ []) refl (next first-0 (next first-2 done))
+best = walk-best small labels (sized-labels small labels sized) closed attained 0 (0, 2) (2 ∷ 1 ∷ []) refl (next first-0 (next first-2 done))
 
 -- the order computes: the best of three paths
 first-of : least (before-total (rankedCosts 1) numbers) (((1, 1), 1 ∷ []) ∷ ((0, 2), 2 ∷ 2 ∷ []) ∷ ((0, 2), 2 ∷ 1 ∷ []) ∷ []) ≡ some ((0, 2), 2 ∷ 1 ∷ [])

@@ -10,13 +10,13 @@ use Rattle.paths.specs.Total.{Lex, Upto, upto-not-less}
 use Rattle.paths.specs.Costs.{Costs, Labels, AtMost, atmost-some}
 use Rattle.paths.specs.Graph.{Alphabet, Edge, Graph, pathCost, Run, run→cost, cost→run}
 use Rattle.paths.specs.Labels.{Closed, Attained, Held, held→run, run-lower-bound, unlabelled-none}
-use Rattle.paths.specs.Bounds.{Sized, run-size}
+use Rattle.paths.specs.Bounds.{Sized}
 use Rattle.paths.specs.Best.{Before, IsBest, Answers}
 
 module _ {costs : Costs} {alphabet : Alphabet} (G : Graph costs alphabet) (L : Labels costs) where
   infixl 65 _⊕_
   infix 4 _≺_ _◃_
-  open Graph G using (edge)
+  open Graph G using (edge, ending)
   open Costs costs using (Cost, _⊕_, _≺_, total, shift-left)
   open Alphabet alphabet using (Letter, _◃_, total as letters-total)
 
@@ -32,6 +32,14 @@ module _ {costs : Costs} {alphabet : Alphabet} (G : Graph costs alphabet) (L : L
   pub record LeastTight (u : ℕ) (p : Letter) : Type 0 where
     pub tight : Tight u p
     pub least : (q : Letter) → q ◃ p → ¬ (Tight u q)
+
+  -- a number that tells how many letters are left, along edges that keep to the labels
+  pub record SizedLabels (size : Cost → ℕ) : Type 0 where
+    pub at-end : (u : ℕ) (c : Cost) → ending u ≡ some c → L u ≡ some c → size c ≡ 0
+    pub at-edge : (u : ℕ) (p : Letter) (t : Tight u p) → size (t .to .cost ⊕ t .rest) ≡ suc (size (t .rest))
+
+  pub sized-labels : {size : Cost → ℕ} → Sized G size → SizedLabels size
+  sized-labels Z = record { at-end = λ u c h l. Z .at-end u c h; at-edge = λ u p t. Z .at-edge u p (t .to) (t .edge-is) (t .rest) }
 
   -- n steps from u, each by the least letter that keeps to the labels
   pub data Walk : ℕ → ℕ → List Letter → Type 0 where
@@ -76,28 +84,45 @@ module _ {costs : Costs} {alphabet : Alphabet} (G : Graph costs alphabet) (L : L
       go (inr z) = cc (m .is)
       go (inl z) = absurd (upto-not-less total (atmost-some l (K u .edges p e (m .val) h (m .is))) (rw q (shift-left (e .cost) (m .val) d z)))
 
+  -- a node's label is what its ending costs, or some edge keeps to the labels
+  pub ends-or-tight : Closed G L → Attained G L → (u : ℕ) (c : Cost) → L u ≡ some c → (ending u ≡ some c) ⊎ ((p : Letter) × Tight u p)
+  ends-or-tight K A u c l = go (A u c l .held)
+    where
+      go : {ps : List Letter} → Held G L u ps c → (ending u ≡ some c) ⊎ ((p : Letter) × Tight u p)
+      go (Held.halt h m) = inl h
+      go (Held.step {p = p} e d h r q m) = inr (p, make-tight h (tight-rest K e d l h (held→run G r) q) l q)
+
   -- a node with no label has no path, and that is the answer
   pub unlabelled-answers : Closed G L → (u : ℕ) → L u ≡ none → Answers G u none
   unlabelled-answers K u l = record { best = λ qs e. let z : _≡_ {A = ℕ} 0 1 = cc in absurd (omega arith); no-path = λ e. unlabelled-none G L K u l }
 
-  module _ {size : Cost → ℕ} (Z : Sized G size) where
+  module _ {size : Cost → ℕ} (Z : SizedLabels size) where
     -- what is left after an edge that keeps to the labels is one letter shorter
     pub tight-size : {u : ℕ} {p : Letter} {c : Cost} (t : Tight u p) → L u ≡ some c → size c ≡ suc (size (t .rest))
     tight-size {u} {p} {c} t l =
         let q : c ≡ t .to .cost ⊕ t .rest = cc (t .label-is) in
-        ap size q ∙ Z .at-edge u p (t .to) (t .edge-is) (t .rest)
+        ap size q ∙ Z .at-edge u p t
 
     -- a node whose label is of some size has an edge that keeps to the labels
     pub some-tight : Closed G L → Attained G L → (u : ℕ) (c : Cost) → L u ≡ some c → size c ≢ 0 → (p : Letter) × Tight u p
-    some-tight K A u c l n = go (A u c l .held)
+    some-tight K A u c l n = go (ends-or-tight K A u c l)
       where
-        go : {ps : List Letter} → Held G L u ps c → (p : Letter) × Tight u p
-        go (Held.halt h m) = absurd (n (Z .at-end u c h))
-        go (Held.step {p = p} e d h r q m) = (p, make-tight h (tight-rest K e d l h (held→run G r) q) l q)
+        go : (ending u ≡ some c) ⊎ ((p : Letter) × Tight u p) → (p : Letter) × Tight u p
+        go (inl h) = absurd (n (Z .at-end u c h l))
+        go (inr t) = t
+
+    -- a path that costs what its node's label says has as many letters as the label's size
+    label-size : Closed G L → {u : ℕ} {ps : List Letter} {c : Cost} → L u ≡ some c → Run G u ps c → size c ≡ length ps
+    label-size K l (Run.halt {u} {c} h) = Z .at-end u c h l
+    label-size K {c = c} l (Run.step {u} {p} e d h r q) =
+        let m = tight-rest K e d l h r q in
+        let k : L u ≡ some (e .cost ⊕ d) = cc in
+        let t : Tight u p = record { to = e; rest = d; edge-is = h; rest-is = m; label-is = k } in
+        ap size q ∙ Z .at-edge u p t ∙ ap suc (label-size K m r)
 
     -- a walk of as many steps as the label's size costs what the label says
-    walk-run : Attained G L → {n u : ℕ} {ps : List Letter} → Walk n u ps → (c : Cost) → L u ≡ some c → size c ≡ n → Run G u ps c
-    walk-run A (done {u}) c l z = go (run-size G Z r) r
+    walk-run : Closed G L → Attained G L → {n u : ℕ} {ps : List Letter} → Walk n u ps → (c : Cost) → L u ≡ some c → size c ≡ n → Run G u ps c
+    walk-run K A (done {u}) c l z = go (label-size K l r) r
       where
         r : Run G u (A u c l .letters) c
         r = held→run G (A u c l .held)
@@ -105,10 +130,10 @@ module _ {costs : Costs} {alphabet : Alphabet} (G : Graph costs alphabet) (L : L
         go : {ps : List Letter} → size c ≡ length ps → Run G u ps c → Run G u [] c
         go q (Run.halt h) = Run.halt h
         go q (Run.step e d h r k) = absurd (omega arith)
-    walk-run A (next {n} {u} {p} s w) c l z =
+    walk-run K A (next {n} {u} {p} s w) c l z =
         let t = s .tight in
         let q : c ≡ t .to .cost ⊕ t .rest = cc (t .label-is) in
-        Run.step (t .to) (t .rest) (t .edge-is) (walk-run A w (t .rest) (t .rest-is) (omega (arith, tight-size t l))) q
+        Run.step (t .to) (t .rest) (t .edge-is) (walk-run K A w (t .rest) (t .rest-is) (omega (arith, tight-size t l))) q
 
     -- and no other path of that cost comes before it
     walk-least : Closed G L → {n u : ℕ} {ps : List Letter} → Walk n u ps → (c : Cost) → L u ≡ some c → {qs : List Letter} → Run G u qs c → length qs ≡ n → (ps ≡ qs) ⊎ Lex _◃_ ps qs
@@ -136,7 +161,7 @@ module _ {costs : Costs} {alphabet : Alphabet} (G : Graph costs alphabet) (L : L
     -- ---- Theorem 5: with closed and attained labels the walk is the best path
 
     pub walk-best : Closed G L → Attained G L → (u : ℕ) (c : Cost) (ps : List Letter) → L u ≡ some c → Walk (size c) u ps → IsBest G u ps
-    walk-best K A u c ps l w = record { cost = c; is = run→cost G (walk-run A w c l refl); first = first }
+    walk-best K A u c ps l w = record { cost = c; is = run→cost G (walk-run K A w c l refl); first = first }
       where
         first : (qs : List Letter) (d : Cost) → qs ≢ ps → pathCost G u qs ≡ some d → Before costs alphabet (c, ps) (d, qs)
         first qs d n h = go (atmost-some l (run-lower-bound G K k))
@@ -150,11 +175,11 @@ module _ {costs : Costs} {alphabet : Alphabet} (G : Graph costs alphabet) (L : L
 
             go : Upto _≺_ c d → Before costs alphabet (c, ps) (d, qs)
             go (inl q) = inl q
-            go (inr q) = let r : Run G u qs c = rw q k in later (walk-least K w c l r (sym (run-size G Z r))) q
+            go (inr q) = let r : Run G u qs c = rw q k in later (walk-least K w c l r (sym (label-size K l r))) q
 
     -- it costs what the label says
-    pub walk-cost : Attained G L → (u : ℕ) (c : Cost) (ps : List Letter) → L u ≡ some c → Walk (size c) u ps → pathCost G u ps ≡ some c
-    walk-cost A u c ps l w = run→cost G (walk-run A w c l refl)
+    pub walk-cost : Closed G L → Attained G L → (u : ℕ) (c : Cost) (ps : List Letter) → L u ≡ some c → Walk (size c) u ps → pathCost G u ps ≡ some c
+    walk-cost K A u c ps l w = run→cost G (walk-run K A w c l refl)
 
     -- ---- a loop that writes the walk
 

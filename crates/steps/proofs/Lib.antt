@@ -1,5 +1,1 @@
-pub mod Stretches
 pub mod Codes
-pub mod Rows
-pub mod Arcs
-pub mod Machines

@@ -7,7 +7,7 @@ pub mod Laws
 pub mod DominanceTheorem
 pub mod WeightedPaths
 pub mod WeightedGraph
--- labels as numbers, and what an engine does with them
+pub mod SmallLabels
+-- labels as numbers, and all nodes labelled
 pub mod Numbers
-pub mod Stepping
 pub mod Labelling

@@ -293,7 +293,8 @@ fn check_tableau(card: &[u8], word: &[u8], tableau: &[u8]) -> Checked
 pub fn judge(card: &[u8], ranking: &[u8], word: &[u8], work: &mut [u16], tableau: &[u8]) -> Judged
     ensures { λ r. ⌜ Judges (now (card .entry)) (now (ranking .entry)) (now (word .entry)) (now (work .entry)) (now (work .exit)) (now (tableau .entry)) r ⌝ }
 {
-    let checked = input::check_input(card, ranking, word, work.len());
+    let ready = input::check_input(card, ranking, word, work.len());
+    let checked = ready.checked;
     let Checked::Passed = checked else {
         return refused(checked.number());
     };
@@ -301,6 +302,6 @@ pub fn judge(card: &[u8], ranking: &[u8], word: &[u8], work: &mut [u16], tableau
     let Checked::Passed = answer else {
         return refused(answer.number());
     };
-    let best = optimizer::best_profile(card, ranking, word, work);
+    let best = optimizer::best_profile(card, ready.grid, ranking, word, work);
     verdict_of(tableau, best).answer()
 }

@@ -2,9 +2,4 @@ pub mod Starting
 pub mod Machines
 pub mod Prefix
 pub mod Counts
-pub mod Rows
-pub mod Joining
-pub mod Ending
-pub mod JointEntries
 pub mod JointRows
-pub mod JointFilling

@@ -1,7 +1,7 @@
--- Machines by their numbers: their counts, their states, their steps by a table. Assumes nothing.
-use mathlib.Core.Path.{_≡_, refl, _∙_, ap}
+-- Machines by their numbers: their counts, their states, their steps. Assumes nothing.
+use mathlib.Core.Path.{_≡_, refl, ap}
 use mathlib.Core.List.{List, [], _∷_}
-use Prim.Native.Nat.{ℕ, zero, suc, _+_, _*_, _<_}
+use Prim.Native.Nat.{ℕ, zero, suc, _<_}
 use native.Mathlib.Omega.{arith}
 use lib.ListN.{length, getD, length-map, List·getD-map}
 use Rattle.machine.specs.declared.Pair.{Pair}
@@ -9,9 +9,9 @@ use Rattle.machine.specs.Machine.{Machine, noMachine, stepOf}
 use Rattle.product.specs.Nodes.{stateCountOf, stateCounts, product, statesOf}
 use Rattle.product.specs.Laws.Nodes.{Below, states-below}
 use Rattle.product.specs.Laws.JointStep.{Sound, AllSound, all-none, all-next, counts-positive}
-use Rattle.steps.specs.StepTable.{stepCode, machineAt}
+use Rattle.steps.specs.StepTable.{machineAt}
 use Rattle.steps.proofs.Codes.{SmallStep}
-use Rattle.tables.specs.Tables.{CardMachines, Tables}
+use Rattle.tables.specs.Tables.{CardMachines}
 
 pub sound-at : {S : ℕ} {ms : List Machine} → AllSound S ms → (m : ℕ) → m < length ms → Sound S (machineAt ms m)
 sound-at all-none m h = absurd (omega arith)
@@ -42,34 +42,3 @@ module _ {S : ℕ} {ms : List Machine} (M : CardMachines S ms) where
   small-step m h s p r e =
       let a = sound-at (M .sound) m h in
       (omega (arith, a .leads s p r e, M .states m), a .marks s p r e)
-
--- looking up the step of the machine m
-module _ {S : ℕ} {ms : List Machine} {x : ℕ} {steps rows counts : List ℕ} (T : Tables S ms x steps rows counts) (code y m : ℕ) (hc : code < product counts) (hy : y < 64) (hm : m < length counts) where
-  below-product : code < product (stateCounts ms)
-  below-product = rw (T .holds-counts) at hc
-
-  pub machine-below : m < length ms
-  machine-below = rw (T .holds-counts, counts-length ms) at hm
-
-  state-below : getD (statesOf (stateCounts ms) code) m 0 < stateCountOf (machineAt ms m)
-  state-below =
-      let b = below-at (stateCounts ms) (statesOf (stateCounts ms) code) (code-states (T .machines) code below-product) m (omega (arith, counts-length ms, machine-below)) in
-      omega (arith, b, count-at ms m)
-
-  state-few : getD (statesOf (stateCounts ms) code) m 0 < 32
-  state-few = omega (arith, state-below, T .machines .states m)
-
-  pub row-is : getD rows (code * 8 + m) 0 ≡ (m * 32 + getD (statesOf (stateCounts ms) code) m 0) * 64
-  row-is = T .holds-rows .row code m below-product (omega (arith, counts-length ms, machine-below))
-
-  -- the row and the output are within the table
-  pub in-steps : getD rows (code * 8 + m) 0 + y < length steps
-  in-steps = omega (arith, row-is, state-few, machine-below, T .machines .machines, T .holds-steps .size)
-
-  pub in-rows : code * 8 + m < length rows
-  in-rows = omega (arith, machine-below, T .machines, T .holds-rows .size, below-product)
-
-  pub entry-is : getD steps (getD rows (code * 8 + m) 0 + y) 0 ≡ stepCode (stepOf (machineAt ms m) (getD (statesOf (stateCounts ms) code) m 0) (record { input = x; output = y }))
-  entry-is =
-      ap (λ (n : ℕ). getD steps (n + y) 0) row-is
-      ∙ T .holds-steps .step m (getD (statesOf (stateCounts ms) code) m 0) y machine-below state-below hy

@@ -9,11 +9,10 @@ use Rattle.ranking.specs.Rankings.{isRanking}
 use Rattle.card.specs.Layout.{machineCount, symbolCount}
 use Rattle.card.specs.Card.{machinesOf, cardRefusal}
 use Rattle.card.specs.Accepted.{accepted}
-use Rattle.product.specs.Nodes.{product, stateCountOf, stateCounts}
+use Rattle.product.specs.Nodes.{stateCountOf, stateCounts}
 use Rattle.product.specs.Laws.Accepted.{accepted-machines}
 use Rattle.tables.specs.Places.{sixPlaces, SixPlaces}
 use Rattle.tables.specs.Tables.{CountsOfSome}
-use Rattle.tables.specs.FillingRows.{RowsPre}
 use Rattle.tables.specs.Laws.Harmony.{six-places}
 use Rattle.tables.specs.Laws.Cards.{card-machines}
 
@@ -40,6 +39,3 @@ module _ (card : List ℕ) (ok : cardRefusal card ≡ 0) (r : List ℕ) (k : ℕ
   -- they are the counts of some machines
   pub front-counts : CountsOfSome (take k r)
   front-counts = record { symbols = symbolCount card; machines = machinesOf card; card = card-machines card ok; are = front-is }
-
-  pub rows-ready : (rs : List ℕ) (P : ℕ) → P ≡ product (stateCounts (machinesOf card)) → length rs ≡ 1024 → RowsPre (take k r) rs P
-  rows-ready rs P p n = record { counts-of = front-counts; states = rw front-is p; room = n }

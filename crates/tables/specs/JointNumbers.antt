@@ -6,10 +6,6 @@ use Rattle.machine.specs.declared.Pair.{Pair}
 use Rattle.machine.specs.Machine.{Machine}
 use Rattle.product.specs.ProductGraph.{Move}
 use Rattle.product.specs.Codes.{codeStep, codeEnding}
-use Rattle.tables.specs.declared.Joint.{Joint}
-use Rattle.tables.specs.declared.Joint.the-variants.{To, Nothing}
-use Rattle.tables.specs.declared.JointEnding.{JointEnding}
-use Rattle.tables.specs.declared.JointEnding.the-variants.{Marks, NotFinal}
 use Rattle.tables.specs.Places.{markNumber}
 
 -- where a move leads, and the number of its marks
@@ -21,11 +17,6 @@ numbered places (some m) = some (m .target, markNumber places (m .marks))
 abbrev pub jointFrom : List ℕ → List Machine → ℕ → Pair → Option (ℕ × ℕ)
 jointFrom places ms code p = numbered places (codeStep ms code p)
 
--- what a Joint says
-abbrev pub joined : Joint → Option (ℕ × ℕ)
-joined (To code marks) = some (code, marks)
-joined Nothing = none
-
 -- the number of the marks of an ending
 abbrev pub endingNumber : List ℕ → Option (List ℕ) → Option ℕ
 endingNumber places none = none
@@ -34,8 +25,3 @@ endingNumber places (some marks) = some (markNumber places marks)
 -- ending on all machines, in the states of a code
 abbrev pub endingFrom : List ℕ → List Machine → ℕ → Option ℕ
 endingFrom places ms code = endingNumber places (codeEnding ms code)
-
--- what a JointEnding says
-abbrev pub jointEnded : JointEnding → Option ℕ
-jointEnded (Marks marks) = some marks
-jointEnded NotFinal = none

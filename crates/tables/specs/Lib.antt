@@ -3,7 +3,4 @@ pub mod Engine
 pub mod JointNumbers
 pub mod Tables
 pub mod Endings
-pub mod FillingRows
-pub mod JointTable
-pub mod FillingJoint
 pub mod Laws

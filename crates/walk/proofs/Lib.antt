@@ -1,5 +1,12 @@
-pub mod Keeping
-pub mod Moves
-pub mod Trying
-pub mod Following
-pub mod Starting
+pub mod Placing
+pub mod Joining
+pub mod Tests
+pub mod Sizes
+pub mod Columns
+pub mod Tightness
+pub mod Marks
+pub mod Nodes
+pub mod Passing
+pub mod Ends
+pub mod Ending
+pub mod Walking

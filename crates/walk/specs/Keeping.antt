@@ -1,110 +1,58 @@
--- Whether a pair keeps to the labels: the label of a node is the cost of the pair and of what is left where it leads.
+-- Whether a joint step keeps to the labels, by the numbers, and the least output that does.
 use mathlib.Core.Path.{_≡_}
-use mathlib.Core.Logic.{_≢_}
 use mathlib.Core.Bool.{true}
-use mathlib.Core.Option.{some}
 use mathlib.Core.List.{List}
-use Prim.Native.Nat.{ℕ, _+_, _*_, _^_, _<_, _≤_}
-use lib.ListN.{length, getD}
+use Prim.Native.Nat.{ℕ, _+_, _-_, _%_, _^_, _<_, _≤_}
+use lib.ListN.{length}
 use Rattle.basics.specs.Sets.{member}
-use Rattle.machine.specs.declared.Pair.{Pair}
-use Rattle.machine.specs.Symbols.{emptySymbol}
-use Rattle.card.specs.Layout.{machineCount, symbolCount}
-use Rattle.card.specs.Card.{machinesOf}
-use Rattle.paths.specs.Ranked.{Ranked, add}
-use Rattle.paths.specs.Walk.{Tight}
-use Rattle.product.specs.Nodes.{product}
-use Rattle.product.specs.ProductGraph.{pairs}
-use Rattle.product.specs.Pairs.{positionAfter}
-use Rattle.labels.specs.Marks.{marksCost}
-use Rattle.labels.specs.LabelCost.{RoomFor}
-use Rattle.labels.specs.Work.{HasNode, costAt, labelOf}
-use Rattle.tables.specs.declared.Joint as joint
-use Rattle.tables.specs.declared.Joint.the-variants as joints
-use Rattle.tables.specs.Engine.{engineGraph}
-use Rattle.tables.specs.Places.{SixPlaces}
-use Rattle.tables.specs.Tables.{JointPre, Tables, Joins}
-use Rattle.walk.specs.declared.Kept.{Kept}
-use Rattle.walk.specs.declared.Kept.the-variants.{To, No}
-use Rattle.walk.specs.declared.Step.{Step}
-use Rattle.walk.specs.declared.Tried.{Tried}
-use Rattle.walk.specs.declared.Tried.the-variants.{Least, Without}
-use Rattle.walk.specs.Setting.{Labelled}
+use Rattle.cells.specs.declared.Cell.{Cell}
+use Rattle.cells.specs.Cells.{nowhere}
+use Rattle.cells.specs.Labels.{noLabel}
+use Rattle.columns.specs.Filling.{Small}
+use Rattle.walk.specs.declared.tight.Least.{Least}
+use Rattle.walk.specs.Labels.{cellOf, HasLabel}
+use Rattle.walk.specs.Places.{ColumnsPre, WeightsFit, highBy, lowBy}
 
--- ---- a joint step from the node u to the nodes from `base` on
+-- the label x is what the step h l counts, a pair, and the label y of the code that the step leads to, which is its last byte
+pub record KeepsBy (x y : Cell) (h l : ℕ) : Type 0 where
+  pub step : h < nowhere
+  pub high-sum : y .high + h ≡ x .high + h % 256
+  pub low-sum : y .low + l + 1 ≡ x .low
 
--- it leads to the code c, and u's label is what it costs and what is left there
-pub record KeepsTo (xs : List ℕ) (u base : ℕ) (found : joint.Joint) (c : ℕ) : Type 0 where
-  pub marks : ℕ
-  pub leads : found ≡ joints.To c marks
-  pub rest : Ranked 6
-  pub rest-is : labelOf xs (base + c) ≡ some rest
-  pub sum : costAt xs u ≡ add 6 (marksCost marks) rest
+-- a label that a step may be added to
+pub record Fits (x : Cell) : Type 0 where
+  pub high-fits : x .high ≤ noLabel
+  pub low-fits : x .low ≤ 2 ^ 64 - 2 ^ 56
 
-pub record KeepsPre (xs : List ℕ) (u base : ℕ) (found : joint.Joint) : Type 0 where
-  pub from : HasNode xs u
-  pub node : (c m : ℕ) → found ≡ joints.To c m → HasNode xs (base + c)
-  pub below : (c m : ℕ) → found ≡ joints.To c m → m < 16 ^ 6
-  pub fits : (c m : ℕ) → found ≡ joints.To c m → (d : Ranked 6) → labelOf xs (base + c) ≡ some d → RoomFor 1 6 d
+pub record KeepsPre (x y step : Cell) : Type 0 where
+  pub label : x .high < nowhere
+  pub there : step .high < nowhere
+  pub fits : Fits y
+  pub low-few : step .low ≤ 2 ^ 55
 
-pub record Keeps (xs : List ℕ) (u base : ℕ) (found : joint.Joint) (r : Kept) : Type 0 where
-  pub to : (c : ℕ) → r ≡ To c → KeepsTo xs u base found c
-  pub no : r ≡ No → (c : ℕ) → ¬ (KeepsTo xs u base found c)
+-- the step h l leads to a node whose label it may be added to; the nodes that it may lead to start at base
+pub record LeadsOn (ranked sums : List ℕ) (base h l : ℕ) : Type 0 where
+  pub node : HasLabel ranked sums (base + h % 256)
+  pub few : base + h % 256 < 3200
+  pub fits : Fits (cellOf ranked sums (base + h % 256))
+  pub low-few : l ≤ 2 ^ 55
 
--- ---- the same by a table of steps
+-- the output y keeps to the labels
+abbrev pub KeepsAt : (x : Cell) (ranked sums steps ps ws : List ℕ) (base W y : ℕ) → Type 0
+KeepsAt x ranked sums steps ps ws base W y = KeepsBy x (cellOf ranked sums (base + highBy steps ps ws W y % 256)) (highBy steps ps ws W y) (lowBy steps ps ws W y)
 
-pub record StepPre (xs steps rows counts places : List ℕ) (u base code y : ℕ) : Type 0 where
-  pub joint : JointPre steps rows counts places code y
-  pub from : HasNode xs u
-  pub node : (c : ℕ) → c < product counts → HasNode xs (base + c)
-  pub fits : (c : ℕ) → c < product counts → (d : Ranked 6) → labelOf xs (base + c) ≡ some d → RoomFor 1 6 d
+pub record LeastPre (x : Cell) (ranked sums steps ps ws : List ℕ) (base W : ℕ) : Type 0 where
+  pub columns : ColumnsPre steps ps W
+  pub small : Small steps
+  pub weights : WeightsFit ws (length ps)
+  pub label : x .high < nowhere
+  pub leads : (y : ℕ) → y ≤ 64 → highBy steps ps ws W y < nowhere → LeadsOn ranked sums base (highBy steps ps ws W y) (lowBy steps ps ws W y)
 
-pub record StepKeeps (xs steps rows counts places : List ℕ) (u base code y : ℕ) (r : Kept) : Type 0 where
-  pub found : joint.Joint
-  pub joins : Joins steps rows counts places code y found
-  pub keeps : Keeps xs u base found r
-
--- ---- a pair at the node of a position and a code
-
--- it keeps to the labels
-abbrev pub KeepsAt : (xs card sets places : List ℕ) (size i code : ℕ) → Pair → Type 0
-KeepsAt xs card sets places size i code p = Tight (engineGraph (machinesOf card) places sets) (labelOf xs) (i * size + code) p
-
--- and leads to the code c
-pub record TightTo (xs card sets places : List ℕ) (size i code : ℕ) (p : Pair) (c : ℕ) : Type 0 where
-  pub tight : KeepsAt xs card sets places size i code p
-  pub target : tight .to .target ≡ positionAfter i (p .input) * size + c
-  pub state : c < size
-  pub position : positionAfter i (p .input) ≤ length sets
-
--- ---- the pairs with the in x at a node: insertions, or those of a symbol of the set there
-
-pub record OutputsPre (xs card sets table rows counts places : List ℕ) (size i x code : ℕ) : Type 0 where
-  pub labels : Labelled places card sets xs size
-  pub six : SixPlaces places
-  pub tables : Tables (symbolCount card) (machinesOf card) x table rows counts
-  pub position : i ≤ length sets
-  pub reads : x ≢ emptySymbol → member (getD sets i 0) x ≡ true
-  pub state : code < size
-  pub label : Ranked 6
-  pub label-is : labelOf xs (i * size + code) ≡ some label
-
--- the least of them that keeps to the labels, or that none does
-pub record Tries (xs card sets places : List ℕ) (size i x code : ℕ) (r : Tried) : Type 0 where
-  pub to : (s : Step) → r ≡ Least s → TightTo xs card sets places size i code (s .pair) (s .code)
-  pub input : (s : Step) → r ≡ Least s → s .pair .input ≡ x
-  pub passed : (s : Step) → r ≡ Least s → (q : Pair) → q .input ≡ x → q .output < s .pair .output → ¬ (KeepsAt xs card sets places size i code q)
-  pub none : r ≡ Without → (q : Pair) → q .input ≡ x → ¬ (KeepsAt xs card sets places size i code q)
-
--- the table of the insertions is filled, and there is room for one of a symbol
-pub record TryPre (xs card sets insertions steps rows counts places : List ℕ) (size i x code : ℕ) : Type 0 where
-  pub insertions-there : OutputsPre xs card sets insertions rows counts places size i emptySymbol code
-  pub reads : x ≢ emptySymbol → member (getD sets i 0) x ≡ true
-  pub small : x < 64
-  pub room : machineCount card * 2048 ≤ length steps
-
--- ---- the least pair at a node that keeps to the labels
-
-pub record Finds (xs card sets places : List ℕ) (size i code : ℕ) (r : Step) : Type 0 where
-  pub to : TightTo xs card sets places size i code (r .pair) (r .code)
-  pub least : (q : Pair) → pairs ._◃_ q (r .pair) → ¬ (KeepsAt xs card sets places size i code q)
+-- it is the least of these outputs that keeps to the labels, with the code and the label that it leads to; none below 64 does where it is 64
+pub record LeastOf (x : Cell) (ranked sums steps ps ws : List ℕ) (base W outputs : ℕ) (r : Least) : Type 0 where
+  pub most : r .output ≤ 64
+  pub inside : r .output < 64 → member outputs (r .output) ≡ true
+  pub keeps : r .output < 64 → KeepsAt x ranked sums steps ps ws base W (r .output)
+  pub code : r .output < 64 → r .code ≡ highBy steps ps ws W (r .output) % 256
+  pub label : r .output < 64 → r .label ≡ cellOf ranked sums (base + r .code)
+  pub passed : (y : ℕ) → y < r .output → member outputs y ≡ true → ¬ (KeepsAt x ranked sums steps ps ws base W y)

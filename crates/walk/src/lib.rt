@@ -1,172 +1,68 @@
-// The walk from the start along the labels, which writes the pairs of the best candidate.
+// The walk from the start along the labels, which writes the pairs of the best candidate and adds up their marks. Labels are two numbers, as they
+// are for every order.
 ghost use mathlib.Core.Path.{_≡_};
-ghost use mathlib.Core.Bool.{_||_};
-ghost use Prim.Native.Nat.{ℕ, _+_, _*_, _<_, _≤_};
+ghost use mathlib.Core.Bool.{true, _||_};
+ghost use mathlib.Core.Option.{some};
+ghost use Prim.Native.Nat.{ℕ, _*_, _<_, _≤_};
 ghost use lib.Dec.{eqb};
-ghost use lib.ListN.{length, getD, set};
+ghost use lib.ListN.{length, getD};
 ghost use Rattle.basics.specs.Sets.{member};
-ghost use Rattle.card.specs.Layout.{machineCount};
 ghost use Rattle.machine.specs.Symbols.{emptySymbol};
-ghost use Rattle.product.specs.Pairs.{positionAfter, firstOutput};
-ghost use Rattle.walk.specs.Keeping.{KeepsPre, Keeps, StepPre, StepKeeps, OutputsPre, TryPre, Tries};
-ghost use Rattle.walk.specs.Walked.{FollowPre, TablesLent, WalkPre, Walked};
+ghost use Rattle.machine.specs.Machine.{endingOf};
+ghost use Rattle.machine.specs.Part.{shaped, machineOf};
+ghost use Rattle.paths.specs.Costs.{Labels};
+ghost use Rattle.paths.specs.Ranked.{rankedCosts};
+ghost use Rattle.cells.specs.Cells.{places};
+ghost use Rattle.walk.specs.WalkLabels.{WalkLabels, WalkPre};
+ghost use Rattle.walk.specs.Walking.{StartPre, StartsAt, GoPre, GoesOn, EndsPre, EndingAdded};
+ghost use Rattle.walk.specs.Walked.{Walked};
+use cells::Cell;
+use machine::Ending;
 use machine::Pair;
-use tables::Joint;
+use machine::Position;
+use machine::sets;
+use ranking::Profile;
+use tight::Least;
 
-// Whether a pair keeps to the labels, and the code that it leads to.
-pub enum Kept {
-    To(usize),
-    No,
-}
+pub mod tight;
 
-// A pair, and the code that it leads to.
-pub struct Step {
-    pub pair: Pair,
+// The node that is reached: its position, the code of its states, the states; its label; the pairs written and the marks passed.
+pub struct At {
+    pub position: usize,
     pub code: usize,
+    pub states: [u8; 6],
+    pub label: Cell,
+    pub pairs: usize,
+    pub profile: Profile,
 }
 
-// The least of some pairs that keeps to the labels.
-pub enum Tried {
-    Least(Step),
-    Without,
+// What is written: the number of pairs, and their profile.
+pub struct Written {
+    pub pairs: usize,
+    pub profile: Profile,
 }
 
-// Whether a joint step from the node u to the nodes from base on keeps to the labels.
-fn keeps(work: &[u16], u: usize, base: usize, found: Joint) -> Kept
-    requires { ⌜ KeepsPre (now work) u base found ⌝ }
-    ensures { λ r. ⌜ Keeps (now (work .entry)) u base found r ⌝ }
+// The start, where every machine is in its start state and nothing is written.
+fn start(ranked: &[u16], sums: &[u64], counts: &[u8]) -> At
+    requires { ⌜ StartPre (now ranked) (now sums) (now counts) ⌝ }
+    ensures { λ r. ⌜ StartsAt (now (ranked .entry)) (now (sums .entry)) (now (counts .entry)) r ⌝ }
 {
-    let Joint::To(to, marks) = found else {
-        return Kept::No;
-    };
-    if !labels::reached(work, base + to) {
-        return Kept::No;
-    }
-    let rest = labels::plus(labels::load(work, base + to), marks);
-    if labels::same(labels::load(work, u), rest) {
-        return Kept::To(to);
-    }
-    Kept::No
-}
-
-// The same for the step with an output by a table of steps.
-fn keeps_by(
-    work: &[u16],
-    steps: &[u16],
-    rows: &[u16],
-    counts: &[u8],
-    places: &[u8; 6],
-    u: usize,
-    base: usize,
-    code: usize,
-    output: usize,
-) -> Kept
-    requires { ⌜ StepPre (now work) (now steps) (now rows) (now counts) (now places) u base code output ⌝ }
-    ensures { λ r. ⌜ StepKeeps (now (work .entry)) (now (steps .entry)) (now (rows .entry)) (now (counts .entry)) (now (places .entry)) u base code output r ⌝ }
-{
-    let found = tables::joint_step(steps, rows, counts, places, code, output);
-    keeps(work, u, base, found)
-}
-
-// The least pair with an in that keeps to the labels, by the table of the steps with that in, out by out.
-fn try_outputs(
-    work: &[u16],
-    card: &[u8],
-    sets: &[u64],
-    table: &[u16],
-    rows: &[u16],
-    counts: &[u8],
-    places: &[u8; 6],
-    size: usize,
-    position: usize,
-    next: usize,
-    input: u8,
-    code: usize,
-    first: usize,
-) -> Tried
-    requires { ⌜ OutputsPre (now work) (now card) (now sets) (now table) (now rows) (now counts) (now places) size position input code × (next ≡ positionAfter position input) × (first ≡ firstOutput input) ⌝ }
-    ensures { λ r. ⌜ Tries (now (work .entry)) (now (card .entry)) (now (sets .entry)) (now (places .entry)) size position input code r ⌝ }
-{
-    let symbols = card::symbol_count(card) as usize;
-    let mut output = first;
-    while output <= symbols {
-        let kept = keeps_by(
-            work,
-            table,
-            rows,
-            counts,
-            places,
-            position * size + code,
-            next * size,
-            code,
-            output,
-        );
-        if let Kept::To(to) = kept {
-            return Tried::Least(Step {
-                pair: Pair::new(input, output as u8),
-                code: to,
-            });
-        }
-        output += 1;
-    }
-    Tried::Without
-}
-
-// The least pair with an in that keeps to the labels. The table of the insertions is filled; that of a symbol is filled here.
-fn try_input(
-    work: &[u16],
-    card: &[u8],
-    sets: &[u64],
-    insertions: &[u16],
-    rows: &[u16],
-    counts: &[u8],
-    places: &[u8; 6],
-    size: usize,
-    position: usize,
-    code: usize,
-    input: u8,
-    steps: &mut [u16],
-) -> Tried
-    requires { ⌜ TryPre (now work) (now card) (now sets) (now insertions) (now steps) (now rows) (now counts) (now places) size position input code ⌝ }
-    ensures { λ r. ⌜ Tries (now (work .entry)) (now (card .entry)) (now (sets .entry)) (now (places .entry)) size position input code r ⌝ }
-{
-    if input == Pair::EMPTY {
-        return try_outputs(
-            work,
-            card,
-            sets,
-            insertions,
-            rows,
-            counts,
-            places,
-            size,
-            position,
-            position,
-            input,
-            code,
-            Pair::FIRST,
-        );
-    }
-    steps::fill_steps(card, input, steps);
-    try_outputs(
-        work,
-        card,
-        sets,
-        steps,
-        rows,
-        counts,
-        places,
-        size,
-        position,
-        position + 1,
-        input,
+    let code = tables::start_node(counts);
+    let state = Position::start().state;
+    let label = tight::label_at(ranked, sums, code);
+    let profile = Profile::zero();
+    At {
+        position: 0,
         code,
-        tables::DELETION,
-    )
+        states: [state; 6],
+        label,
+        pairs: 0,
+        profile,
+    }
 }
 
-// The ins of the pairs at a position: the empty symbol, and the symbols of the set there.
-pub fn inputs_at(sets: &[u64], position: usize) -> u64
+// The inputs of the pairs at a position: the empty symbol, and the symbols of the set there.
+fn inputs_at(sets: &[u64], position: usize) -> u64
     ensures { λ r. ⌜ ((x : ℕ) → member r x ≡ (eqb x emptySymbol || member (getD (now (sets .entry)) position 0) x)) ⌝ }
 {
     if position < sets.len() {
@@ -175,181 +71,183 @@ pub fn inputs_at(sets: &[u64], position: usize) -> u64
     machine::sets::EMPTY
 }
 
-// Writes a pair after as many pairs.
-pub fn write_pair(answer: &mut [u8], pairs: usize, pair: Pair)
-    requires { ⌜ 2 * pairs + 1 < length (now answer) ⌝ }
-    ensures { λ _. ⌜ now (answer .exit) ≡ set (set (now (answer .entry)) (2 * pairs) (pair .input)) (2 * pairs + 1) (pair .output) ⌝ }
-{
-    answer[2 * pairs] = pair.input;
-    answer[2 * pairs + 1] = pair.output;
-}
-
-// The position after a pair: an insertion stays.
-pub fn pass(position: usize, pair: Pair) -> usize
-    requires { ⌜ position ≤ 24 ⌝ }
-    ensures { λ r. ⌜ r ≡ positionAfter position (pair .input) ⌝ }
-{
-    if pair.inserts() {
-        return position;
-    }
-    position + 1
-}
-
-// Walks from the start along the labels, each time by the least pair that keeps to them, in by in, and writes the pairs: their number.
-fn follow(
-    work: &[u16],
-    card: &[u8],
-    sets: &[u64],
-    insertions: &[u16],
-    rows: &[u16],
-    counts: &[u8],
-    places: &[u8; 6],
-    size: usize,
-    steps: &mut [u16],
+// Writes the pair of an input and the least output, and goes on to the node of a position that it leads to.
+fn go_on(
+    at: At,
+    least: Least,
+    input: u8,
+    position: usize,
+    steps: &[u16],
+    width: usize,
+    places: &[u8],
     answer: &mut [u8],
-) -> usize
-    requires { ⌜ FollowPre (now places) (now card) (now sets) (now work) (now insertions) (now steps) (now rows) (now counts) size (length (now answer)) ⌝ }
-    ensures { λ r. ⌜ Walked (now (places .entry)) (now (card .entry)) (now (sets .entry)) (now (work .entry)) (now (answer .entry)) (now (answer .exit)) r ⌝ }
+) -> At
+    requires { ⌜ GoPre at least (now steps) (now places) width (now answer) ⌝ }
+    ensures { λ r. ⌜ GoesOn at least input position (now (steps .entry)) (now (places .entry)) width (now (answer .entry)) (now (answer .exit)) r ⌝ }
 {
-    let mut position = 0;
-    let mut code = tables::start_node(counts);
-    let mut pairs = 0;
-    loop {
-        let label = labels::load(work, position * size + code);
-        if label.pairs == 0 {
-            break pairs;
-        }
-        let mut left = inputs_at(sets, position);
-        let step = 'least: loop {
-            let input = machine::sets::least(left) as u8;
-            let tried = try_input(
-                work,
-                card,
-                sets,
-                insertions,
-                rows,
-                counts,
-                places,
-                size,
-                position,
-                code,
-                input,
-                steps,
-            );
-            if let Tried::Least(found) = tried {
-                break 'least found;
-            }
-            left = machine::sets::without_least(left);
-        };
-        write_pair(answer, pairs, step.pair);
-        position = pass(position, step.pair);
-        code = step.code;
-        pairs += 1;
+    let pairs = at.pairs;
+    let output = least.output;
+    let label = least.label;
+    let passed = at.profile;
+    let states = tight::moved(steps, width, output, places);
+    let profile = tight::add_marks(passed, steps, width, output, places);
+    answer[2 * pairs] = input;
+    answer[2 * pairs + 1] = output as u8;
+    At {
+        position,
+        code: least.code,
+        states,
+        label,
+        pairs: pairs + 1,
+        profile,
     }
 }
 
-// Walks with two tables of steps that are lent, for the insertions and for the symbol at hand.
+// The marks of ending in a state, 0 where it is not final.
+fn ending_marks(part: &[u8], state: u8) -> u16
+    requires { ⌜ shaped (now part) ≡ true ⌝ }
+    ensures { λ r. ⌜ ((n : ℕ) → endingOf (machineOf (now (part .entry))) state ≡ some n → r ≡ n) × (r < 256) ⌝ }
+{
+    let Ending::Marks(marks) = Position { state }.ending(part) else {
+        return 0;
+    };
+    marks as u16
+}
+
+// The profile with the marks of the machines' endings in these states.
+fn with_ending(profile: Profile, card: &[u8], states: &[u8]) -> Profile
+    requires { ⌜ EndsPre (now card) (now states) profile ⌝ }
+    ensures { λ r. ⌜ EndingAdded (now (card .entry)) (now (states .entry)) profile r ⌝ }
+{
+    let mut sums = profile.counts;
+    let mut m = 0;
+    while m < states.len() {
+        let marks = ending_marks(card::part(card, m), states[m]);
+        sums[m] = sums[m] + marks;
+        m += 1;
+    }
+    Profile { counts: sums }
+}
+
+// Walks with a slice for the columns of the insertions, whose length is just enough: it is cleared first. At each node the least pair that keeps to the
+// labels is found input by input, and output by output.
 fn walk_by(
-    work: &[u16],
+    ranked: &[u16],
+    sums: &[u64],
     card: &[u8],
-    ranking: &[u8],
+    counts: &[u8],
+    weights: &[u64],
     sets: &[u64],
     size: usize,
     insertions: &mut [u16],
-    steps: &mut [u16],
     answer: &mut [u8],
-) -> usize
-    requires { ⌜ WalkPre (now ranking) (now card) (now sets) (now work) size (length (now answer)) × TablesLent (now card) (now insertions) (now steps) ⌝ }
-    ensures { λ r. ⌜ Walked (now (ranking .entry)) (now (card .entry)) (now (sets .entry)) (now (work .entry)) (now (answer .entry)) (now (answer .exit)) r ⌝ }
+) -> Written
+    requires { ⌜ WalkPre (now ranked) (now sums) (now card) (now counts) (now weights) (now sets) size (length (now answer)) × (65 * places (now counts) ≤ length (now insertions)) ⌝ }
+    ensures { λ r. ⌜ ((L : Labels (rankedCosts 1)) → WalkLabels (now (ranked .entry)) (now (sums .entry)) (now (card .entry)) (now (counts .entry)) (now (weights .entry)) (now (sets .entry)) (length (now (answer .entry))) L → Walked (now (card .entry)) (now (weights .entry)) (now (sets .entry)) (now (answer .entry)) (now (answer .exit)) L r) ⌝ }
 {
-    let places = tables::six_places(ranking);
-    let counts = tables::state_counts(card);
-    let machines = card::machine_count(card);
-    let mut rows = [0u16; 1024];
-    tables::fill_rows(&counts[..machines], size, &mut rows);
-    steps::fill_steps(card, Pair::EMPTY, insertions);
-    follow(
-        work,
-        card,
-        sets,
-        insertions,
-        &rows,
-        &counts[..machines],
-        &places,
-        size,
-        steps,
-        answer,
-    )
+    let machines = counts.len();
+    let width = columns::width_of(counts);
+    let kept = columns::prepare(insertions, card, counts, width, Pair::EMPTY);
+    let hand = [0u8, 1, 2, 3, 4, 5];
+    let mut steps = [65535u16; 390];
+    let mut at = start(ranked, sums, counts);
+    let pairs = loop {
+        let label = at.label;
+        if label.low % 65536 == 0 {
+            break at.pairs;
+        }
+        let position = at.position;
+        let states = at.states;
+        let places = tight::places_of(&states, counts);
+        let mut left = inputs_at(sets, position);
+        at = 'least: loop {
+            let input = sets::least(left) as u8;
+            if input == Pair::EMPTY {
+                let least = tight::least_tight(
+                    label,
+                    ranked,
+                    sums,
+                    position * size,
+                    insertions,
+                    width,
+                    kept,
+                    &places[..machines],
+                    weights,
+                );
+                if least.output < 64 {
+                    break 'least go_on(
+                        at,
+                        least,
+                        input,
+                        position,
+                        insertions,
+                        width,
+                        &places[..machines],
+                        answer,
+                    );
+                }
+            } else {
+                let next = position + 1;
+                let outputs = columns::fill_at(&mut steps, card, &states[..machines], input);
+                let least = tight::least_tight(
+                    label,
+                    ranked,
+                    sums,
+                    next * size,
+                    &steps,
+                    machines,
+                    outputs,
+                    &hand[..machines],
+                    weights,
+                );
+                if least.output < 64 {
+                    break 'least go_on(
+                        at,
+                        least,
+                        input,
+                        next,
+                        &steps,
+                        machines,
+                        &hand[..machines],
+                        answer,
+                    );
+                }
+            }
+            left = sets::without_least(left);
+        };
+    };
+    let states = at.states;
+    let passed = at.profile;
+    let profile = with_ending(passed, card, &states[..machines]);
+    Written { pairs, profile }
 }
 
-// Walks on a card with at most three machines.
-fn walk_few(
-    work: &[u16],
-    card: &[u8],
-    ranking: &[u8],
-    sets: &[u64],
-    size: usize,
-    answer: &mut [u8],
-) -> usize
-    requires { ⌜ WalkPre (now ranking) (now card) (now sets) (now work) size (length (now answer)) × (machineCount (now card) ≤ 3) ⌝ }
-    ensures { λ r. ⌜ Walked (now (ranking .entry)) (now (card .entry)) (now (sets .entry)) (now (work .entry)) (now (answer .entry)) (now (answer .exit)) r ⌝ }
-{
-    let mut insertions = [0u16; 6144];
-    let mut steps = [0u16; 6144];
-    walk_by(
-        work,
-        card,
-        ranking,
-        sets,
-        size,
-        &mut insertions,
-        &mut steps,
-        answer,
-    )
-}
-
-// Walks on any card.
-fn walk_many(
-    work: &[u16],
-    card: &[u8],
-    ranking: &[u8],
-    sets: &[u64],
-    size: usize,
-    answer: &mut [u8],
-) -> usize
-    requires { ⌜ WalkPre (now ranking) (now card) (now sets) (now work) size (length (now answer)) ⌝ }
-    ensures { λ r. ⌜ Walked (now (ranking .entry)) (now (card .entry)) (now (sets .entry)) (now (work .entry)) (now (answer .entry)) (now (answer .exit)) r ⌝ }
-{
-    let mut insertions = [0u16; 12288];
-    let mut steps = [0u16; 12288];
-    walk_by(
-        work,
-        card,
-        ranking,
-        sets,
-        size,
-        &mut insertions,
-        &mut steps,
-        answer,
-    )
-}
-
-// Writes the pairs of the best candidate into the front of the answer: their number. The labels of all nodes, of which there are size to a
-// position, are in the work slice. Clearing tables is most of a short walk's time, so few machines get smaller ones.
+// Writes the pairs of the best candidate into the front of the answer. The labels of all nodes, of which there are size to a position, are in one of two
+// slices: by counts, or by sums.
 pub fn walk(
-    work: &[u16],
+    ranked: &[u16],
+    sums: &[u64],
     card: &[u8],
-    ranking: &[u8],
+    counts: &[u8],
+    weights: &[u64],
     sets: &[u64],
     size: usize,
     answer: &mut [u8],
-) -> usize
-    requires { ⌜ WalkPre (now ranking) (now card) (now sets) (now work) size (length (now answer)) ⌝ }
-    ensures { λ r. ⌜ Walked (now (ranking .entry)) (now (card .entry)) (now (sets .entry)) (now (work .entry)) (now (answer .entry)) (now (answer .exit)) r ⌝ }
+) -> Written
+    requires { ⌜ WalkPre (now ranked) (now sums) (now card) (now counts) (now weights) (now sets) size (length (now answer)) ⌝ }
+    ensures { λ r. ⌜ ((L : Labels (rankedCosts 1)) → WalkLabels (now (ranked .entry)) (now (sums .entry)) (now (card .entry)) (now (counts .entry)) (now (weights .entry)) (now (sets .entry)) (length (now (answer .entry))) L → Walked (now (card .entry)) (now (weights .entry)) (now (sets .entry)) (now (answer .entry)) (now (answer .exit)) L r) ⌝ }
 {
-    if card::machine_count(card) <= 3 {
-        walk_few(work, card, ranking, sets, size, answer)
-    } else {
-        walk_many(work, card, ranking, sets, size, answer)
-    }
+    let room = 65 * columns::width_of(counts);
+    let mut insertions = [65535u16; 2600];
+    walk_by(
+        ranked,
+        sums,
+        card,
+        counts,
+        weights,
+        sets,
+        size,
+        &mut insertions[..room],
+        answer,
+    )
 }

@@ -1,4 +1,3 @@
 pub mod WeighsBy
-pub mod Closing
 pub mod Labelling
 pub mod Laws

@@ -1,7 +1,7 @@
 -- The numbers of machines by their weights.
 use mathlib.Core.Path.{_≡_}
 use mathlib.Core.Logic.{_⊎_, _≢_}
-use mathlib.Core.List.{List, [], _∷_}
+use mathlib.Core.List.{List}
 use Prim.Native.Nat.{ℕ, _*_, _%_, _<_, _≤_}
 use lib.ListN.{length, getD}
 use Rattle.cells.specs.Cells.{highOf, lowOf}
@@ -16,10 +16,3 @@ pub record HighsWritten (weights xs ys : List ℕ) (n : ℕ) : Type 0 where
   pub size : length ys ≡ length xs
   pub high : (m : ℕ) → m < n → highOf ys m ≡ 256 * getD weights m 0
   pub others : (i : ℕ) → (i % 3 ≢ 1) ⊎ (3 * n ≤ i) → getD ys i 0 ≡ getD xs i 0
-
--- what a mark counts in high and in low, for six machines in card order
-abbrev pub sixHighs : List ℕ → List ℕ
-sixHighs ws = highOf ws 0 ∷ highOf ws 1 ∷ highOf ws 2 ∷ highOf ws 3 ∷ highOf ws 4 ∷ highOf ws 5 ∷ []
-
-abbrev pub noLows : List ℕ
-noLows = 0 ∷ 0 ∷ 0 ∷ 0 ∷ 0 ∷ 0 ∷ []

@@ -3,10 +3,10 @@ use mathlib.Core.Path.{_≡_, _∙_, ap}
 use mathlib.Core.Bool.{true}
 use mathlib.Core.List.{List}
 use mathlib.Core.Option.{some}
-use Prim.Native.Nat.{ℕ, zero, suc, _*_, _<_, _≤_}
+use Prim.Native.Nat.{ℕ, zero, suc, _<_, _≤_}
 use native.Mathlib.Omega.{arith}
 use lib.Dec.{ltb}
-use lib.ListN.{length, replicate, length-replicate}
+use lib.ListN.{length}
 use Rattle.basics.specs.Search.{allOf}
 use Rattle.card.specs.Layout.{symbolCount}
 use Rattle.product.specs.Best.{Contender}
@@ -16,19 +16,17 @@ use Rattle.product.specs.SetsTheorem.{best-in-of-one-word}
 use Rattle.product.specs.Laws.Words.{accepted-word}
 use Rattle.product.specs.Laws.Sets.{as-many}
 use Rattle.product.specs.Laws.BestOfSets.{singletons-64}
-use Rattle.optimizer.proofs.Words.{all-small, of-sets, length-alike}
+use Rattle.input.proofs.Words.{all-small, of-sets}
+use Rattle.readout.proofs.Words.{length-alike}
 use Rattle.optimizer.proofs.Answers as ranked
 use Rattle.sums.specs.Weights.{bySum, bestByWeights}
 use Rattle.sums.specs.WeightedPaths.{weights-agree}
+use Rattle.sums.specs.Labelling.{AllDone}
 use Rattle.weights.specs.declared.Weighing.{Weighing}
 use Rattle.weights.specs.Weighing.{weightedRefusal, refusedWeighing, answeredSum}
 use Rattle.weights.specs.Accepting.{accepts}
 use Rattle.weights.specs.WeightedBest.{weighted-best-is-small}
-use Rattle.weights.specs.Searching.{SetsPre, TablesFit, SearchPre, Searched, Optimizes}
-
--- two new tables, with room for the joint steps of P codes
-pub tables-fit : (P n : ℕ) → P * 64 ≤ n → TablesFit (replicate {A = ℕ} n 0) (replicate {A = ℕ} n 0) P
-tables-fit P n h = record { insertions = omega (arith, length-replicate {A = ℕ} n 0); joint = omega (arith, length-replicate {A = ℕ} n 0) }
+use Rattle.weights.specs.Searching.{SetsPre, SearchPre, Searched, Optimizes}
 
 -- ---- an accepted word
 
@@ -58,6 +56,11 @@ module _ {card weights word work : List ℕ} {size : ℕ} (pre : SearchPre card 
       where
         the-word : Searched weights (bestByWeights card weights word) (singletons word) work after answer answerAfter r
         the-word = rw (are, best-in-of-one-word (weights-agree weights) card word (pre .accepted) word-small) at T
+
+-- ---- the labels are done
+
+pub after-pre : {card weights sets work after : List ℕ} {P : ℕ} → SetsPre card weights sets work P → AllDone card weights sets work after → SetsPre card weights sets after P
+after-pre pre D = record { setting = pre .setting; weighs = pre .weighs; bits = pre .bits; room = D .size ∙ pre .room }
 
 -- ---- the call
 

@@ -10,9 +10,15 @@ use lib.ListN.{length, getD, drop}
 use borrow.Author.Tests.{eq-eqb, ne-eqb, le-leb, lt-leb}
 use Rattle.basics.specs.Search.{allOf}
 use Rattle.basics.proofs.Search.{left-next, left-none, all-none, all-next, all-fails}
+use Rattle.card.specs.Layout.{symbolCount}
 use Rattle.card.specs.Card.{machinesOf}
-use Rattle.product.specs.Nodes.{product, stateCounts, nodeCount}
+use Rattle.product.specs.Nodes.{nodeCount}
+use Rattle.grid.specs.declared.Grid.{Grid}
+use Rattle.grid.specs.Grids.{GridOf}
+use Rattle.input.specs.AcceptedInput.{short-word}
+use Rattle.input.proofs.Nodes.{few-nodes, few-sizes}
 use Rattle.sums.specs.Weights.{soundWeights}
+use Rattle.weights.specs.Accepting.{Accepts}
 
 -- ---- weights
 
@@ -36,7 +42,11 @@ pub one-passes : (weights : List ℕ) (i : ℕ) → i < length weights → getD 
     → allOf (λ w. leb w 4000000000) (drop (i + 1) weights) ≡ allOf (λ w. leb w 4000000000) weights
 one-passes weights i h k e = all-next (λ w. leb w 4000000000) (left-next weights i h) (le-leb (getD weights i 0) 4000000000 k) ∙ e
 
--- ---- the room for the nodes
+-- ---- the nodes of accepted input, by the card's sizes
 
-pub node-room : (card word : List ℕ) (P : ℕ) → P ≡ product (stateCounts (machinesOf card)) → (length word + 1) * P * 2 ≡ 2 * nodeCount (machinesOf card) (length word)
-node-room card word P e = let q : (length word + 1) * P ≡ nodeCount (machinesOf card) (length word) = ap (λ (p : ℕ). (length word + 1) * p) e in omega arith
+module _ {card weights word : List ℕ} {room : ℕ} (a : Accepts card weights word room) (g : Grid) (G : GridOf card g) where
+  pub nodes-few : (length word + 1) * g .size ≤ 3200
+  nodes-few = few-nodes (length word) (g .size) (short-word (symbolCount card) word (a .sound)) (few-sizes card (a .accepted) g G .joint-states)
+
+  pub nodes-fit : (length word + 1) * g .size ≤ room
+  nodes-fit = let q : (length word + 1) * g .size ≡ nodeCount (machinesOf card) (length word) = ap (λ (p : ℕ). (length word + 1) * p) (G .size) in omega (arith, a .nodes-fit)

@@ -1,31 +1,29 @@
 -- Reading the answer off the labels. Assumes nothing.
-use mathlib.Core.Path.{_≡_, refl, sym, _∙_, ap, ap₂, subst}
-use mathlib.Core.Bool.{Bool, true}
+use mathlib.Core.Path.{_≡_, refl, sym, _∙_, ap, subst}
+use mathlib.Core.Bool.{Bool}
 use mathlib.Core.List.{List, [], _∷_}
 use mathlib.Core.Option.{Option, some}
 use Prim.Native.Nat.{ℕ, _+_, _*_, _/_, _%_, _<_, _≤_}
 use native.Mathlib.Decide.{decLt}
 use native.Mathlib.Omega.{arith}
 use lib.Dec.{leb, ltb}
-use lib.ListN.{length, getD, take, drop}
-use lib.Seq.{take-at}
+use lib.ListN.{length, getD}
 use borrow.Author.Tests.{lt-ltb, le-ltb, leb-true, ltb-true}
-use Rattle.basics.specs.Search.{allOf}
 use Rattle.refusals.specs.Refusals.{refuse, firstOf, unlessRefused}
-use Rattle.basics.proofs.Bools.{both}
 use Rattle.refusals.proofs.Refusals.{accepted as taken, not-accepted, passed, none-first}
 use Rattle.machine.specs.declared.Pair.{Pair}
-use Rattle.ranking.specs.declared.Profile.{Profile}
-use Rattle.card.specs.Layout.{symbolCount}
 use Rattle.card.specs.Card.{machinesOf}
 use Rattle.candidate.specs.declared.Evaluation.{Evaluation}
-use Rattle.candidate.specs.Candidates.{pairsOf, bytesOf, isComplete, profileOf}
-use Rattle.candidate.specs.Evaluating.{soundPair, soundCandidate, profileWith}
-use Rattle.candidate.proofs.Pairs.{sound-is}
-use Rattle.paths.specs.Ranked.{Ranked}
-use Rattle.paths.specs.Graph.{Run, cost→run}
+use Rattle.candidate.specs.Candidates.{profileOf}
+use Rattle.paths.specs.Costs.{Labels}
+use Rattle.paths.specs.Ranked.{Ranked, rankedCosts}
+use Rattle.paths.specs.Labels.{Closed}
+use Rattle.paths.specs.Best.{IsBest}
+use Rattle.paths.specs.Positions.{Done}
 use Rattle.product.specs.Best.{Contender, contenderOf}
-use Rattle.product.specs.Sets.{bestOfSetsIn, IsCandidateOf}
+use Rattle.product.specs.Nodes.{product, stateCounts}
+use Rattle.product.specs.Sets.{bestOfSetsIn}
+use Rattle.product.specs.Setting.{placeOf, Setting}
 use Rattle.product.specs.Answering.{callRefusal, evaluationOf}
 use Rattle.product.specs.ProductGraph.{cardStart}
 use Rattle.product.specs.LabelTheorem.{BestAt, no-label-no-best, label-best}
@@ -33,40 +31,34 @@ use Rattle.product.specs.SetsTheorem.{best-path-is-best-of-sets}
 use Rattle.product.specs.Laws.Accepted.{accepted-machines}
 use Rattle.product.specs.Laws.BestCandidate.{path-best-of-sets}
 use Rattle.product.specs.Laws.Candidates.{fitting-cost}
-use Rattle.product.specs.Laws.CardGraph.{start-within, priced-symbols}
-use Rattle.product.specs.Laws.Edges.{edge-of, moved}
-use Rattle.product.specs.Laws.Following.{Followed}
-use Rattle.product.specs.Laws.Preference.{length-bytes}
+use Rattle.product.specs.Laws.CardGraph.{start-within}
 use Rattle.product.specs.Laws.Setting.{few-nodes}
-use Rattle.optimizer.proofs.Answers.{search-refused, search-found}
+use Rattle.cells.specs.Columns.{WeightsOf}
+use Rattle.readout.proofs.Searched.{search-refused, search-found}
 use Rattle.sums.specs.Weights.{weightedSum, bySum}
 use Rattle.sums.specs.WeightedPaths.{byWeights, weights-agree, weightedGraph}
+use Rattle.sums.specs.SmallLabels.{label-small}
 use Rattle.sums.specs.Numbers.{noLabel, costOf, labelFrom, labelOf}
 use Rattle.sums.proofs.Numbers.{label-at, label-some, label-none}
-use Rattle.sums.proofs.Stepping.{label-small}
+use Rattle.weighted.specs.WeighsBy.{WeighsBy}
+use Rattle.weighted.specs.Labelling.{LabelPre}
+use Rattle.walk.specs.declared.Written.{Written}
+use Rattle.walk.specs.WalkLabels.{WalkLabels, WalkPre}
+use Rattle.walk.specs.Walked.{Walked}
 use Rattle.weights.specs.declared.Weighing.{Weighing}
 use Rattle.weights.specs.Weighing.{refusedWeighing, sumOf, answeredSum}
-use Rattle.weights.specs.Walking.{Labelled, StartsAt}
+use Rattle.weights.specs.WeightedWalk.{weighted-walk-labels, weighted-walk-pre, weighted-walked}
 use Rattle.weights.specs.Searching.{numberRefusal, SetsPre, Searched}
 
--- ---- the bytes of a path are a sound candidate
-
-pairs-back : (c : List Pair) → pairsOf (bytesOf c) ≡ c
-unfolding pairsOf bytesOf
-pairs-back [] = refl
-pairs-back (p ∷ c) = let r = pairs-back c in λ i. p ∷ r i
-
-module _ {card weights sets ins cs ps ws xs : List ℕ} {P : ℕ} (L : Labelled card weights sets ins cs ps ws xs P) where
-  run-sound : {u : ℕ} {c : List Pair} {x : Ranked 1} → Run (weightedGraph card weights sets) u c x → allOf (soundPair (symbolCount card)) c ≡ true
-  unfolding allOf
-  run-sound (Run.halt h) = refl
-  run-sound (Run.step {u} {p} e d h r q) =
-      let k = edge-of (byWeights weights) sets (machinesOf card) u p e h in
-      both (both (moved sets (machinesOf card) u p (k .by) (k .is) .is-pair) (priced-symbols card sets (L .weighted .setting .accepted) (byWeights weights) u p e h)) (run-sound r)
+pub label-ready : {card weights sets work : List ℕ} {P : ℕ} → SetsPre card weights sets work P → LabelPre card weights sets work P
+label-ready pre = record { setting = pre .setting; weighs = pre .weighs; room = pre .room }
 
 -- ---- what the start's label says
 
-module _ {card weights sets ins cs ps ws xs : List ℕ} {P : ℕ} (pre : SetsPre card weights sets xs P) (L : Labelled card weights sets ins cs ps ws xs P) where
+module _ {card weights sets xs : List ℕ} {P : ℕ} (pre : SetsPre card weights sets xs P) (D : Done (weightedGraph card weights sets) (placeOf card) (labelOf xs) 0) where
+  closed : Closed (weightedGraph card weights sets) (labelOf xs)
+  closed u = D .closed u (omega arith)
+
   pub start-in : cardStart card < length xs
   start-in = omega (arith, pre .room, ap (λ (n : ℕ). (length sets + 1) * n) (pre .setting .states), start-within card sets (pre .setting .accepted))
 
@@ -78,7 +70,7 @@ module _ {card weights sets ins cs ps ws xs : List ℕ} {P : ℕ} (pre : SetsPre
 
   module _ (h : getD xs (cardStart card) 0 < noLabel) where
     at : BestAt (byWeights weights) (bySum weights) card sets (costOf (getD xs (cardStart card) 0))
-    at = label-best (weights-agree weights) card sets (pre .setting .accepted) (pre .bits) (labelOf xs) (L .closed) (L .weighted .attained) (costOf (getD xs (cardStart card) 0)) (start-label ∙ label-some (getD xs (cardStart card) 0) h)
+    at = label-best (weights-agree weights) card sets (pre .setting .accepted) (pre .bits) (labelOf xs) closed (D .attained) (costOf (getD xs (cardStart card) 0)) (start-label ∙ label-some (getD xs (cardStart card) 0) h)
 
   by-number : (room : ℕ) → numberRefusal (getD xs (cardStart card) 0) room ≡ callRefusal 0 (bestOfSetsIn (bySum weights) card sets) room
   by-number room = go (decLt (getD xs (cardStart card) 0) noLabel)
@@ -91,7 +83,7 @@ module _ {card weights sets ins cs ps ws xs : List ℕ} {P : ℕ} (pre : SetsPre
           ∙ ap (λ (n : ℕ). firstOf (refuse 12 (leb (2 * n) room) ∷ [])) n
           ∙ sym (ap (λ (o : Option Contender). callRefusal 0 o room) (b .is))
       go (no h) =
-          let e = no-label-no-best (weights-agree weights) card sets (pre .setting .accepted) (pre .bits) (labelOf xs) (L .closed) (start-label ∙ label-none (getD xs (cardStart card) 0) (omega arith)) in
+          let e = no-label-no-best (weights-agree weights) card sets (pre .setting .accepted) (pre .bits) (labelOf xs) closed (start-label ∙ label-none (getD xs (cardStart card) 0) (omega arith)) in
           ap (λ (t : Bool). firstOf (refuse 10 t ∷ refuse 12 (leb (2 * (getD xs (cardStart card) 0 % 4096)) room) ∷ [])) (le-ltb (getD xs (cardStart card) 0) noLabel (omega arith))
           ∙ sym (ap (λ (o : Option Contender). callRefusal 0 o room) e)
 
@@ -125,60 +117,62 @@ module _ {card weights sets ins cs ps ws xs : List ℕ} {P : ℕ} (pre : SetsPre
       start-is : labelOf xs (cardStart card) ≡ some (costOf x)
       start-is = start-label ∙ ap labelFrom (sym x-is) ∙ label-some x (fits .label)
 
-      pub starts : StartsAt card xs (length answer)
-      starts = record { cost = costOf x; label-is = start-is; fits = fits .room }
+      -- what the walk asks for, where these are the state counts and the numbers of the machines
+      module _ {counts ws : List ℕ} (counts-are : counts ≡ stateCounts (machinesOf card)) (Z : WeightsOf counts ws) (W : WeighsBy weights ws) where
+        size-is : P ≡ product counts
+        size-is = pre .setting .states ∙ ap product (sym counts-are)
 
-      module _ {after : List ℕ} {n : ℕ} (F : Followed (weightedGraph card weights sets) (labelOf xs) (cardStart card) answer after n) where
-        the-best : bestOfSetsIn (bySum weights) card sets ≡ some (contenderOf (machinesOf card) (F .best))
-        the-best = best-path-is-best-of-sets (weights-agree weights) card sets (pre .setting .accepted) (pre .bits) (F .best) (F .is-best)
+        set-up : Setting card sets (product counts)
+        set-up = subst (λ (n : ℕ). Setting card sets n) size-is (pre .setting)
 
-        candidate : IsCandidateOf (machinesOf card) sets (F .best)
-        candidate = path-best-of-sets (weights-agree weights) (accepted-machines card (pre .setting .accepted) .sound) sets (F .best) (F .is-best) .candidate
+        nodes : length xs ≡ (length sets + 1) * product counts
+        nodes = pre .room ∙ ap (λ (n : ℕ). (length sets + 1) * n) size-is
 
-        -- it costs what the label says
-        cost : _≡_ {A = Ranked 1} (costOf x) (weightedSum weights (profileOf (machinesOf card) (F .best)), length (F .best))
-        cost =
-            let a = F .costs-label ∙ start-is in
-            let b = fitting-cost (byWeights weights) sets (accepted-machines card (pre .setting .accepted) .sound) (F .best) candidate in
-            cc (a, b)
+        labels : WalkLabels [] xs card counts ws sets (length answer) (labelOf xs)
+        labels = weighted-walk-labels xs counts set-up weights (pre .weighs) nodes D counts-are Z W (length answer) (costOf x) start-is (fits .room)
 
-        pub pairs-few : n ≤ 3199
-        pairs-few =
-            let s = label-small (L .weighted) (cardStart card) (omega (arith, start-in, pre .room)) (costOf x) start-is in
-            let m : x % 4096 ≡ length (F .best) = ap (λ (c : Ranked 1). c .1) cost in
-            omega (arith, F .count, m, s .pairs)
+        pub walk-ready : WalkPre [] xs card counts ws sets P (length answer)
+        walk-ready = weighted-walk-pre xs counts set-up weights (pre .weighs) nodes D counts-are Z W (length answer) (costOf x) start-is (fits .room) size-is
 
-        front : take (2 * n) after ≡ bytesOf (F .best)
-        front = ap₂ (λ (m : ℕ) (l : List ℕ). take (2 * m) l) (F .count) (F .written) ∙ take-at (bytesOf (F .best)) (drop (2 * length (F .best)) answer) (2 * length (F .best)) (length-bytes (F .best))
+        module _ {after : List ℕ} {r : Written} (w : (L : Labels (rankedCosts 1)) → WalkLabels [] xs card counts ws sets (length answer) L → Walked card ws sets answer after L r) where
+          abbrev walked : Walked card ws sets answer after (labelOf xs) r
+          walked = w (labelOf xs) labels
 
-        pub front-in : length after ≡ length answer → 2 * n ≤ length after
-        front-in e =
-            let m : x % 4096 ≡ length (F .best) = ap (λ (c : Ranked 1). c .1) cost in
-            omega (arith, F .count, m, fits .room)
+          abbrev best : List Pair
+          best = walked .best
 
-        pub score-ready : soundCandidate (symbolCount card) (take (2 * n) after) ≡ true
-        score-ready =
-            rw front
-            (sound-is (symbolCount card) (bytesOf (F .best)) (omega (arith, length-bytes (F .best))) (omega (arith, length-bytes (F .best), F .count, pairs-few))
-            ∙ ap (allOf (soundPair (symbolCount card))) (pairs-back (F .best))
-            ∙ run-sound L (cost→run (weightedGraph card weights sets) (cardStart card) (F .best) (costOf x) (F .costs-label ∙ start-is)))
+          is-best : IsBest (weightedGraph card weights sets) (cardStart card) best
+          is-best = weighted-walked W walked .0
 
-        pub best-answered : (s : Profile) → (isComplete (machinesOf card) (pairsOf (take (2 * n) after)) ≡ true → s ≡ profileWith (profileOf (machinesOf card) (pairsOf (take (2 * n) after))))
-            → Searched weights (bestOfSetsIn (bySum weights) card sets) sets xs xs answer after (record { evaluation = record { number = 0; profile = s; pairs = n; «word_length» = length sets }; sum = x / 4096 })
-        unfolding answeredSum
-        best-answered s S = record {
-          searched = search-found refl the-best unrefused result (F .written);
-          its-sum = ap (λ (c : Ranked 1). c .0) cost ∙ sym (ap (sumOf weights) the-best) ∙ sym (taken (sumOf weights (bestOfSetsIn (bySum weights) card sets)) (λ n. 0) unrefused);
-        }
-          where
-            unrefused : callRefusal 0 (bestOfSetsIn (bySum weights) card sets) (length answer) ≡ 0
-            unrefused = sym (the-refusal (length answer)) ∙ passes
+          the-best : bestOfSetsIn (bySum weights) card sets ≡ some (contenderOf (machinesOf card) best)
+          the-best = best-path-is-best-of-sets (weights-agree weights) card sets (pre .setting .accepted) (pre .bits) best is-best
 
-            scored : isComplete (machinesOf card) (F .best) ≡ true → s ≡ profileWith (profileOf (machinesOf card) (F .best))
-            scored = subst (λ (c : List Pair). isComplete (machinesOf card) c ≡ true → s ≡ profileWith (profileOf (machinesOf card) c)) (ap pairsOf front ∙ pairs-back (F .best)) S
+          -- it costs what the label says
+          cost : _≡_ {A = Ranked 1} (costOf x) (weightedSum weights (profileOf (machinesOf card) best), length best)
+          cost =
+              let sound = accepted-machines card (pre .setting .accepted) .sound in
+              let a = weighted-walked W walked .1 ∙ start-is in
+              let b = fitting-cost (byWeights weights) sets sound best (path-best-of-sets (weights-agree weights) sound sets best is-best .candidate) in
+              cc (a, b)
 
-            result : _≡_ {A = Evaluation} (record { number = 0; profile = s; pairs = n; «word_length» = length sets }) (evaluationOf (some (contenderOf (machinesOf card) (F .best))) sets)
-            result =
-                let p = scored (candidate .is .complete) in
-                let m = F .count in
-                λ i. record { number = 0; profile = p i; pairs = m i; «word_length» = length sets }
+          pub pairs-few : r .pairs ≤ 3199
+          pairs-few =
+              let s = label-small (pre .setting) weights (pre .weighs) (D .attained) (cardStart card) (omega (arith, start-in, pre .room)) (costOf x) start-is in
+              let m : x % 4096 ≡ length best = ap (λ (c : Ranked 1). c .1) cost in
+              omega (arith, walked .count, m, s .pairs)
+
+          pub best-answered : Searched weights (bestOfSetsIn (bySum weights) card sets) sets xs xs answer after (record { evaluation = record { number = 0; profile = r .profile; pairs = r .pairs; «word_length» = length sets }; sum = x / 4096 })
+          unfolding answeredSum
+          best-answered = record {
+            searched = search-found refl the-best unrefused result (walked .written);
+            its-sum = ap (λ (c : Ranked 1). c .0) cost ∙ sym (ap (sumOf weights) the-best) ∙ sym (taken (sumOf weights (bestOfSetsIn (bySum weights) card sets)) (λ n. 0) unrefused);
+          }
+            where
+              unrefused : callRefusal 0 (bestOfSetsIn (bySum weights) card sets) (length answer) ≡ 0
+              unrefused = sym (the-refusal (length answer)) ∙ passes
+
+              result : _≡_ {A = Evaluation} (record { number = 0; profile = r .profile; pairs = r .pairs; «word_length» = length sets }) (evaluationOf (some (contenderOf (machinesOf card) best)) sets)
+              result =
+                  let p = walked .profile in
+                  let m = walked .count in
+                  λ i. record { number = 0; profile = p i; pairs = m i; «word_length» = length sets }

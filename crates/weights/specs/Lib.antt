@@ -7,7 +7,7 @@ pub mod Agreement
 -- a word that shows what rankings cannot give
 pub mod GangingUp
 -- the walk and the search
-pub mod Walking
+pub mod WeightedWalk
 pub mod Searching
 -- theorems of what the call answers: demand 3, that the two engines agree, and two calls with work slices of their own
 pub mod Demand3

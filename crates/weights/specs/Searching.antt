@@ -3,7 +3,7 @@ use mathlib.Core.Path.{_≡_}
 use mathlib.Core.Bool.{true}
 use mathlib.Core.List.{List, [], _∷_}
 use mathlib.Core.Option.{Option}
-use Prim.Native.Nat.{ℕ, _+_, _*_, _%_, _≤_}
+use Prim.Native.Nat.{ℕ, _+_, _*_, _%_}
 use lib.Dec.{leb, ltb}
 use lib.ListN.{length}
 use Rattle.refusals.specs.Refusals.{refuse, firstOf}
@@ -14,7 +14,7 @@ use Rattle.product.specs.Optimizing.{soundWord}
 use Rattle.product.specs.Nodes.{product, stateCounts}
 use Rattle.product.specs.Setting.{Setting}
 use Rattle.product.specs.Laws.BestOfSets.{are64Bits}
-use Rattle.optimizer.specs.Searching as ranked
+use Rattle.readout.specs.Searching as ranked
 use Rattle.optimizer.specs.Optimizes.{Answers}
 use Rattle.sums.specs.Weights.{soundWeights, bestByWeights}
 use Rattle.sums.specs.Numbers.{noLabel}
@@ -31,11 +31,6 @@ pub record SetsPre (card weights sets work : List ℕ) (size : ℕ) : Type 0 whe
   pub weighs : soundWeights (machineCount card) weights ≡ true
   pub bits : are64Bits sets ≡ true
   pub room : length work ≡ (length sets + 1) * size
-
--- room for two tables of the joint steps of P codes
-pub record TablesFit (ins js : List ℕ) (P : ℕ) : Type 0 where
-  pub insertions : P * 64 ≤ length ins
-  pub joint : P * 64 ≤ length js
 
 -- the same with an accepted word
 pub record SearchPre (card weights word work : List ℕ) (size : ℕ) : Type 0 where

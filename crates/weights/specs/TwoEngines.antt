@@ -24,8 +24,9 @@ use Rattle.optimizer.specs.Demands.{AnswersBest, answered-accepts}
 use Rattle.optimizer.specs.Demand3 as ranked-demand
 use Rattle.sums.specs.Weights.{bestByWeights}
 use Rattle.sums.specs.Dominance.{Outweighs}
+use Rattle.sums.specs.Laws.SoundWeights.{weighs}
 use Rattle.weights.specs.declared.Weighing.{Weighing}
-use Rattle.weights.specs.WeightedBest.{IsBestByWeights, weighs, weighted-best-is-best-of-all}
+use Rattle.weights.specs.WeightedBest.{IsBestByWeights, weighted-best-is-best-of-all}
 use Rattle.weights.specs.Agreement.{largest, agreement}
 use Rattle.weights.specs.Searching.{Optimizes}
 use Rattle.weights.specs.Accepting.{Accepts, accepts}

@@ -7,10 +7,7 @@ use mathlib.Core.Option.{some}
 use Prim.Native.Nat.{ℕ, _<_, _≤_}
 use native.Mathlib.Omega.{arith}
 use lib.ListN.{length}
-use lib.Dec.{eqb, leb}
-use borrow.Author.Tests.{eqb-true, ltb-true, ltb-false, lt-ltb, le-ltb}
-use Rattle.basics.specs.Search.{allOf}
-use Rattle.basics.proofs.Bools.{left, right}
+use borrow.Author.Tests.{ltb-true, ltb-false, lt-ltb, le-ltb}
 use Rattle.machine.specs.declared.Pair.{Pair}
 use Rattle.machine.specs.Machine.{Machine}
 use Rattle.ranking.specs.ByteStrings.{smaller}
@@ -28,6 +25,7 @@ use Rattle.product.specs.CountsFit.{SmallBest, best-in-is-small}
 use Rattle.product.specs.Laws.BestCandidate.{best-of-by}
 use Rattle.sums.specs.Weights.{soundWeights, weightedSum, bySum, bestByWeights}
 use Rattle.sums.specs.Laws.Sums.{sum-bound}
+use Rattle.sums.specs.Laws.SoundWeights.{weighs}
 use Rattle.sums.specs.WeightedPaths.{weights-agree}
 
 -- c beats d: it has the smaller sum; or an equal sum and fewer pairs; or an equal sum, as many pairs and the smaller byte string
@@ -90,19 +88,7 @@ pub weighted-best-is-small : (card weights word : List ℕ) → cardRefusal card
 unfolding bestByWeights
 weighted-best-is-small card weights word ok h b e = best-in-is-small (weights-agree weights) card ok word h b e
 
--- what sound weights are
-pub record Weighs (K : ℕ) (weights : List ℕ) : Type 0 where
-  pub count : length weights ≡ K
-  pub most : allOf (λ w. leb w 4000000000) weights ≡ true
-
-pub weighs : (K : ℕ) (weights : List ℕ) → soundWeights K weights ≡ true → Weighs K weights
-unfolding soundWeights
-weighs K weights sound = record {
-  count = eqb-true (length weights) K (left (eqb (length weights) K) (allOf (λ w. leb w 4000000000) weights) sound);
-  most = right (eqb (length weights) K) (allOf (λ w. leb w 4000000000) weights) sound;
-}
-
--- so with sound weights its sum is at most six times 48,000 times 4,000,000,000, far below 2^64
+-- with sound weights its sum is at most six times 48,000 times 4,000,000,000, far below 2^64
 pub sum-fits : (card weights word : List ℕ) → cardRefusal card ≡ 0 → soundWeights (machineCount card) weights ≡ true → length word ≤ 24
     → (b : Contender) → bestByWeights card weights word ≡ some b → weightedSum weights (b .profile) ≤ 1152000000000000
 sum-fits card weights word ok sound h b e =

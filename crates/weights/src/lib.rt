@@ -1,25 +1,19 @@
 // Weights: from card, weights and word to the best candidate of Harmonic Grammar.
 ghost use mathlib.Core.Path.{_≡_};
-ghost use Prim.Native.Nat.{_+_, _*_, _<_, _≤_};
-ghost use lib.ListN.{length, take};
-ghost use mathlib.Core.Bool.{true};
-ghost use Rattle.card.specs.Layout.{symbolCount};
-ghost use Rattle.card.specs.Card.{cardRefusal, machinesOf};
-ghost use Rattle.candidate.specs.Candidates.{pairsOf, isComplete, profileOf};
-ghost use Rattle.candidate.specs.Evaluating.{soundCandidate, profileWith};
+ghost use Rattle.paths.specs.Positions.{Done};
 ghost use Rattle.product.specs.Sets.{bestOfSetsIn};
+ghost use Rattle.product.specs.Setting.{placeOf};
+ghost use Rattle.grid.specs.Grids.{GridOf};
 ghost use Rattle.sums.specs.Weights.{bySum, bestByWeights};
-ghost use Rattle.sums.specs.Labelling.{Lent};
+ghost use Rattle.sums.specs.WeightedPaths.{weightedGraph};
+ghost use Rattle.sums.specs.Numbers.{labelOf};
 ghost use Rattle.weights.specs.Weighing.{refusedWeighing};
-ghost use Rattle.weights.specs.Walking.{Labelled};
-ghost use Rattle.weights.specs.Searching.{SetsPre, TablesFit, SearchPre, Searched, Optimizes};
+ghost use Rattle.weights.specs.Searching.{SetsPre, SearchPre, Searched, Optimizes};
 use candidate::Evaluation;
-use machine::Pair;
-use ranking::Profile;
+use grid::Grid;
 use refusals::Checked;
 
 mod checks; // checks.rt: the checks of the input and of the best candidate
-mod walking; // walking.rt: the walk
 
 // What the call answers: the evaluation of the best candidate, and its sum in thousandths.
 pub struct Weighing {
@@ -37,233 +31,84 @@ fn refused(number: u8) -> Weighing
     }
 }
 
-// The profile of the candidate in the front of the answer. A long one is nearly all insertions, and a table of their steps is worth its filling.
-fn profile_of(card: &[u8], answer: &[u8], pairs: usize) -> Profile
-    requires { ⌜ (cardRefusal (now card) ≡ 0) × (2 * pairs ≤ length (now answer)) × (pairs ≤ 3199) × (soundCandidate (symbolCount (now card)) (take (2 * pairs) (now answer)) ≡ true) ⌝ }
-    ensures { λ r. ⌜ (isComplete (machinesOf (now (card .entry))) (pairsOf (take (2 * pairs) (now (answer .entry)))) ≡ true → r ≡ profileWith (profileOf (machinesOf (now (card .entry))) (pairsOf (take (2 * pairs) (now (answer .entry)))))) ⌝ }
-{
-    let end = 2 * pairs;
-    if pairs < 64 {
-        let scored = candidate::score(card, &answer[..end]);
-        return scored.profile;
-    }
-    let scored = scoring::score(card, &answer[..end]);
-    scored.profile
-}
-
 // Reads the answer off the labels of all nodes, and writes the best candidate if there is one and it has room: 10 and 12. Equal sums need not be equal
-// profiles, so the profile is scored from the pairs.
+// profiles, so the profile is what the walk adds up.
 fn read_out(
     card: &[u8],
+    grid: Grid,
     weights: &[u32],
     sets: &[u64],
-    insertions: &[u32],
-    counts: &[u8],
-    places: &[u8; 6],
-    costs: &[u64; 6],
-    size: usize,
     work: &[u64],
-    stretch: &mut [u16],
-    joint: &mut [u32],
     answer: &mut [u8],
 ) -> Weighing
-    requires { ⌜ SetsPre (now card) (now weights) (now sets) (now work) size × Labelled (now card) (now weights) (now sets) (now insertions) (now counts) (now places) (now costs) (now work) size × Lent (now stretch) (now joint) size ⌝ }
+    requires { ⌜ SetsPre (now card) (now weights) (now sets) (now work) (grid .size) × Done (weightedGraph (now card) (now weights) (now sets)) (placeOf (now card)) (labelOf (now work)) 0 × GridOf (now card) grid ⌝ }
     ensures { λ r. ⌜ Searched (now (weights .entry)) (bestOfSetsIn (bySum (now (weights .entry))) (now (card .entry)) (now (sets .entry))) (now (sets .entry)) (now (work .entry)) (now (work .entry)) (now (answer .entry)) (now (answer .exit)) r ⌝ }
 {
+    let all = grid.counts;
+    let machines = grid.machines;
+    let counts = &all[..machines];
     let number = work[tables::start_node(counts)];
     let found = checks::check_best(number, answer.len());
     let Checked::Passed = found else {
         return refused(found.number());
     };
-    let pairs = walking::follow(
+    let numbers = weighted::weights_of(counts, weights);
+    let no_counts = [0u16; 1];
+    let written = walk::walk(
+        &no_counts[..0],
         work,
         card,
-        weights,
-        sets,
-        insertions,
         counts,
-        places,
-        costs,
-        size,
-        stretch,
-        joint,
+        &numbers[..3 * machines],
+        sets,
+        grid.size,
         answer,
     );
-    let profile = profile_of(card, answer, pairs);
-    let count = pairs as u16;
+    let profile = written.profile;
+    let pairs = written.pairs as u16;
     let length = sets.len() as u16;
     Weighing {
         evaluation: Evaluation {
             number: 0,
             profile,
-            pairs: count,
+            pairs,
             word_length: length,
         },
         sum: number / 4096,
     }
 }
 
-// The search for accepted sets, with two tables for joint steps and one for lists of insertions: fills the tables, labels the nodes, and reads the answer off.
-fn search_with(
-    card: &[u8],
-    weights: &[u32],
-    sets: &[u64],
-    size: usize,
-    work: &mut [u64],
-    insertions: &mut [u32],
-    joint: &mut [u32],
-    answer: &mut [u8],
-) -> Weighing
-    requires { ⌜ SetsPre (now card) (now weights) (now sets) (now work) size × TablesFit (now insertions) (now joint) size ⌝ }
-    ensures { λ r. ⌜ Searched (now (weights .entry)) (bestOfSetsIn (bySum (now (weights .entry))) (now (card .entry)) (now (sets .entry))) (now (sets .entry)) (now (work .entry)) (now (work .exit)) (now (answer .entry)) (now (answer .exit)) r ⌝ }
-{
-    let mut stretch = [0u16; 2048];
-    let places = [0u8, 1, 2, 3, 4, 5];
-    let costs = sums::six_weights(weights);
-    let all = tables::state_counts(card);
-    let machines = card::machine_count(card);
-    let counts = &all[..machines];
-    let symbols = card::symbol_count(card) as usize;
-    tables::joint_table::fill(
-        card,
-        Pair::EMPTY,
-        counts,
-        &places,
-        symbols,
-        &mut stretch,
-        insertions,
-    );
-    weighted::label(work, card, weights, sets, size);
-    read_out(
-        card,
-        weights,
-        sets,
-        insertions,
-        counts,
-        &places,
-        &costs,
-        size,
-        work,
-        &mut stretch,
-        joint,
-        answer,
-    )
-}
-
-// The search with at most 8 joint states.
-fn search_tiny(
-    card: &[u8],
-    weights: &[u32],
-    sets: &[u64],
-    size: usize,
-    work: &mut [u64],
-    answer: &mut [u8],
-) -> Weighing
-    requires { ⌜ SetsPre (now card) (now weights) (now sets) (now work) size × (size ≤ 8) ⌝ }
-    ensures { λ r. ⌜ Searched (now (weights .entry)) (bestOfSetsIn (bySum (now (weights .entry))) (now (card .entry)) (now (sets .entry))) (now (sets .entry)) (now (work .entry)) (now (work .exit)) (now (answer .entry)) (now (answer .exit)) r ⌝ }
-{
-    let mut insertions = [0u32; 512];
-    let mut joint = [0u32; 512];
-    search_with(
-        card,
-        weights,
-        sets,
-        size,
-        work,
-        &mut insertions,
-        &mut joint,
-        answer,
-    )
-}
-
-// The search with at most 32 joint states.
-fn search_small(
-    card: &[u8],
-    weights: &[u32],
-    sets: &[u64],
-    size: usize,
-    work: &mut [u64],
-    answer: &mut [u8],
-) -> Weighing
-    requires { ⌜ SetsPre (now card) (now weights) (now sets) (now work) size × (size ≤ 32) ⌝ }
-    ensures { λ r. ⌜ Searched (now (weights .entry)) (bestOfSetsIn (bySum (now (weights .entry))) (now (card .entry)) (now (sets .entry))) (now (sets .entry)) (now (work .entry)) (now (work .exit)) (now (answer .entry)) (now (answer .exit)) r ⌝ }
-{
-    let mut insertions = [0u32; 2048];
-    let mut joint = [0u32; 2048];
-    search_with(
-        card,
-        weights,
-        sets,
-        size,
-        work,
-        &mut insertions,
-        &mut joint,
-        answer,
-    )
-}
-
-// The search on any card.
-fn search_large(
-    card: &[u8],
-    weights: &[u32],
-    sets: &[u64],
-    size: usize,
-    work: &mut [u64],
-    answer: &mut [u8],
-) -> Weighing
-    requires { ⌜ SetsPre (now card) (now weights) (now sets) (now work) size ⌝ }
-    ensures { λ r. ⌜ Searched (now (weights .entry)) (bestOfSetsIn (bySum (now (weights .entry))) (now (card .entry)) (now (sets .entry))) (now (sets .entry)) (now (work .entry)) (now (work .exit)) (now (answer .entry)) (now (answer .exit)) r ⌝ }
-{
-    let mut insertions = [0u32; 8192];
-    let mut joint = [0u32; 8192];
-    search_with(
-        card,
-        weights,
-        sets,
-        size,
-        work,
-        &mut insertions,
-        &mut joint,
-        answer,
-    )
-}
-
-// The search for accepted sets. Few joint states take small tables, since a table has to be written whole when it is made.
+// The search for accepted sets: labels the nodes, and reads the answer off.
 fn search_sets(
     card: &[u8],
+    grid: Grid,
     weights: &[u32],
     sets: &[u64],
-    size: usize,
     work: &mut [u64],
     answer: &mut [u8],
 ) -> Weighing
-    requires { ⌜ SetsPre (now card) (now weights) (now sets) (now work) size ⌝ }
+    requires { ⌜ SetsPre (now card) (now weights) (now sets) (now work) (grid .size) × GridOf (now card) grid ⌝ }
     ensures { λ r. ⌜ Searched (now (weights .entry)) (bestOfSetsIn (bySum (now (weights .entry))) (now (card .entry)) (now (sets .entry))) (now (sets .entry)) (now (work .entry)) (now (work .exit)) (now (answer .entry)) (now (answer .exit)) r ⌝ }
 {
-    if size <= 8 {
-        return search_tiny(card, weights, sets, size, work, answer);
-    }
-    if size <= 32 {
-        return search_small(card, weights, sets, size, work, answer);
-    }
-    search_large(card, weights, sets, size, work, answer)
+    weighted::label(work, card, grid, weights, sets);
+    read_out(card, grid, weights, sets, work, answer)
 }
 
 // The search for an accepted word: that for its sets of one symbol each.
 fn search(
     card: &[u8],
+    grid: Grid,
     weights: &[u32],
     word: &[u8],
-    size: usize,
     work: &mut [u64],
     answer: &mut [u8],
 ) -> Weighing
-    requires { ⌜ SearchPre (now card) (now weights) (now word) (now work) size ⌝ }
+    requires { ⌜ SearchPre (now card) (now weights) (now word) (now work) (grid .size) × GridOf (now card) grid ⌝ }
     ensures { λ r. ⌜ Searched (now (weights .entry)) (bestByWeights (now (card .entry)) (now (weights .entry)) (now (word .entry))) (now (word .entry)) (now (work .entry)) (now (work .exit)) (now (answer .entry)) (now (answer .exit)) r ⌝ }
 {
     let mut sets = [0u64; 24];
-    optimizer::fill_sets(word, &mut sets);
-    search_sets(card, weights, &sets[..word.len()], size, work, answer)
+    input::fill_sets(word, &mut sets);
+    search_sets(card, grid, weights, &sets[..word.len()], work, answer)
 }
 
 // The best candidate for a word by weights, one for each machine, in thousandths: 1 to 6, 26, 8, 9, 10, 12.
@@ -276,11 +121,12 @@ pub fn optimize(
 ) -> Weighing
     ensures { λ r. ⌜ Optimizes (now (card .entry)) (now (weights .entry)) (now (word .entry)) (now (work .entry)) (now (work .exit)) (now (answer .entry)) (now (answer .exit)) r ⌝ }
 {
-    let checked = checks::check_input(card, weights, word, work.len());
+    let ready = checks::check_input(card, weights, word, work.len());
+    let checked = ready.checked;
     let Checked::Passed = checked else {
         return refused(checked.number());
     };
-    let size = input::joint_states(card);
-    let nodes = (word.len() + 1) * size;
-    search(card, weights, word, size, &mut work[..nodes], answer)
+    let grid = ready.grid;
+    let nodes = (word.len() + 1) * grid.size;
+    search(card, grid, weights, word, &mut work[..nodes], answer)
 }

@@ -1,8 +1,9 @@
 use mathlib.Core.Path.{_≡_, sym, ap, _∙_}
 use mathlib.Core.Bool.{true}
-use mathlib.Core.List.{[], _∷_}
-use mathlib.Core.Option.{some, none}
-use Prim.Native.Nat.{_≤_, _-_, _+_, _*_, _%_}
+use mathlib.Core.Option.{Option, some, none}
+use Prim.Native.Nat.{ℕ, _≤_, _<_, _-_, _+_, _*_, _%_}
+use mir.Syntax.{w16, w64}
+use mir.Val.{Fits}
 use borrow.Author.Needs.{needs}
 use native.Mathlib.Omega.{arith}
 use lib.ListN.{length, drop}
@@ -30,38 +31,78 @@ Inv-loop part candidate symbols position₀ marks₀ at₀ position marks at =
 abbrev μ-loop : tie.MeasureT-loop
 μ-loop part candidate symbols position₀ marks₀ at₀ position marks at = length candidate - at
 
+-- the numbers of a pair more
+two-more : (at n : ℕ) → at % 2 ≡ 0 → n % 2 ≡ 0 → at < n → at + 2 ≤ n
+two-more at n e f h = omega arith
+
+still-even : (at : ℕ) → at % 2 ≡ 0 → (at + 2) % 2 ≡ 0
+still-even at e = omega arith
+
+place-fits : (at n : ℕ) → at + 2 ≤ n → n ≤ 6398 → Fits w64 (at + 2)
+place-fits at n h k = omega arith
+
+marks-fit : (marks at n more : ℕ) → 2 * marks ≤ 15 * at → at ≤ n → n ≤ 6398 → more ≤ 15 → Fits w16 (marks + more)
+marks-fit marks at n more h k l m = omega arith
+
+marks-more : (marks at more : ℕ) → 2 * marks ≤ 15 * at → more ≤ 15 → 2 * (marks + more) ≤ 15 * (at + 2)
+marks-more marks at more h m = omega arith
+
+nearer : (at n : ℕ) → at < n → n - (at + 2) < n - at
+nearer at n h = omega arith
+
+below : (a b S : ℕ) → a ≡ b → b ≤ S → S < 64 → a < 64
+below a b S e h k = omega arith
+
 loop-holds : tie.Need-loop-holds Inv-loop μ-loop
 loop-holds c =
     let s = c .before .before .before in
-    (search needs, search needs, search needs, s .pre .1 .2, cc (add-zero-marks (marksFrom (machineOf (s .args .part .now)) startState (pairsOf (s .args .candidate .now)))))
+    let m = machineOf (s .args .part .now) in
+    let ps = pairsOf (s .args .candidate .now) in
+    (search needs, search needs, search needs, s .pre .1 .2, ap (λ (q : ℕ). addMarks 0 (marksFrom m q ps)) (c .start .ensures) ∙ add-zero-marks (marksFrom m startState ps))
+
+-- a pair more is there
+here : (c : tie.In-loop Inv-loop μ-loop) → c .before .loop .at + 2 ≤ length (c .before .before .before .before .before .args .candidate .now)
+here c =
+    let k = c .before in
+    let s = k .before .before .before .before in
+    two-more (k .loop .at) (length (s .args .candidate .now)) (k .loop .inv .0) (s .pre .1 .0) (c .loop-test .taken)
 
 pair-at-requires : tie.Need-pair-at-requires Inv-loop μ-loop
-pair-at-requires c κs = omega arith
+pair-at-requires c κs = here c
 
 step-requires : tie.Need-step-requires Inv-loop μ-loop
 step-requires c κs =
     let k = c .before .before in
     let s = k .before .before .before .before in
-    let w = sound-facts (s .args .symbols) (pairAt (s .args .candidate .now) (k .loop .at))
-    (pair-here (soundPair (s .args .symbols)) (s .args .candidate .now) (k .loop .at) (omega arith) (k .loop .inv .3)) in
-    let e = c .pair-at .ensures in
-    let i = ap (λ (p : Pair). p .input) e in
-    let o = ap (λ (p : Pair). p .output) e in
-    (accepted (s .args .symbols) (s .args .part .now) (s .pre .0 .0) .shape, omega arith, omega arith)
+    let S = s .args .symbols in
+    let p = pairAt (s .args .candidate .now) (k .loop .at) in
+    let w = sound-facts S p (pair-here (soundPair S) (s .args .candidate .now) (k .loop .at) (here (c .before)) (k .loop .inv .3)) in
+    let q = c .pair-at .result in
+    let e = c .pair-at .ensures in (
+      accepted S (s .args .part .now) (s .pre .0 .0) .shape,
+      below (q .input) (p .input) S (ap (λ (p : Pair). p .input) e) (w .0) (s .pre .0 .1),
+      below (q .output) (p .output) S (ap (λ (p : Pair). p .output) e) (w .1) (s .pre .0 .1),
+    )
+
+-- the step, as the machine has it
+taken : (c : tie.After-step Inv-loop μ-loop) →
+    stepOf (machineOf (c .before .before .before .before .before .before .before .args .part .now)) (c .before .before .before .loop .position .state) (pairAt (c .before .before .before .before .before .before .before .args .candidate .now) (c .before .before .before .loop .at)) ≡ stepped (c .step .result)
+taken c = ap (stepOf (machineOf (c .before .before .before .before .before .before .before .args .part .now)) (c .before .before .before .loop .position .state)) (sym (c .before .pair-at .ensures)) ∙ sym (c .step .ensures)
 
 returns : tie.Need-returns Inv-loop μ-loop
 returns c =
     let k = c .before .before .before .before .before in
     let a = k .before .before .before .before .args in
     let m = machineOf (a .part .now) in
-    sym (marks-stuck m (k .loop .position .state) (k .loop .marks) (pairs-next (a .candidate .now) (k .loop .at) (omega arith)) (cc (ap stepped (c .enum-told .given .1)))) ∙ k .loop .inv .4
+    sym (marks-stuck m (k .loop .position .state) (k .loop .marks) (pairs-next (a .candidate .now) (k .loop .at) (here (c .before .before .before .before))) (taken (c .before .before) ∙ ap stepped (c .enum-told .given .1))) ∙ k .loop .inv .4
 
 -- the step that was taken
 moved : (c : tie.After-wide Inv-loop μ-loop) →
-    stepOf (machineOf (c .before .before .before .before .before .before .before .before .before .before .before .args .part .now)) (c .before .before .before .before .before .before .before .loop .position .state)
-    (pairAt (c .before .before .before .before .before .before .before .before .before .before .before .args .candidate .now) (c .before .before .before .before .before .before .before .loop .at))
+    stepOf (machineOf (c .before .before .before .before .before .before .before .before .before .before .before .args .part .now)) (c .before .before .before .before .before .before .before .loop .position .state) (pairAt (c .before .before .before .before .before .before .before .before .before .before .before .args .candidate .now) (c .before .before .before .before .before .before .before .loop .at))
     ≡ some (c .before .before .next .given .0 .0 .state, c .wide .result)
-moved c = cc (ap stepped (c .before .before .next .given .1))
+moved c =
+    let g = c .before .before .next .given in
+    taken (c .before .before .before .before) ∙ ap stepped (g .1) ∙ ap {B = Option (ℕ × ℕ)} (λ (n : ℕ). some (g .0 .0 .state, n)) (sym (c .wide .ensures .0))
 
 few : (c : tie.After-wide Inv-loop μ-loop) → c .wide .result ≤ 15
 few c =
@@ -69,23 +110,25 @@ few c =
     step-bounds (s .args .symbols) (s .args .part .now) (s .pre .0 .0) _ _ _ (moved c) .marks
 
 add-marks : tie.Need-add-marks Inv-loop μ-loop
-add-marks c = omega (arith, few c)
+add-marks c =
+    let k = c .before .before .before .before .before .before .before in
+    let s = k .before .before .before .before in
+    marks-fit (k .loop .marks) (k .loop .at) (length (s .args .candidate .now)) (c .wide .result) (k .loop .inv .2) (k .loop .inv .1) (s .pre .1 .1) (few c)
 
 add-at : tie.Need-add-at Inv-loop μ-loop
-add-at c = omega arith
+add-at c = let s = c .before .before .before .before .before .before .before .before .before .before .before in place-fits (c .before .before .before .before .before .before .before .loop .at) (length (s .args .candidate .now)) (here (c .before .before .before .before .before .before)) (s .pre .1 .1)
 
 loop-less : tie.Need-loop-less Inv-loop μ-loop
-loop-less c = omega arith
+loop-less c = nearer (c .before .before .before .before .before .before .before .loop .at) (length (c .before .before .before .before .before .before .before .before .before .before .before .args .candidate .now)) (c .before .before .before .before .before .before .loop-test .taken)
 
 loop-again : tie.Need-loop-again Inv-loop μ-loop
 loop-again c =
     let k = c .before .before .before .before .before .before .before in
-    let s = k .before .before .before .before in
-    let a = s .args in
-    let b : k .loop .at + 2 ≤ length (a .candidate .now) = omega arith in (
-      omega arith,
-      omega arith,
-      omega (arith, few c),
+    let a = k .before .before .before .before .args in
+    let b = here (c .before .before .before .before .before .before) in (
+      still-even (k .loop .at) (k .loop .inv .0),
+      b,
+      marks-more (k .loop .marks) (k .loop .at) (c .wide .result) (k .loop .inv .2) (few c),
       pairs-after (soundPair (a .symbols)) (a .candidate .now) (k .loop .at) b (k .loop .inv .3),
       marks-next (machineOf (a .part .now)) (k .loop .position .state) (k .loop .marks) (pairs-next (a .candidate .now) (k .loop .at) b) (moved c) ∙ k .loop .inv .4,
     )
@@ -98,14 +141,12 @@ returns-2 c =
     let k = c .before .before .before .before in
     let a = k .before .before .before .before .args in
     let m = machineOf (a .part .now) in
-    let e : endingOf m (k .loop .position .state) ≡ none = cc (ap ended (c .enum-told2 .given .1)) in
-    sym (marks-end m (k .loop .position .state) (k .loop .marks) (pairs-end (a .candidate .now) (k .loop .at) (omega arith)) ∙ ap (addMarks (k .loop .marks)) e) ∙ k .loop .inv .4
+    let e : endingOf m (k .loop .position .state) ≡ none = sym (c .before .before .ending .ensures) ∙ ap ended (c .enum-told2 .given .1) in
+    sym (marks-end m (k .loop .position .state) (k .loop .marks) (pairs-end (a .candidate .now) (k .loop .at) (c .before .before .before .loop-test .left)) ∙ ap (addMarks (k .loop .marks)) e) ∙ k .loop .inv .4
 
 -- the marks for ending
-ending : (c : tie.After-wide2 Inv-loop μ-loop) →
-    endingOf (machineOf (c .before .before .before .before .before .before .before .before .before .before .args .part .now)) (c .before .before .before .before .before .before .loop .position .state)
-    ≡ some (c .wide2 .result)
-ending c = cc (ap ended (c .before .before .more .given .1))
+ending : (c : tie.After-wide2 Inv-loop μ-loop) → endingOf (machineOf (c .before .before .before .before .before .before .before .before .before .before .args .part .now)) (c .before .before .before .before .before .before .loop .position .state) ≡ some (c .wide2 .result)
+ending c = sym (c .before .before .before .before .ending .ensures) ∙ ap ended (c .before .before .more .given .1) ∙ ap {B = Option ℕ} some (sym (c .wide2 .ensures .0))
 
 few-more : (c : tie.After-wide2 Inv-loop μ-loop) → c .wide2 .result ≤ 15
 few-more c =
@@ -113,14 +154,17 @@ few-more c =
     ending-bounds (s .args .symbols) (s .args .part .now) (s .pre .0 .0) _ _ (ending c) .1
 
 add-total : tie.Need-add-total Inv-loop μ-loop
-add-total c = omega (arith, few-more c)
+add-total c =
+    let k = c .before .before .before .before .before .before in
+    let s = k .before .before .before .before in
+    marks-fit (k .loop .marks) (k .loop .at) (length (s .args .candidate .now)) (c .wide2 .result) (k .loop .inv .2) (k .loop .inv .1) (s .pre .1 .1) (few-more c)
 
 returns-3 : tie.Need-returns-3 Inv-loop μ-loop
 returns-3 c =
     let k = c .before .before .before .before .before .before in
     let a = k .before .before .before .before .args in
     let m = machineOf (a .part .now) in
-    sym (marks-end m (k .loop .position .state) (k .loop .marks) (pairs-end (a .candidate .now) (k .loop .at) (omega arith)) ∙ ap (addMarks (k .loop .marks)) (ending c)) ∙ k .loop .inv .4
+    sym (marks-end m (k .loop .position .state) (k .loop .marks) (pairs-end (a .candidate .now) (k .loop .at) (c .before .before .before .before .before .loop-test .left)) ∙ ap (addMarks (k .loop .marks)) (ending c)) ∙ k .loop .inv .4
 
 pub run-spec : {M : Type 1} → statement M
 run-spec =

@@ -1,53 +1,65 @@
 -- `enter_last` meets its contract.
-use Prim.Native.Nat.{_+_, _*_, _-_, _≤_}
 use mathlib.Core.Path.{_∙_}
-use lib.ListN.{length}
-use borrow.Author.Needs.{needs}
+use Prim.Native.Nat.{ℕ}
 use native.Mathlib.Omega.{arith}
-use Rattle.cull.specs.Culling.{EndsTried}
-use Rattle.cull.proofs.Ending.{ends-first, ends-trans, ends-whole}
+use lib.ListN.{length, length-replicate}
+use Rattle.tables.specs.Laws.Cards.{card-counts}
+use Rattle.product.specs.Laws.Setting.{few-nodes}
+use Rattle.cull.proofs.Positions.{position-there}
+use Rattle.cull.proofs.Ending.{column-small, fill-ready, join-ready, endings-ready, endings-tried}
+use borrow.Author.Needs.{needs}
 use Rattle.cull.proofs.enter_last.Statement.{statement}
 use Rattle.cull.proofs.enter_last.Tie as tie
 
-abbrev Inv-loop : tie.InvT-loop
-Inv-loop work₀ card ranking sets rows counts places size stage code₀ work code = (code ≤ size) × EndsTried card ranking sets work₀ work stage (lib.ListN.length sets * size) (lib.ListN.length sets * size + code)
+width-of-requires : tie.Need-width-of-requires
+width-of-requires c κs = card-counts _ (c .before .before .before .before .before .before .before .before .pre .setting .accepted) (c .before .before .before .before .before .before .before .before .pre .counts-are)
 
-abbrev μ-loop : tie.MeasureT-loop
-μ-loop work₀ card ranking sets rows counts places size stage code₀ work code = size - code
+fill-endings-requires : tie.Need-fill-endings-requires
+fill-endings-requires c κs = fill-ready (c .before .before .before .before .before .before .before .before .before .before .pre) (omega (arith, length-replicate {A = ℕ} 2600 65535, c .before .width-of .ensures))
 
-loop-holds : tie.Need-loop-holds Inv-loop μ-loop
-loop-holds c = (omega arith, ends-first)
+join-four-requires : tie.Need-join-four-requires
+join-four-requires c κs = join-ready (c .before .before .before .before .before .before .before .before .before .before .before .before .before .before .before .before .pre) column-small (c .before .before .before .before .before .fill-endings .ensures) (c .before .before .before .before .before .before .before .width-of .ensures .0) (omega (arith, c .before .before .before .before .before .fill-endings .ensures .size, length-replicate {A = ℕ} 2600 65535, c .before .before .before .before .before .before .before .width-of .ensures .1)) (c .before .before .before .before .before .before .before .before .before .before .before .before .before .before .before .before .pre .high-size) (c .before .before .before .before .before .before .before .before .before .before .before .before .before .before .before .before .pre .low-size)
 
-try-ending-requires : tie.Need-try-ending-requires Inv-loop μ-loop
-try-ending-requires c κs =
-    let t = c .before .before .before .before .before .before .before .before .before in
-    (record { setting = t .pre .setting; looked = t .pre .looked; room = c .before .before .loop .inv .1 .size ∙ t .pre .room; stage = t .pre .stage }, omega arith)
+mul-t27 : tie.Need-mul-t27
+mul-t27 c = let t = c .before .before .before .before .before .before .before .before .before .before .before .before .before .before .before .before .before .before .before .before .before in omega (arith, few-nodes (t .pre .setting), position-there (t .pre .setting) (length (t .args .sets .now)) (omega arith))
 
-add-code : tie.Need-add-code Inv-loop μ-loop
-add-code c = search needs
+try-endings-requires : tie.Need-try-endings-requires
+try-endings-requires c κs =
+    let Q = c .before .before .before .before .before .before .before .before .before .before .before .before .before .before .before .before .before .before .before .before .before .before .before .before .pre in
+    let f = c .before .before .before .before .before .before .before .before .before .before .before .before .before .fill-endings .ensures in
+    let w = c .before .before .before .before .before .before .before .before .before .before .before .before .before .before .before .width-of .ensures in
+    let j = c .before .before .before .before .before .before .before .join-four in
+    endings-ready Q column-small f (w .0) (omega (arith, f .size, length-replicate {A = ℕ} 2600 65535, w .1)) (j .kept .1 .1 .1 .1 .1 .1 .0 ∙ Q .high-size) (j .kept .1 .1 .1 .1 .1 .1 .1 .0 ∙ Q .low-size) (j .ensures)
 
-loop-less : tie.Need-loop-less Inv-loop μ-loop
-loop-less c = search needs
+same-length : tie.Need-same-length
+same-length c = c .before .before .try-endings .ensures .size
 
-loop-again : tie.Need-loop-again Inv-loop μ-loop
-loop-again c = (omega arith, ends-trans (c .before .before .before .before .before .loop .inv .1) (c .before .before .try-ending .ensures))
+same-length-2 : tie.Need-same-length-2
+same-length-2 c = c .before .before .before .before .before .before .before .before .before .before .join-four .kept .1 .1 .1 .1 .1 .1 .0
 
-same-length : tie.Need-same-length Inv-loop μ-loop
-same-length c = c .before .loop .inv .1 .size
+same-length-3 : tie.Need-same-length-3
+same-length-3 c = c .before .before .before .before .before .before .before .before .before .before .join-four .kept .1 .1 .1 .1 .1 .1 .1 .0
 
-returns : tie.Need-returns Inv-loop μ-loop
-returns c = ends-whole (c .before .loop .inv .1) (c .before .loop .inv .0) (omega arith)
+returns : tie.Need-returns
+returns c =
+    let Q = c .before .before .before .before .before .before .before .before .before .before .before .before .before .before .before .before .before .before .before .before .before .before .before .before .before .before .before .pre in
+    let f = c .before .before .before .before .before .before .before .before .before .before .before .before .before .before .before .before .fill-endings .ensures in
+    let w = c .before .before .before .before .before .before .before .before .before .before .before .before .before .before .before .before .before .before .width-of .ensures in
+    let j = c .before .before .before .before .before .before .before .before .before .before .join-four in
+    endings-tried Q column-small f (w .0) (omega (arith, f .size, length-replicate {A = ℕ} 2600 65535, w .1)) (j .kept .1 .1 .1 .1 .1 .1 .0 ∙ Q .high-size) (j .kept .1 .1 .1 .1 .1 .1 .1 .0 ∙ Q .low-size) (j .ensures) (c .before .before .try-endings .ensures)
 
 pub enter-last-spec : {M : Type 1} → statement M
 enter-last-spec =
     tie.close
     (tie.spec
-    Inv-loop
-    μ-loop
-    loop-holds
-    try-ending-requires
-    add-code
-    loop-less
-    loop-again
+    width-of-requires
+    (λ c. search needs)
+    fill-endings-requires
+    (λ c. search needs)
+    join-four-requires
+    mul-t27
+    try-endings-requires
     same-length
+    same-length-2
+    same-length-3
     returns)

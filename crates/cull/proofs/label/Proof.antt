@@ -1,22 +1,90 @@
 -- `label` meets its contract.
 use borrow.Author.Needs.{needs}
+use mathlib.Core.Path.{_≡_, sym, _∙_, ap, subst}
+use Prim.Native.Nat.{ℕ, _+_, _*_, _≤_}
 use native.Mathlib.Omega.{arith}
-use Rattle.product.specs.Laws.Setting.{few-codes}
-use Rattle.cull.proofs.Culling.{steps-fit}
+use lib.ListN.{length, take}
+use Rattle.product.specs.Nodes.{product}
+use Rattle.product.specs.Setting.{Setting}
+use Rattle.tables.specs.Places.{sixPlaces}
+use Rattle.cells.specs.Columns.{WeightsOf}
+use Rattle.insertions.specs.RankedWeights.{RankedWeights}
+use Rattle.labelling.proofs.Sizes.{counts-are, counts-fit, counts-length, counts-some, machines-few, size-is, states-are, states-few, numbers-length, in-front}
+use Rattle.labelling.proofs.Preparing.{counts-ranked}
+use Rattle.cull.proofs.Columns.{columns-small, columns-length}
 use Rattle.cull.proofs.label.Statement.{statement}
 use Rattle.cull.proofs.label.Tie as tie
 
-label-with-requires : tie.Need-label-with-requires
-label-with-requires c κs =
-    let t = c .before .before .before .before .before .before .before in
-    (record { setting = t .pre .setting; ranks = t .pre .ranks; room = t .pre .room }, steps-fit (t .args .size) 8192 (few-codes (t .pre .setting)) (omega arith), steps-fit (t .args .size) 8192 (few-codes (t .pre .setting)) (omega arith))
+array-share-prefix-all : tie.Need-array-share-prefix-all
+array-share-prefix-all c = let s = c .before .before .before .before .before in counts-fit (s .pre .0 .setting .accepted) (s .pre .1)
+
+slice-aggregate-counts : tie.Need-slice-aggregate-counts
+slice-aggregate-counts c = let s = c .before .before .before .before .before .before in counts-length (s .pre .0 .setting .accepted) (s .pre .1)
+
+ranked-weights-requires : tie.Need-ranked-weights-requires
+ranked-weights-requires c κs = let s = c .before .before .before .before .before .before in (counts-some (s .pre .0 .setting .accepted) (s .pre .1), counts-ranked (s .pre .0) (s .pre .1))
+
+mul-columns : tie.Need-mul-columns
+mul-columns c = let s = c .before .before .before .before .before .before .before .before in omega (arith, states-few (s .pre .0 .setting .accepted) (s .pre .1))
+
+grouped-requires : tie.Need-grouped-requires
+grouped-requires c κs = let s = c .before .before .before .before .before .before .before .before in (counts-some (s .pre .0 .setting .accepted) (s .pre .1), size-is (s .pre .0 .setting .accepted) (s .pre .1))
+
+mul-numbers : tie.Need-mul-numbers
+mul-numbers c = let s = c .before .before .before .before .before .before .before .before .before .before in omega (arith, machines-few (s .pre .0 .setting .accepted) (s .pre .1))
+
+array-share-prefix-numbers : tie.Need-array-share-prefix-numbers
+array-share-prefix-numbers c = let s = c .before .before .before .before .before .before .before .before .before .before in omega (arith, machines-few (s .pre .0 .setting .accepted) (s .pre .1), c .before .before .before .ranked-weights .ensures .2)
+
+slice-aggregate-label-by : tie.Need-slice-aggregate-label-by
+slice-aggregate-label-by c =
+    let s = c .before .before .before .before .before .before .before .before .before .before .before in
+    let w = c .before .before .before .before .ranked-weights in
+    numbers-length (s .pre .0 .setting .accepted) (s .pre .1) (w .result) (w .ensures .2)
+
+array-borrow-prefix-steps : tie.Need-array-borrow-prefix-steps
+array-borrow-prefix-steps c = let s = c .before .before .before .before .before .before .before .before .before .before .before in omega (arith, states-few (s .pre .0 .setting .accepted) (s .pre .1))
+
+slice-aggregate-label-by-2 : tie.Need-slice-aggregate-label-by-2
+slice-aggregate-label-by-2 c = let s = c .before .before .before .before .before .before .before .before .before .before .before .before in sym (columns-length (s .args .grid .states * 65) (omega (arith, states-few (s .pre .0 .setting .accepted) (s .pre .1))))
+
+label-by-requires : tie.Need-label-by-requires
+label-by-requires c κs =
+    let s = c .before .before .before .before .before .before .before .before .before .before .before .before in
+    let w = c .before .before .before .before .before .ranked-weights in
+    let g = c .before .before .before .grouped .ensures in
+    let z = size-is (s .pre .0 .setting .accepted) (s .pre .1) in (
+      record {
+        setting = subst (λ (n : ℕ). Setting (s .args .card .now) (s .args .sets .now) n) z (s .pre .0 .setting);
+        counts-are = counts-are (s .pre .0 .setting .accepted) (s .pre .1);
+        weights = in-front (s .pre .0 .setting .accepted) (s .pre .1) (WeightsOf (take (s .args .grid .machines) (s .args .grid .counts))) (w .result) (w .ensures .0);
+        groups = g .0;
+        few = g .1;
+        room = s .pre .0 .room ∙ ap (λ (n : ℕ). (length (s .args .sets .now) + 1) * n * 8) z;
+        columns = omega (arith, columns-length (s .args .grid .states * 65) (omega (arith, states-few (s .pre .0 .setting .accepted) (s .pre .1))), states-are (s .pre .0 .setting .accepted) (s .pre .1));
+        small = columns-small (s .args .grid .states * 65);
+      },
+      in-front (s .pre .0 .setting .accepted) (s .pre .1) (RankedWeights (sixPlaces (s .args .ranking .now))) (w .result) (w .ensures .1),
+      s .pre .0 .ranks,
+    )
+
+returns : tie.Need-returns
+returns c = c .before .before .before .label-by .ensures
 
 pub label-spec : {M : Type 1} → statement M
 label-spec =
     tie.close
     (tie.spec
+    array-share-prefix-all
+    slice-aggregate-counts
+    ranked-weights-requires
+    mul-columns
+    grouped-requires
+    mul-numbers
+    array-share-prefix-numbers
+    slice-aggregate-label-by
+    array-borrow-prefix-steps
+    slice-aggregate-label-by-2
+    label-by-requires
     (λ c. search needs)
-    (λ c. search needs)
-    label-with-requires
-    (λ c. search needs)
-    (λ c. search needs))
+    returns)

@@ -5,21 +5,21 @@ use native.Mathlib.Omega.{arith}
 use lib.ListN.{length}
 use Rattle.product.specs.Laws.Setting.{few-nodes}
 use Rattle.cull.specs.Culling.{PositionDone}
-use Rattle.cull.proofs.Culling.{stage-begun, stage-start, position-ready, position-passed, stage-end}
+use Rattle.cull.proofs.Culling.{lent-kept, stage-begun, stage-start, position-ready, position-passed, stage-end}
 use Rattle.cull.proofs.label_stage.Statement.{statement}
 use Rattle.cull.proofs.label_stage.Tie as tie
 
 abbrev Inv-loop : tie.InvT-loop
-Inv-loop work₀ card ranking sets rows counts places insertions «insertion_ends» stretch₀ joint₀ «joint_ends₀» size stage left₀ work stretch joint «joint_ends» left =
-    (left ≤ length sets + 1) × PositionDone card ranking sets work₀ work left stage × (length stretch ≡ length stretch₀) × (length joint ≡ length joint₀) × (length «joint_ends» ≡ length «joint_ends₀»)
+Inv-loop work₀ card ranking sets counts weights entries ends steps₀ high₀ low₀ g size stage left₀ work steps high low left =
+    (left ≤ length sets + 1) × PositionDone card ranking sets work₀ work left stage × (length steps ≡ length steps₀) × (length high ≡ length high₀) × (length low ≡ length low₀)
 
 abbrev μ-loop : tie.MeasureT-loop
-μ-loop work₀ card ranking sets rows counts places insertions «insertion_ends» stretch₀ joint₀ «joint_ends₀» size stage left₀ work stretch joint «joint_ends» left = left
+μ-loop work₀ card ranking sets counts weights entries ends steps₀ high₀ low₀ g size stage left₀ work steps high low left = left
 
 -- ---- the places on the way: the call, the labels taken, the turn of the loop
 
 abbrev start : tie.After-blank Inv-loop μ-loop → tie.Start Inv-loop μ-loop
-start b = b .before .before .before .before .before .before .before .before .before .before .before .before .before
+start b = b .before .before .before .before .before .before .before .before .before .before .before .before
 
 abbrev blanked : tie.At-loop Inv-loop μ-loop → tie.After-blank Inv-loop μ-loop
 blanked l = l .before .before .before
@@ -27,13 +27,13 @@ blanked l = l .before .before .before
 -- ---- what each place asks for
 
 add-blank : tie.Need-add-blank Inv-loop μ-loop
-add-blank c = omega (arith, c .before .before .before .before .before .before .before .before .before .before .before .before .pre .0 .given .setting .few)
+add-blank c = omega (arith, c .before .before .before .before .before .before .before .before .before .before .before .pre .0 .given .setting .few)
 
 mul-blank : tie.Need-mul-blank Inv-loop μ-loop
-mul-blank c = omega (arith, few-nodes (c .before .before .before .before .before .before .before .before .before .before .before .before .pre .0 .given .setting))
+mul-blank c = omega (arith, few-nodes (c .before .before .before .before .before .before .before .before .before .before .before .pre .0 .given .setting))
 
 blank-requires : tie.Need-blank-requires Inv-loop μ-loop
-blank-requires c κs = omega (arith, c .before .before .before .before .before .before .before .before .before .before .before .before .pre .0 .given .room)
+blank-requires c κs = omega (arith, c .before .before .before .before .before .before .before .before .before .before .before .pre .0 .given .room)
 
 add-left : tie.Need-add-left Inv-loop μ-loop
 add-left c = omega (arith, start (c .before .before) .pre .0 .given .setting .few)
@@ -51,7 +51,7 @@ label-position-requires c κs =
     let b = blanked l in
     let t = start b in (
       position-ready (t .pre .0) (l .loop .left) (c .before .before .before .before .loop-test .taken) (v .0) (position-passed (stage-begun (t .pre .0) (b .blank .ensures)) (v .1)),
-      record { steps = record { stretch = v .2 ∙ t .pre .1 .steps .stretch; joint = omega (arith, v .3, t .pre .1 .steps .joint) }; runs = omega (arith, v .4, t .pre .1 .runs) },
+      lent-kept (t .pre .1) (v .2) (v .3) (v .4),
     )
 
 loop-less : tie.Need-loop-less Inv-loop μ-loop
@@ -61,7 +61,7 @@ loop-again : tie.Need-loop-again Inv-loop μ-loop
 loop-again c =
     let v = c .before .before .before .before .before .before .before .before .before .before .before .before .before .before .loop .inv in
     let p = c .before .before .before .before .before .before .before .before .label-position in
-    let kept = p .kept .1 .1 .1 .1 .1 .1 .1 .1 .1 in
+    let kept = p .kept .1 .1 .1 .1 .1 .1 .1 .1 in
     (omega (arith, v .0), position-passed (v .1) (p .ensures), kept .0 ∙ v .2, kept .1 .0 ∙ v .3, kept .1 .1 .0 ∙ v .4)
 
 same-length : tie.Need-same-length Inv-loop μ-loop

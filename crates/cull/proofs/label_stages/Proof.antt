@@ -1,66 +1,101 @@
 -- `label_stages` meets its contract.
 use mathlib.Core.Path.{_≡_, refl, _∙_}
-use Prim.Native.Nat.{_-_, _≤_}
+use mathlib.Core.List.{List}
+use Prim.Native.Nat.{ℕ, _-_, _≤_}
 use native.Mathlib.Omega.{arith}
 use lib.ListN.{length}
 use borrow.Author.Needs.{needs}
-use Rattle.cull.proofs.Culling.{StagesGone, stage-given, stages-start, stages-next, stages-end}
+use Rattle.product.specs.Laws.Setting.{few-nodes}
+use Rattle.cull.proofs.Culling.{StagesGone, lent-kept, counts-few, stage-given, stages-start, stages-next, stages-idle, stages-end}
 use Rattle.cull.proofs.label_stages.Statement.{statement}
 use Rattle.cull.proofs.label_stages.Tie as tie
 
 abbrev Inv-loop : tie.InvT-loop
-Inv-loop work₀ card ranking sets rows counts places insertions «insertion_ends» stretch₀ joint₀ «joint_ends₀» size stage₀ work stretch joint «joint_ends» stage =
-    (stage ≤ 6) × StagesGone card ranking sets work₀ work stage × (length stretch ≡ length stretch₀) × (length joint ≡ length joint₀) × (length «joint_ends» ≡ length «joint_ends₀»)
+Inv-loop work₀ card ranking sets counts weights entries ends steps₀ high₀ low₀ g size stage₀ work steps high low stage =
+    (stage ≤ length counts) × StagesGone card ranking sets work₀ work stage × (length steps ≡ length steps₀) × (length high ≡ length high₀) × (length low ≡ length low₀)
 
 abbrev μ-loop : tie.MeasureT-loop
-μ-loop work₀ card ranking sets rows counts places insertions «insertion_ends» stretch₀ joint₀ «joint_ends₀» size stage₀ work stretch joint «joint_ends» stage = 6 - stage
+μ-loop work₀ card ranking sets counts weights entries ends steps₀ high₀ low₀ g size stage₀ work steps high low stage = length counts - stage
+
+abbrev Inv-loop2 : tie.InvT-loop2
+Inv-loop2 work₀ card ranking sets counts weights entries ends steps high low size stage₀ work stage =
+    (stage ≤ 6) × (length counts ≤ stage) × (length work ≡ length work₀) × ((xs : List ℕ) → StagesGone card ranking sets xs work₀ stage₀ → StagesGone card ranking sets xs work stage)
+
+abbrev μ-loop2 : tie.MeasureT-loop2
+μ-loop2 work₀ card ranking sets counts weights entries ends steps high low size stage₀ work stage = 6 - stage
 
 -- ---- the place on the way: the call
 
-abbrev start : tie.At-loop Inv-loop μ-loop → tie.Start Inv-loop μ-loop
-start l = l .before .before .before .before .before .before .before .before .before .before .before .before
+abbrev start : tie.At-loop Inv-loop μ-loop Inv-loop2 μ-loop2 → tie.Start Inv-loop μ-loop Inv-loop2 μ-loop2
+start l = l .before .before .before .before .before .before .before .before .before .before .before
 
 -- ---- what each place asks for
 
-loop-holds : tie.Need-loop-holds Inv-loop μ-loop
+loop-holds : tie.Need-loop-holds Inv-loop μ-loop Inv-loop2 μ-loop2
 loop-holds c = (omega arith, stages-start, refl, refl, refl)
 
-label-stage-requires : tie.Need-label-stage-requires Inv-loop μ-loop
+label-stage-requires : tie.Need-label-stage-requires Inv-loop μ-loop Inv-loop2 μ-loop2
 label-stage-requires c κs =
     let l = c .before .before .before .before .before in
     let v = l .loop .inv in
     let t = start l in (
-      record { given = stage-given (v .1 .size) (omega (arith, c .before .before .before .before .loop-test .taken)) (t .pre .0); before = v .1 .before },
-      record { steps = record { stretch = v .2 ∙ t .pre .1 .steps .stretch; joint = omega (arith, v .3, t .pre .1 .steps .joint) }; runs = omega (arith, v .4, t .pre .1 .runs) },
+      record { given = stage-given (v .1 .size) (omega (arith, c .before .before .before .before .loop-test .taken, counts-few (t .pre .0))) (t .pre .0); before = v .1 .before },
+      lent-kept (t .pre .1) (v .2) (v .3) (v .4),
     )
 
-add-stage : tie.Need-add-stage Inv-loop μ-loop
-add-stage c = search needs
+add-stage : tie.Need-add-stage Inv-loop μ-loop Inv-loop2 μ-loop2
+add-stage c = omega (arith, c .before .before .before .before .before .before .before .before .before .before .before .before .before .loop-test .taken, counts-few (start (c .before .before .before .before .before .before .before .before .before .before .before .before .before .before) .pre .0))
 
-loop-less : tie.Need-loop-less Inv-loop μ-loop
-loop-less c = omega arith
+loop-less : tie.Need-loop-less Inv-loop μ-loop Inv-loop2 μ-loop2
+loop-less c = omega (arith, c .before .before .before .before .before .before .before .before .before .before .before .before .before .loop-test .taken)
 
-loop-again : tie.Need-loop-again Inv-loop μ-loop
+loop-again : tie.Need-loop-again Inv-loop μ-loop Inv-loop2 μ-loop2
 loop-again c =
     let v = c .before .before .before .before .before .before .before .before .before .before .before .before .before .before .loop .inv in
     let s = c .before .before .before .before .before .before .before .before .label-stage in
-    let kept = s .kept .1 .1 .1 .1 .1 .1 .1 .1 .1 in
+    let kept = s .kept .1 .1 .1 .1 .1 .1 .1 .1 in
     (omega (arith, c .before .before .before .before .before .before .before .before .before .before .before .before .before .loop-test .taken), stages-next (v .1) (s .ensures), kept .0 ∙ v .2, kept .1 .0 ∙ v .3, kept .1 .1 .0 ∙ v .4)
 
-same-length : tie.Need-same-length Inv-loop μ-loop
-same-length c = c .before .loop .inv .1 .size
+loop2-holds : tie.Need-loop2-holds Inv-loop μ-loop Inv-loop2 μ-loop2
+loop2-holds c = (omega (arith, c .before .loop .inv .0, counts-few (start (c .before) .pre .0)), omega (arith, c .loop-test .left), refl, λ xs A. A)
 
-same-length-2 : tie.Need-same-length-2 Inv-loop μ-loop
-same-length-2 c = c .before .loop .inv .2
+add-clear-place : tie.Need-add-clear-place Inv-loop μ-loop Inv-loop2 μ-loop2
+add-clear-place c = omega (arith, start (c .before .before .before .before) .pre .0 .setting .few)
 
-same-length-3 : tie.Need-same-length-3 Inv-loop μ-loop
-same-length-3 c = c .before .loop .inv .3
+mul-clear-place : tie.Need-mul-clear-place Inv-loop μ-loop Inv-loop2 μ-loop2
+mul-clear-place c = omega (arith, few-nodes (start (c .before .before .before .before) .pre .0 .setting))
 
-same-length-4 : tie.Need-same-length-4 Inv-loop μ-loop
-same-length-4 c = c .before .loop .inv .4
+clear-place-requires : tie.Need-clear-place-requires Inv-loop μ-loop Inv-loop2 μ-loop2
+clear-place-requires c κs = (omega (arith, c .before .before .loop2 .inv .2, c .before .before .before .before .loop .inv .1 .size, start (c .before .before .before .before) .pre .0 .room), omega (arith, c .before .loop2-test .taken))
 
-returns : tie.Need-returns Inv-loop μ-loop
-returns c = stages-end (c .before .loop .inv .1) (omega (arith, c .before .loop .inv .0, c .loop-test .left))
+add-stage-2 : tie.Need-add-stage-2 Inv-loop μ-loop Inv-loop2 μ-loop2
+add-stage-2 c = omega (arith, c .before .before .before .before .loop2-test .taken)
+
+loop2-less : tie.Need-loop2-less Inv-loop μ-loop Inv-loop2 μ-loop2
+loop2-less c = omega (arith, c .before .before .before .before .loop2-test .taken)
+
+loop2-again : tie.Need-loop2-again Inv-loop μ-loop Inv-loop2 μ-loop2
+loop2-again c =
+    let v = c .before .before .before .before .before .loop2 .inv in
+    let l = c .before .before .before .before .before .before .before in
+    let t = c .before .before .before .before .loop2-test .taken in
+    let e = c .before .before .clear-place .ensures in
+    (omega (arith, t), omega (arith, v .1), e .size ∙ v .2, λ xs A. stages-idle (start l .pre .0) (v .2 ∙ l .loop .inv .1 .size) (v .1) (omega (arith, t)) (v .3 xs A) e)
+
+same-length : tie.Need-same-length Inv-loop μ-loop Inv-loop2 μ-loop2
+same-length c = c .before .loop2 .inv .2 ∙ c .before .before .before .loop .inv .1 .size
+
+same-length-2 : tie.Need-same-length-2 Inv-loop μ-loop Inv-loop2 μ-loop2
+same-length-2 c = c .before .before .before .loop .inv .2
+
+same-length-3 : tie.Need-same-length-3 Inv-loop μ-loop Inv-loop2 μ-loop2
+same-length-3 c = c .before .before .before .loop .inv .3
+
+same-length-4 : tie.Need-same-length-4 Inv-loop μ-loop Inv-loop2 μ-loop2
+same-length-4 c = c .before .before .before .loop .inv .4
+
+returns : tie.Need-returns Inv-loop μ-loop Inv-loop2 μ-loop2
+returns c = stages-end (c .before .loop2 .inv .3 _ (c .before .before .before .loop .inv .1)) (omega (arith, c .before .loop2 .inv .0, c .loop2-test .left))
 
 pub label-stages-spec : {M : Type 1} → statement M
 label-stages-spec =
@@ -68,11 +103,20 @@ label-stages-spec =
     (tie.spec
     Inv-loop
     μ-loop
+    Inv-loop2
+    μ-loop2
     loop-holds
     label-stage-requires
     add-stage
     loop-less
     loop-again
+    loop2-holds
+    add-clear-place
+    mul-clear-place
+    clear-place-requires
+    add-stage-2
+    loop2-less
+    loop2-again
     same-length
     same-length-2
     same-length-3

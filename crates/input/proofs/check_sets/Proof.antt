@@ -1,28 +1,73 @@
-use mathlib.Core.Path.{_≡_, ap, _∙_}
-use Rattle.card.specs.Layout.{symbolCount}
-use Rattle.product.specs.OptimizingSets.{setsRefusal}
+use mathlib.Core.Path.{_≡_, sym, ap, _∙_}
+use mathlib.Core.Bool.{true}
+use Prim.Native.Nat.{_+_, _*_, _≤_}
+use mathlib.Core.List.{[], _∷_}
 use native.Mathlib.Omega.{arith}
-use Rattle.card.specs.Accepted.{accepted}
+use lib.Dec.{leb, lit<}
+use lib.ListN.{length}
+use Rattle.refusals.specs.Refusals.{refuse, checkedNumber}
+use Rattle.refusals.proofs.Refusals.{was-true, goes-up, last-one}
+use Rattle.ranking.specs.Rankings.{isRanking}
+use Rattle.product.specs.OptimizingSets.{setsRefusal}
+use Rattle.product.specs.Laws.SymbolSets.{accepted-sets}
 use borrow.Author.Needs.{needs}
 use Rattle.input.proofs.check_sets.Statement.{statement}
 use Rattle.input.proofs.check_sets.Tie as tie
 
--- the symbols are the card's
-of-card : (c : tie.After-check-sets) → setsRefusal (c .before .symbol-count .result) (c .before .before .before .before .args .sets .now) ≡ setsRefusal (symbolCount (c .before .before .before .before .args .card .now)) (c .before .before .before .before .args .sets .now)
-of-card c = ap (λ S. setsRefusal S (c .before .before .before .before .args .sets .now)) (c .before .symbol-count .ensures)
+-- what each check that passed says
+ranking-passed : (c : tie.After-enum-told) → isRanking (c .before .before .before .before .before .before .args .grid .machines) (c .before .before .before .before .before .before .args .ranking .now) ≡ true
+ranking-passed c =
+    let a = c .before .before .before .before .before .before .args in
+    was-true (c .enum-told .given .1) 7 (isRanking (a .grid .machines) (a .ranking .now)) (lit< tt) (c .before .before .check-ranking .ensures)
 
-check-sets-requires : tie.Need-check-sets-requires
-check-sets-requires c κs =
-    let s = c .before .before .before in
-    omega (arith, accepted (s .args .card .now) (s .pre) .head .counts .symbols, c .symbol-count .ensures)
+word-passed : (c : tie.After-enum-told3) → setsRefusal (c .before .before .before .before .before .before .before .before .before .args .grid .symbols) (c .before .before .before .before .before .before .before .before .before .args .sets .now) ≡ 0
+word-passed c = sym (c .before .before .check-sets .ensures) ∙ ap checkedNumber (c .enum-told3 .given .1)
+
+cast-check-ranking : tie.Need-cast-check-ranking
+cast-check-ranking c = omega (arith, c .before .before .before .pre .machines)
 
 returns : tie.Need-returns
-returns c = c .check-sets .ensures ∙ of-card c
+returns c =
+    let a = c .before .before .before .before .before .before .args in
+    goes-up (c .enum-told2 .given .1) (refuse 7 (isRanking (a .grid .machines) (a .ranking .now)))
+    (setsRefusal (a .grid .symbols) (a .sets .now) ∷ refuse 9 (leb (8 * ((length (a .sets .now) + 1) * a .grid .size)) (a .room)) ∷ [])
+    (c .before .before .check-ranking .ensures)
+
+returns-2 : tie.Need-returns-2
+returns-2 c =
+    let p = c .before .before .before in
+    let a = p .before .before .before .before .before .before .args in
+    rw (ranking-passed p)
+    (goes-up (c .enum-told4 .given .1) (setsRefusal (a .grid .symbols) (a .sets .now))
+    (refuse 9 (leb (8 * ((length (a .sets .now) + 1) * a .grid .size)) (a .room)) ∷ [])
+    (c .before .before .check-sets .ensures))
+
+check-work-requires : tie.Need-check-work-requires
+check-work-requires c κs = (c .before .before .before .before .before .before .before .before .before .pre, accepted-sets _ _ (word-passed c) .short, omega arith)
+
+returns-3 : tie.Need-returns-3
+returns-3 c =
+    let w = c .before in
+    let p = w .before .before .before in
+    let a = p .before .before .before .before .before .before .args in
+    rw (ranking-passed p, word-passed w)
+    (c .check-work .ensures ∙ sym (last-one (refuse 9 (leb (8 * ((length (a .sets .now) + 1) * a .grid .size)) (a .room)))))
+
+check-sets-requires : tie.Need-check-sets-requires
+check-sets-requires c κs = c .before .before .before .before .before .before .pre .symbols
 
 pub check-sets-spec : {M : Type 1} → statement M
 check-sets-spec =
     tie.close
     (tie.spec
+    cast-check-ranking
     (λ c κs. search needs)
+    (λ c. search needs)
+    (λ c. search needs)
+    returns
     check-sets-requires
-    returns)
+    (λ c. search needs)
+    (λ c. search needs)
+    returns-2
+    check-work-requires
+    returns-3)

@@ -1,22 +1,72 @@
-use mathlib.Core.Path.{_≡_, ap, _∙_}
-use Rattle.refusals.specs.Refusals.{refuse}
-use Rattle.card.specs.Layout.{symbolCount}
+use mathlib.Core.Path.{_≡_, sym, ap, _∙_}
+use mathlib.Core.Bool.{true}
+use Prim.Native.Nat.{_+_, _*_, _≤_}
+use mathlib.Core.List.{[], _∷_}
+use native.Mathlib.Omega.{arith}
+use lib.Dec.{leb, lit<}
+use lib.ListN.{length}
+use Rattle.refusals.specs.Refusals.{refuse, checkedNumber}
+use Rattle.refusals.proofs.Refusals.{was-true, goes-up, last-one}
+use Rattle.ranking.specs.Rankings.{isRanking}
 use Rattle.product.specs.Optimizing.{soundWord}
+use Rattle.input.specs.AcceptedInput.{short-word}
 use borrow.Author.Needs.{needs}
 use Rattle.input.proofs.check_word.Statement.{statement}
 use Rattle.input.proofs.check_word.Tie as tie
 
--- the symbols are the card's
-of-card : (c : tie.After-check-word) → refuse 8 (soundWord (c .before .symbol-count .result) (c .before .before .before .before .args .word .now)) ≡ refuse 8 (soundWord (symbolCount (c .before .before .before .before .args .card .now)) (c .before .before .before .before .args .word .now))
-of-card c = ap (λ S. refuse 8 (soundWord S (c .before .before .before .before .args .word .now))) (c .before .symbol-count .ensures)
+-- what each check that passed says
+ranking-passed : (c : tie.After-enum-told) → isRanking (c .before .before .before .before .before .before .args .grid .machines) (c .before .before .before .before .before .before .args .ranking .now) ≡ true
+ranking-passed c =
+    let a = c .before .before .before .before .before .before .args in
+    was-true (c .enum-told .given .1) 7 (isRanking (a .grid .machines) (a .ranking .now)) (lit< tt) (c .before .before .check-ranking .ensures)
+
+word-passed : (c : tie.After-enum-told3) → soundWord (c .before .before .before .before .before .before .before .before .before .args .grid .symbols) (c .before .before .before .before .before .before .before .before .before .args .word .now) ≡ true
+word-passed c =
+    let a = c .before .before .before .before .before .before .before .before .before .args in
+    was-true (c .enum-told3 .given .1) 8 (soundWord (a .grid .symbols) (a .word .now)) (lit< tt) (c .before .before .check-word .ensures)
+
+cast-check-ranking : tie.Need-cast-check-ranking
+cast-check-ranking c = omega (arith, c .before .before .before .pre .machines)
 
 returns : tie.Need-returns
-returns c = c .check-word .ensures ∙ of-card c
+returns c =
+    let a = c .before .before .before .before .before .before .args in
+    goes-up (c .enum-told2 .given .1) (refuse 7 (isRanking (a .grid .machines) (a .ranking .now)))
+    (refuse 8 (soundWord (a .grid .symbols) (a .word .now)) ∷ refuse 9 (leb (8 * ((length (a .word .now) + 1) * a .grid .size)) (a .room)) ∷ [])
+    (c .before .before .check-ranking .ensures)
+
+returns-2 : tie.Need-returns-2
+returns-2 c =
+    let p = c .before .before .before in
+    let a = p .before .before .before .before .before .before .args in
+    rw (ranking-passed p)
+    (goes-up (c .enum-told4 .given .1) (refuse 8 (soundWord (a .grid .symbols) (a .word .now)))
+    (refuse 9 (leb (8 * ((length (a .word .now) + 1) * a .grid .size)) (a .room)) ∷ [])
+    (c .before .before .check-word .ensures))
+
+check-work-requires : tie.Need-check-work-requires
+check-work-requires c κs = (c .before .before .before .before .before .before .before .before .before .pre, short-word _ _ (word-passed c), omega arith)
+
+returns-3 : tie.Need-returns-3
+returns-3 c =
+    let w = c .before in
+    let p = w .before .before .before in
+    let a = p .before .before .before .before .before .before .args in
+    rw (ranking-passed p, word-passed w)
+    (c .check-work .ensures ∙ sym (last-one (refuse 9 (leb (8 * ((length (a .word .now) + 1) * a .grid .size)) (a .room)))))
 
 pub check-word-spec : {M : Type 1} → statement M
 check-word-spec =
     tie.close
     (tie.spec
+    cast-check-ranking
     (λ c κs. search needs)
+    (λ c. search needs)
+    (λ c. search needs)
+    returns
     (λ c κs. search needs)
-    returns)
+    (λ c. search needs)
+    (λ c. search needs)
+    returns-2
+    check-work-requires
+    returns-3)

@@ -1,17 +1,79 @@
+-- `finish` meets its contract: by ranked counts where there are no sums, by weights otherwise.
 use borrow.Author.Needs.{needs}
+use borrow.Author.Tests.{eq-eqb, ne-eqb}
+use mathlib.Core.Path.{_≡_, sym, subst}
+use mathlib.Core.Bool.{Bool, true, false}
+use mathlib.Core.List.{List}
+use Prim.Native.Nat.{ℕ}
+use lib.ListN.{length}
+use Rattle.settling.specs.Insertions.{listsOf}
+use Rattle.settling.specs.Settling.{SettlePre, Settled}
+use Rattle.labelling.specs.Kinds.{inCounts, sixHighs, noLows, listsBy}
+use Rattle.labelling.specs.Closing.{CountsPre, CountsClosed, NumbersPre, NumbersClosed, PassAllPre, AllPassed}
+use Rattle.labelling.specs.Labelling.{FinishPre, Finished}
+use Rattle.labelling.proofs.Closed.{counts-closed, numbers-closed}
 use Rattle.labelling.proofs.finish.Statement.{statement}
 use Rattle.labelling.proofs.finish.Tie as tie
 
-close-requires : tie.Need-close-requires
-close-requires c κs =
-    let t = c .before .before .before in
-    let q = t .before .before .before .before .before .before .pre in
-    q .close _ (t .settle .ensures)
+module _ {ranked sums ws own next entries ends : List ℕ} {base P : ℕ} (Q : FinishPre ranked sums ws own next entries ends base P) where
+  -- of that kind
+  module _ (kind : Bool) (is : inCounts sums ≡ kind) where
+    settle-by : SettlePre (listsBy kind ws entries ends) own P
+    settle-by = subst (λ (k : Bool). SettlePre (listsBy k ws entries ends) own P) is (Q .settle)
+
+    settled-by : {ys : List ℕ} → Settled (listsBy kind ws entries ends) own ys → Settled (listsBy (inCounts sums) ws entries ends) own ys
+    settled-by {ys} S = subst (λ (k : Bool). Settled (listsBy k ws entries ends) own ys) (sym is) S
+
+  module _ (z : length sums ≡ 0) {ys : List ℕ} (S : Settled (listsBy true ws entries ends) own ys) where
+    counts-ready : CountsPre ranked ys base P × PassAllPre ys next P
+    counts-ready = let q = Q .close ys (settled-by true (eq-eqb (length sums) 0 z) S) in (q .counts z, q .pass)
+
+    counts-finished : {ranked′ own′ next′ : List ℕ} → CountsClosed ranked ranked′ ys base P × AllPassed ys own′ next next′ P → Finished ranked ranked′ sums sums ws own own′ next next′ entries ends base P
+    counts-finished C = record { labels = ys; settled = settled-by true (eq-eqb (length sums) 0 z) S; closed = counts-closed z (C .0) (C .1) }
+
+  -- what a mark counts in high was looked up
+  module _ (z : length sums ≡ 0 → ⊥) {highs : List ℕ} (e : highs ≡ sixHighs ws) where
+    numbers-settle : SettlePre (listsOf entries ends highs noLows false) own P
+    numbers-settle = subst (λ (hs : List ℕ). SettlePre (listsOf entries ends hs noLows false) own P) (sym e) (settle-by false (ne-eqb (length sums) 0 z))
+
+    module _ {ys : List ℕ} (S : Settled (listsOf entries ends highs noLows false) own ys) where
+      settled : Settled (listsBy (inCounts sums) ws entries ends) own ys
+      settled = settled-by false (ne-eqb (length sums) 0 z) (subst (λ (hs : List ℕ). Settled (listsOf entries ends hs noLows false) own ys) e S)
+
+      numbers-ready : NumbersPre sums ys base P × PassAllPre ys next P
+      numbers-ready = let q = Q .close ys settled in (q .numbers z, q .pass)
+
+      numbers-finished : {sums′ own′ next′ : List ℕ} → NumbersClosed sums sums′ ys base P × AllPassed ys own′ next next′ P → Finished ranked ranked sums sums′ ws own own′ next next′ entries ends base P
+      numbers-finished C = record { labels = ys; settled = settled; closed = numbers-closed z (C .0) (C .1) }
+
+settle-requires : tie.Need-settle-requires
+settle-requires c κs = let s = c .before .before .before .before .before .before .before .before in settle-by (s .pre) true (eq-eqb (length (s .args .sums .now)) 0 (c .before .before .before .if1 .taken))
+
+close-counts-requires : tie.Need-close-counts-requires
+close-counts-requires c κs = counts-ready (c .before .before .before .before .before .before .before .before .before .before .before .before .pre) (c .before .before .before .before .before .before .before .if1 .taken) (c .before .before .before .settle .ensures)
 
 returns : tie.Need-returns
-returns c =
-    let t = c .before .before .before .before .before .before in
-    record { labels = _; settled = t .settle .ensures; closed = c .before .before .close .ensures }
+returns c = counts-finished (c .before .before .before .before .before .before .before .before .before .before .before .before .before .before .before .pre) (c .before .before .before .before .before .before .before .before .before .before .if1 .taken) (c .before .before .before .before .before .before .settle .ensures) (c .before .before .close-counts .ensures)
+
+settle-requires-2 : tie.Need-settle-requires-2
+settle-requires-2 c κs = numbers-settle (c .before .before .before .before .before .before .before .before .before .pre) (c .before .before .before .before .if1 .left) (c .before .before .before .six-highs .ensures)
+
+close-numbers-requires : tie.Need-close-numbers-requires
+close-numbers-requires c κs = numbers-ready (c .before .before .before .before .before .before .before .before .before .before .before .before .before .pre) (c .before .before .before .before .before .before .before .before .if1 .left) (c .before .before .before .before .before .before .before .six-highs .ensures) (c .before .before .before .settle2 .ensures)
+
+returns-2 : tie.Need-returns-2
+returns-2 c = numbers-finished (c .before .before .before .before .before .before .before .before .before .before .before .before .before .before .before .before .pre) (c .before .before .before .before .before .before .before .before .before .before .before .if1 .left) (c .before .before .before .before .before .before .before .before .before .before .six-highs .ensures) (c .before .before .before .before .before .before .settle2 .ensures) (c .before .before .close-numbers .ensures)
 
 pub finish-spec : {M : Type 1} → statement M
-finish-spec = tie.close (tie.spec (λ c κs. search needs) close-requires (λ c. search needs) returns)
+finish-spec =
+    tie.close
+    (tie.spec
+    settle-requires
+    close-counts-requires
+    (λ c κs. search needs)
+    settle-requires-2
+    close-numbers-requires
+    (λ c. search needs)
+    returns
+    (λ c. search needs)
+    returns-2)

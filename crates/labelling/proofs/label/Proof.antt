@@ -1,68 +1,66 @@
 use borrow.Author.Needs.{needs}
-use mathlib.Core.Path.{refl, sym}
-use Prim.Native.Nat.{ℕ, _*_}
+use Prim.Native.Nat.{_*_}
 use native.Mathlib.Omega.{arith}
-use lib.Seq.{length-take-le}
-use Rattle.labelling.proofs.Preparing.{counts-fit, machines-few, counts-length, counts-some, counts-ranked, counts-size, search-ready, ranked-by, label-done, columns-small, columns-length}
+use lib.ListN.{take}
+use Rattle.card.specs.Card.{machinesOf}
+use Rattle.product.specs.Nodes.{stateCounts}
+use Rattle.tables.specs.Places.{sixPlaces}
+use Rattle.cells.specs.Columns.{WeightsOf}
+use Rattle.insertions.specs.RankedWeights.{RankedWeights}
+use Rattle.labelling.proofs.Sizes.{counts-fit, counts-length, counts-some, machines-few, numbers-length, weights-front, in-front}
+use Rattle.labelling.proofs.Preparing.{counts-ranked, search-ready, label-done}
 use Rattle.labelling.proofs.label.Statement.{statement}
 use Rattle.labelling.proofs.label.Tie as tie
 
-array-share-prefix-all : tie.Need-array-share-prefix-all
-array-share-prefix-all c = counts-fit (c .before .before .before .before .before .before .pre) (c .before .state-counts .result) (c .machine-count .result) (c .machine-count .ensures) (c .before .state-counts .ensures)
+-- ---- the places on the way, from the last to the first
 
-slice-aggregate-counts : tie.Need-slice-aggregate-counts
-slice-aggregate-counts c = counts-length (c .before .before .before .before .before .before .before .pre) (c .before .before .state-counts .result) (c .before .machine-count .result) (c .before .machine-count .ensures) (c .before .before .state-counts .ensures)
+abbrev start : tie.After-ranked-weights → tie.Start
+start c = c .before .before .before .before .before .before .before
+
+weights-are : (c : tie.After-ranked-weights) → let s = start c in WeightsOf (stateCounts (machinesOf (s .args .card .now))) (take (3 * s .args .grid .machines) (c .ranked-weights .result))
+weights-are c = let s = start c in weights-front (s .pre .0 .setting .accepted) (s .pre .1) (c .ranked-weights .result) (c .ranked-weights .ensures .0)
+
+by-ranking : (c : tie.After-ranked-weights) → let s = start c in RankedWeights (sixPlaces (s .args .ranking .now)) (take (3 * s .args .grid .machines) (c .ranked-weights .result))
+by-ranking c = let s = start c in in-front (s .pre .0 .setting .accepted) (s .pre .1) (RankedWeights (sixPlaces (s .args .ranking .now))) (c .ranked-weights .result) (c .ranked-weights .ensures .1)
+
+array-share-prefix-all : tie.Need-array-share-prefix-all
+array-share-prefix-all c = let s = c .before .before .before .before .before in counts-fit (s .pre .0 .setting .accepted) (s .pre .1)
+
+slice-aggregate-ranked-weights : tie.Need-slice-aggregate-ranked-weights
+slice-aggregate-ranked-weights c = let s = c .before .before .before .before .before .before in counts-length (s .pre .0 .setting .accepted) (s .pre .1)
 
 ranked-weights-requires : tie.Need-ranked-weights-requires
-ranked-weights-requires c κs = (counts-some (c .before .before .before .before .before .before .before .pre) (c .before .before .state-counts .result) (c .before .machine-count .result) (c .before .machine-count .ensures) (c .before .before .state-counts .ensures), counts-ranked (c .before .before .before .before .before .before .before .pre) (c .before .before .state-counts .result) (c .before .machine-count .result) (c .before .machine-count .ensures) (c .before .before .state-counts .ensures))
-
-width-of-requires : tie.Need-width-of-requires
-width-of-requires c κs = counts-some (c .before .before .before .before .before .before .before .before .pre) (c .before .before .before .state-counts .result) (c .before .before .machine-count .result) (c .before .before .machine-count .ensures) (c .before .before .before .state-counts .ensures)
-
-grouped-requires : tie.Need-grouped-requires
-grouped-requires c κs = (counts-some (c .before .before .before .before .before .before .before .before .before .pre) (c .before .before .before .before .state-counts .result) (c .before .before .before .machine-count .result) (c .before .before .before .machine-count .ensures) (c .before .before .before .before .state-counts .ensures), counts-size (c .before .before .before .before .before .before .before .before .before .pre) (c .before .before .before .before .state-counts .result) (c .before .before .before .machine-count .result) (c .before .before .before .machine-count .ensures) (c .before .before .before .before .state-counts .ensures))
+ranked-weights-requires c κs = let s = c .before .before .before .before .before .before in (counts-some (s .pre .0 .setting .accepted) (s .pre .1), counts-ranked (s .pre .0) (s .pre .1))
 
 mul-numbers : tie.Need-mul-numbers
-mul-numbers c = omega (arith, machines-few (c .before .before .before .before .before .before .before .before .before .before .before .pre) (c .before .before .before .before .before .before .state-counts .result) (c .before .before .before .before .before .machine-count .result) (c .before .before .before .before .before .machine-count .ensures) (c .before .before .before .before .before .before .state-counts .ensures))
+mul-numbers c = let s = start c in omega (arith, machines-few (s .pre .0 .setting .accepted) (s .pre .1))
 
 array-share-prefix-numbers : tie.Need-array-share-prefix-numbers
-array-share-prefix-numbers c = omega (arith, machines-few (c .before .before .before .before .before .before .before .before .before .before .before .pre) (c .before .before .before .before .before .before .state-counts .result) (c .before .before .before .before .before .machine-count .result) (c .before .before .before .before .before .machine-count .ensures) (c .before .before .before .before .before .before .state-counts .ensures), c .before .before .before .ranked-weights .ensures .2)
+array-share-prefix-numbers c = let s = start c in omega (arith, machines-few (s .pre .0 .setting .accepted) (s .pre .1), c .ranked-weights .ensures .2)
 
-slice-aggregate-label-by : tie.Need-slice-aggregate-label-by
-slice-aggregate-label-by c = sym (length-take-le (3 * c .before .before .before .before .before .before .machine-count .result) (c .before .before .before .before .ranked-weights .result) (omega (arith, machines-few (c .before .before .before .before .before .before .before .before .before .before .before .before .pre) (c .before .before .before .before .before .before .before .state-counts .result) (c .before .before .before .before .before .before .machine-count .result) (c .before .before .before .before .before .before .machine-count .ensures) (c .before .before .before .before .before .before .before .state-counts .ensures), c .before .before .before .before .ranked-weights .ensures .2)))
+slice-aggregate-used : tie.Need-slice-aggregate-used
+slice-aggregate-used c =
+    let w = c .before in
+    let s = start w in
+    numbers-length (s .pre .0 .setting .accepted) (s .pre .1) (w .ranked-weights .result) (w .ranked-weights .ensures .2)
 
-slice-aggregate-label-by-2 : tie.Need-slice-aggregate-label-by-2
-slice-aggregate-label-by-2 c = sym (columns-length (c .before .before .before .before .width-of .result * 65) (omega (arith, c .before .before .before .before .width-of .ensures .1)))
-
-label-by-requires : tie.Need-label-by-requires
-label-by-requires c κs =
-    let w = c .before .before .before .before .before .ranked-weights .ensures in
-    let g = c .before .before .before .grouped .ensures in
-    let x = c .before .before .before .before .width-of in (
-      search-ready (c .before .before .before .before .before .before .before .before .before .before .before .before .before .pre) (c .before .before .before .before .before .before .before .before .state-counts .result) (c .before .before .before .before .before .before .before .machine-count .result) (c .before .before .before .before .before .before .before .machine-count .ensures) (c .before .before .before .before .before .before .before .before .state-counts .ensures) (c .before .before .before .before .before .ranked-weights .result) (w .0) (g .0) (g .1) (omega (arith, columns-length (x .result * 65) (omega (arith, x .ensures .1)), x .ensures .0)) (columns-small (x .result * 65)),
-      ranked-by (c .before .before .before .before .before .before .before .before .before .before .before .before .before .pre) (c .before .before .before .before .before .before .before .before .state-counts .result) (c .before .before .before .before .before .before .before .machine-count .result) (c .before .before .before .before .before .before .before .machine-count .ensures) (c .before .before .before .before .before .before .before .before .state-counts .ensures) (c .before .before .before .before .before .ranked-weights .result) (w .1),
-    )
+label-all-requires : tie.Need-label-all-requires
+label-all-requires c κs = let w = c .before .before .before in let s = start w in search-ready (s .pre .0) (s .pre .1) (weights-are w) (by-ranking w)
 
 returns : tie.Need-returns
-returns c = let w = c .before .before .before .before .before .before .before .before .before .ranked-weights .ensures in label-done (c .before .before .before .before .before .before .before .before .before .before .before .before .before .before .before .before .before .pre) (c .before .before .before .before .before .before .before .before .before .before .before .before .state-counts .result) (c .before .before .before .before .before .before .before .before .before .before .before .machine-count .result) (c .before .before .before .before .before .before .before .before .before .before .before .machine-count .ensures) (c .before .before .before .before .before .before .before .before .before .before .before .before .state-counts .ensures) (c .before .before .before .before .before .before .before .before .before .ranked-weights .result) (w .0) (w .1) (c .before .before .before .label-by .ensures)
+returns c = let w = c .before .before .before .before .before .before .before in let s = start w in label-done (s .pre .0) (s .pre .1) (weights-are w) (by-ranking w) (c .before .before .before .label-all .ensures)
 
 pub label-spec : {M : Type 1} → statement M
 label-spec =
     tie.close
     (tie.spec
-    (λ c κs. search needs)
-    (λ c κs. search needs)
     array-share-prefix-all
-    slice-aggregate-counts
+    slice-aggregate-ranked-weights
     ranked-weights-requires
-    width-of-requires
-    (λ c. search needs)
-    grouped-requires
     mul-numbers
     array-share-prefix-numbers
-    slice-aggregate-label-by
+    slice-aggregate-used
     (λ c. search needs)
-    slice-aggregate-label-by-2
-    label-by-requires
+    label-all-requires
     (λ c. search needs)
     returns)

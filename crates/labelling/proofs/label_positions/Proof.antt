@@ -1,40 +1,75 @@
-use borrow.Author.Needs.{needs}
+-- `label_positions` meets its contract. The loop's invariant: the positions from `position` on are closed.
 use mathlib.Core.Path.{_≡_, refl, sym, _∙_}
-use Prim.Native.Nat.{ℕ, _-_, _*_, _<_, _≤_}
+use Prim.Native.Nat.{ℕ, _-_, _≤_}
 use native.Mathlib.Omega.{arith}
 use lib.ListN.{length, length-replicate}
+use Rattle.labelling.proofs.Sizes.{counts-fit, counts-length, counts-some, size-is, states-are}
 use Rattle.labelling.proofs.Finishing.{PositionClosed}
-use Rattle.labelling.proofs.Looping.{enter-ready, base-few, last-few, codes-few, counts-known, last-ready, last-closed, blank-there, next-there, symbols-ready, symbols-closed, all-closed, one-before, zeros-fit}
+use Rattle.labelling.proofs.Looping.{enter-ready, base-few, last-ready, last-closed, blank-there, next-there, symbols-ready, symbols-closed, all-closed, one-before, zeros-fit}
 use Rattle.labelling.proofs.label_positions.Statement.{statement}
 use Rattle.labelling.proofs.label_positions.Tie as tie
 
 abbrev Inv-loop : tie.InvT-loop
-Inv-loop work₀ card counts weights sets steps₀ entries ends g width size own₀ next₀ high₀ low₀ position₀ work steps own next high low position =
-    (position ≤ length sets) × PositionClosed card weights sets work own next (length counts) size position × (length work ≡ length work₀) × (length steps ≡ length steps₀) × (length high ≡ 264) × (length low ≡ 264)
+Inv-loop ranked₀ sums₀ card numbers sets steps₀ entries ends machines size counts g own₀ next₀ high₀ low₀ position₀ ranked sums steps own next high low position =
+    (position ≤ length sets) × PositionClosed card numbers sets ranked sums own next (length counts) size position × (length ranked ≡ length ranked₀) × (length sums ≡ length sums₀)
+    × (length steps ≡ length steps₀) × (length high ≡ 264) × (length low ≡ 264)
 
 abbrev μ-loop : tie.MeasureT-loop
-μ-loop work₀ card counts weights sets steps₀ entries ends g width size own₀ next₀ high₀ low₀ position₀ work steps own next high low position = position
+μ-loop ranked₀ sums₀ card numbers sets steps₀ entries ends machines size counts g own₀ next₀ high₀ low₀ position₀ ranked sums steps own next high low position = position
 
-width-of-requires : tie.Need-width-of-requires Inv-loop μ-loop
-width-of-requires c κs = counts-known (c .before .before .before .before .before .before .before .pre .0)
+-- ---- the places on the way, from the last to the first
 
-mul-size : tie.Need-mul-size Inv-loop μ-loop
-mul-size c = omega (arith, codes-few (c .before .before .before .before .before .before .before .before .before .pre .0))
+abbrev start : tie.After-grouped Inv-loop μ-loop → tie.Start Inv-loop μ-loop
+start c = c .before .before .before .before .before .before .before .before .before .before
+
+abbrev grouped : tie.After-enter-endings Inv-loop μ-loop → tie.After-grouped Inv-loop μ-loop
+grouped c = c .before .before .before
+
+abbrev entered : tie.After-finish Inv-loop μ-loop → tie.After-enter-endings Inv-loop μ-loop
+entered c = c .before .before .before .before .before .before .before .before
+
+abbrev first : tie.At-loop Inv-loop μ-loop → tie.After-finish Inv-loop μ-loop
+first c = c .before .before .before .before .before
+
+abbrev groups : tie.At-loop Inv-loop μ-loop → tie.After-grouped Inv-loop μ-loop
+groups c = grouped (entered (first c))
+
+abbrev loop : tie.After-enter-symbols Inv-loop μ-loop → tie.At-loop Inv-loop μ-loop
+loop c = c .before .before .before .before .before .before .before .before
+
+-- ---- before the loop
+
+array-share-prefix-all : tie.Need-array-share-prefix-all Inv-loop μ-loop
+array-share-prefix-all c = let q = c .before .before .before .before .before .before .before .before .pre .search in counts-fit (q .setting .accepted) (q .grid-of)
+
+slice-aggregate-counts : tie.Need-slice-aggregate-counts Inv-loop μ-loop
+slice-aggregate-counts c = let q = c .before .before .before .before .before .before .before .before .before .pre .search in counts-length (q .setting .accepted) (q .grid-of)
+
+grouped-requires : tie.Need-grouped-requires Inv-loop μ-loop
+grouped-requires c κs = let q = c .before .before .before .before .before .before .before .before .before .pre .search in (counts-some (q .setting .accepted) (q .grid-of), size-is (q .setting .accepted) (q .grid-of))
 
 slice-aggregate-enter-endings : tie.Need-slice-aggregate-enter-endings Inv-loop μ-loop
 slice-aggregate-enter-endings c = refl
 
 enter-endings-requires : tie.Need-enter-endings-requires Inv-loop μ-loop
-enter-endings-requires c κs = let q = c .before .before .before .before .before .before .before .before .before .before .before .pre .0 in (enter-ready q (c .before .before .before .width-of .ensures .0) refl (length-replicate {A = ℕ} 256 0), q .small)
+enter-endings-requires c κs =
+    let g = c .before .before in
+    let p = start g .pre in
+    (enter-ready p (states-are (p .search .setting .accepted) (p .search .grid-of)) refl (length-replicate {A = ℕ} 256 0) (g .grouped .ensures), p .prepared .columns .small)
 
 mul-finish : tie.Need-mul-finish Inv-loop μ-loop
-mul-finish c = omega (arith, last-few (c .before .before .before .before .before .before .before .before .before .before .before .before .before .before .before .before .pre .0))
+mul-finish c = let s = start (c .before .before .before .before .before .before .before .before) in omega (arith, base-few (s .pre) (length (s .args .sets .now)) (omega arith))
 
 finish-requires : tie.Need-finish-requires Inv-loop μ-loop
-finish-requires c κs = let p = c .before .before .before .before .before .before .before .before .before .before .before .before .before .before .before .before .before .before .pre in last-ready (p .0) (p .1) (c .before .before .before .before .before .before .enter-endings .ensures) (length-replicate {A = ℕ} 256 0)
+finish-requires c κs = let e = c .before .before .before .before .before .before .before in last-ready (start (grouped e) .pre) (e .enter-endings .ensures) (length-replicate {A = ℕ} 256 0)
 
 loop-holds : tie.Need-loop-holds Inv-loop μ-loop
-loop-holds c = let p = c .before .before .before .before .before .before .before .before .before .before .before .before .before .before .before .before .before .before .before .before .before .pre in (omega arith, last-closed (p .0) (p .1) (c .before .before .before .before .before .before .before .before .before .enter-endings .ensures) zeros-fit (c .before .before .finish .ensures), refl, refl, length-replicate {A = ℕ} 264 0, length-replicate {A = ℕ} 264 0)
+loop-holds c =
+    let f = c .before .before .before .before in
+    let e = entered f in
+    (omega arith, last-closed (start (grouped e) .pre) (e .enter-endings .ensures) zeros-fit (f .finish .ensures), refl, refl, refl, length-replicate {A = ℕ} 264 0, length-replicate {A = ℕ} 264 0)
+
+-- ---- in the loop
 
 sub-position : tie.Need-sub-position Inv-loop μ-loop
 sub-position c = omega arith
@@ -43,53 +78,76 @@ slice-aggregate-enter-symbols : tie.Need-slice-aggregate-enter-symbols Inv-loop 
 slice-aggregate-enter-symbols c = sym (c .before .before .loop .inv .1 .own-size)
 
 mul-enter-symbols : tie.Need-mul-enter-symbols Inv-loop μ-loop
-mul-enter-symbols c = omega (arith, c .before .before .before .before .loop .inv .0, c .before .before .before .before .before .before .before .before .before .before .before .before .before .before .before .before .before .before .before .before .before .before .before .before .before .before .pre .0 .setting .few)
+mul-enter-symbols c = let l = c .before .before .before .before in omega (arith, l .loop .inv .0, start (groups l) .pre .search .setting .few)
 
 shared-slice-read-enter-symbols : tie.Need-shared-slice-read-enter-symbols Inv-loop μ-loop
 shared-slice-read-enter-symbols c = omega (arith, c .before .before .before .before .before .loop .inv .0)
 
 slice-aggregate-enter-symbols-2 : tie.Need-slice-aggregate-enter-symbols-2 Inv-loop μ-loop
-slice-aggregate-enter-symbols-2 c = sym (c .before .before .before .before .before .before .loop .inv .4)
+slice-aggregate-enter-symbols-2 c = sym (c .before .before .before .before .before .before .loop .inv .5)
 
 slice-aggregate-enter-symbols-3 : tie.Need-slice-aggregate-enter-symbols-3 Inv-loop μ-loop
-slice-aggregate-enter-symbols-3 c = sym (c .before .before .before .before .before .before .before .loop .inv .5)
+slice-aggregate-enter-symbols-3 c = sym (c .before .before .before .before .before .before .before .loop .inv .6)
 
 enter-symbols-requires : tie.Need-enter-symbols-requires Inv-loop μ-loop
 enter-symbols-requires c κs =
-    let p = c .before .before .before .before .before .before .before .before .before .before .before .before .before .before .before .before .before .before .before .before .before .before .before .before .before .before .before .before .before .pre in
-    let l = c .before .before .before .before .before .before .before .loop .inv in
-    let B = one-before (omega arith) (l .1) in
-    (enter-ready (p .0) refl (l .3 ∙ c .before .before .before .before .before .before .before .before .before .before .before .before .before .before .before .before .before .enter-endings .kept .1 .0) (l .1 .own-size), blank-there (p .0) (p .1) (omega (arith, l .0)) B, next-there (p .0) (p .1) (omega (arith, l .0)) B, p .0 .setting .symbols _, l .4, l .5)
+    let a = c .before .before .before .before .before .before .before in
+    let p = start (groups a) .pre in
+    let l = a .loop .inv in
+    let B = one-before (omega arith) (l .1) in (
+      enter-ready p refl (l .4 ∙ entered (first a) .enter-endings .kept .1 .0) (l .1 .own-size) (groups a .grouped .ensures),
+      blank-there p (omega (arith, l .0)) B,
+      next-there p (omega (arith, l .0)) B,
+      p .search .setting .symbols _,
+      l .5,
+      l .6,
+    )
 
 mul-finish-2 : tie.Need-mul-finish-2 Inv-loop μ-loop
-mul-finish-2 c = let l = c .before .before .before .before .before .before .before .before .before .before .before .before .before .before .loop in omega (arith, base-few (c .before .before .before .before .before .before .before .before .before .before .before .before .before .before .before .before .before .before .before .before .before .before .before .before .before .before .before .before .before .before .before .before .before .before .before .before .pre .0) (l .position - 1) (omega (arith, l .inv .0)))
+mul-finish-2 c = let a = c .before .before .before .before .before .before .before .before .before .before .before .before .before .before .before in omega (arith, base-few (start (groups a) .pre) (a .loop .position - 1) (omega (arith, a .loop .inv .0)))
 
 finish-requires-2 : tie.Need-finish-requires-2 Inv-loop μ-loop
 finish-requires-2 c κs =
-    let p = c .before .before .before .before .before .before .before .before .before .before .before .before .before .before .before .before .before .before .before .before .before .before .before .before .before .before .before .before .before .before .before .before .before .before .before .before .before .before .pre in
-    let l = c .before .before .before .before .before .before .before .before .before .before .before .before .before .before .before .before .loop .inv in
-    symbols-ready (p .0) (p .1) (omega (arith, l .0)) (one-before (omega arith) (l .1)) (c .before .before .before .before .before .before .before .before .enter-symbols .ensures) (l .2 ∙ c .before .before .before .before .before .before .before .before .before .before .before .before .before .before .before .before .before .before .before .finish .ensures .closed .size)
+    let e = c .before .before .before .before .before .before .before .before .before in
+    let a = loop e in
+    let l = a .loop .inv in
+    let f = first a .finish .ensures .closed in
+    symbols-ready (start (groups a) .pre) (omega (arith, l .0)) (one-before (omega arith) (l .1)) (e .enter-symbols .ensures) (l .3 ∙ f .sums-size) (l .2 ∙ f .ranked-size)
 
 loop-less : tie.Need-loop-less Inv-loop μ-loop
 loop-less c = omega arith
 
 loop-again : tie.Need-loop-again Inv-loop μ-loop
 loop-again c =
-    let p = c .before .before .before .before .before .before .before .before .before .before .before .before .before .before .before .before .before .before .before .before .before .before .before .before .before .before .before .before .before .before .before .before .before .before .before .before .before .before .before .before .before .pre in
-    let l = c .before .before .before .before .before .before .before .before .before .before .before .before .before .before .before .before .before .before .before .loop .inv in
-    let e = c .before .before .before .before .before .before .before .before .before .before .before .enter-symbols in
-    let f = c .before .before .finish2 .ensures in
-    let t = c .before .before .before .before .before .before .before .before .before .before .before .before .before .before .before .before .before .before .loop-test .taken in
-    (omega (arith, l .0), symbols-closed (p .0) (p .1) (omega (arith, l .0, t)) (one-before (omega (arith, t)) (l .1)) (e .ensures) f, f .closed .size ∙ l .2, e .kept .1 .1 .0 ∙ l .3, e .kept .1 .1 .1 .1 .1 .1 .1 .1 .0 ∙ l .4, e .kept .1 .1 .1 .1 .1 .1 .1 .1 .1 .0 ∙ l .5)
+    let e = c .before .before .before .before .before .before .before .before .before .before .before .before .before .before in
+    let a = loop e in
+    let l = a .loop .inv in
+    let t = c .before .before .before .before .before .before .before .before .before .before .before .before .before .before .before .before .before .before .before .before .before .loop-test .taken in
+    let f = c .before .before .before .before .finish2 .ensures in
+    let k = e .enter-symbols .kept in (
+      omega (arith, l .0),
+      symbols-closed (start (groups a) .pre) (omega (arith, l .0, t)) (one-before (omega (arith, t)) (l .1)) (e .enter-symbols .ensures) (l .3 ∙ first a .finish .ensures .closed .sums-size) f,
+      f .closed .ranked-size ∙ l .2,
+      f .closed .sums-size ∙ l .3,
+      k .1 .1 .0 ∙ l .4,
+      k .1 .1 .1 .1 .1 .1 .1 .1 .0 ∙ l .5,
+      k .1 .1 .1 .1 .1 .1 .1 .1 .1 .0 ∙ l .6,
+    )
 
 same-length : tie.Need-same-length Inv-loop μ-loop
-same-length c = c .before .loop .inv .2 ∙ c .before .before .before .before .finish .ensures .closed .size
+same-length c = let a = c .before in a .loop .inv .2 ∙ first a .finish .ensures .closed .ranked-size
 
 same-length-2 : tie.Need-same-length-2 Inv-loop μ-loop
-same-length-2 c = c .before .loop .inv .3 ∙ c .before .before .before .before .before .before .before .before .before .before .before .enter-endings .kept .1 .0
+same-length-2 c = let a = c .before in a .loop .inv .3 ∙ first a .finish .ensures .closed .sums-size
+
+same-length-3 : tie.Need-same-length-3 Inv-loop μ-loop
+same-length-3 c = let a = c .before in a .loop .inv .4 ∙ entered (first a) .enter-endings .kept .1 .0
 
 returns : tie.Need-returns Inv-loop μ-loop
-returns c = all-closed (omega arith) (c .before .loop .inv .2 ∙ c .before .before .before .before .finish .ensures .closed .size) (c .before .loop .inv .1)
+returns c =
+    let a = c .before in
+    let f = first a .finish .ensures .closed in
+    all-closed (omega arith) (a .loop .inv .2 ∙ f .ranked-size) (a .loop .inv .3 ∙ f .sums-size) (a .loop .inv .1)
 
 pub label-positions-spec : {M : Type 1} → statement M
 label-positions-spec =
@@ -97,8 +155,9 @@ label-positions-spec =
     (tie.spec
     Inv-loop
     μ-loop
-    width-of-requires
-    mul-size
+    array-share-prefix-all
+    slice-aggregate-counts
+    grouped-requires
     slice-aggregate-enter-endings
     enter-endings-requires
     mul-finish
@@ -117,4 +176,5 @@ label-positions-spec =
     loop-again
     same-length
     same-length-2
+    same-length-3
     returns)

@@ -37,9 +37,6 @@ pub record LabelRoom (highs lows top : ℕ) (c : Ranked 1) : Type 0 where
   pub high : c .0 * 256 + 255 + 128 * highs < top
   pub low : c .1 + 128 * (lows + 1) + 2 ^ 56 ≤ 2 ^ 64
 
-pub room-less : {highs lows highs′ lows′ top : ℕ} {c : Ranked 1} → highs′ ≤ highs → lows′ ≤ lows → LabelRoom highs lows top c → LabelRoom highs′ lows′ top c
-room-less h l r = record { high = omega (arith, r .high); low = omega (arith, r .low) }
-
 -- a path of fewer than 3,200 pairs
 path-most : (a k c last N : ℕ) → k < N → N ≤ 3200 → c ≤ a * k + last → c ≤ 3199 * a + last
 path-most a k c last N h n e = let m : a * k ≤ a * 3199 = mul-le-mul-left a (omega arith) in omega arith
@@ -115,7 +112,3 @@ module _ {card sets : List ℕ} {P : ℕ} (s : Setting card sets P) (ranking : L
   ranked-room =
       label-room s W 6 (card-machines card (s .accepted) .machines) (mostPrice rankedHighs) (mostPrice rankedLows) (2 ^ 56) (ranked-most-high ranking R 6 (omega arith)) (ranked-most-low ranking R 6 (omega arith))
       (omega arith) (omega arith)
-
-  pub ranked-room-most : (K : ℕ) → K ≤ 6 → {M : Labels (rankedCosts 1)} → Attained (cellGraph ws card sets) M → (u : ℕ) (c : Ranked 1) → u < (length sets + 1) * P → M u ≡ some c
-      → LabelRoom (mostOf (highOf ws) K) (mostOf (lowOf ws) K) (2 ^ 56) c
-  ranked-room-most K six A u c h l = room-less (ranked-most-high ranking R K six) (ranked-most-low ranking R K six) (ranked-room A u c h l)

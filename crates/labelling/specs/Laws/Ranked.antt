@@ -74,7 +74,7 @@ module _ {card sets : List ℕ} {P : ℕ} (s : Setting card sets P) (ranking : L
   engine-counts i = product-counts (sixPlaces ranking) sets (machinesOf card) (machines-sound s) i
 
   -- the cost of a path that passes no node twice: fewer than 3,200 pairs
-  distinct-cost-short : (u : ℕ) (ps : List Pair) (c : Ranked 6) → Run (engineGraph (machinesOf card) ranking sets) u ps c → Distinct (nodes (engineGraph (machinesOf card) ranking sets) u ps) → AllShort 6 c
+  pub distinct-cost-short : (u : ℕ) (ps : List Pair) (c : Ranked 6) → Run (engineGraph (machinesOf card) ranking sets) u ps c → Distinct (nodes (engineGraph (machinesOf card) ranking sets) u ps) → AllShort 6 c
   distinct-cost-short u ps c r k =
       let G = engineGraph (machinesOf card) ranking sets in
       let b = run-within s (priced-over (byRanking (sixPlaces ranking)) card sets (s .accepted)) r in
@@ -82,11 +82,11 @@ module _ {card sets : List ℕ} {P : ℕ} (s : Setting card sets P) (ranking : L
       all-short 6 c (λ i. omega (arith, run-count G (engine-counts i) r, few-nodes s)) (omega (arith, run-size G engine-sized r, few-nodes s))
 
   -- an ending
-  ending-short : (u : ℕ) (c : Ranked 6) → engineGraph (machinesOf card) ranking sets .ending u ≡ some c → AllShort 6 c
+  pub ending-short : (u : ℕ) (c : Ranked 6) → engineGraph (machinesOf card) ranking sets .ending u ≡ some c → AllShort 6 c
   ending-short u c h = all-short 6 c (λ i. omega (arith, engine-counts i .at-end u c h)) (omega (arith, engine-sized .at-end u c h))
 
   -- an edge to an attained label
-  step-short : {L : Labels (rankedCosts 6)} → Attained (engineGraph (machinesOf card) ranking sets) L
+  pub step-short : {L : Labels (rankedCosts 6)} → Attained (engineGraph (machinesOf card) ranking sets) L
       → (u : ℕ) (p : Pair) (e : Edge (Ranked 6)) (d : Ranked 6) → engineGraph (machinesOf card) ranking sets .edge u p ≡ some e → L (e .target) ≡ some d → AllShort 6 (add 6 (e .cost) d)
   step-short A u p e d h l =
       let G = engineGraph (machinesOf card) ranking sets in

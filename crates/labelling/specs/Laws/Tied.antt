@@ -4,7 +4,7 @@ use mathlib.Core.Logic.{_⊎_, inl, inr, _≢_}
 use mathlib.Core.Bool.{Bool, true}
 use mathlib.Core.Option.{Option, none, some, Option·none-ne-some}
 use mathlib.Core.List.{List}
-use Prim.Native.Nat.{ℕ, _+_, _*_, _-_, _/_, _%_, _^_, _<_, _≤_}
+use Prim.Native.Nat.{ℕ, _+_, _*_, _-_, _/_, _%_, _<_, _≤_}
 use native.Mathlib.Omega.{arith}
 use lib.ListN.{length, getD}
 use borrow.Author.Tests.{ne-eqb}
@@ -14,11 +14,8 @@ use Rattle.machine.specs.declared.Pair.{Pair}
 use Rattle.machine.specs.Symbols.{emptySymbol, isPair, pairOf}
 use Rattle.machine.specs.Machine.{Machine}
 use Rattle.card.specs.Card.{machinesOf}
-use Rattle.paths.specs.Costs.{Labels}
-use Rattle.paths.specs.Ranked.{Ranked, rankedCosts}
+use Rattle.paths.specs.Ranked.{Ranked}
 use Rattle.paths.specs.Graph.{Edge}
-use Rattle.paths.specs.Labels.{Attained}
-use Rattle.paths.specs.Positions.{Entered, Done}
 use Rattle.paths.specs.Cheapest.{EdgeTo}
 use Rattle.product.specs.Nodes.{stateCounts, product, statesAt}
 use Rattle.product.specs.ProductGraph.{Move, move, pricedMove}
@@ -27,35 +24,31 @@ use Rattle.product.specs.Setting.{placeOf, Setting}
 use Rattle.product.specs.Laws.Codes.{insertion-move}
 use Rattle.product.specs.Laws.Edges.{moved, step-marks-bound}
 use Rattle.product.specs.Laws.Letters.{LetterAt, letter-at}
-use Rattle.product.specs.Laws.Setting.{machines-sound, symbols-few, few-codes, node-below, node-place, place-low, place-high}
-use Rattle.tables.specs.Places.{sixPlaces, markNumber}
+use Rattle.product.specs.Laws.Setting.{machines-sound, symbols-few, node-place, place-low, place-high}
+use Rattle.tables.specs.Places.{markNumber}
 use Rattle.tables.specs.Laws.Cards.{card-machines}
 use Rattle.tables.specs.Laws.Packing.{six-number}
-use Rattle.cells.specs.declared.Cell.{Cell}
 use Rattle.cells.specs.Cells.{nowhere, highOf, lowOf}
 use Rattle.cells.specs.Columns.{weighed, WeightsOf}
 use Rattle.cells.specs.Labels.{cellAt}
 use Rattle.cells.specs.Trying.{labelFrom, cellPrice}
 use Rattle.cells.specs.Laws.Weighed.{weighed-whole}
-use Rattle.cells.specs.Laws.Trying.{label-there}
-use Rattle.cells.specs.Laws.Position.{placed, placed-in}
 use Rattle.columns.specs.Prepared.{NoSteps, Covered, Prepared}
 use Rattle.settling.specs.Prices.{SixWeights, RankedIf, marksPrice, mostPrice, insertionCost, rankedHighs, rankedLows}
 use Rattle.settling.specs.Insertions.{codeIn, isListed, listsOf}
 use Rattle.settling.specs.Labels.{labelOf}
-use Rattle.settling.specs.Settling.{Fits, SettlePre, Settled}
+use Rattle.settling.specs.Settling.{Fits, SettlePre}
 use Rattle.settling.specs.Packing.{packedEdge}
 use Rattle.settling.specs.WeightedPacking.{weightedPacking}
-use Rattle.settling.proofs.Prices.{ranked-highs-few, ranked-lows-few}
 use Rattle.settling.proofs.Insertions.{edgeOf}
 use Rattle.settling.proofs.PositionDone.{Entry, Tied}
 use Rattle.insertions.specs.Listed.{insertionStep, Place, Listed}
 use Rattle.insertions.specs.RankedWeights.{RankedWeights}
 use Rattle.insertions.specs.Laws.Ranked.{ranked-high, ranked-low}
-use Rattle.entering.specs.Entering.{cellGraph, Position}
+use Rattle.entering.specs.Entering.{Position}
 use Rattle.labelling.specs.Laws.Packed.{move-length}
-use Rattle.labelling.specs.Laws.LabelRoom.{LabelRoom, ranked-room}
-use Rattle.labelling.specs.Laws.Settled.{numberGraph, number-over, path-of, cell-numbers, label-cell, settled-last, settled-position}
+use Rattle.labelling.specs.Laws.LabelRoom.{LabelRoom}
+use Rattle.labelling.specs.Laws.Settled.{numberGraph, number-over, path-of, cell-numbers, label-cell}
 
 -- marks, as a number by their places, are priced as their machines weigh them
 pub record SamePrices (places highs lows ws : List ℕ) : Type 0 where
@@ -238,36 +231,3 @@ module _ {highs lows own : List ℕ} {P : ℕ} (ranked : Bool) (few : P ≤ 128)
       let k = path-of weightedPacking (labelFrom (cellAt own c)) x (cell-numbers (cellAt own c) (λ _. A .labels c b .last) ∙ sym (label-cell own c (A .size) (omega arith)) ∙ l) in
       let r = room c (k .cost) b (k .is) in
       subst (λ (x : Ranked 1). Fits (listsOf entries ends highs lows ranked) 128 x) (k .packed-is) (record { high = omega (arith, r .high); low = omega (arith, r .low) })
-
--- ---- in ranked order, where the labels are attained
-
--- a cell with room for 128 pairs, each of whose marks add at most these, and for what is added to its low number besides
-pub record CellRoom (highs lows : ℕ) (x : Cell) : Type 0 where
-  pub high : x .high + 128 * highs < 2 ^ 56
-  pub low : x .low + 128 * (lows + 1) + 2 ^ 56 ≤ 2 ^ 64
-
-module _ (ranking : List ℕ) {card sets ws : List ℕ} {P i : ℕ} (s : Setting card sets P) (inside : i ≤ length sets) (Z : WeightsOf (stateCounts (machinesOf card)) ws) (R : RankedWeights (sixPlaces ranking) ws)
-    (L : Labels (rankedCosts 1)) (own : List ℕ) (T : Attained (cellGraph ws card sets) (placed (i * P) P L (cellAt own))) where
-  label-room : (c : ℕ) (x : Ranked 1) → c < P → labelFrom (cellAt own c) ≡ some x → LabelRoom (mostPrice rankedHighs) (mostPrice rankedLows) (2 ^ 56) x
-  label-room c x b l = ranked-room s ranking Z R T (i * P + c) x (node-below s i (i * P + c) inside (omega arith)) (placed-in (i * P) P L (cellAt own) c b ∙ l)
-
-  -- a settled position: what closing it asks
-  pub ranked-cell : (c : ℕ) → c < P → cellAt own c .high < nowhere → cellAt own c .high % 256 ≡ 255 → CellRoom (mostPrice rankedHighs) (mostPrice rankedLows) (cellAt own c)
-  ranked-cell c b h last =
-      let r = label-room c (cellAt own c .high / 256, cellAt own c .low) b (label-there (cellAt own c) h) in
-      record { high = omega (arith, r .high); low = omega (arith, r .low) }
-
-  -- a position that was entered: what settling it asks
-  pub ranked-ready : {entries ends : List ℕ} {kept : ℕ} → Listed (machinesOf card) (sixPlaces ranking) kept entries ends → Position own P → SettlePre (listsOf entries ends rankedHighs rankedLows true) own P
-  ranked-ready {entries} {ends} Y A =
-      settle-ready true (few-codes s) A Y (s .states) ranked-highs-few ranked-lows-few (record { high = λ _. refl; low = λ _. refl }) (settle-fits true (few-codes s) A entries ends {top = 2 ^ 56} (omega arith) label-room)
-
--- a position that was entered and settled is done
-module _ (ranking : List ℕ) {card sets ws entries ends steps own own′ : List ℕ} {P i W kept : ℕ} (s : Setting card sets P) (inside : i ≤ length sets) (Z : WeightsOf (stateCounts (machinesOf card)) ws) (R : RankedWeights (sixPlaces ranking) ws)
-    (X : Prepared (machinesOf card) 0 W steps kept) (Y : Listed (machinesOf card) (sixPlaces ranking) kept entries ends) (A : Position own P) (size : length own′ ≡ 256)
-    (S : Settled (listsOf entries ends rankedHighs rankedLows true) own own′) where
-  pub ranked-last : (c : ℕ) → c < P → cellAt own′ c .high < nowhere → cellAt own′ c .high % 256 ≡ 255
-  ranked-last = settled-last ws s (tied s i inside ws true Z (ranked-tie R refl) X Y) A size S
-
-  pub ranked-settled : (L : Labels (rankedCosts 1)) → Entered (cellGraph ws card sets) (placeOf card) (placed (i * P) P L (cellAt own)) i → Done (cellGraph ws card sets) (placeOf card) (placed (i * P) P L (cellAt own′)) i
-  ranked-settled = settled-position ws s (tied s i inside ws true Z (ranked-tie R refl) X Y) A size S

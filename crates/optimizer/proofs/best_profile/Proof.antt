@@ -9,20 +9,17 @@ use Rattle.optimizer.proofs.Answers.{front-room}
 use Rattle.optimizer.proofs.best_profile.Statement.{statement}
 use Rattle.optimizer.proofs.best_profile.Tie as tie
 
-joint-states-requires : tie.Need-joint-states-requires
-joint-states-requires c κs = let s = c .before .before .before .before in accepted-input _ _ _ _ (s .pre .0) .accepted
-
-few : (c : tie.After-joint-states) → (length (c .before .before .before .before .before .args .word .now) + 1) * c .joint-states .result ≤ 3200
+few : (c : tie.After-struct-known) → (length (c .before .before .before .before .before .args .word .now) + 1) * c .before .before .before .before .before .args .grid .size ≤ 3200
 few c =
     let s = c .before .before .before .before .before in
     let a = accepted-input _ _ _ _ (s .pre .0) in
-    nodes-few (s .args .card .now) (s .args .word .now) (a .accepted) (c .joint-states .result) (c .joint-states .ensures) (a .sound)
+    nodes-few (s .args .card .now) (s .args .word .now) (a .accepted) (c .before .before .before .before .before .args .grid .size) (c .before .before .before .before .before .pre .1 .size) (a .sound)
 
-fits : (c : tie.After-joint-states) → (length (c .before .before .before .before .before .args .word .now) + 1) * c .joint-states .result * 8 ≤ length (c .before .before .before .before .before .args .work .now)
+fits : (c : tie.After-struct-known) → (length (c .before .before .before .before .before .args .word .now) + 1) * c .before .before .before .before .before .args .grid .size * 8 ≤ length (c .before .before .before .before .before .args .work .now)
 fits c =
     let s = c .before .before .before .before .before in
     let a = accepted-input _ _ _ _ (s .pre .0) in
-    omega (arith, a .nodes-fit, node-room (s .args .card .now) (s .args .word .now) (a .accepted) (c .joint-states .result) (c .joint-states .ensures))
+    omega (arith, a .nodes-fit, node-room (s .args .card .now) (s .args .word .now) (a .accepted) (c .before .before .before .before .before .args .grid .size) (c .before .before .before .before .before .pre .1 .size))
 
 mul-nodes : tie.Need-mul-nodes
 mul-nodes c = omega (arith, few c)
@@ -41,13 +38,12 @@ label-best-requires c κs =
     let j = c .before in
     let s = j .before .before .before .before .before in
     let a = accepted-input _ _ _ _ (s .pre .0) in
-    (record { accepted = a .accepted; ranks = a .ranks; sound = a .sound; states = j .joint-states .ensures; room = front-room _ _ (fits j) }, s .pre .1)
+    (record { accepted = a .accepted; ranks = a .ranks; sound = a .sound; states = s .pre .1 .size; room = front-room _ _ (fits j) }, s .pre .1, s .pre .2)
 
 pub best-profile-spec : {M : Type 1} → statement M
 best-profile-spec =
     tie.close
     (tie.spec
-    joint-states-requires
     (λ c. search needs)
     mul-nodes
     mul-label-best

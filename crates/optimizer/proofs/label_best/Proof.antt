@@ -3,7 +3,7 @@ use native.Mathlib.Omega.{arith}
 use lib.ListN.{length}
 use borrow.Author.Needs.{needs}
 use Rattle.product.specs.Laws.Sets.{as-many}
-use Rattle.optimizer.proofs.Words.{word-small, short, sets-pre}
+use Rattle.readout.proofs.Words.{word-small, short, sets-pre}
 use Rattle.optimizer.proofs.Telling.{sets-have-best, word-told}
 use Rattle.optimizer.proofs.label_best.Statement.{statement}
 use Rattle.optimizer.proofs.label_best.Tie as tie
@@ -21,7 +21,7 @@ label-sets-requires : tie.Need-label-sets-requires
 label-sets-requires c κs =
     let s = c .before .before .before .before .before .before .before .before .before in
     let e = c .before .before .before .fill-sets .ensures in
-    (sets-pre (s .pre .0) _ e, sets-have-best (s .pre .0) _ e (s .pre .1))
+    (sets-pre (s .pre .0) _ e, s .pre .1, sets-have-best (s .pre .0) _ e (s .pre .2))
 
 returns : tie.Need-returns
 returns c = word-told (c .before .before .before .before .before .before .before .before .before .before .before .before .pre .0) _ (c .before .before .before .before .before .before .fill-sets .ensures) (c .before .before .label-sets .ensures)

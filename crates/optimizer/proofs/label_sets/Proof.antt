@@ -1,8 +1,8 @@
 use native.Mathlib.Omega.{arith}
 use borrow.Author.Needs.{needs}
 use Rattle.labels.specs.LabelCost.{costOf}
-use Rattle.optimizer.proofs.Stages.{some-ranking, start-there}
-use Rattle.optimizer.proofs.Telling.{best-told}
+use Rattle.readout.proofs.Stages.{start-there}
+use Rattle.optimizer.proofs.Telling.{some-ranking, best-told}
 use Rattle.optimizer.proofs.label_sets.Statement.{statement}
 use Rattle.optimizer.proofs.label_sets.Tie as tie
 
@@ -21,7 +21,7 @@ returns c =
     let l = n .before .before .before .before in
     let s = l .before .before .before .before .before .before in
     record {
-      result = best-told (s .pre .0) (l .label .ensures) (s .pre .1) (n .start-node .result) (n .start-node .ensures) (costOf (d .load .result)) (d .load .ensures) (c .profile-of .result) (c .profile-of .ensures);
+      result = best-told (s .pre .0) (l .label .ensures) (s .pre .2) (n .start-node .result) (n .start-node .ensures) (costOf (d .load .result)) (d .load .ensures) (c .profile-of .result) (c .profile-of .ensures);
       work-length = l .label .ensures .size;
     }
 

@@ -5,6 +5,7 @@ use lib.ListN.{length}
 use borrow.Author.Needs.{needs}
 use Rattle.product.specs.Optimizing.{inputRefusal}
 use Rattle.refusals.specs.Refusals.{checkedNumber}
+use Rattle.grid.specs.Grids.{GridOf}
 use Rattle.input.specs.AcceptedInput.{AcceptedInput, accepted-input}
 use Rattle.refusals.proofs.Refusals.{refused-number}
 use Rattle.input.proofs.Nodes.{node-room, nodes-few}
@@ -16,27 +17,28 @@ returns : tie.Need-returns
 returns c =
     let k = c .before .before .before .before in
     let n = c .before .number in
-    let e = n .ensures ∙ k .check-input .ensures in
+    let e = n .ensures ∙ k .check-input .ensures .number in
     let p : 0 < n .result = refused-number (c .before .before .enum-told2 .given .1) (sym (n .ensures)) in
     call-refused (word-best-small _ _ _ _) (n .result) e p (c .refused .ensures)
 
 -- the input is accepted
 passed : (c : tie.After-enum-told) → inputRefusal (c .before .before .before .before .before .before .before .before .args .card .now) (c .before .before .before .before .before .before .before .before .args .ranking .now) (c .before .before .before .before .before .before .before .before .args .word .now) (length (c .before .before .before .before .before .before .before .before .args .work .now)) ≡ 0
-passed c = sym (c .before .before .check-input .ensures) ∙ ap checkedNumber (c .enum-told .given .1)
+passed c = sym (c .before .before .check-input .ensures .number) ∙ ap checkedNumber (c .enum-told .given .1)
 
 accepts : (c : tie.After-enum-told) → AcceptedInput (c .before .before .before .before .before .before .before .before .args .card .now) (c .before .before .before .before .before .before .before .before .args .ranking .now) (c .before .before .before .before .before .before .before .before .args .word .now) (length (c .before .before .before .before .before .before .before .before .args .work .now))
 accepts c = accepted-input _ _ _ _ (passed c)
 
-joint-states-requires : tie.Need-joint-states-requires
-joint-states-requires c κs = accepts c .accepted
+-- its sizes
+sizes : (c : tie.After-struct-known) → GridOf (c .before .before .before .before .before .before .before .before .before .before .args .card .now) (c .before .before .before .before .check-input .result .grid)
+sizes c = c .before .before .before .before .check-input .ensures .sizes (passed (c .before .before))
 
-few : (c : tie.After-joint-states) → (length (c .before .before .before .before .before .before .before .before .before .args .word .now) + 1) * c .joint-states .result ≤ 3200
-few c = let a = accepts (c .before) in nodes-few (c .before .before .before .before .before .before .before .before .before .args .card .now) (c .before .before .before .before .before .before .before .before .before .args .word .now) (a .accepted) (c .joint-states .result) (c .joint-states .ensures) (a .sound)
+few : (c : tie.After-struct-known) → (length (c .before .before .before .before .before .before .before .before .before .before .args .word .now) + 1) * c .before .before .before .before .check-input .result .grid .size ≤ 3200
+few c = let a = accepts (c .before .before) in nodes-few (c .before .before .before .before .before .before .before .before .before .before .args .card .now) (c .before .before .before .before .before .before .before .before .before .before .args .word .now) (a .accepted) (c .before .before .before .before .check-input .result .grid .size) (sizes c .size) (a .sound)
 
-fits : (c : tie.After-joint-states) → (length (c .before .before .before .before .before .before .before .before .before .args .word .now) + 1) * c .joint-states .result * 8 ≤ length (c .before .before .before .before .before .before .before .before .before .args .work .now)
+fits : (c : tie.After-struct-known) → (length (c .before .before .before .before .before .before .before .before .before .before .args .word .now) + 1) * c .before .before .before .before .check-input .result .grid .size * 8 ≤ length (c .before .before .before .before .before .before .before .before .before .before .args .work .now)
 fits c =
-    let a = accepts (c .before) in
-    omega (arith, a .nodes-fit, node-room (c .before .before .before .before .before .before .before .before .before .args .card .now) (c .before .before .before .before .before .before .before .before .before .args .word .now) (a .accepted) (c .joint-states .result) (c .joint-states .ensures))
+    let a = accepts (c .before .before) in
+    omega (arith, a .nodes-fit, node-room (c .before .before .before .before .before .before .before .before .before .before .args .card .now) (c .before .before .before .before .before .before .before .before .before .before .args .word .now) (a .accepted) (c .before .before .before .before .check-input .result .grid .size) (sizes c .size))
 
 mul-nodes : tie.Need-mul-nodes
 mul-nodes c = omega (arith, few c)
@@ -53,15 +55,15 @@ slice-aggregate-search c = sym (front-room _ _ (fits (c .before)))
 search-requires : tie.Need-search-requires
 search-requires c κs =
     let j = c .before .before in
-    let a = accepts (j .before) in
-    record { accepted = a .accepted; ranks = a .ranks; sound = a .sound; states = j .joint-states .ensures; room = front-room _ _ (fits j) }
+    let a = accepts (j .before .before) in
+    (record { accepted = a .accepted; ranks = a .ranks; sound = a .sound; states = sizes j .size; room = front-room _ _ (fits j) }, sizes j)
 
 returns-2 : tie.Need-returns-2
 returns-2 c =
     let j = c .before .before .before .before .before .before .before in
-    let a = j .before .before .before .before .before .before .before .before .before .args in
+    let a = j .before .before .before .before .before .before .before .before .before .before .args in
     let s = c .before .before .before .before .search .ensures in
-    call-searched (word-best-small _ _ _ _) (passed (j .before)) (same-room _ (a .work .now) (c .before .before .before .before .search .last .1 .1 .1 .1 .0) (fits j) (s .work-length)) s
+    call-searched (word-best-small _ _ _ _) (passed (j .before .before)) (same-room _ (a .work .now) (c .before .before .before .before .search .last .1 .1 .1 .1 .0) (fits j) (s .work-length)) s
 
 pub optimize-spec : {M : Type 1} → statement M
 optimize-spec =
@@ -73,7 +75,6 @@ optimize-spec =
     (λ c κs. search needs)
     (λ c κs. search needs)
     returns
-    joint-states-requires
     (λ c. search needs)
     mul-nodes
     mul-search

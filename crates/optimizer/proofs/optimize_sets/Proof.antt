@@ -6,8 +6,9 @@ use borrow.Author.Needs.{needs}
 use Rattle.product.specs.OptimizingSets.{setsInputRefusal}
 use Rattle.refusals.specs.Refusals.{checkedNumber}
 use Rattle.refusals.proofs.Refusals.{refused-number}
+use Rattle.grid.specs.Grids.{GridOf}
 use Rattle.optimizer.proofs.Answers.{call-refused, call-searched, sets-best-small, front-room, same-room}
-use Rattle.optimizer.proofs.SetsCalls.{accepts, sets-few, sets-fit, sets-given}
+use Rattle.readout.proofs.SetsCalls.{accepts, sets-few, sets-fit, sets-given}
 use Rattle.optimizer.proofs.optimize_sets.Statement.{statement}
 use Rattle.optimizer.proofs.optimize_sets.Tie as tie
 
@@ -15,22 +16,23 @@ returns : tie.Need-returns
 returns c =
     let k = c .before .before .before .before in
     let n = c .before .number in
-    let e = n .ensures ∙ k .check-sets-input .ensures in
+    let e = n .ensures ∙ k .check-sets-input .ensures .number in
     let p : 0 < n .result = refused-number (c .before .before .enum-told2 .given .1) (sym (n .ensures)) in
     call-refused (sets-best-small _ _ _ _) (n .result) e p (c .refused .ensures)
 
 -- the input is accepted
 passed : (c : tie.After-enum-told) → setsInputRefusal (c .before .before .before .before .before .before .before .before .args .card .now) (c .before .before .before .before .before .before .before .before .args .ranking .now) (c .before .before .before .before .before .before .before .before .args .sets .now) (length (c .before .before .before .before .before .before .before .before .args .work .now)) ≡ 0
-passed c = sym (c .before .before .check-sets-input .ensures) ∙ ap checkedNumber (c .enum-told .given .1)
+passed c = sym (c .before .before .check-sets-input .ensures .number) ∙ ap checkedNumber (c .enum-told .given .1)
 
-joint-states-requires : tie.Need-joint-states-requires
-joint-states-requires c κs = accepts _ _ _ _ (passed c) .accepted
+-- its sizes
+sizes : (c : tie.After-struct-known) → GridOf (c .before .before .before .before .before .before .before .before .before .before .args .card .now) (c .before .before .before .before .check-sets-input .result .grid)
+sizes c = c .before .before .before .before .check-sets-input .ensures .sizes (passed (c .before .before))
 
-few : (c : tie.After-joint-states) → (length (c .before .before .before .before .before .before .before .before .before .args .sets .now) + 1) * c .joint-states .result ≤ 3200
-few c = sets-few _ _ _ _ (passed (c .before)) (c .joint-states .result) (c .joint-states .ensures)
+few : (c : tie.After-struct-known) → (length (c .before .before .before .before .before .before .before .before .before .before .args .sets .now) + 1) * c .before .before .before .before .check-sets-input .result .grid .size ≤ 3200
+few c = sets-few _ _ _ _ (passed (c .before .before)) (c .before .before .before .before .check-sets-input .result .grid .size) (sizes c .size)
 
-fits : (c : tie.After-joint-states) → (length (c .before .before .before .before .before .before .before .before .before .args .sets .now) + 1) * c .joint-states .result * 8 ≤ length (c .before .before .before .before .before .before .before .before .before .args .work .now)
-fits c = sets-fit _ _ _ _ (passed (c .before)) (c .joint-states .result) (c .joint-states .ensures)
+fits : (c : tie.After-struct-known) → (length (c .before .before .before .before .before .before .before .before .before .before .args .sets .now) + 1) * c .before .before .before .before .check-sets-input .result .grid .size * 8 ≤ length (c .before .before .before .before .before .before .before .before .before .before .args .work .now)
+fits c = sets-fit _ _ _ _ (passed (c .before .before)) (c .before .before .before .before .check-sets-input .result .grid .size) (sizes c .size)
 
 mul-nodes : tie.Need-mul-nodes
 mul-nodes c = omega (arith, few c)
@@ -47,14 +49,14 @@ slice-aggregate-search-sets c = sym (front-room _ _ (fits (c .before)))
 search-sets-requires : tie.Need-search-sets-requires
 search-sets-requires c κs =
     let j = c .before .before in
-    sets-given _ _ _ _ (passed (j .before)) (j .joint-states .result) (j .joint-states .ensures) (front-room _ _ (fits j))
+    (sets-given _ _ _ _ (passed (j .before .before)) (j .before .before .before .before .check-sets-input .result .grid .size) (sizes j .size) (front-room _ _ (fits j)), sizes j)
 
 returns-2 : tie.Need-returns-2
 returns-2 c =
     let j = c .before .before .before .before .before .before .before in
-    let a = j .before .before .before .before .before .before .before .before .before .args in
+    let a = j .before .before .before .before .before .before .before .before .before .before .args in
     let s = c .before .before .before .before .search-sets .ensures in
-    call-searched (sets-best-small _ _ _ _) (passed (j .before)) (same-room _ (a .work .now) (c .before .before .before .before .search-sets .last .1 .1 .1 .1 .0) (fits j) (s .work-length)) s
+    call-searched (sets-best-small _ _ _ _) (passed (j .before .before)) (same-room _ (a .work .now) (c .before .before .before .before .search-sets .last .1 .1 .1 .1 .0) (fits j) (s .work-length)) s
 
 pub optimize-sets-spec : {M : Type 1} → statement M
 optimize-sets-spec =
@@ -66,7 +68,6 @@ optimize-sets-spec =
     (λ c κs. search needs)
     (λ c κs. search needs)
     returns
-    joint-states-requires
     (λ c. search needs)
     mul-nodes
     mul-search-sets

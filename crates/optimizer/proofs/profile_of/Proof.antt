@@ -4,7 +4,7 @@ use native.Mathlib.Omega.{arith}
 use borrow.Author.Needs.{needs}
 use lib.ListN.{length}
 use Rattle.ranking.specs.declared.Profile.{Profile}
-use Rattle.optimizer.specs.Searching.{RankingOfSome}
+use Rattle.optimizer.specs.Telling.{RankingOfSome}
 use Rattle.optimizer.proofs.Places.{Placed, placed-start, placed-next, placed-end, place-below}
 use Rattle.optimizer.proofs.profile_of.Statement.{statement}
 use Rattle.optimizer.proofs.profile_of.Tie as tie

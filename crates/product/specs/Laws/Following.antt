@@ -12,9 +12,8 @@ use Rattle.candidate.specs.Candidates.{bytesOf}
 use Rattle.paths.specs.Costs.{Costs, Labels}
 use Rattle.paths.specs.Graph.{Graph, pathCost}
 use Rattle.paths.specs.Labels.{Closed, Attained}
-use Rattle.paths.specs.Bounds.{Sized}
 use Rattle.paths.specs.Best.{IsBest}
-use Rattle.paths.specs.Walk.{LeastTight, Walk, Walking, walking-start, walking-next, walking-end, walk-best, walk-cost, tight-size}
+use Rattle.paths.specs.Walk.{LeastTight, SizedLabels, Walk, Walking, walking-start, walking-next, walking-end, walk-best, walk-cost, tight-size}
 use Rattle.product.specs.ProductGraph.{pairs}
 use Rattle.product.specs.Laws.Preference.{length-bytes}
 
@@ -42,7 +41,7 @@ two-more front before n a b h k =
     ∙ sym (append-assoc front (a ∷ b ∷ []) (drop (n + 2) before))
 
 -- the pair p written after the pairs ps
-pair-more : (ps : List Pair) (p : Pair) (before answer : List ℕ) (n : ℕ) → n ≡ length ps → 2 * n + 1 < length before → answer ≡ bytesOf ps ++ drop (2 * length ps) before
+pub pair-more : (ps : List Pair) (p : Pair) (before answer : List ℕ) (n : ℕ) → n ≡ length ps → 2 * n + 1 < length before → answer ≡ bytesOf ps ++ drop (2 * length ps) before
     → set (set answer (2 * n) (p .input)) (2 * n + 1) (p .output) ≡ bytesOf (ps ++ p ∷ []) ++ drop (2 * length (ps ++ p ∷ [])) before
 pair-more ps p before answer n e h w =
     let f : answer ≡ bytesOf ps ++ drop (2 * n) before = w ∙ ap (λ (m : ℕ). bytesOf ps ++ drop (2 * m) before) (sym e) in
@@ -88,7 +87,7 @@ module _ {costs : Costs} (G : Graph costs pairs) (L : Labels costs) {size : cost
     walking = walking-start G L size start cost l;
   }
 
-  module _ (Z : Sized G size) {answer : List ℕ} {u n : ℕ} (F : Following G L size start before answer u n) where
+  module _ (Z : SizedLabels G L size) {answer : List ℕ} {u n : ℕ} (F : Following G L size start before answer u n) where
     -- where no pair is left, the walk is the best path
     pub following-end : Closed G L → Attained G L → size (F .rest) ≡ 0 → Followed G L start before answer n
     following-end K A z = record {
@@ -96,7 +95,7 @@ module _ {costs : Costs} (G : Graph costs pairs) (L : Labels costs) {size : cost
       count = F .count;
       written = F .bytes;
       is-best = walk-best G L Z K A start (F .cost) (F .written) (F .cost-is) walk;
-      costs-label = walk-cost G L Z A start (F .cost) (F .written) (F .cost-is) walk ∙ sym (F .cost-is);
+      costs-label = walk-cost G L Z K A start (F .cost) (F .written) (F .cost-is) walk ∙ sym (F .cost-is);
     }
       where
         walk : Walk G L (size (F .cost)) start (F .written)

@@ -17,13 +17,13 @@ returns c =
     let k = c .before .before .before .before in
     let a = k .before .before .before .before .before .before .args in
     let n = c .before .number in
-    let e = n .ensures ∙ k .check-input .ensures in
+    let e = n .ensures ∙ k .check-input .ensures .number in
     let p : 0 < n .result = refused-number (c .before .before .enum-told2 .given .1) (sym (n .ensures)) in
     record { result = c .refused .ensures ∙ input-refused (a .card .now) (a .ranking .now) (a .word .now) (length (a .work .now)) (a .tableau .now) (n .result) e p; work-length = refl; work-kept = λ _. refl }
 
 -- the input is accepted
 passed : (c : tie.After-enum-told) → let a = c .before .before .before .before .before .before .before .before .args in inputRefusal (a .card .now) (a .ranking .now) (a .word .now) (length (a .work .now)) ≡ 0
-passed c = sym (c .before .before .check-input .ensures) ∙ ap checkedNumber (c .enum-told .given .1)
+passed c = sym (c .before .before .check-input .ensures .number) ∙ ap checkedNumber (c .enum-told .given .1)
 
 check-tableau-requires : tie.Need-check-tableau-requires
 check-tableau-requires c κs = accepted-input _ _ _ _ (passed c) .accepted
@@ -47,7 +47,7 @@ best-profile-requires c κs =
     let t = c .before in
     let p = t .before .before .before in
     let a = p .before .before .before .before .before .before .before .before .args in
-    (passed p, some-best (a .card .now) (a .ranking .now) (a .word .now) (length (a .work .now)) (a .tableau .now) (passed p) (told t))
+    (passed p, p .before .before .check-input .ensures .sizes (passed p), some-best (a .card .now) (a .ranking .now) (a .word .now) (length (a .work .now)) (a .tableau .now) (passed p) (told t))
 
 verdict-of-requires : tie.Need-verdict-of-requires
 verdict-of-requires c κs =

@@ -16,9 +16,9 @@ use Rattle.product.specs.ProductGraph.{cardStart}
 use Rattle.product.specs.Laws.Nodes.{code-below}
 use Rattle.product.specs.Laws.JointStep.{starts-below}
 use Rattle.product.specs.Laws.Accepted.{part-states, accepted-machines}
-use Rattle.steps.specs.StepTable.{noMachine, machineAt, HoldsSteps}
+use Rattle.steps.specs.StepTable.{noMachine, machineAt}
 use Rattle.card.specs.Laws.Machines.{length-machines, machine-at}
-use Rattle.tables.specs.Tables.{CardMachines, CountsOfSome, HoldsRows, Tables}
+use Rattle.tables.specs.Tables.{CardMachines, CountsOfSome}
 
 module _ (card : List ℕ) (ok : cardRefusal card ≡ 0) where
   -- a machine has as many states as its part says, 1 to 32
@@ -50,8 +50,3 @@ module _ (card : List ℕ) (ok : cardRefusal card ≡ 0) where
 
   pub card-counts : {counts : List ℕ} → counts ≡ stateCounts (machinesOf card) → CountsOfSome counts
   card-counts e = record { symbols = symbolCount card; machines = machinesOf card; card = card-machines; are = e }
-
-  -- the tables of a card's machines
-  module _ {x : ℕ} {steps rows counts : List ℕ} where
-    pub card-tables : HoldsSteps (machinesOf card) x steps → HoldsRows counts rows → counts ≡ stateCounts (machinesOf card) → Tables (symbolCount card) (machinesOf card) x steps rows counts
-    card-tables s r e = record { machines = card-machines; holds-steps = s; holds-rows = rw (← e) r; holds-counts = e }

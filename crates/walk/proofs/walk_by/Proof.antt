@@ -1,52 +1,354 @@
--- `walk::walk_by`: the tables, and then the walk by them. Assumes nothing.
-use mathlib.Core.Path.{refl}
+-- `walk::walk_by`: the outer loop's invariant is `Reached`, the inner one's `Finding`, for all labels that are in the slices. Assumes nothing.
+use mathlib.Core.Path.{_≡_, refl, sym, _∙_, ap}
+use mathlib.Core.Bool.{_&&_, not}
+use mathlib.Core.Logic.{⊎-elim}
+use Prim.Native.Nat.{ℕ, _+_, _*_}
 use native.Mathlib.Omega.{arith}
-use borrow.Author.Needs.{needs}
-use Rattle.walk.proofs.Starting.{counts-are, counts-length, counts-within, rows-pre, follow-pre, walked-by-ranking}
+use lib.Dec.{eqb}
+use lib.ListN.{length, length-set}
+use Rattle.basics.specs.Sets.{member}
+use Rattle.paths.specs.Costs.{Labels}
+use Rattle.paths.specs.Ranked.{rankedCosts}
+use Rattle.paths.specs.Walk.{Tight}
+use Rattle.product.specs.Laws.LeastPair.{Finding, some-left}
+use Rattle.entering.specs.Entering.{cellGraph}
+use Rattle.walk.proofs.Nodes.{Ground, Reached}
+use Rattle.walk.proofs.Passing.{states-are, states-count, hand-pre, symbol-within, symbol-way, places-pre, insertion-way, ways-start, way-least, way-none, way-go, way-falls, way-next}
+use Rattle.walk.proofs.Ends.{ends-pre, walked-end}
+use Rattle.walk.proofs.Walking.{ground, ground-there, counts-ok, machines-are, machines-few, machines-of, machines-within, insertions-fill, nodes, base-few, sets-few, start-pre, starts-walk}
 use Rattle.walk.proofs.walk_by.Statement.{statement}
 use Rattle.walk.proofs.walk_by.Tie as tie
 
-array-share-prefix-counts : tie.Need-array-share-prefix-counts
-array-share-prefix-counts c = counts-within _ _ _ (c .machine-count .ensures) (c .before .state-counts .ensures)
+abbrev Inv-least : tie.InvT-least
+Inv-least ranked sums card counts weights sets size insertions answer₀ machines width kept hand steps₀ at label position states places left₀ answer steps left =
+    ((L : Labels (rankedCosts 1)) → Ground ranked sums card weights sets size L → Finding sets (Tight (cellGraph weights card sets) L (at .position * size + at .code)) (at .position) left) × (length steps ≡ 390) × (answer ≡ answer₀)
 
-slice-aggregate-fill-rows : tie.Need-slice-aggregate-fill-rows
-slice-aggregate-fill-rows c = counts-length _ _ _ (c .before .machine-count .ensures) (c .before .before .state-counts .ensures)
+abbrev μ-least : tie.MeasureT-least
+μ-least ranked sums card counts weights sets size insertions answer₀ machines width kept hand steps₀ at label position states places left₀ answer steps left = left
 
-fill-rows-requires : tie.Need-fill-rows-requires
-fill-rows-requires c κs = rows-pre (c .before .before .before .before .before .before .before .before .before .before .before .before .pre .0) _ _ (counts-are _ _ _ (c .before .before .machine-count .ensures) (c .before .before .before .state-counts .ensures)) refl
+abbrev Inv-loop : tie.InvT-loop
+Inv-loop ranked sums card counts weights sets size insertions answer₀ machines width kept hand steps₀ at₀ answer steps at =
+    ((L : Labels (rankedCosts 1)) → Ground ranked sums card weights sets size L → Reached card weights sets answer₀ answer size L at) × (length steps ≡ 390) × (length answer ≡ length answer₀)
 
-array-share-prefix-counts-2 : tie.Need-array-share-prefix-counts-2
-array-share-prefix-counts-2 c = counts-within _ _ _ (c .before .before .before .before .before .before .before .before .before .before .machine-count .ensures) (c .before .before .before .before .before .before .before .before .before .before .before .state-counts .ensures)
+abbrev μ-loop : tie.MeasureT-loop
+μ-loop ranked sums card counts weights sets size insertions answer₀ machines width kept hand steps₀ at₀ answer steps at = at .label .low
 
-slice-aggregate-follow-2 : tie.Need-slice-aggregate-follow-2
-slice-aggregate-follow-2 c = counts-length _ _ _ (c .before .before .before .before .before .before .before .before .before .before .before .machine-count .ensures) (c .before .before .before .before .before .before .before .before .before .before .before .before .state-counts .ensures)
+-- from the head of a loop to the function's entry, and to the head of the outer loop
+abbrev entry : tie.At-loop Inv-least μ-least Inv-loop μ-loop → tie.Start Inv-least μ-least Inv-loop μ-loop
+entry c = c .before .before .before .before .before .before .before .before .before .before .before .before .before .before .before
 
-follow-requires : tie.Need-follow-requires
-follow-requires c κs =
-    let s = c .before .before .before .before .before .before .before .before .before .before .before .before .before .before .before .before .before .before .before .before .before .before .before .before in
-    follow-pre (s .pre .0) _ _ _ _ _ (c .before .before .before .before .before .before .before .before .before .before .before .before .before .before .before .before .six-places .ensures) (c .before .before .before .before .before .before .before .before .fill-steps .ensures) (omega (arith, s .pre .1 .room, s .pre .1 .alike)) (c .before .before .before .before .before .before .before .before .before .before .before .fill-rows .ensures)
-    (counts-are _ _ _ (c .before .before .before .before .before .before .before .before .before .before .before .before .before .before .machine-count .ensures) (c .before .before .before .before .before .before .before .before .before .before .before .before .before .before .before .state-counts .ensures))
+abbrev node : tie.At-least Inv-least μ-least Inv-loop μ-loop → tie.At-loop Inv-least μ-least Inv-loop μ-loop
+node c = c .before .before .before .before .before .before .before .before
 
-returns : tie.Need-returns
-returns c = walked-by-ranking _ (c .before .before .before .before .before .before .before .before .before .before .before .before .before .before .before .before .before .before .before .before .before .six-places .ensures) (c .before .before .before .before .follow .ensures)
+width-of-requires : tie.Need-width-of-requires Inv-least μ-least Inv-loop μ-loop
+width-of-requires c κs = counts-ok (c .before .before .before .before .before .before .before .before .pre .0)
+
+prepare-requires : tie.Need-prepare-requires Inv-least μ-least Inv-loop μ-loop
+prepare-requires c κs = insertions-fill (c .before .before .before .before .before .before .before .before .before .before .pre .0) _ (c .before .width-of .ensures .0) _ (c .before .before .before .before .before .before .before .before .before .before .pre .1)
+
+start-requires : tie.Need-start-requires Inv-least μ-least Inv-loop μ-loop
+start-requires c κs = start-pre (c .before .before .before .before .before .before .before .before .before .before .before .before .before .pre .0)
+
+loop-holds : tie.Need-loop-holds Inv-least μ-least Inv-loop μ-loop
+loop-holds c = (λ L G. starts-walk (c .before .before .before .before .before .before .before .before .before .before .before .before .before .before .pre .0) G (c .start .ensures) _ refl, refl, refl)
+
+places-of-requires : tie.Need-places-of-requires Inv-least μ-least Inv-loop μ-loop
+places-of-requires c κs =
+    let l = c .before .before .before .before .before in
+    let s = entry l in
+    let G = ground-there (s .pre .0) in
+    places-pre G (l .loop .inv .0 _ G) (s .pre .0 .counts-are)
+
+inputs-at-requires : tie.Need-inputs-at-requires Inv-least μ-least Inv-loop μ-loop
+inputs-at-requires c κs = tt
+
+least-holds : tie.Need-least-holds Inv-least μ-least Inv-loop μ-loop
+least-holds c =
+    let l = c .before .before .before .before .before .before .before in
+    (λ L G. ways-start G (l .loop .inv .0 L G) (c .before .before .before .before .if1 .left) _ (c .inputs-at .ensures), l .loop .inv .1, refl)
+
+least-requires : tie.Need-least-requires Inv-least μ-least Inv-loop μ-loop
+least-requires c κs = some-left (c .least .inv .0 _ (ground-there (entry (node c) .pre .0)))
+
+cast-input : tie.Need-cast-input Inv-least μ-least Inv-loop μ-loop
+cast-input c = omega (arith, c .least2 .ensures .1)
+
+-- ---- an insertion
+
+mul-least-tight : tie.Need-mul-least-tight Inv-least μ-least Inv-loop μ-loop
+mul-least-tight c =
+    let l = node (c .before .before) in
+    let s = entry l in
+    omega (arith, base-few (s .pre .0) _ (l .loop .inv .0 _ (ground-there (s .pre .0)) .position))
+
+array-share-prefix-places : tie.Need-array-share-prefix-places Inv-least μ-least Inv-loop μ-loop
+array-share-prefix-places c = let t = c .before .before .before in machines-within (entry (node t) .pre .0) (t .before .before .places-of .result) (t .before .before .places-of .ensures .size)
+
+slice-aggregate-least-tight : tie.Need-slice-aggregate-least-tight Inv-least μ-least Inv-loop μ-loop
+slice-aggregate-least-tight c = let t = c .before .before .before .before in machines-of (entry (node t) .pre .0) _ (t .before .before .places-of .ensures .size)
+
+least-tight-requires : tie.Need-least-tight-requires Inv-least μ-least Inv-loop μ-loop
+least-tight-requires c κs =
+    let t = c .before .before .before .before in
+    let l = node t in
+    let s = entry l in
+    let G = ground-there (s .pre .0) in
+    let R = l .loop .inv .0 _ G in
+    way-least G R (insertion-way G R (s .pre .0 .counts-are) refl (t .before .before .places-of .ensures) (l .before .before .before .before .prepare .ensures) (c .before .before .if2 .taken)) (nodes (s .pre .0))
+
+array-share-prefix-places-2 : tie.Need-array-share-prefix-places-2 Inv-least μ-least Inv-loop μ-loop
+array-share-prefix-places-2 c = let t = c .before .before .before .before .before .before .before .before in machines-within (entry (node t) .pre .0) (t .before .before .places-of .result) (t .before .before .places-of .ensures .size)
+
+slice-aggregate-go-on : tie.Need-slice-aggregate-go-on Inv-least μ-least Inv-loop μ-loop
+slice-aggregate-go-on c = let t = c .before .before .before .before .before .before .before .before .before in machines-of (entry (node t) .pre .0) _ (t .before .before .places-of .ensures .size)
+
+go-on-requires : tie.Need-go-on-requires Inv-least μ-least Inv-loop μ-loop
+go-on-requires c κs =
+    let t = c .before .before .before .before .before .before .before .before .before .before in
+    let l = node t in
+    let s = entry l in
+    let G = ground-there (s .pre .0) in
+    let R = l .loop .inv .0 _ G in
+    let Y = insertion-way G R (s .pre .0 .counts-are) refl (t .before .before .places-of .ensures) (l .before .before .before .before .prepare .ensures) (c .before .before .before .before .before .before .before .before .if2 .taken) in
+    way-go G R Y (c .before .before .before .before .before .least-tight .ensures) (t .least .inv .0 _ G) (c .before .before .before .if3 .taken) (c .before .before .before .before .before .before .before .before .before .least2 .ensures .0) (t .least .inv .2)
+
+-- ---- a symbol
+
+add-next : tie.Need-add-next Inv-least μ-least Inv-loop μ-loop
+add-next c =
+    let l = node (c .before .before) in
+    let s = entry l in
+    omega (arith, sets-few (s .pre .0), l .loop .inv .0 _ (ground-there (s .pre .0)) .position)
+
+slice-aggregate-fill-at : tie.Need-slice-aggregate-fill-at Inv-least μ-least Inv-loop μ-loop
+slice-aggregate-fill-at c = sym (c .before .before .before .least .inv .1)
+
+array-share-prefix-states : tie.Need-array-share-prefix-states Inv-least μ-least Inv-loop μ-loop
+array-share-prefix-states c =
+    let l = node (c .before .before .before) in
+    let s = entry l in
+    machines-within (s .pre .0) (l .loop .at .states) (l .loop .inv .0 _ (ground-there (s .pre .0)) .states-size)
+
+slice-aggregate-fill-at-2 : tie.Need-slice-aggregate-fill-at-2 Inv-least μ-least Inv-loop μ-loop
+slice-aggregate-fill-at-2 c =
+    let l = node (c .before .before .before .before) in
+    let s = entry l in
+    machines-of (s .pre .0) _ (l .loop .inv .0 _ (ground-there (s .pre .0)) .states-size)
+
+fill-at-requires : tie.Need-fill-at-requires Inv-least μ-least Inv-loop μ-loop
+fill-at-requires c κs =
+    let l = node (c .before .before .before .before) in
+    let s = entry l in
+    let G = ground-there (s .pre .0) in
+    hand-pre G (l .loop .inv .0 _ G) (machines-are (s .pre .0)) (c .before .before .before .least2 .ensures .1) (omega (arith, c .before .before .before .before .least .inv .1))
+
+mul-least-tight-2 : tie.Need-mul-least-tight-2 Inv-least μ-least Inv-loop μ-loop
+mul-least-tight-2 c =
+    let t = c .before .before .before .before .before .before in
+    let l = node t in
+    let s = entry l in
+    let G = ground-there (s .pre .0) in
+    omega (arith, base-few (s .pre .0) _ (symbol-within G (l .loop .inv .0 _ G) (machines-are (s .pre .0)) (t .least .inv .0 _ G) (c .before .before .before .before .before .least2 .ensures .2) (c .before .before .before .before .if2 .left)))
+
+slice-aggregate-least-tight-2 : tie.Need-slice-aggregate-least-tight-2 Inv-least μ-least Inv-loop μ-loop
+slice-aggregate-least-tight-2 c = sym (c .before .before .fill-at .kept .0 ∙ c .before .before .before .before .before .before .before .least .inv .1)
+
+array-share-prefix-hand : tie.Need-array-share-prefix-hand Inv-least μ-least Inv-loop μ-loop
+array-share-prefix-hand c = machines-few (entry (node (c .before .before .before .before .before .before .before)) .pre .0)
+
+slice-aggregate-least-tight-3 : tie.Need-slice-aggregate-least-tight-3 Inv-least μ-least Inv-loop μ-loop
+slice-aggregate-least-tight-3 c = machines-of (entry (node (c .before .before .before .before .before .before .before .before)) .pre .0) _ refl
+
+least-tight-requires-2 : tie.Need-least-tight-requires-2 Inv-least μ-least Inv-loop μ-loop
+least-tight-requires-2 c κs =
+    let t = c .before .before .before .before .before .before .before .before in
+    let l = node t in
+    let s = entry l in
+    let G = ground-there (s .pre .0) in
+    let R = l .loop .inv .0 _ G in
+    way-least G R (symbol-way G R (machines-are (s .pre .0)) (omega (arith, c .before .before .before .fill-at .kept .0, t .least .inv .1)) (c .before .before .before .fill-at .ensures) (t .least .inv .0 _ G) (c .before .before .before .before .before .before .before .least2 .ensures .2) (c .before .before .before .before .before .before .if2 .left)) (nodes (s .pre .0))
+
+slice-aggregate-go-on-2 : tie.Need-slice-aggregate-go-on-2 Inv-least μ-least Inv-loop μ-loop
+slice-aggregate-go-on-2 c = sym (c .before .before .before .before .before .before .before .fill-at .kept .0 ∙ c .before .before .before .before .before .before .before .before .before .before .before .before .least .inv .1)
+
+array-share-prefix-hand-2 : tie.Need-array-share-prefix-hand-2 Inv-least μ-least Inv-loop μ-loop
+array-share-prefix-hand-2 c = machines-few (entry (node (c .before .before .before .before .before .before .before .before .before .before .before .before)) .pre .0)
+
+slice-aggregate-go-on-3 : tie.Need-slice-aggregate-go-on-3 Inv-least μ-least Inv-loop μ-loop
+slice-aggregate-go-on-3 c = machines-of (entry (node (c .before .before .before .before .before .before .before .before .before .before .before .before .before)) .pre .0) _ refl
+
+go-on-requires-2 : tie.Need-go-on-requires-2 Inv-least μ-least Inv-loop μ-loop
+go-on-requires-2 c κs =
+    let t = c .before .before .before .before .before .before .before .before .before .before .before .before .before .before in
+    let l = node t in
+    let s = entry l in
+    let G = ground-there (s .pre .0) in
+    let R = l .loop .inv .0 _ G in
+    let T = t .least .inv .0 _ G in
+    let Y = symbol-way G R (machines-are (s .pre .0)) (omega (arith, c .before .before .before .before .before .before .before .before .before .fill-at .kept .0, t .least .inv .1)) (c .before .before .before .before .before .before .before .before .before .fill-at .ensures) T (c .before .before .before .before .before .before .before .before .before .before .before .before .before .least2 .ensures .2) (c .before .before .before .before .before .before .before .before .before .before .before .before .if2 .left) in
+    way-go G R Y (c .before .before .before .before .before .least-tight2 .ensures) T (c .before .before .before .if4 .taken) (c .before .before .before .before .before .before .before .before .before .before .before .before .before .least2 .ensures .0) (t .least .inv .2)
+
+-- ---- the next input
+
+without-least-requires : tie.Need-without-least-requires Inv-least μ-least Inv-loop μ-loop
+without-least-requires c κs = some-left (c .before .before .least .inv .0 _ (ground-there (entry (node (c .before .before)) .pre .0)))
+
+least-less : tie.Need-least-less Inv-least μ-least Inv-loop μ-loop
+least-less c = c .without-least .ensures .0
+
+least-again : tie.Need-least-again Inv-least μ-least Inv-loop μ-loop
+least-again c =
+    let t = c .before .before .before in
+    let l = node t in
+    let s = entry l in
+    let x = c .before .before .least2 .ensures in
+    let C = s .pre .0 .counts-are in
+    let e = machines-are (s .pre .0) in
+    let after : (n : ℕ) → member (c .without-least .result) n ≡ (member (t .least .left) n && not (eqb n (c .before .before .least2 .result))) = λ n. c .without-least .ensures .1 n ∙ ap (λ (i : ℕ). member (t .least .left) n && not (eqb n i)) (sym (x .0)) in (
+      λ L G.
+          let R = l .loop .inv .0 L G in
+          let T = t .least .inv .0 L G in
+          ⊎-elim (λ w. way-none G R (insertion-way G R C refl (t .before .before .places-of .ensures) (l .before .before .before .before .prepare .ensures) (w .0 .taken)) (w .3 .ensures) T (w .5 .left) _ after)
+          (λ w. way-none G R (symbol-way G R e (omega (arith, w .3 .kept .0, t .least .inv .1)) (w .3 .ensures) T (x .2) (w .0 .left)) (w .7 .ensures) T (w .9 .left) _ after)
+          (c .before .if2 .came),
+      ⊎-elim (λ w. ap length (w .6) ∙ t .least .inv .1) (λ w. ap length (w .10) ∙ w .3 .kept .0 ∙ t .least .inv .1) (c .before .if2 .came),
+      t .least .inv .2,
+    )
+
+-- ---- the next node
+
+loop-less : tie.Need-loop-less Inv-least μ-least Inv-loop μ-loop
+loop-less c =
+    let t = c .before .before .before .before .before .before .before .before .before .before .before .before .before in
+    let l = node t in
+    let s = entry l in
+    let C = s .pre .0 .counts-are in
+    let x = c .before .before .before .before .before .before .before .before .before .before .before .before .least2 .ensures in
+    let G = ground-there (s .pre .0) in
+    let R = l .loop .inv .0 _ G in
+    way-falls G R (insertion-way G R C refl (t .before .before .places-of .ensures) (l .before .before .before .before .prepare .ensures) (c .before .before .before .before .before .before .before .before .before .before .before .if2 .taken)) (c .before .before .before .before .before .before .before .before .least-tight .ensures) (t .least .inv .0 _ G) (c .before .before .before .before .before .before .if3 .taken) (x .0) (t .least .inv .2) (c .before .before .go-on .ensures)
+
+loop-again : tie.Need-loop-again Inv-least μ-least Inv-loop μ-loop
+loop-again c =
+    let t = c .before .before .before .before .before .before .before .before .before .before .before .before .before in
+    let l = node t in
+    let s = entry l in
+    let C = s .pre .0 .counts-are in
+    let x = c .before .before .before .before .before .before .before .before .before .before .before .before .least2 .ensures in (
+      λ L G. let R = l .loop .inv .0 L G in way-next G R (insertion-way G R C refl (t .before .before .places-of .ensures) (l .before .before .before .before .prepare .ensures) (c .before .before .before .before .before .before .before .before .before .before .before .if2 .taken)) (c .before .before .before .before .before .before .before .before .least-tight .ensures) (t .least .inv .0 _ G) (c .before .before .before .before .before .before .if3 .taken) (x .0) (t .least .inv .2) (c .before .before .go-on .ensures),
+      t .least .inv .1,
+      ap length (c .before .before .go-on .ensures .written) ∙ simp length-set (ap length (t .least .inv .2) ∙ l .loop .inv .2),
+    )
+
+loop-less-2 : tie.Need-loop-less-2 Inv-least μ-least Inv-loop μ-loop
+loop-less-2 c =
+    let t = c .before .before .before .before .before .before .before .before .before .before .before .before .before .before .before .before .before in
+    let l = node t in
+    let s = entry l in
+    let e = machines-are (s .pre .0) in
+    let x = c .before .before .before .before .before .before .before .before .before .before .before .before .before .before .before .before .least2 .ensures in
+    let filled = c .before .before .before .before .before .before .before .before .before .before .before .before .fill-at in
+    let G = ground-there (s .pre .0) in
+    let R = l .loop .inv .0 _ G in
+    way-falls G R (symbol-way G R e (omega (arith, filled .kept .0, t .least .inv .1)) (filled .ensures) (t .least .inv .0 _ G) (x .2) (c .before .before .before .before .before .before .before .before .before .before .before .before .before .before .before .if2 .left)) (c .before .before .before .before .before .before .before .before .least-tight2 .ensures) (t .least .inv .0 _ G) (c .before .before .before .before .before .before .if4 .taken) (x .0) (t .least .inv .2) (c .before .before .go-on2 .ensures)
+
+loop-again-2 : tie.Need-loop-again-2 Inv-least μ-least Inv-loop μ-loop
+loop-again-2 c =
+    let t = c .before .before .before .before .before .before .before .before .before .before .before .before .before .before .before .before .before in
+    let l = node t in
+    let s = entry l in
+    let e = machines-are (s .pre .0) in
+    let x = c .before .before .before .before .before .before .before .before .before .before .before .before .before .before .before .before .least2 .ensures in
+    let filled = c .before .before .before .before .before .before .before .before .before .before .before .before .fill-at in (
+      λ L G. let R = l .loop .inv .0 L G in way-next G R (symbol-way G R e (omega (arith, filled .kept .0, t .least .inv .1)) (filled .ensures) (t .least .inv .0 _ G) (x .2) (c .before .before .before .before .before .before .before .before .before .before .before .before .before .before .before .if2 .left)) (c .before .before .before .before .before .before .before .before .least-tight2 .ensures) (t .least .inv .0 _ G) (c .before .before .before .before .before .before .if4 .taken) (x .0) (t .least .inv .2) (c .before .before .go-on2 .ensures),
+      filled .kept .0 ∙ t .least .inv .1,
+      ap length (c .before .before .go-on2 .ensures .written) ∙ simp length-set (ap length (t .least .inv .2) ∙ l .loop .inv .2),
+    )
+
+-- ---- the end
+
+array-share-prefix-states-2 : tie.Need-array-share-prefix-states-2 Inv-least μ-least Inv-loop μ-loop
+array-share-prefix-states-2 c =
+    let l = c .before .before .before .before .before in
+    let s = entry l in
+    machines-within (s .pre .0) (l .loop .at .states) (l .loop .inv .0 _ (ground-there (s .pre .0)) .states-size)
+
+slice-aggregate-with-ending : tie.Need-slice-aggregate-with-ending Inv-least μ-least Inv-loop μ-loop
+slice-aggregate-with-ending c =
+    let l = c .before .before .before .before .before .before in
+    let s = entry l in
+    machines-of (s .pre .0) _ (l .loop .inv .0 _ (ground-there (s .pre .0)) .states-size)
+
+with-ending-requires : tie.Need-with-ending-requires Inv-least μ-least Inv-loop μ-loop
+with-ending-requires c κs =
+    let l = c .before .before .before .before .before .before in
+    let s = entry l in
+    let G = ground-there (s .pre .0) in
+    let R = l .loop .inv .0 _ G in
+    ends-pre G R (machines-are (s .pre .0)) (states-count G R (machines-are (s .pre .0)))
+
+same-length : tie.Need-same-length Inv-least μ-least Inv-loop μ-loop
+same-length c = c .before .before .before .before .before .before .before .before .before .before .before .prepare .kept .0
+
+same-length-2 : tie.Need-same-length-2 Inv-least μ-least Inv-loop μ-loop
+same-length-2 c = c .before .before .before .before .before .before .before .loop .inv .2
+
+returns : tie.Need-returns Inv-least μ-least Inv-loop μ-loop
+returns c = λ L K.
+    let l = c .before .before .before .before .before .before .before in
+    let s = entry l in
+    let G = ground (s .pre .0) K in
+    let R = l .loop .inv .0 L G in
+    walked-end G R (c .before .before .before .before .if1 .taken) _ refl _ (states-are G R (machines-are (s .pre .0))) (c .with-ending .ensures)
 
 pub walk-by-spec : {M : Type 1} → statement M
 walk-by-spec =
     tie.close
     (tie.spec
-    (λ c κs. search needs)
-    (λ c κs. search needs)
-    (λ c κs. search needs)
-    array-share-prefix-counts
-    slice-aggregate-fill-rows
-    (λ c. search needs)
-    fill-rows-requires
-    (λ c κs. search needs)
-    (λ c. search needs)
-    array-share-prefix-counts-2
-    slice-aggregate-follow-2
-    follow-requires
-    (λ c. search needs)
-    (λ c. search needs)
-    (λ c. search needs)
+    Inv-least
+    μ-least
+    Inv-loop
+    μ-loop
+    width-of-requires
+    prepare-requires
+    start-requires
+    loop-holds
+    places-of-requires
+    inputs-at-requires
+    least-holds
+    least-requires
+    cast-input
+    mul-least-tight
+    array-share-prefix-places
+    slice-aggregate-least-tight
+    least-tight-requires
+    array-share-prefix-places-2
+    slice-aggregate-go-on
+    go-on-requires
+    add-next
+    slice-aggregate-fill-at
+    array-share-prefix-states
+    slice-aggregate-fill-at-2
+    fill-at-requires
+    mul-least-tight-2
+    slice-aggregate-least-tight-2
+    array-share-prefix-hand
+    slice-aggregate-least-tight-3
+    least-tight-requires-2
+    slice-aggregate-go-on-2
+    array-share-prefix-hand-2
+    slice-aggregate-go-on-3
+    go-on-requires-2
+    without-least-requires
+    least-less
+    least-again
+    loop-less
+    loop-again
+    loop-less-2
+    loop-again-2
+    array-share-prefix-states-2
+    slice-aggregate-with-ending
+    with-ending-requires
+    same-length
+    same-length-2
     returns)

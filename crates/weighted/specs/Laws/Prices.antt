@@ -2,7 +2,7 @@
 use mathlib.Core.Path.{_≡_, refl, sym, _∙_, ap}
 use mathlib.Core.Logic.{_⊎_, inl, inr}
 use mathlib.Core.List.{List, [], _∷_}
-use Prim.Native.Nat.{ℕ, zero, suc, _+_, _*_, _^_, _<_, _≤_}
+use Prim.Native.Nat.{ℕ, zero, suc, _+_, _*_, _/_, _%_, _^_, _<_, _≤_}
 use native.Mathlib.Nat.{mul-comm, zero-mul}
 use native.Mathlib.Omega.{arith}
 use lib.ListN.{length, getD}
@@ -11,9 +11,9 @@ use Rattle.tables.specs.Laws.Packing.{six-number}
 use Rattle.settling.specs.Prices.{SixWeights, marksPrice, mostPrice}
 use Rattle.cells.specs.Cells.{highOf, lowOf}
 use Rattle.cells.specs.Columns.{weighed}
+use Rattle.labelling.specs.Kinds.{sixHighs, noLows}
 use Rattle.labelling.specs.Laws.Tied.{SamePrices}
-use Rattle.sums.proofs.Weighing.{packed-sum}
-use Rattle.weighted.specs.WeighsBy.{WeighsBy, sixHighs, noLows}
+use Rattle.weighted.specs.WeighsBy.{WeighsBy}
 use Rattle.weighted.specs.Laws.Sound.{Sound}
 
 -- marks of at most six machines, one by one
@@ -29,13 +29,40 @@ six-terms w (a ∷ b ∷ c ∷ d ∷ e ∷ []) h = omega (arith, mul-comm a (w 0
 six-terms w (a ∷ b ∷ c ∷ d ∷ e ∷ f ∷ []) h = omega (arith, mul-comm a (w 0), mul-comm b (w 1), mul-comm c (w 2), mul-comm d (w 3), mul-comm e (w 4), mul-comm f (w 5))
 six-terms w (a ∷ b ∷ c ∷ d ∷ e ∷ f ∷ g ∷ r) h = absurd (omega arith)
 
+-- marks packed into a number, one by one
+module _ (a b c d e f : ℕ) (ha : a ≤ 15) (hb : b ≤ 15) (hc : c ≤ 15) (hd : d ≤ 15) (he : e ≤ 15) (hf : f ≤ 15) where
+  abbrev packed : ℕ
+  packed = a * 1048576 + (b * 65536 + (c * 4096 + (d * 256 + (e * 16 + f))))
+
+  first : packed / 1048576 ≡ a
+  first = omega arith
+
+  second : packed / 65536 % 16 ≡ b
+  second = let q : packed / 65536 ≡ a * 16 + b = omega arith in omega arith
+
+  third : packed / 4096 % 16 ≡ c
+  third = let q : packed / 4096 ≡ a * 256 + (b * 16 + c) = omega arith in omega arith
+
+  fourth : packed / 256 % 16 ≡ d
+  fourth = let q : packed / 256 ≡ a * 4096 + (b * 256 + (c * 16 + d)) = omega arith in omega arith
+
+  fifth : packed / 16 % 16 ≡ e
+  fifth = let q : packed / 16 ≡ a * 65536 + (b * 4096 + (c * 256 + (d * 16 + e))) = omega arith in omega arith
+
+  sixth : packed % 16 ≡ f
+  sixth = omega arith
+
+  packed-price : (ns : List ℕ) → marksPrice ns packed ≡ getD ns 0 0 * a + (getD ns 1 0 * b + (getD ns 2 0 * c + (getD ns 3 0 * d + (getD ns 4 0 * e + getD ns 5 0 * f))))
+  unfolding marksPrice
+  packed-price ns = λ i. getD ns 0 0 * first i + (getD ns 1 0 * second i + (getD ns 2 0 * third i + (getD ns 3 0 * fourth i + (getD ns 4 0 * fifth i + getD ns 5 0 * sixth i))))
+
 -- six numbers for places price the number of marks, where a machine has the place of its own number, or counts nothing
 place-price : (places ns : List ℕ) (w : ℕ → ℕ) → length places ≡ 6 → ((m : ℕ) → m < 6 → (getD ns m 0 ≡ w m) × ((getD places m 0 ≡ m) ⊎ (w m ≡ 0)))
     → (marks : List ℕ) → length marks ≤ 6 → ((m : ℕ) → getD marks m 0 ≤ 15) → marksPrice ns (markNumber places marks) ≡ weighed w 0 marks
 unfolding marksPrice
 place-price places ns w size same marks few most =
     (λ i. marksPrice ns (six-number places marks size i))
-    ∙ packed-sum (at 0) (at 1) (at 2) (at 3) (at 4) (at 5) (most (getD places 0 0)) (most (getD places 1 0)) (most (getD places 2 0)) (most (getD places 3 0)) (most (getD places 4 0)) (most (getD places 5 0)) ns
+    ∙ packed-price (at 0) (at 1) (at 2) (at 3) (at 4) (at 5) (most (getD places 0 0)) (most (getD places 1 0)) (most (getD places 2 0)) (most (getD places 3 0)) (most (getD places 4 0)) (most (getD places 5 0)) ns
     ∙ omega (arith, part 0 (omega arith), part 1 (omega arith), part 2 (omega arith), part 3 (omega arith), part 4 (omega arith), part 5 (omega arith), six-terms w marks few)
   where
     at : ℕ → ℕ

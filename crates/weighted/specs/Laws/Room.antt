@@ -1,5 +1,5 @@
 -- Attained labels by weights leave room for 128 pairs more, and have fewer than 4,096 pairs.
-use mathlib.Core.Path.{_≡_, refl}
+use mathlib.Core.Path.{_≡_}
 use mathlib.Core.List.{List}
 use mathlib.Core.Option.{some}
 use Prim.Native.Nat.{ℕ, zero, suc, _+_, _*_, _^_, _<_, _≤_}
@@ -18,12 +18,13 @@ use Rattle.product.specs.Laws.Setting.{machines-sound, few-nodes}
 use Rattle.tables.specs.Laws.Cards.{card-machines}
 use Rattle.settling.specs.Prices.{mostPrice}
 use Rattle.cells.specs.Cells.{highOf, lowOf}
-use Rattle.cells.specs.Columns.{weighed, WeightsOf}
+use Rattle.cells.specs.Columns.{WeightsOf}
 use Rattle.entering.specs.Entering.{cellGraph, mostOf}
-use Rattle.labelling.specs.Laws.LabelRoom.{LabelRoom, label-room, room-less}
+use Rattle.labelling.specs.Kinds.{sixHighs, noLows}
+use Rattle.labelling.specs.Laws.LabelRoom.{LabelRoom, label-room}
 use Rattle.sums.specs.WeightedPaths.{byWeights, weightedGraph}
 use Rattle.sums.specs.WeightedGraph.{weighted-sized}
-use Rattle.weighted.specs.WeighsBy.{WeighsBy, sixHighs, noLows}
+use Rattle.weighted.specs.WeighsBy.{WeighsBy}
 use Rattle.weighted.specs.Laws.Sound.{Sound}
 use Rattle.weighted.specs.Laws.Weighing.{low-sum}
 use Rattle.weighted.specs.Laws.Prices.{six-terms, high-most, low-most}
@@ -54,9 +55,6 @@ module _ {card sets : List ℕ} {P : ℕ} (s : Setting card sets P) {n : ℕ} {w
   weighted-room =
       label-room s Z 6 (card-machines card (s .accepted) .machines) (mostPrice (sixHighs ws)) (mostPrice noLows) (2 ^ 59) (weighted-most-high W 6 (omega arith)) (weighted-most-low W 6 (omega arith))
       (omega (arith, high-most A W)) (omega (arith, low-most)) T u c h l
-
-  pub weighted-room-most : (K : ℕ) → K ≤ 6 → LabelRoom (mostOf (highOf ws) K) (mostOf (lowOf ws) K) (2 ^ 59) c
-  weighted-room-most K six = room-less (weighted-most-high W K six) (weighted-most-low W K six) weighted-room
 
   pub few-pairs : c .1 < 4096
   few-pairs =

@@ -1,6 +1,5 @@
-use mathlib.Core.Path.{_≡_, sym, _∙_}
-use Prim.Native.Nat.{_≤_}
-use native.Mathlib.Omega.{arith}
+use mathlib.Core.Path.{_≡_, sym, ap₂, _∙_}
+use Prim.Native.Nat.{ℕ, _≤_}
 use borrow.Author.Needs.{needs}
 use lib.Dec.{lit<}
 use Rattle.refusals.specs.Refusals.{refuse}
@@ -18,17 +17,17 @@ few c =
     machine-count K (was-true (c .enum-told .given .1) 1 (isMachineCount K) (lit< tt) (c .before .before .check-machine-count .ensures)) .most
 
 fewer-in-requires : tie.Need-fewer-in-requires
-fewer-in-requires c κs = omega (arith, few c)
+fewer-in-requires c κs = few c
 
 fewer-in-requires-2 : tie.Need-fewer-in-requires-2
-fewer-in-requires-2 c κs = omega (arith, few (c .before))
+fewer-in-requires-2 c κs = few (c .before)
 
 returns : tie.Need-returns
 returns c =
     let a = c .before .before .before .before .before .args in
     let n = refuse 1 (isMachineCount (a .machines)) in
     let derived : DerivedCondition = record { number = 0; condition = conditionOf (a .machines) (a .first .counts) (a .second .counts) } in
-    let e : record { number = 0; condition = record { fewer = c .before .fewer-in .result; more = c .fewer-in2 .result } } ≡ derived = cc in
+    let e : record { number = 0; condition = record { fewer = c .before .fewer-in .result; more = c .fewer-in2 .result } } ≡ derived = ap₂ (λ (u v : ℕ). record { number = 0; condition = record { fewer = u; more = v } }) (c .before .fewer-in .ensures) (c .fewer-in2 .ensures) in
     e ∙ sym (accepts (c .before .before .enum-told .given .1) n derived refusedCondition (c .before .before .before .before .check-machine-count .ensures))
 
 returns-2 : tie.Need-returns-2

@@ -1,9 +1,7 @@
 use Prim.Native.Nat.{_-_}
-use mathlib.Core.Path.{_≡_, sym, _∙_}
-use mathlib.Core.Bool.{true, false}
+use mathlib.Core.Path.{_≡_, sym, ap, _∙_}
 use borrow.Author.Needs.{needs}
 use borrow.Author.Tests.{not-true, not-false}
-use native.Mathlib.Omega.{arith}
 use lib.ListN.{length}
 use Rattle.refusals.proofs.Refusals.{passes-with, refuses-with}
 use Rattle.ranking.specs.Finder.{soundCondition}
@@ -28,27 +26,30 @@ returns-2 c =
     let a = c .before .before .before .args in
     sym (refuses-with 15 (long-list (a .machines) (a .conditions .now) (c .before .if1 .left) (c .if2 .taken)))
 
+-- the condition at the place is sound if the code says so
+told : (c : tie.After-sound Inv-loop μ-loop)
+    → soundCondition (c .before .before .before .before .before .before .before .args .machines) (conditionAt (c .before .before .before .before .before .before .before .args .conditions .now) (c .before .before .before .loop .at))
+    ≡ c .sound .result
+told c = ap (soundCondition (c .before .before .before .before .before .before .before .args .machines)) (sym (c .before .condition-at .ensures)) ∙ sym (c .sound .ensures)
+
 returns-3 : tie.Need-returns-3 Inv-loop μ-loop
 returns-3 c =
-    let k = c .before .before .before .before in
-    let a = k .before .before .before .before .args in
-    let l = a .conditions .now in
-    let unsound : soundCondition (a .machines) (conditionAt l (k .loop .at)) ≡ false = cc (not-true (c .before .sound .result) (c .if3 .taken)) in
-    sym (refuses-with 15 (listed-pairs (a .machines) l (omega arith) (omega arith) ∙ reached-fails (k .loop .inv) (omega arith) (omega arith) unsound))
+    let k = c .before .before .before in
+    let e = k .before .before .before .if1 .left in
+    let a = k .before .before .before .before .before .args in
+    let unsound = told (c .before) ∙ not-true (c .before .sound .result) (c .if3 .taken) in
+    sym (refuses-with 15 (listed-pairs (a .machines) (a .conditions .now) e (k .before .before .if2 .left) ∙ reached-fails (k .before .loop .inv) e (k .loop-test .taken) unsound))
 
 loop-again : tie.Need-loop-again Inv-loop μ-loop
 loop-again c =
-    let k = c .before .before .before .before in
-    let a = k .before .before .before .before .args in
-    let l = a .conditions .now in
-    let passed : soundCondition (a .machines) (conditionAt l (k .loop .at)) ≡ true = cc (not-false (c .before .sound .result) (c .if3 .left)) in
-    reached-next (k .loop .inv) (omega arith) (omega arith) passed
+    let k = c .before .before .before in
+    reached-next (k .before .loop .inv) (k .before .before .before .if1 .left) (k .loop-test .taken) (told (c .before) ∙ not-false (c .before .sound .result) (c .if3 .left))
 
 returns-4 : tie.Need-returns-4 Inv-loop μ-loop
 returns-4 c =
     let k = c .before in
     let a = k .before .before .before .before .args in
-    sym (passes-with 15 (listed-pairs (a .machines) (a .conditions .now) (omega arith) (omega arith) ∙ reached-end (k .loop .inv) (omega arith)))
+    sym (passes-with 15 (listed-pairs (a .machines) (a .conditions .now) (k .before .before .if1 .left) (k .before .if2 .left) ∙ reached-end (k .loop .inv) (c .loop-test .left)))
 
 pub check-conditions-spec : {M : Type 1} → statement M
 check-conditions-spec =

@@ -1,8 +1,7 @@
 use Prim.Native.Nat.{_-_}
-use mathlib.Core.Path.{_≡_, sym, ap}
-use mathlib.Core.Bool.{true, false, not}
+use mathlib.Core.Path.{_≡_, sym, ap, _∙_}
+use mathlib.Core.Bool.{not}
 use borrow.Author.Needs.{needs}
-use native.Mathlib.Omega.{arith}
 use lib.ListN.{length}
 use Rattle.ranking.specs.FinderSteps.{conditionAt, blocks}
 use Rattle.ranking.proofs.FinderPairs.{Reached, reached-start, reached-next, reached-fails, reached-end}
@@ -15,22 +14,26 @@ Inv-loop conditions placed machine at₀ at = Reached (λ c. not (blocks placed 
 abbrev μ-loop : tie.MeasureT-loop
 μ-loop conditions placed machine at₀ at = length conditions - at
 
+-- the condition at the place blocks the machine if the code says so
+told : (c : tie.After-blocks2 Inv-loop μ-loop)
+    → blocks (c .before .before .before .before .before .args .placed) (c .before .before .before .before .before .args .machine) (conditionAt (c .before .before .before .before .before .args .conditions .now) (c .before .before .before .loop .at))
+    ≡ c .blocks2 .result
+told c =
+    let a = c .before .before .before .before .before .args in
+    ap (blocks (a .placed) (a .machine)) (sym (c .before .condition-at .ensures)) ∙ sym (c .blocks2 .ensures)
+
 returns : tie.Need-returns Inv-loop μ-loop
 returns c =
-    let k = c .before .before .before .before in
-    let a = k .before .before .args in
-    let blocked : blocks (a .placed) (a .machine) (conditionAt (a .conditions .now) (k .loop .at)) ≡ true = cc in
-    sym (reached-fails (k .loop .inv) (omega arith) (omega arith) (ap not blocked))
+    let k = c .before .before .before in
+    sym (reached-fails (k .before .loop .inv) (k .before .before .before .pre .0) (k .loop-test .taken) (ap not (told (c .before) ∙ c .if1 .taken)))
 
 loop-again : tie.Need-loop-again Inv-loop μ-loop
 loop-again c =
-    let k = c .before .before .before .before in
-    let a = k .before .before .args in
-    let passed : blocks (a .placed) (a .machine) (conditionAt (a .conditions .now) (k .loop .at)) ≡ false = cc in
-    reached-next (k .loop .inv) (omega arith) (omega arith) (ap not passed)
+    let k = c .before .before .before in
+    reached-next (k .before .loop .inv) (k .before .before .before .pre .0) (k .loop-test .taken) (ap not (told (c .before) ∙ c .if1 .left))
 
 returns-2 : tie.Need-returns-2 Inv-loop μ-loop
-returns-2 c = sym (reached-end (c .before .loop .inv) (omega arith))
+returns-2 c = sym (reached-end (c .before .loop .inv) (c .loop-test .left))
 
 pub may-stand-spec : {M : Type 1} → statement M
 may-stand-spec =

@@ -1,6 +1,6 @@
 use Prim.Native.Nat.{_≤_, _-_}
-use mathlib.Core.Path.{_≡_, ap, sym}
-use mathlib.Core.Bool.{true, false}
+use mathlib.Core.Path.{_≡_, ap, ap₂, sym, _∙_}
+use mathlib.Core.Bool.{Bool, not, _&&_}
 use mathlib.Core.Option.{none}
 use native.Mathlib.Omega.{arith}
 use Rattle.ranking.specs.Finder.{conditionsOf}
@@ -19,21 +19,25 @@ abbrev μ-loop : tie.MeasureT-loop
 loop-holds : tie.Need-loop-holds Inv-loop μ-loop
 loop-holds c = (search needs, next-start _ _)
 
+-- the machine is the next one if the code says so
+told : (c : tie.After-may-stand Inv-loop μ-loop)
+    → next (conditionsOf (c .before .before .before .before .before .args .conditions .now)) (c .before .before .before .before .before .args .placed) (c .before .before .before .loop .machine)
+    ≡ (not (c .before .has .result) && c .may-stand .result)
+told c = ap₂ (λ (a b : Bool). not a && b) (sym (c .before .has .ensures)) (sym (c .may-stand .ensures))
+
 returns : tie.Need-returns Inv-loop μ-loop
 returns c =
-    let k = c .before .before .before .before in
-    let a = k .before .before .args in
+    let k = c .before .before .before in
+    let a = k .before .before .before .args in
     let cs = conditionsOf (a .conditions .now) in
-    let found : next cs (a .placed) (k .loop .machine) ≡ true = cc in
-    sym (ap nextOf (next-found cs (a .placed) (a .machines) (k .loop .machine) (omega arith) (k .loop .inv .1) found))
+    sym (ap nextOf (next-found cs (a .placed) (a .machines) (k .before .loop .machine) (k .loop-test .taken) (k .before .loop .inv .1) (told (c .before) ∙ c .if1 .taken)))
 
 loop-again : tie.Need-loop-again Inv-loop μ-loop
 loop-again c =
-    let k = c .before .before .before .before in
-    let a = k .before .before .args in
+    let k = c .before .before .before in
+    let a = k .before .before .before .args in
     let cs = conditionsOf (a .conditions .now) in
-    let passed : next cs (a .placed) (k .loop .machine) ≡ false = cc in
-    (search needs, next-on cs (a .placed) (k .loop .machine) (k .loop .inv .1) passed)
+    (search needs, next-on cs (a .placed) (k .before .loop .machine) (k .before .loop .inv .1) (told (c .before) ∙ c .if1 .left))
 
 returns-2 : tie.Need-returns-2 Inv-loop μ-loop
 returns-2 c =

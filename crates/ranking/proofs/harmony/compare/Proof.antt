@@ -6,6 +6,7 @@ use lib.Dec.{lit<}
 use Rattle.refusals.specs.Refusals.{refuse, firstOf, checkedNumber}
 use Rattle.refusals.proofs.Refusals.{passed, none-first, accepts, refuses}
 use Rattle.ranking.specs.Rankings.{isMachineCount, isRanking}
+use Rattle.ranking.specs.declared.Order.{Order}
 use Rattle.ranking.specs.Harmony.{harmony, Compared, refusedComparison}
 use Rattle.ranking.specs.Lemmas.Rankings.{comparable}
 use Rattle.ranking.proofs.harmony.compare.Statement.{statement}
@@ -26,7 +27,7 @@ returns c =
     let a = c .before .before .before .before .before .args in
     let n = firstOf (refuse 1 (isMachineCount (a .machines)) ∷ refuse 7 (isRanking (a .machines) (a .ranking .now)) ∷ []) in
     let ordered : Compared = record { number = 0; order = some (harmony (a .ranking .now) (a .first .counts) (a .second .counts)) } in
-    let e : record { number = 0; order = some (c .harmony .result) } ≡ ordered = cc in
+    let e : record { number = 0; order = some (c .harmony .result) } ≡ ordered = ap (λ (o : Order). record { number = 0; order = some o }) (c .harmony .ensures) in
     e ∙ sym (accepts (c .before .enum-told .given .1) n ordered refusedComparison (c .before .before .before .check .ensures))
 
 returns-2 : tie.Need-returns-2

@@ -1,82 +1,60 @@
-use mathlib.Core.Path.{_≡_, sym, ap, _∙_}
-use mathlib.Core.Bool.{true}
-use mathlib.Core.List.{[], _∷_}
-use Prim.Native.Nat.{_*_}
-use lib.Dec.{leb, lit<}
+use mathlib.Core.Path.{_≡_, sym, _∙_}
+use mathlib.Core.List.{List, [], _∷_}
+use Prim.Native.Nat.{ℕ, _+_, _*_}
+use native.Mathlib.Omega.{arith}
+use lib.Dec.{leb}
 use lib.ListN.{length}
 use borrow.Author.Needs.{needs}
-use Rattle.refusals.specs.Refusals.{refuse, checkedNumber}
-use Rattle.refusals.proofs.Refusals.{was-true, goes-up, last-one}
+use Rattle.refusals.specs.Refusals.{refuse, firstOf, checkedNumber}
+use Rattle.refusals.proofs.Refusals.{passed-number, refused-number, goes-up, first-on}
 use Rattle.card.specs.Layout.{machineCount, symbolCount}
 use Rattle.card.specs.Card.{cardRefusal, machinesOf}
 use Rattle.product.specs.Nodes.{nodeCount}
 use Rattle.product.specs.Optimizing.{soundWord}
+use Rattle.grid.specs.declared.Grid.{Grid}
+use Rattle.grid.specs.Grids.{GridOf}
+use Rattle.input.proofs.Nodes.{few-sizes}
 use Rattle.sums.specs.Weights.{soundWeights}
 use Rattle.weights.specs.Weighing.{weightedRefusal}
 use Rattle.weights.proofs.checks.check_input.Statement.{statement}
 use Rattle.weights.proofs.checks.check_input.Tie as tie
 
--- what each check that passed says
+-- the checks by the sizes are those by the card
+by-sizes : (card weights word : List ℕ) (room : ℕ) (g : Grid) → cardRefusal card ≡ 0 → GridOf card g
+    → firstOf (refuse 26 (soundWeights (g .machines) weights) ∷ refuse 8 (soundWord (g .symbols) word) ∷ refuse 9 (leb (2 * ((length word + 1) * g .size)) room) ∷ []) ≡ weightedRefusal card weights word room
+unfolding weightedRefusal
+by-sizes card weights word room g ok G =
+    rw (G .machines, G .symbols, G .size)
+    (sym (first-on (cardRefusal card) (refuse 26 (soundWeights (machineCount card) weights) ∷ refuse 8 (soundWord (symbolCount card) word) ∷ refuse 9 (leb (2 * nodeCount (machinesOf card) (length word)) room) ∷ []) ok))
+
 card-passed : (c : tie.After-enum-told) → cardRefusal (c .before .before .before .before .before .before .args .card .now) ≡ 0
-card-passed c = sym (c .before .before .check .ensures) ∙ ap checkedNumber (c .enum-told .given .1)
-
-weights-passed : (c : tie.After-enum-told3) → soundWeights (machineCount (c .before .before .before .before .before .before .before .before .before .args .card .now)) (c .before .before .before .before .before .before .before .before .before .args .weights .now) ≡ true
-weights-passed c =
-    let a = c .before .before .before .before .before .before .before .before .before .args in
-    was-true (c .enum-told3 .given .1) 26 (soundWeights (machineCount (a .card .now)) (a .weights .now)) (lit< tt) (c .before .before .check-weights .ensures)
-
-word-passed : (c : tie.After-enum-told5) → soundWord (symbolCount (c .before .before .before .before .before .before .before .before .before .before .before .before .args .card .now)) (c .before .before .before .before .before .before .before .before .before .before .before .before .args .word .now) ≡ true
-word-passed c =
-    let a = c .before .before .before .before .before .before .before .before .before .before .before .before .args in
-    was-true (c .enum-told5 .given .1) 8 (soundWord (symbolCount (a .card .now)) (a .word .now)) (lit< tt) (c .before .before .check-word .ensures)
+card-passed c = passed-number (c .enum-told .given .1) (c .before .before .check .ensures)
 
 returns : tie.Need-returns
 unfolding weightedRefusal
 returns c =
-    let a = c .before .before .before .before .before .before .args in
-    goes-up (c .enum-told2 .given .1) (cardRefusal (a .card .now))
+    let e = c .before in
+    let a = e .before .before .before .before .before .before .args in
+    let n : checkedNumber (e .before .before .check .result) ≡ weightedRefusal (a .card .now) (a .weights .now) (a .word .now) (a .room) =
+    goes-up (e .enum-told2 .given .1) (cardRefusal (a .card .now))
     (refuse 26 (soundWeights (machineCount (a .card .now)) (a .weights .now)) ∷ refuse 8 (soundWord (symbolCount (a .card .now)) (a .word .now)) ∷ refuse 9 (leb (2 * nodeCount (machinesOf (a .card .now)) (length (a .word .now))) (a .room)) ∷ [])
-    (c .before .before .check .ensures)
+    (e .before .before .check .ensures) in
+    record { number = n; sizes = λ z. absurd (omega (arith, z, n, refused-number (e .enum-told2 .given .1) (e .before .before .check .ensures), e .before .before .check .ensures)) }
 
-check-weights-requires : tie.Need-check-weights-requires
-check-weights-requires c κs = card-passed c
-
-returns-2 : tie.Need-returns-2
-unfolding weightedRefusal
-returns-2 c =
-    let p = c .before .before .before in
-    let a = p .before .before .before .before .before .before .args in
-    rw (card-passed p)
-    (goes-up (c .enum-told4 .given .1) (refuse 26 (soundWeights (machineCount (a .card .now)) (a .weights .now)))
-    (refuse 8 (soundWord (symbolCount (a .card .now)) (a .word .now)) ∷ refuse 9 (leb (2 * nodeCount (machinesOf (a .card .now)) (length (a .word .now))) (a .room)) ∷ [])
-    (c .before .before .check-weights .ensures))
+grid-of-requires : tie.Need-grid-of-requires
+grid-of-requires c κs = card-passed c
 
 check-word-requires : tie.Need-check-word-requires
-check-word-requires c κs = card-passed (c .before .before .before)
+check-word-requires c κs = few-sizes (c .before .before .before .before .before .before .before .args .card .now) (card-passed (c .before)) (c .grid-of .result) (c .grid-of .ensures)
 
-returns-3 : tie.Need-returns-3
-unfolding weightedRefusal
-returns-3 c =
-    let q = c .before .before .before in
-    let p = q .before .before .before in
-    let a = p .before .before .before .before .before .before .args in
-    rw (card-passed p, weights-passed q)
-    (goes-up (c .enum-told6 .given .1) (refuse 8 (soundWord (symbolCount (a .card .now)) (a .word .now)))
-    (refuse 9 (leb (2 * nodeCount (machinesOf (a .card .now)) (length (a .word .now))) (a .room)) ∷ [])
-    (c .before .before .check-word .ensures))
-
-check-work-requires : tie.Need-check-work-requires
-check-work-requires c κs = (card-passed (c .before .before .before .before .before .before), word-passed c)
-
-returns-4 : tie.Need-returns-4
-unfolding weightedRefusal
-returns-4 c =
-    let w = c .before in
-    let q = w .before .before .before in
-    let p = q .before .before .before in
-    let a = p .before .before .before .before .before .before .args in
-    rw (card-passed p, weights-passed q, word-passed w)
-    (c .check-work .ensures ∙ sym (last-one (refuse 9 (leb (2 * nodeCount (machinesOf (a .card .now)) (length (a .word .now))) (a .room)))))
+returns-2 : tie.Need-returns-2
+returns-2 c =
+    let g = c .before .grid-of in
+    let a = c .before .before .before .before .before .before .before .before .args in
+    record {
+      number = c .check-word .ensures ∙ by-sizes (a .card .now) (a .weights .now) (a .word .now) (a .room) (g .result) (card-passed (c .before .before)) (g .ensures);
+      sizes = λ z. g .ensures;
+    }
 
 pub check-input-spec : {M : Type 1} → statement M
 check-input-spec =
@@ -85,14 +63,8 @@ check-input-spec =
     (λ c κs. search needs)
     (λ c. search needs)
     (λ c. search needs)
+    (λ c κs. search needs)
     returns
-    check-weights-requires
-    (λ c. search needs)
-    (λ c. search needs)
-    returns-2
+    grid-of-requires
     check-word-requires
-    (λ c. search needs)
-    (λ c. search needs)
-    returns-3
-    check-work-requires
-    returns-4)
+    returns-2)

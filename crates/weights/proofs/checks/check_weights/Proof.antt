@@ -1,4 +1,4 @@
-use mathlib.Core.Path.{_≡_, refl, sym, _∙_}
+use mathlib.Core.Path.{_≡_, refl, sym}
 use Prim.Native.Nat.{_-_}
 use native.Mathlib.Omega.{arith}
 use lib.Dec.{leb}
@@ -6,27 +6,21 @@ use lib.ListN.{length, drop}
 use borrow.Author.Needs.{needs}
 use Rattle.basics.specs.Search.{allOf}
 use Rattle.refusals.proofs.Refusals.{passes-with, refuses-with}
-use Rattle.card.specs.Layout.{machineCount}
 use Rattle.weights.proofs.Checking.{other-count, one-above, none-above, one-passes}
 use Rattle.weights.proofs.checks.check_weights.Statement.{statement}
 use Rattle.weights.proofs.checks.check_weights.Tie as tie
 
 abbrev Inv-loop : tie.InvT-loop
-Inv-loop card weights i₀ i = (length weights ≡ machineCount card) × (allOf (λ w. leb w 4000000000) (drop i weights) ≡ allOf (λ w. leb w 4000000000) weights)
+Inv-loop machines weights i₀ i = (length weights ≡ machines) × (allOf (λ w. leb w 4000000000) (drop i weights) ≡ allOf (λ w. leb w 4000000000) weights)
 
 abbrev μ-loop : tie.MeasureT-loop
-μ-loop card weights i₀ i = length weights - i
-
-machine-count-requires : tie.Need-machine-count-requires Inv-loop μ-loop
-machine-count-requires c κs = search needs
+μ-loop machines weights i₀ i = length weights - i
 
 returns : tie.Need-returns Inv-loop μ-loop
-returns c =
-    let a = c .before .before .before .before .args in
-    sym (refuses-with 26 (other-count (machineCount (a .card .now)) (a .weights .now) (λ e. c .if1 .taken (e ∙ sym (c .before .machine-count .ensures)))))
+returns c = let a = c .before .args in sym (refuses-with 26 (other-count (a .machines) (a .weights .now) (c .if1 .taken)))
 
 loop-holds : tie.Need-loop-holds Inv-loop μ-loop
-loop-holds c = (c .if1 .left ∙ c .before .machine-count .ensures, refl)
+loop-holds c = (c .if1 .left, refl)
 
 mul-if2 : tie.Need-mul-if2 Inv-loop μ-loop
 mul-if2 c = search needs
@@ -36,9 +30,9 @@ shared-slice-read-if2 c = search needs
 
 returns-2 : tie.Need-returns-2 Inv-loop μ-loop
 returns-2 c =
-    let a = c .before .before .before .before .before .before .before .before .args in
+    let a = c .before .before .before .before .before .args in
     let l = c .before .before .before .loop in
-    sym (refuses-with 26 (one-above (machineCount (a .card .now)) (a .weights .now) (l .inv .0) (l .i) (c .before .before .loop-test .taken) (omega (arith, c .if2 .taken)) (l .inv .1)))
+    sym (refuses-with 26 (one-above (a .machines) (a .weights .now) (l .inv .0) (l .i) (c .before .before .loop-test .taken) (omega (arith, c .if2 .taken)) (l .inv .1)))
 
 add-i : tie.Need-add-i Inv-loop μ-loop
 add-i c = search needs
@@ -48,15 +42,15 @@ loop-less c = omega (arith, c .before .before .loop-test .taken)
 
 loop-again : tie.Need-loop-again Inv-loop μ-loop
 loop-again c =
-    let a = c .before .before .before .before .before .before .before .before .args in
+    let a = c .before .before .before .before .before .args in
     let l = c .before .before .before .loop in
     (l .inv .0, one-passes (a .weights .now) (l .i) (c .before .before .loop-test .taken) (omega (arith, c .if2 .left)) (l .inv .1))
 
 returns-3 : tie.Need-returns-3 Inv-loop μ-loop
 returns-3 c =
-    let a = c .before .before .before .before .before .before .args in
+    let a = c .before .before .before .args in
     let l = c .before .loop in
-    sym (passes-with 26 (none-above (machineCount (a .card .now)) (a .weights .now) (l .inv .0) (l .i) (c .loop-test .left) (l .inv .1)))
+    sym (passes-with 26 (none-above (a .machines) (a .weights .now) (l .inv .0) (l .i) (c .loop-test .left) (l .inv .1)))
 
 pub check-weights-spec : {M : Type 1} → statement M
 check-weights-spec =
@@ -64,7 +58,6 @@ check-weights-spec =
     (tie.spec
     Inv-loop
     μ-loop
-    machine-count-requires
     returns
     loop-holds
     mul-if2

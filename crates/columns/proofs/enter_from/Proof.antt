@@ -1,0 +1,31 @@
+use borrow.Author.Needs.{needs}
+use mathlib.Core.Path.{_≡_}
+use native.Mathlib.Omega.{arith}
+use Rattle.columns.proofs.AtHand.{from-pre, from-another, from-entered}
+use Rattle.columns.proofs.enter_from.Statement.{statement}
+use Rattle.columns.proofs.enter_from.Tie as tie
+
+returns : tie.Need-returns
+returns c = let s = c .before .before in
+    λ x one. from-another (s .args .arc) (s .args .state) x (λ (e : s .args .arc .from ≡ s .args .state). omega (arith, c .if1 .taken))
+
+step-code-requires : tie.Need-step-code-requires
+step-code-requires c κs = (c .before .before .before .before .pre .to, c .before .before .before .before .pre .marks)
+
+enter-step-requires : tie.Need-enter-step-requires
+enter-step-requires c κs = from-pre (c .before .before .before .before .before .pre) (c .step-code .result) (c .step-code .ensures)
+
+returns-2 : tie.Need-returns-2
+returns-2 c = let s = c .before .before .before .before .before .before .before .before in
+    λ x one. from-entered {e = c .before .before .before .step-code .result} (s .args .arc) (s .args .state) x (omega (arith, c .before .before .before .before .before .before .if1 .left)) (c .before .before .before .step-code .ensures) (λ y. c .before .before .before .before .before .outputs-for .ensures x y one) (c .before .before .enter-step .ensures)
+
+pub enter-from-spec : {M : Type 1} → statement M
+enter-from-spec =
+    tie.close
+    (tie.spec
+    returns
+    (λ c κs. search needs)
+    step-code-requires
+    enter-step-requires
+    (λ c. search needs)
+    returns-2)

@@ -1,0 +1,65 @@
+use borrow.Author.Needs.{needs}
+use mathlib.Core.Path.{_≡_, refl, _∙_}
+use Prim.Native.Nat.{_-_}
+use lib.ListN.{length, getD}
+use Rattle.card.specs.Card.{machinesOf}
+use Rattle.card.specs.Laws.Machines.{machine-at}
+use Rattle.machine.specs.Machine.{noMachine}
+use Rattle.steps.specs.StepTable.{machineAt}
+use Rattle.columns.specs.AtHand.{StateFilled}
+use Rattle.columns.proofs.AtHand.{AtHandTo, hand-start, machine-there, state-pre, hand-next, hand-end}
+use Rattle.columns.proofs.fill_at.Statement.{statement}
+use Rattle.columns.proofs.fill_at.Tie as tie
+
+abbrev Inv-loop : tie.InvT-loop
+Inv-loop steps₀ card states input width set taken₀ m₀ steps taken m = (length steps ≡ length steps₀) × AtHandTo card states steps input m taken
+
+abbrev μ-loop : tie.MeasureT-loop
+μ-loop steps₀ card states input width set taken₀ m₀ steps taken m = length states - m
+
+set-of-requires : tie.Need-set-of-requires Inv-loop μ-loop
+set-of-requires c κs = c .before .before .before .pre .input
+
+loop-holds : tie.Need-loop-holds Inv-loop μ-loop
+loop-holds c = (refl, hand-start (c .before .before .before .before .before .before .before .before .before .pre) _ (c .partners .result) (c .before .before .before .clear .ensures) refl (c .partners .ensures))
+
+part-requires : tie.Need-part-requires Inv-loop μ-loop
+part-requires c κs = (c .before .before .before .before .before .before .before .before .before .before .before .before .pre .accepted, machine-there (c .before .before .before .before .before .before .before .before .before .before .before .before .pre) (c .before .before .loop .inv .1) (c .before .loop-test .taken))
+
+fill-state-requires : tie.Need-fill-state-requires Inv-loop μ-loop
+fill-state-requires c κs = state-pre (c .before .before .before .before .before .before .before .before .before .before .before .before .before .before .pre) (c .before .before .before .before .loop .inv .1) (c .before .before .before .loop-test .taken) (c .before .part .ensures)
+
+loop-again : tie.Need-loop-again Inv-loop μ-loop
+loop-again c = let s = c .before .before .before .before .before .before .before .before .before .before .before .before .before .before .before .before .before in
+    let l = c .before .before .before .before .before .before .before .loop in
+    let t = c .before .before .before .before .before .before .loop-test .taken in
+    let card = s .args .card .now in
+    let states = s .args .states .now in
+    let h : StateFilled (machineAt (machinesOf card) (l .m)) (getD states (l .m) 0) (s .args .input) (length states) (l .m) (l .steps) (c .before .before .fill-state .last .0) (c .before .before .fill-state .result) =
+    rw (machine-at card (l .m) (machine-there (s .pre) (l .inv .1) t) noMachine, ← (c .before .before .before .before .part .ensures)) (c .before .before .fill-state .ensures (s .args .input) (c .before .before .before .before .before .before .before .before .before .before .before .before .before .set-of .ensures)) in
+    (c .before .before .fill-state .kept .0 ∙ l .inv .0, hand-next (s .pre) (l .inv .1) t (c .before .before .fill-state .result) h)
+
+same-length : tie.Need-same-length Inv-loop μ-loop
+same-length c = c .before .loop .inv .0 ∙ c .before .before .before .before .before .clear .kept .0
+
+returns : tie.Need-returns Inv-loop μ-loop
+returns c = hand-end (c .before .before .before .before .before .before .before .before .before .before .before .pre) (c .before .loop .inv .1) (c .loop-test .left)
+
+pub fill-at-spec : {M : Type 1} → statement M
+fill-at-spec =
+    tie.close
+    (tie.spec
+    Inv-loop
+    μ-loop
+    set-of-requires
+    (λ c κs. search needs)
+    (λ c κs. search needs)
+    loop-holds
+    part-requires
+    (λ c. search needs)
+    fill-state-requires
+    (λ c. search needs)
+    (λ c. search needs)
+    loop-again
+    same-length
+    returns)

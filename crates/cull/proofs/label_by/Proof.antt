@@ -1,0 +1,43 @@
+-- `label_by` meets its contract.
+use mathlib.Core.Path.{refl}
+use Prim.Native.Nat.{ℕ}
+use native.Mathlib.Omega.{arith}
+use lib.ListN.{length-replicate}
+use Rattle.tables.proofs.Prefix.{places-six}
+use Rattle.cull.proofs.Listing.{size-few, list-ready, cull-ready, lent-ready}
+use borrow.Author.Needs.{needs}
+use Rattle.cull.proofs.label_by.Statement.{statement}
+use Rattle.cull.proofs.label_by.Tie as tie
+
+mul-size : tie.Need-mul-size
+mul-size c = omega (arith, size-few (c .before .before .before .before .before .before .before .before .pre .0))
+
+list-insertions-requires : tie.Need-list-insertions-requires
+list-insertions-requires c κs = (list-ready (c .before .before .before .before .before .before .before .before .before .before .before .pre .0), length-replicate {A = ℕ} 514 0, omega (arith, length-replicate {A = ℕ} 8064 0))
+
+label-stages-requires : tie.Need-label-stages-requires
+label-stages-requires c κs =
+    let t = c .before .before .before .before .before .before .before .before .before .before .before .before .before .before .before .before .before .before .before .before .before in
+    let p = t .pre in
+    let six = places-six (t .args .card .now) (p .0 .setting .accepted) (t .args .ranking .now) refl (p .2) in (
+      cull-ready (p .0) (t .args .ranking .now) (p .2) (c .before .before .before .before .before .before .before .before .before .list-insertions .ensures _ (p .1) six),
+      lent-ready (p .0) (t .args .ranking .now) (p .1) six (c .before .before .before .before .before .before .before .before .before .list-insertions .kept .1 .1 .0) (length-replicate {A = ℕ} 264 0) (length-replicate {A = ℕ} 264 0),
+    )
+
+returns : tie.Need-returns
+returns c = c .before .before .before .before .before .before .label-stages .ensures
+
+pub label-by-spec : {M : Type 1} → statement M
+label-by-spec =
+    tie.close
+    (tie.spec
+    mul-size
+    (λ c. search needs)
+    list-insertions-requires
+    (λ c. search needs)
+    (λ c. search needs)
+    (λ c. search needs)
+    label-stages-requires
+    (λ c. search needs)
+    (λ c. search needs)
+    returns)

@@ -1,0 +1,118 @@
+-- `try_endings` meets its contract.
+use Prim.Native.Nat.{_-_, _≤_}
+use native.Mathlib.Omega.{arith}
+use Rattle.cull.specs.Culling.{CodesEnded}
+use Rattle.cull.proofs.Ending.{ending-places, ended-start, ended-next, ended-end}
+use borrow.Author.Needs.{needs}
+use Rattle.cull.proofs.try_endings.Statement.{statement}
+use Rattle.cull.proofs.try_endings.Tie as tie
+
+abbrev Inv-loop : tie.InvT-loop
+Inv-loop work₀ high low front back base stage size code₀ work code =
+    (code ≤ size) × CodesEnded work₀ work high low front back stage base code
+
+abbrev μ-loop : tie.MeasureT-loop
+μ-loop work₀ high low front back base stage size code₀ work code = size - code
+
+mul-size : tie.Need-mul-size Inv-loop μ-loop
+mul-size c = omega (arith, c .before .before .before .before .pre .few)
+
+loop-holds : tie.Need-loop-holds Inv-loop μ-loop
+loop-holds c = (omega arith, ended-start)
+
+div-a : tie.Need-div-a Inv-loop μ-loop
+div-a c = omega (arith, c .before .before .before .before .before .before .pre .some-back)
+
+mul-a : tie.Need-mul-a Inv-loop μ-loop
+mul-a c = let r = ending-places (c .before .before .before .before .before .before .pre) (c .before .loop .code) (c .loop-test .taken) in omega (arith, r .front-is, r .back-is, c .before .before .before .before .before .before .pre .small)
+
+rem-b : tie.Need-rem-b Inv-loop μ-loop
+rem-b c = omega (arith, c .before .before .before .before .before .before .pre .some-back)
+
+add-b : tie.Need-add-b Inv-loop μ-loop
+add-b c = let r = ending-places (c .before .before .before .before .before .before .pre) (c .before .loop .code) (c .loop-test .taken) in omega (arith, r .front-is, r .back-is, c .before .before .before .before .before .before .pre .small)
+
+mul-b : tie.Need-mul-b Inv-loop μ-loop
+mul-b c = let r = ending-places (c .before .before .before .before .before .before .pre) (c .before .loop .code) (c .loop-test .taken) in omega (arith, r .front-is, r .back-is, c .before .before .before .before .before .before .pre .small)
+
+mul-try-ending : tie.Need-mul-try-ending Inv-loop μ-loop
+mul-try-ending c = let r = ending-places (c .before .before .before .before .before .before .before .pre) (c .before .before .loop .code) (c .before .loop-test .taken) in omega (arith, r .front-is, r .back-is, c .before .before .before .before .before .before .before .pre .small)
+
+shared-slice-read-try-ending : tie.Need-shared-slice-read-try-ending Inv-loop μ-loop
+shared-slice-read-try-ending c = let r = ending-places (c .before .before .before .before .before .before .before .before .pre) (c .before .before .before .loop .code) (c .before .before .loop-test .taken) in omega (arith, r .front-is, r .back-is, c .before .before .before .before .before .before .before .before .pre .small, c .before .before .before .before .before .before .before .before .pre .high-room)
+
+mul-try-ending-2 : tie.Need-mul-try-ending-2 Inv-loop μ-loop
+mul-try-ending-2 c = let r = ending-places (c .before .before .before .before .before .before .before .before .pre) (c .before .before .before .loop .code) (c .before .before .loop-test .taken) in omega (arith, r .front-is, r .back-is, c .before .before .before .before .before .before .before .before .pre .small)
+
+shared-slice-read-try-ending-2 : tie.Need-shared-slice-read-try-ending-2 Inv-loop μ-loop
+shared-slice-read-try-ending-2 c = let r = ending-places (c .before .before .before .before .before .before .before .before .before .pre) (c .before .before .before .before .loop .code) (c .before .before .before .loop-test .taken) in omega (arith, r .front-is, r .back-is, c .before .before .before .before .before .before .before .before .before .pre .small, c .before .before .before .before .before .before .before .before .before .pre .high-room)
+
+add-try-ending : tie.Need-add-try-ending Inv-loop μ-loop
+add-try-ending c = omega (arith, c .before .before .before .before .before .before .before .before .before .pre .high-sums (c .before .before .before .before .loop .code) (c .before .before .before .loop-test .taken))
+
+mul-try-ending-3 : tie.Need-mul-try-ending-3 Inv-loop μ-loop
+mul-try-ending-3 c = let r = ending-places (c .before .before .before .before .before .before .before .before .before .pre) (c .before .before .before .before .loop .code) (c .before .before .before .loop-test .taken) in omega (arith, r .front-is, r .back-is, c .before .before .before .before .before .before .before .before .before .pre .small)
+
+shared-slice-read-try-ending-3 : tie.Need-shared-slice-read-try-ending-3 Inv-loop μ-loop
+shared-slice-read-try-ending-3 c = let r = ending-places (c .before .before .before .before .before .before .before .before .before .before .pre) (c .before .before .before .before .before .loop .code) (c .before .before .before .before .loop-test .taken) in omega (arith, r .front-is, r .back-is, c .before .before .before .before .before .before .before .before .before .before .pre .small, c .before .before .before .before .before .before .before .before .before .before .pre .low-room)
+
+mul-try-ending-4 : tie.Need-mul-try-ending-4 Inv-loop μ-loop
+mul-try-ending-4 c = let r = ending-places (c .before .before .before .before .before .before .before .before .before .before .pre) (c .before .before .before .before .before .loop .code) (c .before .before .before .before .loop-test .taken) in omega (arith, r .front-is, r .back-is, c .before .before .before .before .before .before .before .before .before .before .pre .small)
+
+shared-slice-read-try-ending-4 : tie.Need-shared-slice-read-try-ending-4 Inv-loop μ-loop
+shared-slice-read-try-ending-4 c = let r = ending-places (c .before .before .before .before .before .before .before .before .before .before .before .pre) (c .before .before .before .before .before .before .loop .code) (c .before .before .before .before .before .loop-test .taken) in omega (arith, r .front-is, r .back-is, c .before .before .before .before .before .before .before .before .before .before .before .pre .small, c .before .before .before .before .before .before .before .before .before .before .before .pre .low-room)
+
+add-try-ending-2 : tie.Need-add-try-ending-2 Inv-loop μ-loop
+add-try-ending-2 c = omega (arith, c .before .before .before .before .before .before .before .before .before .before .before .pre .low-sums (c .before .before .before .before .before .before .loop .code) (c .before .before .before .before .before .loop-test .taken))
+
+add-try-ending-3 : tie.Need-add-try-ending-3 Inv-loop μ-loop
+add-try-ending-3 c = omega (arith, c .before .before .before .before .before .loop-test .taken, c .before .before .before .before .before .before .before .before .before .before .before .pre .few-nodes)
+
+try-ending-requires : tie.Need-try-ending-requires Inv-loop μ-loop
+try-ending-requires c κs = (record { node = omega (arith, c .before .before .before .before .before .loop-test .taken, c .before .before .before .before .before .before .before .before .before .before .before .pre .nodes, c .before .before .before .before .before .before .loop .inv .1 .size); stage = c .before .before .before .before .before .before .before .before .before .before .before .pre .stage }, omega (arith, c .before .before .before .before .before .loop-test .taken, c .before .before .before .before .before .before .before .before .before .before .before .pre .few-nodes))
+
+add-code : tie.Need-add-code Inv-loop μ-loop
+add-code c = omega (arith, c .before .before .before .before .before .before .before .before .loop-test .taken, c .before .before .before .before .before .before .before .before .before .before .before .before .before .before .pre .few)
+
+loop-less : tie.Need-loop-less Inv-loop μ-loop
+loop-less c = omega (arith, c .before .before .before .before .before .before .before .before .loop-test .taken)
+
+loop-again : tie.Need-loop-again Inv-loop μ-loop
+loop-again c = (omega (arith, c .before .before .before .before .before .before .before .before .loop-test .taken), ended-next (c .before .before .before .before .before .before .before .before .before .loop .inv .1) (c .before .before .try-ending .ensures))
+
+same-length : tie.Need-same-length Inv-loop μ-loop
+same-length c = c .before .loop .inv .1 .size
+
+returns : tie.Need-returns Inv-loop μ-loop
+returns c = ended-end (c .before .loop .inv .1) (omega (arith, c .before .loop .inv .0, c .loop-test .left))
+
+pub try-endings-spec : {M : Type 1} → statement M
+try-endings-spec =
+    tie.close
+    (tie.spec
+    Inv-loop
+    μ-loop
+    mul-size
+    loop-holds
+    div-a
+    mul-a
+    rem-b
+    add-b
+    mul-b
+    mul-try-ending
+    shared-slice-read-try-ending
+    mul-try-ending-2
+    shared-slice-read-try-ending-2
+    add-try-ending
+    mul-try-ending-3
+    shared-slice-read-try-ending-3
+    mul-try-ending-4
+    shared-slice-read-try-ending-4
+    add-try-ending-2
+    add-try-ending-3
+    try-ending-requires
+    add-code
+    loop-less
+    loop-again
+    same-length
+    returns)

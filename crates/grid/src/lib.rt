@@ -1,0 +1,43 @@
+// The sizes of an accepted card, made once by the checks and handed on by value.
+ghost use mathlib.Core.Path.{_≡_};
+ghost use Rattle.card.specs.Card.{cardRefusal};
+ghost use Rattle.grid.specs.Grids.{GridOf};
+
+// The numbers of machines and of symbols; the state counts of the machines, their sum and their product, P.
+pub struct Grid {
+    pub machines: usize,
+    pub symbols: u8,
+    pub counts: [u8; 6],
+    pub states: usize,
+    pub size: usize,
+}
+
+// No sizes: what stands for them beside a refusal.
+pub fn no_grid() -> Grid {
+    Grid {
+        machines: 0,
+        symbols: 0,
+        counts: [0u8; 6],
+        states: 0,
+        size: 0,
+    }
+}
+
+// The sizes of an accepted card.
+pub fn grid_of(card: &[u8]) -> Grid
+    requires { ⌜ cardRefusal (now card) ≡ 0 ⌝ }
+    ensures { λ r. ⌜ GridOf (now (card .entry)) r ⌝ }
+{
+    let counts = tables::state_counts(card);
+    let machines = card::machine_count(card);
+    let symbols = card::symbol_count(card);
+    let states = columns::width_of(&counts[..machines]);
+    let size = tables::joint_states(&counts[..machines]);
+    Grid {
+        machines,
+        symbols,
+        counts,
+        states,
+        size,
+    }
+}

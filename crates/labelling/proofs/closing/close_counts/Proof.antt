@@ -1,0 +1,67 @@
+-- `close_counts` meets its contract. The loop's invariant: the labels of the codes below `code` are written.
+use borrow.Author.Needs.{needs}
+use mathlib.Core.Path.{_≡_, subst}
+use Prim.Native.Nat.{_-_, _≤_}
+use native.Mathlib.Omega.{arith}
+use Rattle.labelling.specs.Closing.{CountsClosed}
+use Rattle.labelling.proofs.ClosingCodes.{stored-start, has-node, stored-next}
+use Rattle.labelling.proofs.closing.close_counts.Statement.{statement}
+use Rattle.labelling.proofs.closing.close_counts.Tie as tie
+
+abbrev Inv-loop : tie.InvT-loop
+Inv-loop work₀ base size own next code₀ work code = (code ≤ size) × CountsClosed work₀ work own base code
+
+abbrev μ-loop : tie.MeasureT-loop
+μ-loop work₀ base size own next code₀ work code = size - code
+
+loop-holds : tie.Need-loop-holds Inv-loop μ-loop
+loop-holds c = (omega arith, stored-start _ _ _)
+
+store-requires : tie.Need-store-requires Inv-loop μ-loop
+store-requires c κs =
+    let l = c .before .before .before .before in
+    let s = l .before .before in
+    let k = c .before .before .before .loop-test .taken in
+    (has-node (l .loop .inv .1) (s .pre .0) k, s .pre .0 .high _ k)
+
+loop-again : tie.Need-loop-again Inv-loop μ-loop
+loop-again c =
+    let l = c .before .before .before .before .before .before .before in
+    let k = c .before .before .before .before .before .before .loop-test .taken in
+    (omega (arith, k), stored-next (l .loop .inv .1) (c .before .before .store .ensures))
+
+pass-all-requires : tie.Need-pass-all-requires Inv-loop μ-loop
+pass-all-requires c κs = c .before .before .before .before .before .pre .1
+
+same-length : tie.Need-same-length Inv-loop μ-loop
+same-length c = c .before .before .before .before .loop .inv .1 .size
+
+returns : tie.Need-returns Inv-loop μ-loop
+returns c =
+    let l = c .before .before .before .before in
+    let s = l .before .before in
+    let e : l .loop .code ≡ s .args .size = omega (arith, l .loop .inv .0, c .before .before .before .loop-test .left) in
+    (subst (CountsClosed _ _ _ _) e (l .loop .inv .1), c .pass-all .ensures)
+
+pub close-counts-spec : {M : Type 1} → statement M
+close-counts-spec =
+    tie.close
+    (tie.spec
+    Inv-loop
+    μ-loop
+    loop-holds
+    (λ c. search needs)
+    (λ c. search needs)
+    (λ c. search needs)
+    (λ c. search needs)
+    (λ c. search needs)
+    (λ c. search needs)
+    (λ c. search needs)
+    (λ c. search needs)
+    store-requires
+    (λ c. search needs)
+    (λ c. search needs)
+    loop-again
+    pass-all-requires
+    same-length
+    returns)

@@ -1,0 +1,87 @@
+-- `close_numbers` meets its contract. The loop's invariant: the numbers of the codes below `code` are written.
+use borrow.Author.Needs.{needs}
+use mathlib.Core.Path.{_≡_, subst}
+use Prim.Native.Nat.{_-_, _≤_}
+use native.Mathlib.Omega.{arith}
+use Rattle.labelling.specs.Closing.{NumbersClosed}
+use Rattle.labelling.proofs.ClosingNumbers.{numbers-start, numbers-next}
+use Rattle.labelling.proofs.closing.close_numbers.Statement.{statement}
+use Rattle.labelling.proofs.closing.close_numbers.Tie as tie
+
+abbrev Inv-loop : tie.InvT-loop
+Inv-loop work₀ base size own next code₀ work code = (code ≤ size) × NumbersClosed work₀ work own base code
+
+abbrev μ-loop : tie.MeasureT-loop
+μ-loop work₀ base size own next code₀ work code = size - code
+
+loop-holds : tie.Need-loop-holds Inv-loop μ-loop
+loop-holds c = (omega arith, numbers-start _ _ _)
+
+mul-number-of : tie.Need-mul-number-of Inv-loop μ-loop
+mul-number-of c = let s = c .before .before .before in omega (arith, s .pre .1 .few, c .loop-test .taken)
+
+element-copy-out-number-of : tie.Need-element-copy-out-number-of Inv-loop μ-loop
+element-copy-out-number-of c = let s = c .before .before .before in omega (arith, s .pre .1 .few, s .pre .1 .own-size, c .loop-test .taken)
+
+mul-number-of-3 : tie.Need-mul-number-of-3 Inv-loop μ-loop
+mul-number-of-3 c = let s = c .before .before .before .before in omega (arith, s .pre .1 .few, c .before .loop-test .taken)
+
+add-number-of : tie.Need-add-number-of Inv-loop μ-loop
+add-number-of c = let s = c .before .before .before .before in omega (arith, s .pre .1 .few, c .before .loop-test .taken)
+
+element-copy-out-number-of-2 : tie.Need-element-copy-out-number-of-2 Inv-loop μ-loop
+element-copy-out-number-of-2 c = let s = c .before .before .before .before in omega (arith, s .pre .1 .few, s .pre .1 .own-size, c .before .loop-test .taken)
+
+number-of-requires : tie.Need-number-of-requires Inv-loop μ-loop
+number-of-requires c κs = let s = c .before .before .before .before .before in s .pre .0 .few _ (c .before .before .loop-test .taken)
+
+slice-write-work : tie.Need-slice-write-work Inv-loop μ-loop
+slice-write-work c =
+    let l = c .before .before .before .before in
+    let s = l .before .before in
+    omega (arith, s .pre .0 .nodes, l .loop .inv .1 .size, c .before .before .before .loop-test .taken)
+
+loop-again : tie.Need-loop-again Inv-loop μ-loop
+loop-again c =
+    let l = c .before .before .before .before in
+    let s = l .before .before in
+    let k = c .before .before .before .loop-test .taken in
+    (omega (arith, k), numbers-next (s .pre .0) k (l .loop .inv .1) _ (c .number-of .ensures))
+
+pass-all-requires : tie.Need-pass-all-requires Inv-loop μ-loop
+pass-all-requires c κs = c .before .before .before .before .before .pre .1
+
+same-length : tie.Need-same-length Inv-loop μ-loop
+same-length c = c .before .before .before .before .loop .inv .1 .size
+
+returns : tie.Need-returns Inv-loop μ-loop
+returns c =
+    let l = c .before .before .before .before in
+    let s = l .before .before in
+    let e : l .loop .code ≡ s .args .size = omega (arith, l .loop .inv .0, c .before .before .before .loop-test .left) in
+    (subst (NumbersClosed _ _ _ _) e (l .loop .inv .1), c .pass-all .ensures)
+
+pub close-numbers-spec : {M : Type 1} → statement M
+close-numbers-spec =
+    tie.close
+    (tie.spec
+    Inv-loop
+    μ-loop
+    loop-holds
+    mul-number-of
+    (λ c. search needs)
+    element-copy-out-number-of
+    mul-number-of-3
+    add-number-of
+    (λ c. search needs)
+    element-copy-out-number-of-2
+    number-of-requires
+    (λ c. search needs)
+    (λ c. search needs)
+    slice-write-work
+    (λ c. search needs)
+    (λ c. search needs)
+    loop-again
+    pass-all-requires
+    same-length
+    returns)

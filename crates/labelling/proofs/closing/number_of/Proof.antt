@@ -1,0 +1,20 @@
+use mathlib.Core.Path.{sym}
+use native.Mathlib.Omega.{arith}
+use Rattle.labelling.proofs.ClosingNumbers.{number-there, number-none}
+use Rattle.labelling.proofs.closing.number_of.Statement.{statement}
+use Rattle.labelling.proofs.closing.number_of.Tie as tie
+
+returns : tie.Need-returns
+returns c = sym (number-none (record { high = c .before .args .high; low = c .before .args .low }) (c .if1 .taken))
+
+mul-result : tie.Need-mul-result
+mul-result c = omega (arith, c .before .pre (c .if1 .left))
+
+add-result : tie.Need-add-result
+add-result c = omega (arith, c .before .pre (c .if1 .left))
+
+returns-2 : tie.Need-returns-2
+returns-2 c = sym (number-there (record { high = c .before .args .high; low = c .before .args .low }) (c .if1 .left))
+
+pub number-of-spec : {M : Type 1} → statement M
+number-of-spec = tie.close (tie.spec returns mul-result add-result returns-2)

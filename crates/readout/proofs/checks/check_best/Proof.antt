@@ -1,0 +1,42 @@
+use mathlib.Core.Path.{_≡_, refl, sym, ap, _∙_}
+use mathlib.Core.Option.{Option, some}
+use Rattle.paths.specs.Ranked.{Ranked}
+use Rattle.labels.specs.LabelCost.{costOf}
+use Rattle.labels.specs.Work.{labelOf}
+use Rattle.refusals.specs.Refusals.{checkedNumber}
+use Rattle.readout.specs.Searching.{labelRefusal}
+use Rattle.refusals.proofs.Refusals.{refused-number}
+use Rattle.readout.proofs.Labels.{not-there, is-there}
+use borrow.Author.Needs.{needs}
+use Rattle.readout.proofs.checks.check_best.Statement.{statement}
+use Rattle.readout.proofs.checks.check_best.Tie as tie
+
+returns : tie.Need-returns
+returns c =
+    let k = c .before .before in
+    let s = k .before .before in
+    not-there (labelOf (s .args .work .now) (s .args .start)) (s .args .room) _ (k .check-found .ensures) (refused-number (c .enum-told2 .given .1) refl)
+
+-- what the label of the start says
+loaded : (c : tie.After-load) → labelOf (c .before .before .before .before .before .args .work .now) (c .before .before .before .before .before .args .start) ≡ some (costOf (c .load .result))
+loaded c =
+    let k = c .before .before .before in
+    is-there _ _ (sym (k .check-found .ensures) ∙ ap checkedNumber (c .before .enum-told .given .1)) ∙ ap {B = Option (Ranked 6)} some (sym (c .load .ensures))
+
+returns-2 : tie.Need-returns-2
+returns-2 c =
+    let l = c .before in
+    let s = l .before .before .before .before .before in
+    c .check-answer .ensures ∙ sym (ap (λ (o : Option (Ranked 6)). labelRefusal o (s .args .room)) (loaded l))
+
+pub check-best-spec : {M : Type 1} → statement M
+check-best-spec =
+    tie.close
+    (tie.spec
+    (λ c κs. search needs)
+    (λ c. search needs)
+    (λ c. search needs)
+    returns
+    (λ c κs. search needs)
+    (λ c κs. search needs)
+    returns-2)

@@ -1,0 +1,64 @@
+-- `walk_ranked` meets its contract.
+use mathlib.Core.Path.{refl}
+use native.Mathlib.Omega.{arith}
+use borrow.Author.Needs.{needs}
+use Rattle.labelling.proofs.Sizes.{counts-fit, machines-few, counts-length, counts-some}
+use Rattle.labelling.proofs.Preparing.{counts-ranked}
+use Rattle.readout.proofs.Walking.{label-pre, weights-fit, weights-length, walk-pre, best-walked}
+use Rattle.readout.proofs.walk_ranked.Statement.{statement}
+use Rattle.readout.proofs.walk_ranked.Tie as tie
+
+abbrev start : tie.After-all → tie.Start
+start c = c .before .before .before .before .before .before
+
+array-share-prefix-all : tie.Need-array-share-prefix-all
+array-share-prefix-all c = let s = start c in counts-fit (s .pre .0 .sets-pre .setting .accepted) (s .pre .1)
+
+slice-aggregate-counts : tie.Need-slice-aggregate-counts
+slice-aggregate-counts c = let s = start (c .before) in counts-length (s .pre .0 .sets-pre .setting .accepted) (s .pre .1)
+
+ranked-weights-requires : tie.Need-ranked-weights-requires
+ranked-weights-requires c κs = let s = start (c .before) in (counts-some (s .pre .0 .sets-pre .setting .accepted) (s .pre .1), counts-ranked (label-pre (s .pre .0)) (s .pre .1))
+
+mul-numbers : tie.Need-mul-numbers
+mul-numbers c = let s = start (c .before .before .before) in omega (arith, machines-few (s .pre .0 .sets-pre .setting .accepted) (s .pre .1))
+
+array-share-prefix-numbers : tie.Need-array-share-prefix-numbers
+array-share-prefix-numbers c =
+    let w = c .before .ranked-weights in
+    let s = start (c .before .before .before) in
+    weights-fit (s .pre .0) (s .args .grid .counts) (s .args .grid .machines) (s .pre .1 .machines) (s .pre .1 .counts) (w .result) (w .ensures)
+
+slice-aggregate-walk-2 : tie.Need-slice-aggregate-walk-2
+slice-aggregate-walk-2 c =
+    let w = c .before .before .ranked-weights in
+    let s = start (c .before .before .before .before) in
+    weights-length (s .pre .0) (s .args .grid .counts) (s .args .grid .machines) (s .pre .1 .machines) (s .pre .1 .counts) (w .result) (w .ensures)
+
+walk-requires : tie.Need-walk-requires
+walk-requires c κs =
+    let w = c .before .before .before .ranked-weights in
+    let s = start (c .before .before .before .before .before) in
+    walk-pre (s .pre .0) (s .args .grid .counts) (s .args .grid .machines) (s .pre .1 .machines) (s .pre .1 .counts) (w .result) (w .ensures) _ refl
+
+returns : tie.Need-returns
+returns c =
+    let k = c .before .before in
+    let w = k .before .before .before .before .ranked-weights in
+    let s = start (k .before .before .before .before .before .before) in
+    best-walked (s .pre .0) (s .args .grid .counts) (s .args .grid .machines) (s .pre .1 .machines) (s .pre .1 .counts) (w .result) (w .ensures) _ refl (k .walk .ensures)
+
+pub walk-ranked-spec : {M : Type 1} → statement M
+walk-ranked-spec =
+    tie.close
+    (tie.spec
+    array-share-prefix-all
+    slice-aggregate-counts
+    ranked-weights-requires
+    (λ c. search needs)
+    mul-numbers
+    array-share-prefix-numbers
+    slice-aggregate-walk-2
+    walk-requires
+    (λ c. search needs)
+    returns)

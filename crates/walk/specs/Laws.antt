@@ -1,0 +1,2 @@
+-- Laws of labels as cells.
+pub mod Labels

@@ -1,0 +1,84 @@
+-- Places of a column, one for each machine, and what stands there: the sums of the cells, the marks, the states moved on to.
+use mathlib.Core.Path.{_≡_}
+use mathlib.Core.List.{List, [], _∷_, map}
+use Prim.Native.Nat.{ℕ, suc, _+_, _*_, _/_, _%_, _^_, _<_, _≤_}
+use lib.ListN.{length, getD, take}
+use Rattle.ranking.specs.declared.Profile.{Profile}
+use Rattle.cells.specs.declared.Cell.{Cell}
+use Rattle.cells.specs.Cells.{nowhere, scaleOf, highOf, lowOf, stepAt, highAt, lowAt}
+
+-- the places of some states: those of machines with these state counts start at a place
+unfoldable pub placesFrom : ℕ → List ℕ → List ℕ → List ℕ
+placesFrom at [] ss = []
+placesFrom at (q ∷ qs) [] = []
+placesFrom at (q ∷ qs) (s ∷ ss) = (at + s) ∷ placesFrom (at + q) qs ss
+
+-- the cells at these places, of the machines from the number m on, added up
+unfoldable pub placeSum : (ℕ → ℕ → ℕ) → ℕ → List ℕ → ℕ
+placeSum cell m [] = 0
+placeSum cell m (p ∷ ps) = cell m p + placeSum cell (suc m) ps
+
+-- the marks at these places of a column, and the states moved on to
+abbrev pub marksAt : (steps : List ℕ) (W y : ℕ) → List ℕ → List ℕ
+marksAt steps W y ps = map (λ p. stepAt steps W y p % 16) ps
+
+abbrev pub statesAt : (steps : List ℕ) (W y : ℕ) → List ℕ → List ℕ
+statesAt steps W y ps = map (λ p. stepAt steps W y p / 16) ps
+
+-- states of machines with these state counts, whose places are at most 40
+pub record PlacesPre (counts states : List ℕ) : Type 0 where
+  pub few : length counts ≤ 6
+  pub size : length states ≡ 6
+  pub there : (m : ℕ) → m < length counts → getD (placesFrom 0 counts (take (length counts) states)) m 0 < 40
+
+-- of six numbers those of the machines are the places of the states
+pub record Placed (counts states six : List ℕ) : Type 0 where
+  pub size : length six ≡ 6
+  pub are : take (length counts) six ≡ placesFrom 0 counts (take (length counts) states)
+
+-- columns of at most 40 places, and a place for each of at most six machines
+pub record ColumnsPre (steps ps : List ℕ) (W : ℕ) : Type 0 where
+  pub few : length ps ≤ 6
+  pub width : W ≤ 40
+  pub room : 65 * W ≤ length steps
+  pub there : (m : ℕ) → m < length ps → getD ps m 0 < W
+
+-- weights of n machines, small enough for their sums
+pub record WeightsFit (ws : List ℕ) (n : ℕ) : Type 0 where
+  pub size : 3 * n ≤ length ws
+  pub scale : (m : ℕ) → m < n → scaleOf ws m ≤ 128
+  pub high-few : (m : ℕ) → highOf ws m ≤ 2 ^ 52
+  pub low-few : (m : ℕ) → lowOf ws m ≤ 2 ^ 48
+
+-- the sums of the cells of the output y at the places
+abbrev pub highBy : (steps ps ws : List ℕ) (W y : ℕ) → ℕ
+highBy steps ps ws W y = placeSum (highAt steps ws W y) 0 ps
+
+abbrev pub lowBy : (steps ps ws : List ℕ) (W y : ℕ) → ℕ
+lowBy steps ps ws W y = placeSum (lowAt steps ws W y) 0 ps
+
+-- a high number from nowhere on stands for any such sum
+pub record JointAt (steps ps ws : List ℕ) (W y : ℕ) (r : Cell) : Type 0 where
+  pub high : r .high < nowhere → r .high ≡ highBy steps ps ws W y
+  pub low : r .high < nowhere → r .low ≡ lowBy steps ps ws W y
+  pub nothing : nowhere ≤ r .high → nowhere ≤ highBy steps ps ws W y
+
+-- each count leaves room for 15 marks
+pub record MarksPre (profile : Profile) : Type 0 where
+  pub size : length (profile .counts) ≡ 6
+  pub fits : (m : ℕ) → getD (profile .counts) m 0 + 15 ≤ 65535
+
+pub record MarksAdded (profile : Profile) (steps ps : List ℕ) (W y : ℕ) (r : Profile) : Type 0 where
+  pub size : length (r .counts) ≡ 6
+  pub sums : (m : ℕ) → getD (r .counts) m 0 ≡ getD (profile .counts) m 0 + getD (marksAt steps W y ps) m 0
+
+-- every place of the output y has a step
+pub record MovedPre (steps ps : List ℕ) (W y : ℕ) : Type 0 where
+  pub columns : ColumnsPre steps ps W
+  pub output : y ≤ 64
+  pub there : (m : ℕ) → m < length ps → stepAt steps W y (getD ps m 0) < 4096
+
+-- of six numbers those of the machines are the states moved on to
+pub record Moved (steps ps : List ℕ) (W y : ℕ) (six : List ℕ) : Type 0 where
+  pub size : length six ≡ 6
+  pub are : take (length ps) six ≡ statesAt steps W y ps

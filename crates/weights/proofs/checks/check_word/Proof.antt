@@ -1,0 +1,68 @@
+use mathlib.Core.Path.{_≡_, sym, _∙_}
+use mathlib.Core.Bool.{true}
+use mathlib.Core.List.{[], _∷_}
+use Prim.Native.Nat.{_+_, _*_}
+use native.Mathlib.Omega.{arith}
+use lib.Dec.{leb, lit<}
+use lib.ListN.{length}
+use borrow.Author.Needs.{needs}
+use Rattle.refusals.specs.Refusals.{refuse}
+use Rattle.refusals.proofs.Refusals.{was-true, goes-up, last-one}
+use Rattle.product.specs.Optimizing.{soundWord}
+use Rattle.input.specs.AcceptedInput.{short-word}
+use Rattle.sums.specs.Weights.{soundWeights}
+use Rattle.weights.proofs.checks.check_word.Statement.{statement}
+use Rattle.weights.proofs.checks.check_word.Tie as tie
+
+-- what each check that passed says
+weights-passed : (c : tie.After-enum-told) → soundWeights (c .before .before .before .before .before .args .grid .machines) (c .before .before .before .before .before .args .weights .now) ≡ true
+weights-passed c =
+    let a = c .before .before .before .before .before .args in
+    was-true (c .enum-told .given .1) 26 (soundWeights (a .grid .machines) (a .weights .now)) (lit< tt) (c .before .before .check-weights .ensures)
+
+word-passed : (c : tie.After-enum-told3) → soundWord (c .before .before .before .before .before .before .before .before .args .grid .symbols) (c .before .before .before .before .before .before .before .before .args .word .now) ≡ true
+word-passed c =
+    let a = c .before .before .before .before .before .before .before .before .args in
+    was-true (c .enum-told3 .given .1) 8 (soundWord (a .grid .symbols) (a .word .now)) (lit< tt) (c .before .before .check-word .ensures)
+
+returns : tie.Need-returns
+returns c =
+    let a = c .before .before .before .before .before .args in
+    goes-up (c .enum-told2 .given .1) (refuse 26 (soundWeights (a .grid .machines) (a .weights .now)))
+    (refuse 8 (soundWord (a .grid .symbols) (a .word .now)) ∷ refuse 9 (leb (2 * ((length (a .word .now) + 1) * a .grid .size)) (a .room)) ∷ [])
+    (c .before .before .check-weights .ensures)
+
+returns-2 : tie.Need-returns-2
+returns-2 c =
+    let p = c .before .before .before in
+    let a = p .before .before .before .before .before .args in
+    rw (weights-passed p)
+    (goes-up (c .enum-told4 .given .1) (refuse 8 (soundWord (a .grid .symbols) (a .word .now)))
+    (refuse 9 (leb (2 * ((length (a .word .now) + 1) * a .grid .size)) (a .room)) ∷ [])
+    (c .before .before .check-word .ensures))
+
+check-work-requires : tie.Need-check-work-requires
+check-work-requires c κs = (c .before .before .before .before .before .before .before .before .pre, short-word _ _ (word-passed c), omega arith)
+
+returns-3 : tie.Need-returns-3
+returns-3 c =
+    let w = c .before in
+    let p = w .before .before .before in
+    let a = p .before .before .before .before .before .args in
+    rw (weights-passed p, word-passed w)
+    (c .check-work .ensures ∙ sym (last-one (refuse 9 (leb (2 * ((length (a .word .now) + 1) * a .grid .size)) (a .room)))))
+
+pub check-word-spec : {M : Type 1} → statement M
+check-word-spec =
+    tie.close
+    (tie.spec
+    (λ c κs. search needs)
+    (λ c. search needs)
+    (λ c. search needs)
+    returns
+    (λ c κs. search needs)
+    (λ c. search needs)
+    (λ c. search needs)
+    returns-2
+    check-work-requires
+    returns-3)
