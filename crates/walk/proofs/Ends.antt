@@ -10,7 +10,6 @@ use lib.ListN.{length, getD, take, replicate, length-map, length-append, length-
 use lib.Seq.{ext-getD, getD-append-add}
 use Rattle.machine.specs.declared.Pair.{Pair}
 use Rattle.machine.specs.Machine.{Machine, startState}
-use Rattle.ranking.specs.declared.Profile.{Profile}
 use Rattle.ranking.specs.Profiles.{merge}
 use Rattle.ranking.specs.HarmonicInequality.{merge-count}
 use Rattle.card.specs.Card.{machinesOf}
@@ -29,17 +28,17 @@ use Rattle.product.specs.Laws.Nodes.{states-of-code}
 use Rattle.product.specs.Laws.JointStep.{jointMarks, joint-marks-end, starts-below}
 use Rattle.product.specs.Laws.Candidates.{starts, marks-complete}
 use Rattle.tables.specs.Laws.Cards.{card-machines, start-below}
+use Rattle.cells.specs.declared.Cell.{Cell}
 use Rattle.cells.specs.Labels.{OwnCell}
 use Rattle.cells.specs.Trying.{labelFrom, cellPrice}
 use Rattle.entering.specs.Entering.{cellGraph}
-use Rattle.walk.specs.declared.At.{At}
 use Rattle.walk.specs.declared.Written.{Written}
 use Rattle.walk.specs.Labels.{cellOf}
 use Rattle.walk.specs.WalkLabels.{pairCount}
-use Rattle.walk.specs.Walking.{StartsAt, EndsPre, EndingAdded}
+use Rattle.walk.specs.Walking.{EndsPre, EndingAdded}
 use Rattle.walk.specs.Walked.{Walked}
 use Rattle.walk.proofs.Sizes.{pairs-sized}
-use Rattle.walk.proofs.Nodes.{Ground, Reached, pairs-written}
+use Rattle.walk.proofs.Nodes.{At, Ground, Reached, pairs-written}
 use Rattle.walk.proofs.Passing.{pairs-left}
 
 zeros : (n m : ℕ) → _≡_ {A = ℕ} (getD (replicate n 0) m 0) 0
@@ -55,49 +54,47 @@ starts-front (m ∷ ms) zero h = absurd (omega arith)
 starts-front (m ∷ ms) (suc n) h = ap (λ (l : List ℕ). startState ∷ l) (starts-front ms n (omega arith))
 
 module _ {ranked sums card ws sets : List ℕ} {size : ℕ} {L : Labels (rankedCosts 1)} (G : Ground ranked sums card ws sets size L) where
-  pub starts-reached : {counts : List ℕ} {r : At} → counts ≡ stateCounts (machinesOf card) → StartsAt ranked sums counts r → (before : List ℕ) (c : Ranked 1) → L (cardStart card) ≡ some c → 2 * pairCount c ≤ length before → Reached card ws sets before before size L r
+  pub starts-reached : {code state : ℕ} {label : Cell} → code ≡ cardStart card → state ≡ startState → label ≡ cellOf ranked sums code → (before : List ℕ) (c : Ranked 1) → L (cardStart card) ≡ some c → 2 * pairCount c ≤ length before
+      → Reached card ws sets before before size L (record { position = 0; code = code; states = replicate 6 state; label = label; pairs = 0; passed = replicate 6 0 })
   unfolding bytesOf merge
-  starts-reached {counts} {r} C Z before c l room = record {
-    position = omega (arith, Z .position);
-    code = code;
-    states-size = ap length (Z .states);
-    states = ap (take (length (machinesOf card))) (Z .states) ∙ starts-front (machinesOf card) 6 (card-machines card (G .labelled .setting .accepted) .machines) ∙ sym states;
+  starts-reached {code} {state} {label} first initial its before c l room = record {
+    position = omega arith;
+    code = below;
+    states-size = refl;
+    states = ap (λ (s : ℕ). take (length (machinesOf card)) (replicate 6 s)) initial ∙ starts-front (machinesOf card) 6 (card-machines card (G .labelled .setting .accepted) .machines) ∙ sym states;
     follows = record {
       cost = c;
       cost-is = l;
       fits = room;
       written = [];
-      count = Z .pairs;
+      count = refl;
       bytes = refl;
       answer-size = refl;
       rest = c;
       walking = subst (λ (u : ℕ). Walking (cellGraph ws card sets) L pairCount (cardStart card) c [] u c) node (walking-start (cellGraph ws card sets) L pairCount (cardStart card) c l);
     };
-    cell = subst OwnCell (sym label) (G .own (cardStart card) there);
-    label = ap labelFrom label ∙ sym (G .stored (cardStart card) there) ∙ l;
+    cell = subst OwnCell (sym own) (G .own (cardStart card) there);
+    label = ap labelFrom own ∙ sym (G .stored (cardStart card) there) ∙ l;
     marks = [];
     goes-on = λ qs xs h. ap (λ (ss : List ℕ). jointMarks (machinesOf card) ss qs) (sym states) ∙ h;
-    profile-size = ap (λ (p : Profile). length (p .counts)) (Z .profile);
-    profile = λ m. ap (λ (p : Profile). getD (p .counts) m 0) (Z .profile) ∙ zeros 6 m;
+    passed-size = refl;
+    passed = λ m. zeros 6 m;
     few = λ m. omega arith;
   }
     where
-      first : r .code ≡ cardStart card
-      first = Z .code (machinesOf card) C
-
-      code : r .code < size
-      code = omega (arith, first, start-below card (G .labelled .setting .accepted), G .labelled .setting .states)
+      below : code < size
+      below = omega (arith, first, start-below card (G .labelled .setting .accepted), G .labelled .setting .states)
 
       there : cardStart card < (length sets + 1) * size
-      there = node-below (G .labelled .setting) 0 (cardStart card) (omega arith) (omega (arith, code, first))
+      there = node-below (G .labelled .setting) 0 (cardStart card) (omega arith) (omega (arith, below, first))
 
-      label : r .label ≡ cellOf ranked sums (cardStart card)
-      label = Z .label ∙ ap (cellOf ranked sums) first
+      own : label ≡ cellOf ranked sums (cardStart card)
+      own = its ∙ ap (cellOf ranked sums) first
 
-      node : cardStart card ≡ r .position * size + r .code
-      node = let z : 0 * size ≡ r .position * size = ap (λ (i : ℕ). i * size) (sym (Z .position)) in omega (arith, first, z)
+      node : cardStart card ≡ 0 * size + code
+      node = omega (arith, first)
 
-      states : statesOf (stateCounts (machinesOf card)) (r .code) ≡ starts (machinesOf card)
+      states : statesOf (stateCounts (machinesOf card)) code ≡ starts (machinesOf card)
       states =
           ap (statesOf (stateCounts (machinesOf card))) (first ∙ zero-row)
           ∙ states-of-code (stateCounts (machinesOf card)) (starts (machinesOf card)) (starts-below (card-machines card (G .labelled .setting .accepted) .sound))
@@ -112,8 +109,8 @@ unfolding profileOf
 profile-length ms c = length-map ms (λ m. countOf (marksOf c m))
 
 module _ {ranked sums card ws sets : List ℕ} {size : ℕ} {L : Labels (rankedCosts 1)} (G : Ground ranked sums card ws sets size L) {before answer : List ℕ} {at : At} (R : Reached card ws sets before answer size L at) where
-  pub ends-pre : {n : ℕ} → n ≡ length (machinesOf card) → length (take n (at .states)) ≡ length (machinesOf card) → EndsPre card (take n (at .states)) (at .profile)
-  ends-pre e h = record { accepted = G .labelled .setting .accepted; size = h; profile-size = R .profile-size; fits = λ m. omega (arith, R .profile m, R .few m, pairs-written G R) }
+  pub ends-pre : {n : ℕ} → n ≡ length (machinesOf card) → length (take n (at .states)) ≡ length (machinesOf card) → EndsPre card (take n (at .states)) (record { counts = at .passed })
+  ends-pre e h = record { accepted = G .labelled .setting .accepted; size = h; profile-size = R .passed-size; fits = λ m. omega (arith, R .passed m, R .few m, pairs-written G R) }
 
   module _ (z : at .label .low % 65536 ≡ 0) where
     -- no pair is left, so the node ends
@@ -154,7 +151,7 @@ module _ {ranked sums card ws sets : List ℕ} {size : ℕ} {L : Labels (rankedC
         (ap (jointMarks (machinesOf card) (starts (machinesOf card))) (sym (append-nil (R .follows .written)))
         ∙ R .goes-on [] (ends .marks) (joint-marks-end (machinesOf card) (statesOf (stateCounts (machinesOf card)) (at .code)) ∙ ends .is)) .profile
 
-    pub walked-end : (r : Written) → r .pairs ≡ at .pairs → (ss : List ℕ) → ss ≡ statesOf (stateCounts (machinesOf card)) (at .code) → EndingAdded card ss (at .profile) (r .profile) → Walked card ws sets before answer L r
+    pub walked-end : (r : Written) → r .pairs ≡ at .pairs → (ss : List ℕ) → ss ≡ statesOf (stateCounts (machinesOf card)) (at .code) → EndingAdded card ss (record { counts = at .passed }) (r .profile) → Walked card ws sets before answer L r
     walked-end r e ss states A = record {
       best = R .follows .written;
       count = e ∙ R .follows .count;
@@ -176,7 +173,7 @@ module _ {ranked sums card ws sets : List ℕ} {size : ℕ} {L : Labels (rankedC
         count : (m : ℕ) → getD (r .profile .counts) m 0 ≡ getD p m 0
         count m =
             A .sums (ends .marks) (ap (jointEnding (machinesOf card)) states ∙ ends .is) m
-            ∙ omega (arith, R .profile m, merge-count (R .marks) (ends .marks) m, ap (λ (l : List ℕ). getD l m 0) whole)
+            ∙ omega (arith, R .passed m, merge-count (R .marks) (ends .marks) m, ap (λ (l : List ℕ). getD l m 0) whole)
 
         at-place : (m : ℕ) → Dec (m < length p) → getD (r .profile .counts) m 0 ≡ getD (p ++ replicate (6 - length p) 0) m 0
         at-place m (yes h) = count m ∙ sym (List·getD-append p (replicate (6 - length p) 0) 0 m h)

@@ -1,17 +1,16 @@
--- The joint step of a column at some places, machine by machine; the marks there. Assumes nothing.
-use mathlib.Core.Path.{_≡_, refl, sym, _∙_, ap}
-use mathlib.Core.List.{List, [], _∷_}
-use Prim.Native.Nat.{ℕ, zero, suc, _+_, _*_, _%_, _^_, _<_, _≤_}
+-- The joint step of a column at some places, machine by machine. Assumes nothing.
+use mathlib.Core.Path.{_≡_, sym, _∙_, ap}
+use mathlib.Core.List.{List}
+use Prim.Native.Nat.{ℕ, suc, _+_, _*_, _^_, _<_, _≤_}
 use native.Mathlib.Nat.{suc-mul, mul-le-mul-right}
 use native.Mathlib.Omega.{arith}
-use lib.ListN.{length, getD, drop, length-map, List·getD-eq-default}
+use lib.ListN.{length, getD, drop}
 use lib.Seq.{drop-cons}
-use Rattle.basics.proofs.Search.{map-at, left-none}
-use Rattle.ranking.specs.declared.Profile.{Profile}
-use Rattle.cells.specs.Cells.{nowhere, highCell, lowCell, scaleOf, highOf, lowOf, stepAt, highAt, lowAt}
+use Rattle.basics.proofs.Search.{left-none}
+use Rattle.cells.specs.Cells.{nowhere, highCell, lowCell, scaleOf, highOf, lowOf, highAt, lowAt}
 use Rattle.cells.specs.Laws.Joint.{cell-of-none}
 use Rattle.cells.specs.Laws.Numbers.{marks-low, high-small}
-use Rattle.walk.specs.Places.{placeSum, marksAt, ColumnsPre, WeightsFit, JointAt, MarksPre, MarksAdded}
+use Rattle.walk.specs.Places.{placeSum, ColumnsPre, WeightsFit, JointAt}
 
 -- the first place, and the rest
 sum-next : (cell : ℕ → ℕ → ℕ) (k : ℕ) (ps : List ℕ) (m : ℕ) → m < length ps → placeSum cell k (drop m ps) ≡ cell k (getD ps m 0) + placeSum cell (suc k) (drop (suc m) ps)
@@ -101,31 +100,3 @@ module _ {steps ps : List ℕ} {W : ℕ} (pre : ColumnsPre steps ps W) where
 
         pub lows-fit : (v : ℕ) → v ≡ lowCell (lowOf ws m) step → low + v ≤ 6 * (15 * 2 ^ 48)
         lows-fit v e = omega (arith, lows-next v e .few, pre .few)
-
-  -- ---- the marks
-
-  module _ (y m : ℕ) where
-    pub mark-none : length ps ≤ m → getD (marksAt steps W y ps) m 0 ≡ 0
-    mark-none h = List·getD-eq-default (marksAt steps W y ps) 0 {n = m} (omega (arith, length-map ps (λ p. stepAt steps W y p % 16)))
-
-    pub mark-is : m < length ps → (at : ℕ) → at ≡ getD ps m 0 → getD (marksAt steps W y ps) m 0 ≡ getD steps (y * W + at) 0 % 16
-    mark-is h at is = map-at (λ p. stepAt steps W y p % 16) ps m h 0 0 ∙ ap (λ (p : ℕ). stepAt steps W y p % 16) (sym is)
-
-  module _ {profile : Profile} (F : MarksPre profile) (y : ℕ) where
-    abbrev pub SumAt : (m v : ℕ) → Type 0
-    SumAt m v = v ≡ getD (profile .counts) m 0 + getD (marksAt steps W y ps) m 0
-
-    pub sums-six : {v0 v1 v2 v3 v4 v5 : ℕ} → SumAt 0 v0 → SumAt 1 v1 → SumAt 2 v2 → SumAt 3 v3 → SumAt 4 v4 → SumAt 5 v5 → MarksAdded profile steps ps W y (record { counts = v0 ∷ v1 ∷ v2 ∷ v3 ∷ v4 ∷ v5 ∷ [] })
-    sums-six {v0} {v1} {v2} {v3} {v4} {v5} e0 e1 e2 e3 e4 e5 = record { size = refl; sums = pick }
-      where
-        past : (k : ℕ) → 6 ≤ k → 0 ≡ getD (profile .counts) k 0 + getD (marksAt steps W y ps) k 0
-        past k h = omega (arith, List·getD-eq-default (profile .counts) 0 {n = k} (omega (arith, F .size)), mark-none y k (omega (arith, pre .few)))
-
-        pick : (k : ℕ) → getD (v0 ∷ v1 ∷ v2 ∷ v3 ∷ v4 ∷ v5 ∷ []) k 0 ≡ getD (profile .counts) k 0 + getD (marksAt steps W y ps) k 0
-        pick zero = e0
-        pick (suc zero) = e1
-        pick (suc (suc zero)) = e2
-        pick (suc (suc (suc zero))) = e3
-        pick (suc (suc (suc (suc zero)))) = e4
-        pick (suc (suc (suc (suc (suc zero))))) = e5
-        pick (suc (suc (suc (suc (suc (suc k)))))) = past (suc (suc (suc (suc (suc (suc k)))))) (omega arith)

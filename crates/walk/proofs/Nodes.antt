@@ -37,7 +37,6 @@ use Rattle.cells.specs.Columns.{JointCell}
 use Rattle.cells.specs.Labels.{OwnCell}
 use Rattle.cells.specs.Trying.{labelFrom, cellPrice}
 use Rattle.entering.specs.Entering.{cellGraph}
-use Rattle.walk.specs.declared.At.{At}
 use Rattle.walk.specs.declared.tight.Least.{Least}
 use Rattle.walk.specs.Labels.{cellOf, HasLabel}
 use Rattle.walk.specs.Places.{highBy, lowBy}
@@ -56,7 +55,19 @@ pub record Ground (ranked sums card ws sets : List ℕ) (size : ℕ) (L : Labels
   pub own : (u : ℕ) → u < (length sets + 1) * size → OwnCell (cellOf ranked sums u)
   pub fits : (u : ℕ) → u < (length sets + 1) * size → Fits (cellOf ranked sums u)
 
--- a node is reached along the labels: its states, its label, the pairs written, and their marks, which are the profile
+-- the node that is reached: its position, the code of its states, the states; its label; the pairs written and the marks passed
+pub record At : Type 0 where
+  pub position : ℕ
+  pub code : ℕ
+  pub states : List ℕ
+  pub label : Cell
+  pub pairs : ℕ
+  pub passed : List ℕ
+
+abbrev pub nodeOf : (position code : ℕ) (states : List ℕ) (high low pairs : ℕ) (passed : List ℕ) → At
+nodeOf position code states high low pairs passed = record { position = position; code = code; states = states; label = record { high = high; low = low }; pairs = pairs; passed = passed }
+
+-- a node is reached along the labels: its states, its label, the pairs written, and their marks, which are those passed
 pub record Reached (card ws sets before answer : List ℕ) (size : ℕ) (L : Labels (rankedCosts 1)) (at : At) : Type 0 where
   pub position : at .position ≤ length sets
   pub code : at .code < size
@@ -68,9 +79,12 @@ pub record Reached (card ws sets before answer : List ℕ) (size : ℕ) (L : Lab
   pub marks : List ℕ
   pub goes-on : (qs : List Pair) (xs : List ℕ) → jointMarks (machinesOf card) (statesOf (stateCounts (machinesOf card)) (at .code)) qs ≡ some xs
       → jointMarks (machinesOf card) (starts (machinesOf card)) (follows .written ++ qs) ≡ some (merge marks xs)
-  pub profile-size : length (at .profile .counts) ≡ 6
-  pub profile : (m : ℕ) → getD (at .profile .counts) m 0 ≡ getD marks m 0
+  pub passed-size : length (at .passed) ≡ 6
+  pub passed : (m : ℕ) → getD (at .passed) m 0 ≡ getD marks m 0
   pub few : (m : ℕ) → getD marks m 0 ≤ 15 * at .pairs
+
+pub reached-same : {card ws sets before answer answer′ : List ℕ} {size : ℕ} {L : Labels (rankedCosts 1)} {at at′ : At} → answer ≡ answer′ → at ≡ at′ → Reached card ws sets before answer′ size L at′ → Reached card ws sets before answer size L at
+reached-same {card} {ws} {sets} {before} {size = size} {L} e d = subst (λ (z : List ℕ × At). Reached card ws sets before (z .0) size L (z .1)) (λ i. (sym e i, sym d i))
 
 module _ {ranked sums card ws sets : List ℕ} {size : ℕ} {L : Labels (rankedCosts 1)} (G : Ground ranked sums card ws sets size L) where
   K : Labelled card ws sets size L
@@ -184,75 +198,73 @@ module _ {ranked sums card ws sets : List ℕ} {size : ℕ} {L : Labels (rankedC
           code-found : r .code ≡ found .move .target
           code-found = F .code h ∙ found .code
 
-          label-found : r .label ≡ cellOf ranked sums (j * size + highBy steps ps ws W (r .output) % 256)
+          label-found : record { high = r .high; low = r .low } ≡ cellOf ranked sums (j * size + highBy steps ps ws W (r .output) % 256)
           label-found = F .label h ∙ ap (λ (c : ℕ). cellOf ranked sums (j * size + c)) (F .code h)
+
+          -- one pair less is left
+          pub low-falls : r .low < at .label .low
+          low-falls = omega (arith, ap (λ (c : Cell). c .low) label-found, F .keeps h .low-sum)
 
           module _ (least : (q : Pair) → pairs ._◃_ q (record { input = x; output = r .output }) → ¬ (Tight (cellGraph ws card sets) L (at .position * size + at .code) q)) where
             abbrev t : LeastTight (cellGraph ws card sets) L (at .position * size + at .code) (record { input = x; output = r .output })
             t = record { tight = found .tight; least = least }
 
-            pub go-pre : GoPre at r steps ps W answer
+            pub go-pre : GoPre (at .states) (at .passed) steps ps answer W (r .output) (at .pairs)
             go-pre = record {
               moves = record { columns = H .columns; output = F .most; there = steps-few M H (r .output) (F .most) (found .move) (found .move-is) };
               output = h;
-              marks = record { size = R .profile-size; fits = λ m. omega (arith, R .profile m, R .few m, pairs-written) };
+              marks-fit = record { size = R .passed-size; fits = λ m. omega (arith, R .passed m, R .few m, pairs-written) };
+              size = R .states-size;
               room = following-room (cellGraph ws card sets) L (cardStart card) before (pairs-sized K) (R .follows) t;
               few = omega (arith, pairs-written);
             }
 
-            module _ {answer′ : List ℕ} {next : At} (E : GoesOn at r x j steps ps W answer answer′ next) where
-              -- one pair less is left
-              pub low-falls : next .label .low < at .label .low
-              low-falls = omega (arith, ap (λ (c : Cell). c .low) (E .label ∙ label-found), F .keeps h .low-sum)
+            module _ {states′ marks′ answer′ : List ℕ} (E : GoesOn (at .passed) steps ps answer states′ marks′ answer′ W x (r .output) (at .pairs)) where
+              node-next : found .tight .to .target ≡ j * size + r .code
+              node-next = found .target ∙ ap (λ (c : ℕ). j * size + c) (sym (F .code h))
 
-              code-next : next .code ≡ found .move .target
-              code-next = E .code ∙ code-found
+              sums-next : (m : ℕ) → getD marks′ m 0 ≡ getD (at .passed) m 0 + getD (found .move .marks) m 0
+              sums-next m = E .added .sums m ∙ ap (λ (l : List ℕ). getD (at .passed) m 0 + getD l m 0) (marks-held M H (r .output) (F .most) (found .move) (found .move-is))
 
-              node-next : found .tight .to .target ≡ next .position * size + next .code
-              node-next = found .target ∙ ap (λ (c : ℕ). j * size + c) (sym (E .code ∙ F .code h)) ∙ ap (λ (i : ℕ). i * size + next .code) (sym (E .position-is))
-
-              sums-next : (m : ℕ) → getD (next .profile .counts) m 0 ≡ getD (at .profile .counts) m 0 + getD (found .move .marks) m 0
-              sums-next m = E .marks .sums m ∙ ap (λ (l : List ℕ). getD (at .profile .counts) m 0 + getD l m 0) (marks-held M H (r .output) (F .most) (found .move) (found .move-is))
-
-              states-after : take (length (machinesOf card)) (next .states) ≡ statesOf (stateCounts (machinesOf card)) (next .code)
+              states-after : take (length (machinesOf card)) states′ ≡ statesOf (stateCounts (machinesOf card)) (r .code)
               states-after =
-                  ap (λ (n : ℕ). take n (next .states)) (sym (H .places))
-                  ∙ E .states .are
+                  ap (λ (n : ℕ). take n states′) (sym (H .places))
+                  ∙ E .moved .are
                   ∙ states-held M H (r .output) (F .most) (found .move) (found .move-is)
                   ∙ sym (states-next M (at .code) (record { input = x; output = r .output }) (found .move) (found .move-is) (coded-by (machinesOf card) (at .code) (record { input = x; output = r .output }) (found .move) (found .move-is)))
-                  ∙ ap (statesOf (stateCounts (machinesOf card))) (sym code-next)
+                  ∙ ap (statesOf (stateCounts (machinesOf card))) (sym code-found)
 
-              pub goes-next : Reached card ws sets before answer′ size L next
+              pub goes-next : Reached card ws sets before answer′ size L (nodeOf j (r .code) states′ (r .high) (r .low) (at .pairs + 1) marks′)
               goes-next = record {
-                position = omega (arith, E .position-is, within);
-                code = omega (arith, code-next, code-step-below (M .sound) (at .code) (record { input = x; output = r .output }) (found .move) (found .move-is), K .setting .states);
-                states-size = E .states .size;
+                position = within;
+                code = omega (arith, code-found, code-step-below (M .sound) (at .code) (record { input = x; output = r .output }) (found .move) (found .move-is), K .setting .states);
+                states-size = E .moved .size;
                 states = states-after;
                 follows = record {
                   cost = R .follows .cost;
                   cost-is = R .follows .cost-is;
                   fits = R .follows .fits;
                   written = R .follows .written ++ record { input = x; output = r .output } ∷ [];
-                  count = omega (arith, E .pairs, R .follows .count, length-append (R .follows .written) (record { input = x; output = r .output } ∷ []));
-                  bytes = E .written ∙ pair-more (R .follows .written) (record { input = x; output = r .output }) before answer (at .pairs) (R .follows .count) (omega (arith, go-pre .room, R .follows .answer-size)) (R .follows .bytes);
-                  answer-size = ap length (E .written) ∙ simp length-set (R .follows .answer-size);
+                  count = omega (arith, R .follows .count, length-append (R .follows .written) (record { input = x; output = r .output } ∷ []));
+                  bytes = E .bytes ∙ pair-more (R .follows .written) (record { input = x; output = r .output }) before answer (at .pairs) (R .follows .count) (omega (arith, go-pre .room, R .follows .answer-size)) (R .follows .bytes);
+                  answer-size = ap length (E .bytes) ∙ simp length-set (R .follows .answer-size);
                   rest = found .tight .rest;
                   walking = subst (λ (n : ℕ). Walking (cellGraph ws card sets) L pairCount (cardStart card) (R .follows .cost) (R .follows .written ++ record { input = x; output = r .output } ∷ []) n (found .tight .rest)) node-next
                       (walking-next (cellGraph ws card sets) L (pairs-sized K) (cardStart card) (R .follows .cost) (R .follows .written) here (R .follows .rest) (record { input = x; output = r .output }) (R .follows .walking) t);
                 };
-                cell = subst OwnCell (sym (E .label ∙ label-found)) (owns (highBy steps ps ws W (r .output) % 256) (joint (r .output) (F .most) .code));
-                label = ap labelFrom (E .label ∙ label-found) ∙ found .rest;
+                cell = subst OwnCell (sym label-found) (owns (highBy steps ps ws W (r .output) % 256) (joint (r .output) (F .most) .code));
+                label = ap labelFrom label-found ∙ found .rest;
                 marks = merge (R .marks) (found .move .marks);
                 goes-on = goes-on;
-                profile-size = E .marks .size;
-                profile = λ m. omega (arith, sums-next m, R .profile m, merge-count (R .marks) (found .move .marks) m);
-                few = λ m. omega (arith, R .few m, marks-few M (at .code) (record { input = x; output = r .output }) (found .move) (found .move-is) m, merge-count (R .marks) (found .move .marks) m, E .pairs);
+                passed-size = E .added .size;
+                passed = λ m. omega (arith, sums-next m, R .passed m, merge-count (R .marks) (found .move .marks) m);
+                few = λ m. omega (arith, R .few m, marks-few M (at .code) (record { input = x; output = r .output }) (found .move) (found .move-is) m, merge-count (R .marks) (found .move .marks) m);
               }
                 where
-                  goes-on : (qs : List Pair) (xs : List ℕ) → jointMarks (machinesOf card) (statesOf (stateCounts (machinesOf card)) (next .code)) qs ≡ some xs
+                  goes-on : (qs : List Pair) (xs : List ℕ) → jointMarks (machinesOf card) (statesOf (stateCounts (machinesOf card)) (r .code)) qs ≡ some xs
                       → jointMarks (machinesOf card) (starts (machinesOf card)) ((R .follows .written ++ record { input = x; output = r .output } ∷ []) ++ qs) ≡ some (merge (merge (R .marks) (found .move .marks)) xs)
                   goes-on qs xs h =
-                      let n = next-marks M (at .code) (record { input = x; output = r .output }) (found .move) (found .move-is) qs xs (ap (λ (c : ℕ). jointMarks (machinesOf card) (statesOf (stateCounts (machinesOf card)) c) qs) (sym code-next) ∙ h) in
+                      let n = next-marks M (at .code) (record { input = x; output = r .output }) (found .move) (found .move-is) qs xs (ap (λ (c : ℕ). jointMarks (machinesOf card) (statesOf (stateCounts (machinesOf card)) c) qs) (sym code-found) ∙ h) in
                       ap (jointMarks (machinesOf card) (starts (machinesOf card))) (append-assoc (R .follows .written) (record { input = x; output = r .output } ∷ []) qs)
                       ∙ R .goes-on (record { input = x; output = r .output } ∷ qs) (merge (found .move .marks) xs) n
                       ∙ ap {B = Option (List ℕ)} some (sym (counts-associative (R .marks) (found .move .marks) xs))

@@ -38,46 +38,33 @@ use Rattle.columns.specs.AtHand.{AtHandPre, Stuck, FilledAtHand}
 use Rattle.columns.specs.Prepared.{NoSteps, Covered, Prepared}
 use Rattle.columns.specs.Laws.Places.{places-before, places-few}
 use Rattle.entering.specs.Entering.{cellGraph}
-use Rattle.walk.specs.declared.At.{At}
 use Rattle.walk.specs.declared.tight.Least.{Least}
 use Rattle.walk.specs.Labels.{HasLabel}
 use Rattle.walk.specs.Places.{placesFrom, PlacesPre, Placed}
 use Rattle.walk.specs.Keeping.{LeastPre, LeastOf}
 use Rattle.walk.specs.Walking.{GoPre, GoesOn}
 use Rattle.walk.specs.WalkLabels.{pairCount}
+use Rattle.walk.proofs.Placing.{places-length, place-at}
 use Rattle.walk.proofs.Sizes.{pairs-sized}
 use Rattle.walk.proofs.Columns.{Told, HoldsAt, states-length}
 use Rattle.walk.proofs.Tightness.{label-is}
-use Rattle.walk.proofs.Nodes.{Ground, Reached, tight-pair, least-pre, none-least, found-passed, go-pre, low-falls, goes-next}
+use Rattle.walk.proofs.Nodes.{At, nodeOf, Ground, Reached, tight-pair, least-pre, none-least, found-passed, go-pre, low-falls, goes-next}
 
 -- ---- the places of states in a column
-
-placed-length : (at : ℕ) (qs ss : List ℕ) → length ss ≡ length qs → length (placesFrom at qs ss) ≡ length qs
-unfolding placesFrom
-placed-length at [] ss e = refl
-placed-length at (q ∷ qs) [] e = absurd (omega arith)
-placed-length at (q ∷ qs) (s ∷ ss) e = ap suc (placed-length (at + q) qs ss (omega arith))
-
-placed-at : (at : ℕ) (qs ss : List ℕ) → length ss ≡ length qs → (m : ℕ) → m < length qs → getD (placesFrom at qs ss) m 0 ≡ at + places (take m qs) + getD ss m 0
-unfolding placesFrom places
-placed-at at [] ss e m h = absurd (omega arith)
-placed-at at (q ∷ qs) [] e m h = absurd (omega arith)
-placed-at at (q ∷ qs) (s ∷ ss) e zero h = omega arith
-placed-at at (q ∷ qs) (s ∷ ss) e (suc m) h = omega (arith, placed-at (at + q) qs ss (omega arith) m (omega arith))
 
 module _ {S : ℕ} {ms : List Machine} (M : CardMachines S ms) (c : ℕ) (h : c < product (stateCounts ms)) where
   pub state-there : (m : ℕ) → m < length ms → getD (statesOf (stateCounts ms) c) m 0 < stateCountOf (machineAt ms m)
   state-there m k = omega (arith, below-at (stateCounts ms) (statesOf (stateCounts ms) c) (code-states M c h) m (omega (arith, counts-length ms)), count-at ms m)
 
   place-is : (m : ℕ) → m < length ms → getD (placesFrom 0 (stateCounts ms) (statesOf (stateCounts ms) c)) m 0 ≡ places (take m (stateCounts ms)) + getD (statesOf (stateCounts ms) c) m 0
-  place-is m k = omega (arith, placed-at 0 (stateCounts ms) (statesOf (stateCounts ms) c) (states-length (stateCounts ms) c) m (omega (arith, counts-length ms)))
+  place-is m k = omega (arith, place-at 0 (stateCounts ms) (statesOf (stateCounts ms) c) (states-length (stateCounts ms) c) m (omega (arith, counts-length ms)))
 
   pub place-there : (m : ℕ) → m < length ms → getD (placesFrom 0 (stateCounts ms) (statesOf (stateCounts ms) c)) m 0 < places (stateCounts ms)
   place-there m k =
       omega (arith, place-is m k, state-there m k, count-at ms m, places-all (stateCounts ms), counts-length ms, places-before (stateCounts ms) m (length (stateCounts ms)) (omega (arith, counts-length ms)) (omega arith))
 
-  places-length : length (placesFrom 0 (stateCounts ms) (statesOf (stateCounts ms) c)) ≡ length ms
-  places-length = placed-length 0 (stateCounts ms) (statesOf (stateCounts ms) c) (states-length (stateCounts ms) c) ∙ counts-length ms
+  places-count : length (placesFrom 0 (stateCounts ms) (statesOf (stateCounts ms) c)) ≡ length ms
+  places-count = places-length 0 (stateCounts ms) (statesOf (stateCounts ms) c) (states-length (stateCounts ms) c) ∙ counts-length ms
 
   pub few-places : places (stateCounts ms) ≤ 40
   few-places = places-few (record { symbols = S; machines = ms; card = M; are = refl })
@@ -86,13 +73,13 @@ module _ {S : ℕ} {ms : List Machine} (M : CardMachines S ms) (c : ℕ) (h : c 
   pub prepared-holds : {x W kept : ℕ} {steps : List ℕ} → Prepared ms x W steps kept → HoldsAt ms c x W steps (placesFrom 0 (stateCounts ms) (statesOf (stateCounts ms) c)) kept
   prepared-holds {x} {W} {kept} {steps} B = record {
     columns = record {
-      few = omega (arith, places-length, M .machines);
+      few = omega (arith, places-count, M .machines);
       width = omega (arith, B .columns .width, few-places);
       room = B .columns .room;
-      there = λ m k. omega (arith, place-there m (omega (arith, places-length)), B .columns .width);
+      there = λ m k. omega (arith, place-there m (omega (arith, places-count)), B .columns .width);
     };
     small = B .columns .small;
-    places = places-length;
+    places = places-count;
     step = λ m y k l. ap (λ (p : ℕ). stepAt steps W y p) (place-is m k) ∙ B .columns .step m (getD (statesOf (stateCounts ms) c) m 0) y k (state-there m k) l;
     covers = λ y k. go y (B .covers y k);
     no-pair = B .no-pair;
@@ -168,13 +155,12 @@ module _ {S : ℕ} {ms : List Machine} (M : CardMachines S ms) (c : ℕ) {ss : L
       told y h true m = inr (inr (record { other = y; before = omega arith; is-kept = m; same = refl }))
       told y h false m = stuck y (F .missing y h m)
 
--- ---- a way on from the node: the pairs with the input x, which lead to the position j
+-- ---- a way on from the code c of the position i: the pairs with the input x, which lead to the position j
 
-pub record Way (card ws sets : List ℕ) (size : ℕ) (at : At) (x j W : ℕ) (steps ps : List ℕ) (kept : ℕ) : Type 0 where
-  pub holds : HoldsAt (machinesOf card) (at .code) x W steps ps kept
+pub record Way (card ws sets : List ℕ) (size i c x j W : ℕ) (steps ps : List ℕ) (kept : ℕ) : Type 0 where
+  pub holds : HoldsAt (machinesOf card) c x W steps ps kept
   pub within : j ≤ length sets
-  pub edges : (y : ℕ) → isPair (record { input = x; output = y }) ≡ true
-      → cellGraph ws card sets .edge (at .position * size + at .code) (record { input = x; output = y }) ≡ pricedStep (cellPrice ws) (j * size) (codeStep (machinesOf card) (at .code) (record { input = x; output = y }))
+  pub edges : (y : ℕ) → isPair (record { input = x; output = y }) ≡ true → cellGraph ws card sets .edge (i * size + c) (record { input = x; output = y }) ≡ pricedStep (cellPrice ws) (j * size) (codeStep (machinesOf card) c (record { input = x; output = y }))
 
 module _ {ranked sums card ws sets : List ℕ} {size : ℕ} {L : Labels (rankedCosts 1)} (G : Ground ranked sums card ws sets size L) {before answer : List ℕ} {at : At} (R : Reached card ws sets before answer size L at) where
   M : CardMachines (symbolCount card) (machinesOf card)
@@ -205,7 +191,7 @@ module _ {ranked sums card ws sets : List ℕ} {size : ℕ} {L : Labels (rankedC
     symbol-within T {x} m symbol = omega (arith, member-within sets (at .position) x (T .inside x m symbol))
 
     pub symbol-way : {x outputs : ℕ} {steps : List ℕ} → 390 ≤ length steps → FilledAtHand (machinesOf card) (take n (at .states)) x steps outputs → {left : ℕ} → Finding sets (Tight (cellGraph ws card sets) L (at .position * size + at .code)) (at .position) left → member left x ≡ true → x ≢ emptySymbol
-        → Way card ws sets size at x (at .position + 1) n steps (take n hand) outputs
+        → Way card ws sets size (at .position) (at .code) x (at .position + 1) n steps (take n hand) outputs
     symbol-way {x} {outputs} {steps} room F T m symbol = record {
       holds = subst (λ (k : ℕ). HoldsAt (machinesOf card) (at .code) x k steps (take k hand) outputs) (sym e) (filled-holds M (at .code) states-are (omega (arith, M .machines)) F);
       within = symbol-within T m symbol;
@@ -221,14 +207,24 @@ module _ {ranked sums card ws sets : List ℕ} {size : ℕ} {L : Labels (rankedC
     places-are : placesFrom 0 counts (take (length counts) (at .states)) ≡ placesFrom 0 (stateCounts (machinesOf card)) (statesOf (stateCounts (machinesOf card)) (at .code))
     places-are = ap (λ (qs : List ℕ). placesFrom 0 qs (take (length counts) (at .states))) C ∙ ap (placesFrom 0 (stateCounts (machinesOf card))) (states-are same-length)
 
-    pub places-pre : PlacesPre counts (at .states)
-    places-pre = record {
+    pub places-pre : {six : List ℕ} → length six ≡ 6 → PlacesPre counts (at .states) six
+    places-pre room = record {
       few = omega (arith, same-length, M .machines);
       size = R .states-size;
-      there = λ m k. omega (arith, ap (λ (ps : List ℕ). getD ps m 0) places-are, place-there M (at .code) code-there m (omega (arith, same-length)), few-places M (at .code) code-there);
+      room = room;
+      width = omega (arith, ap places C, few-places M (at .code) code-there);
+      there = λ m k.
+          omega (
+            arith,
+            getD-take (length counts) (at .states) m 0 k,
+            ap (λ (qs : List ℕ). getD qs m 0) (states-are same-length),
+            state-there M (at .code) code-there m (omega (arith, same-length)),
+            count-at (machinesOf card) m,
+            ap (λ (qs : List ℕ). getD qs m 0) C,
+          );
     }
 
-    pub insertion-way : {n : ℕ} → n ≡ length counts → {x W kept : ℕ} {steps six : List ℕ} → Placed counts (at .states) six → Prepared (machinesOf card) emptySymbol W steps kept → x ≡ emptySymbol → Way card ws sets size at x (at .position) W steps (take n six) kept
+    pub insertion-way : {n : ℕ} → n ≡ length counts → {x W kept : ℕ} {steps six : List ℕ} → Placed counts (at .states) six → Prepared (machinesOf card) emptySymbol W steps kept → x ≡ emptySymbol → Way card ws sets size (at .position) (at .code) x (at .position) W steps (take n six) kept
     insertion-way {n} e {x} {W} {kept} {steps} {six} Q B z = record {
       holds = subst (λ (ps : List ℕ). HoldsAt (machinesOf card) (at .code) x W steps ps kept) (sym (ap (λ (k : ℕ). take k six) e ∙ Q .are ∙ places-are))
           (subst (λ (k : ℕ). HoldsAt (machinesOf card) (at .code) k W steps (placesFrom 0 (stateCounts (machinesOf card)) (statesOf (stateCounts (machinesOf card)) (at .code))) kept) (sym z) (prepared-holds M (at .code) code-there B));
@@ -250,7 +246,7 @@ module _ {ranked sums card ws sets : List ℕ} {size : ℕ} {L : Labels (rankedC
       let s = some-tight (cellGraph ws card sets) L (pairs-sized (G .labelled)) (G .labelled .closed) (G .labelled .attained) (at .position * size + at .code) (R .follows .rest) (R .follows .walking .label) (λ e. n (sym pairs-left ∙ e)) in
       finding-start (tight-pair G R) (s .0) (s .1)
 
-  module _ {x j W kept : ℕ} {steps ps : List ℕ} (Y : Way card ws sets size at x j W steps ps kept) where
+  module _ {x j W kept : ℕ} {steps ps : List ℕ} (Y : Way card ws sets size (at .position) (at .code) x j W steps ps kept) where
     pub way-least : ((u : ℕ) → u < (length sets + 1) * size → HasLabel ranked sums u) → LeastPre (at .label) ranked sums steps ps ws (j * size) W
     way-least = least-pre G R (Y .holds) (Y .within) (Y .edges)
 
@@ -259,21 +255,16 @@ module _ {ranked sums card ws sets : List ℕ} {size : ℕ} {L : Labels (rankedC
       pub way-none : 64 ≤ r .output → (after : ℕ) → ((n : ℕ) → member after n ≡ (member left n && not (eqb n x))) → Finding sets (Tight (cellGraph ws card sets) L (at .position * size + at .code)) (at .position) after
       way-none e = finding-next T x (none-least G R (Y .holds) (Y .within) (Y .edges) F e)
 
+      pub way-falls : r .output < 64 → r .low < at .label .low
+      way-falls h = low-falls G R (Y .holds) (Y .within) (Y .edges) F h
+
       module _ (h : r .output < 64) (first : x ≡ leastSymbol left) where
         least : (q : Pair) → pairs ._◃_ q (record { input = x; output = r .output }) → ¬ (Tight (cellGraph ws card sets) L (at .position * size + at .code) q)
         least = first-is-least T (record { input = x; output = r .output }) first (found-passed G R (Y .holds) (Y .within) (Y .edges) F h)
 
-        -- the answer is as it was
-        module _ {mid : List ℕ} (same : mid ≡ answer) where
-          pub way-go : GoPre at r steps ps W mid
-          way-go = subst (GoPre at r steps ps W) (sym same) (go-pre G R (Y .holds) (Y .within) (Y .edges) F h least)
+        pub way-go : GoPre (at .states) (at .passed) steps ps answer W (r .output) (at .pairs)
+        way-go = go-pre G R (Y .holds) (Y .within) (Y .edges) F h least
 
-          module _ {answer′ : List ℕ} {next : At} (E : GoesOn at r x j steps ps W mid answer′ next) where
-            goes : GoesOn at r x j steps ps W answer answer′ next
-            goes = subst (λ (l : List ℕ). GoesOn at r x j steps ps W l answer′ next) same E
-
-            pub way-falls : next .label .low < at .label .low
-            way-falls = low-falls G R (Y .holds) (Y .within) (Y .edges) F h least goes
-
-            pub way-next : Reached card ws sets before answer′ size L next
-            way-next = goes-next G R (Y .holds) (Y .within) (Y .edges) F h least goes
+        pub way-next : {states′ marks′ answer′ : List ℕ} → GoesOn (at .passed) steps ps answer states′ marks′ answer′ W x (r .output) (at .pairs)
+            → Reached card ws sets before answer′ size L (nodeOf j (r .code) states′ (r .high) (r .low) (at .pairs + 1) marks′)
+        way-next = goes-next G R (Y .holds) (Y .within) (Y .edges) F h least

@@ -66,7 +66,7 @@ module _ {x : Cell} {ranked sums steps ps ws : List ℕ} {base W outputs : ℕ} 
   trying-start = record { inside = λ y m. m; passed = λ y m n b k. clash m n }
 
   module _ {set : ℕ} (T : Trying x ranked sums steps ps ws base W outputs set) where
-    pub trying-end : set ≤ 0 → LeastOf x ranked sums steps ps ws base W outputs (record { output = 64; code = 0; label = x })
+    pub trying-end : set ≤ 0 → LeastOf x ranked sums steps ps ws base W outputs (record { output = 64; code = 0; high = 0; low = 0 })
     trying-end z = record {
       most = omega arith;
       inside = λ h. absurd (omega arith);
@@ -78,7 +78,7 @@ module _ {x : Cell} {ranked sums steps ps ws : List ℕ} {base W outputs : ℕ} 
 
     module _ (y : ℕ) (is : y ≡ leastSymbol set) (few : y < 64) (there : member set y ≡ true) where
       pub trying-found : {step : Cell} (J : JointAt steps ps ws W y step) (r : Cell) → r ≡ cellOf ranked sums (base + step .high % 256) → KeepsBy x r (step .high) (step .low)
-          → LeastOf x ranked sums steps ps ws base W outputs (record { output = y; code = step .high % 256; label = r })
+          → LeastOf x ranked sums steps ps ws base W outputs (record { output = y; code = step .high % 256; high = r .high; low = r .low })
       trying-found {step} J r e b = record {
         most = omega arith;
         inside = λ h. T .inside y there;

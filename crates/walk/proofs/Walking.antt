@@ -7,20 +7,21 @@ use native.Mathlib.Omega.{arith}
 use lib.ListN.{length, take, replicate, length-replicate}
 use lib.Seq.{length-take-le}
 use Rattle.machine.specs.Symbols.{emptySymbol}
+use Rattle.machine.specs.Machine.{Machine, startState}
 use Rattle.card.specs.Card.{machinesOf}
 use Rattle.paths.specs.Costs.{Labels}
 use Rattle.paths.specs.Ranked.{rankedCosts}
-use Rattle.product.specs.ProductGraph.{cardStart}
+use Rattle.product.specs.Nodes.{stateCounts}
+use Rattle.product.specs.ProductGraph.{startNode, cardStart}
 use Rattle.product.specs.Laws.Setting.{few-nodes, node-below}
 use Rattle.tables.specs.Tables.{CountsOfSome}
 use Rattle.tables.specs.Laws.Cards.{card-machines, card-counts, start-below}
 use Rattle.tables.proofs.Machines.{counts-length}
+use Rattle.cells.specs.declared.Cell.{Cell}
 use Rattle.cells.specs.Cells.{places}
 use Rattle.columns.specs.Filling.{FillPre}
-use Rattle.walk.specs.declared.At.{At}
-use Rattle.walk.specs.Labels.{HasLabel}
+use Rattle.walk.specs.Labels.{cellOf, HasLabel}
 use Rattle.walk.specs.WalkLabels.{WalkLabels, WalkPre}
-use Rattle.walk.specs.Walking.{StartPre, StartsAt}
 use Rattle.walk.proofs.Nodes.{Ground, Reached}
 use Rattle.walk.proofs.Ends.{starts-reached}
 
@@ -68,14 +69,19 @@ module _ {ranked sums card counts ws sets : List ℕ} {size room : ℕ} (pre : W
       let s = ground-there .labelled .setting in
       node-below s 0 (cardStart card) (omega arith) (omega (arith, start-below card (s .accepted), s .states))
 
-  pub start-pre : StartPre ranked sums counts
-  start-pre = record { machines = machinesOf card; counts-are = pre .counts-are; node = nodes (cardStart card) start-node; few = omega (arith, start-node, few-nodes (ground-there .labelled .setting)) }
+  module _ {code : ℕ} (is : (ms : List Machine) → counts ≡ stateCounts ms → code ≡ startNode ms) where
+    first : code ≡ cardStart card
+    first = is (machinesOf card) (pre .counts-are)
 
-  -- every labels in the slices have the same at the start
-  pub starts-walk : {L : Labels (rankedCosts 1)} → Ground ranked sums card ws sets size L → {r : At} → StartsAt ranked sums counts r → (before : List ℕ) → length before ≡ room → Reached card ws sets before before size L r
-  starts-walk G Z before e =
-      let K = pre .walk-labels in
-      starts-reached G (pre .counts-are) Z before (K .cost) (G .stored (cardStart card) start-node ∙ sym (ground-there .stored (cardStart card) start-node) ∙ K .cost-is) (omega (arith, K .answer-fits))
+    pub start-there : HasLabel ranked sums code × (code < 3200)
+    start-there = (subst (HasLabel ranked sums) (sym first) (nodes (cardStart card) start-node), omega (arith, first, start-node, few-nodes (ground-there .labelled .setting)))
+
+    -- every labels in the slices have the same at the start
+    pub starts-walk : {L : Labels (rankedCosts 1)} → Ground ranked sums card ws sets size L → {state : ℕ} → state ≡ startState → {label : Cell} → label ≡ cellOf ranked sums code → (before : List ℕ) → length before ≡ room
+        → Reached card ws sets before before size L (record { position = 0; code = code; states = replicate 6 state; label = label; pairs = 0; passed = replicate 6 0 })
+    starts-walk G initial its before e =
+        let K = pre .walk-labels in
+        starts-reached G first initial its before (K .cost) (G .stored (cardStart card) start-node ∙ sym (ground-there .stored (cardStart card) start-node) ∙ K .cost-is) (omega (arith, K .answer-fits))
 
 -- the front of 2,600 numbers
 pub front-length : (n : ℕ) → n ≤ 2600 → n ≡ length {A = ℕ} (take n (replicate 2600 65535))

@@ -54,5 +54,5 @@ pub record LeastOf (x : Cell) (ranked sums steps ps ws : List ℕ) (base W outpu
   pub inside : r .output < 64 → member outputs (r .output) ≡ true
   pub keeps : r .output < 64 → KeepsAt x ranked sums steps ps ws base W (r .output)
   pub code : r .output < 64 → r .code ≡ highBy steps ps ws W (r .output) % 256
-  pub label : r .output < 64 → r .label ≡ cellOf ranked sums (base + r .code)
+  pub label : r .output < 64 → record { high = r .high; low = r .low } ≡ cellOf ranked sums (base + r .code)
   pub passed : (y : ℕ) → y < r .output → member outputs y ≡ true → ¬ (KeepsAt x ranked sums steps ps ws base W y)

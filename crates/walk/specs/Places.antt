@@ -3,9 +3,8 @@ use mathlib.Core.Path.{_≡_}
 use mathlib.Core.List.{List, [], _∷_, map}
 use Prim.Native.Nat.{ℕ, suc, _+_, _*_, _/_, _%_, _^_, _<_, _≤_}
 use lib.ListN.{length, getD, take}
-use Rattle.ranking.specs.declared.Profile.{Profile}
 use Rattle.cells.specs.declared.Cell.{Cell}
-use Rattle.cells.specs.Cells.{nowhere, scaleOf, highOf, lowOf, stepAt, highAt, lowAt}
+use Rattle.cells.specs.Cells.{nowhere, scaleOf, highOf, lowOf, stepAt, highAt, lowAt, places}
 
 -- the places of some states: those of machines with these state counts start at a place
 unfoldable pub placesFrom : ℕ → List ℕ → List ℕ → List ℕ
@@ -25,11 +24,13 @@ marksAt steps W y ps = map (λ p. stepAt steps W y p % 16) ps
 abbrev pub statesAt : (steps : List ℕ) (W y : ℕ) → List ℕ → List ℕ
 statesAt steps W y ps = map (λ p. stepAt steps W y p / 16) ps
 
--- states of machines with these state counts, whose places are at most 40
-pub record PlacesPre (counts states : List ℕ) : Type 0 where
+-- states of machines with these state counts, which have at most 40 places, and room for six places
+pub record PlacesPre (counts states six : List ℕ) : Type 0 where
   pub few : length counts ≤ 6
   pub size : length states ≡ 6
-  pub there : (m : ℕ) → m < length counts → getD (placesFrom 0 counts (take (length counts) states)) m 0 < 40
+  pub room : length six ≡ 6
+  pub width : places counts ≤ 40
+  pub there : (m : ℕ) → m < length counts → getD states m 0 < getD counts m 0
 
 -- of six numbers those of the machines are the places of the states
 pub record Placed (counts states six : List ℕ) : Type 0 where
@@ -63,14 +64,14 @@ pub record JointAt (steps ps ws : List ℕ) (W y : ℕ) (r : Cell) : Type 0 wher
   pub low : r .high < nowhere → r .low ≡ lowBy steps ps ws W y
   pub nothing : nowhere ≤ r .high → nowhere ≤ highBy steps ps ws W y
 
--- each count leaves room for 15 marks
-pub record MarksPre (profile : Profile) : Type 0 where
-  pub size : length (profile .counts) ≡ 6
-  pub fits : (m : ℕ) → getD (profile .counts) m 0 + 15 ≤ 65535
+-- each of six counts leaves room for 15 marks
+pub record MarksPre (marks : List ℕ) : Type 0 where
+  pub size : length marks ≡ 6
+  pub fits : (m : ℕ) → getD marks m 0 + 15 ≤ 65535
 
-pub record MarksAdded (profile : Profile) (steps ps : List ℕ) (W y : ℕ) (r : Profile) : Type 0 where
-  pub size : length (r .counts) ≡ 6
-  pub sums : (m : ℕ) → getD (r .counts) m 0 ≡ getD (profile .counts) m 0 + getD (marksAt steps W y ps) m 0
+pub record MarksAdded (marks steps ps : List ℕ) (W y : ℕ) (marks′ : List ℕ) : Type 0 where
+  pub size : length marks′ ≡ 6
+  pub sums : (m : ℕ) → getD marks′ m 0 ≡ getD marks m 0 + getD (marksAt steps W y ps) m 0
 
 -- every place of the output y has a step
 pub record MovedPre (steps ps : List ℕ) (W y : ℕ) : Type 0 where

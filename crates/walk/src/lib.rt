@@ -14,7 +14,7 @@ ghost use Rattle.paths.specs.Costs.{Labels};
 ghost use Rattle.paths.specs.Ranked.{rankedCosts};
 ghost use Rattle.cells.specs.Cells.{places};
 ghost use Rattle.walk.specs.WalkLabels.{WalkLabels, WalkPre};
-ghost use Rattle.walk.specs.Walking.{StartPre, StartsAt, GoPre, GoesOn, EndsPre, EndingAdded};
+ghost use Rattle.walk.specs.Walking.{GoPre, GoesOn, EndsPre, EndingAdded};
 ghost use Rattle.walk.specs.Walked.{Walked};
 use cells::Cell;
 use machine::Ending;
@@ -22,43 +22,13 @@ use machine::Pair;
 use machine::Position;
 use machine::sets;
 use ranking::Profile;
-use tight::Least;
 
 pub mod tight;
-
-// The node that is reached: its position, the code of its states, the states; its label; the pairs written and the marks passed.
-pub struct At {
-    pub position: usize,
-    pub code: usize,
-    pub states: [u8; 6],
-    pub label: Cell,
-    pub pairs: usize,
-    pub profile: Profile,
-}
 
 // What is written: the number of pairs, and their profile.
 pub struct Written {
     pub pairs: usize,
     pub profile: Profile,
-}
-
-// The start, where every machine is in its start state and nothing is written.
-fn start(ranked: &[u16], sums: &[u64], counts: &[u8]) -> At
-    requires { ⌜ StartPre (now ranked) (now sums) (now counts) ⌝ }
-    ensures { λ r. ⌜ StartsAt (now (ranked .entry)) (now (sums .entry)) (now (counts .entry)) r ⌝ }
-{
-    let code = tables::start_node(counts);
-    let state = Position::start().state;
-    let label = tight::label_at(ranked, sums, code);
-    let profile = Profile::zero();
-    At {
-        position: 0,
-        code,
-        states: [state; 6],
-        label,
-        pairs: 0,
-        profile,
-    }
 }
 
 // The inputs of the pairs at a position: the empty symbol, and the symbols of the set there.
@@ -71,36 +41,25 @@ fn inputs_at(sets: &[u64], position: usize) -> u64
     machine::sets::EMPTY
 }
 
-// Writes the pair of an input and the least output, and goes on to the node of a position that it leads to.
+// Goes on by the pair of an input and an output, whose steps stand at these places: the states and the marks passed change in place, and the pair is
+// written after `written` pairs.
 fn go_on(
-    at: At,
-    least: Least,
-    input: u8,
-    position: usize,
+    states: &mut [u8],
+    marks: &mut [u16],
     steps: &[u16],
     width: usize,
     places: &[u8],
+    input: u8,
+    output: usize,
+    written: usize,
     answer: &mut [u8],
-) -> At
-    requires { ⌜ GoPre at least (now steps) (now places) width (now answer) ⌝ }
-    ensures { λ r. ⌜ GoesOn at least input position (now (steps .entry)) (now (places .entry)) width (now (answer .entry)) (now (answer .exit)) r ⌝ }
+)
+    requires { ⌜ GoPre (now states) (now marks) (now steps) (now places) (now answer) width output written ⌝ }
+    ensures { λ _. ⌜ GoesOn (now (marks .entry)) (now (steps .entry)) (now (places .entry)) (now (answer .entry)) (now (states .exit)) (now (marks .exit)) (now (answer .exit)) width input output written ⌝ }
 {
-    let pairs = at.pairs;
-    let output = least.output;
-    let label = least.label;
-    let passed = at.profile;
-    let states = tight::moved(steps, width, output, places);
-    let profile = tight::add_marks(passed, steps, width, output, places);
-    answer[2 * pairs] = input;
-    answer[2 * pairs + 1] = output as u8;
-    At {
-        position,
-        code: least.code,
-        states,
-        label,
-        pairs: pairs + 1,
-        profile,
-    }
+    tight::pass(states, marks, steps, width, places, output);
+    answer[2 * written] = input;
+    answer[2 * written + 1] = output as u8;
 }
 
 // The marks of ending in a state, 0 where it is not final.
@@ -130,7 +89,8 @@ fn with_ending(profile: Profile, card: &[u8], states: &[u8]) -> Profile
 }
 
 // Walks with a slice for the columns of the insertions, whose length is just enough: it is cleared first. At each node the least pair that keeps to the
-// labels is found input by input, and output by output.
+// labels is found input by input, and output by output. The node that is reached is its position, the code of its states, the states, its label, the
+// number of pairs written and the marks passed: variables and arrays that change in place, since a struct would be copied at each node.
 fn walk_by(
     ranked: &[u16],
     sums: &[u64],
@@ -149,22 +109,28 @@ fn walk_by(
     let width = columns::width_of(counts);
     let kept = columns::prepare(insertions, card, counts, width, Pair::EMPTY);
     let hand = [0u8, 1, 2, 3, 4, 5];
+    let state = Position::start().state;
+    let mut code = tables::start_node(counts);
+    let label = tight::label_at(ranked, sums, code);
+    let mut high = label.high;
+    let mut low = label.low;
     let mut steps = [65535u16; 390];
-    let mut at = start(ranked, sums, counts);
+    let mut states = [state; 6];
+    let mut marks = [0u16; 6];
+    let mut position = 0;
+    let mut written = 0;
     let pairs = loop {
-        let label = at.label;
-        if label.low % 65536 == 0 {
-            break at.pairs;
+        if low % 65536 == 0 {
+            break written;
         }
-        let position = at.position;
-        let states = at.states;
-        let places = tight::places_of(&states, counts);
+        let mut places = [0u8; 6];
+        tight::places_of(&mut places, &states, counts);
         let mut left = inputs_at(sets, position);
-        at = 'least: loop {
+        position = 'least: loop {
             let input = sets::least(left) as u8;
             if input == Pair::EMPTY {
                 let least = tight::least_tight(
-                    label,
+                    Cell { high, low },
                     ranked,
                     sums,
                     position * size,
@@ -175,22 +141,27 @@ fn walk_by(
                     weights,
                 );
                 if least.output < 64 {
-                    break 'least go_on(
-                        at,
-                        least,
-                        input,
-                        position,
+                    go_on(
+                        &mut states,
+                        &mut marks,
                         insertions,
                         width,
                         &places[..machines],
+                        input,
+                        least.output,
+                        written,
                         answer,
                     );
+                    code = least.code;
+                    high = least.high;
+                    low = least.low;
+                    break 'least position;
                 }
             } else {
                 let next = position + 1;
                 let outputs = columns::fill_at(&mut steps, card, &states[..machines], input);
                 let least = tight::least_tight(
-                    label,
+                    Cell { high, low },
                     ranked,
                     sums,
                     next * size,
@@ -201,23 +172,28 @@ fn walk_by(
                     weights,
                 );
                 if least.output < 64 {
-                    break 'least go_on(
-                        at,
-                        least,
-                        input,
-                        next,
+                    go_on(
+                        &mut states,
+                        &mut marks,
                         &steps,
                         machines,
                         &hand[..machines],
+                        input,
+                        least.output,
+                        written,
                         answer,
                     );
+                    code = least.code;
+                    high = least.high;
+                    low = least.low;
+                    break 'least next;
                 }
             }
             left = sets::without_least(left);
         };
+        written += 1;
     };
-    let states = at.states;
-    let passed = at.profile;
+    let passed = Profile { counts: marks };
     let profile = with_ending(passed, card, &states[..machines]);
     Written { pairs, profile }
 }

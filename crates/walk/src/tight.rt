@@ -2,28 +2,28 @@
 ghost use mathlib.Core.Path.{_≡_};
 ghost use mathlib.Core.Bool.{true, false};
 ghost use Prim.Native.Nat.{_*_, _+_, _^_, _<_, _≤_};
-ghost use lib.ListN.{length, getD};
+ghost use lib.ListN.{length};
 ghost use Rattle.columns.specs.Filling.{Small};
 ghost use Rattle.labels.specs.Work.{HasNode};
 ghost use Rattle.walk.specs.Labels.{countsCell, sumCell, cellOf, HasLabel};
-ghost use Rattle.walk.specs.Places.{marksAt, statesAt, PlacesPre, Placed, ColumnsPre, WeightsFit, JointAt, MarksPre, MarksAdded, MovedPre, Moved};
+ghost use Rattle.walk.specs.Places.{PlacesPre, Placed, ColumnsPre, WeightsFit, JointAt, MarksPre, MarksAdded, MovedPre, Moved};
 ghost use Rattle.walk.specs.Keeping.{KeepsBy, KeepsPre, LeastPre, LeastOf};
 use basics::index;
 use cells::Cell;
 use cells::NOWHERE;
 use machine::sets;
-use ranking::Profile;
 use steps::NO_STEP;
 use sums::NO_LABEL as NO_SUM;
 
 // The high number of a code that has no label.
 const NO_LABEL: u64 = NOWHERE + 255;
 
-// An output, 64 where there is none; the code that it leads to, and its label.
+// An output, 64 where there is none; the code that it leads to, and the label of that code.
 pub struct Least {
     pub output: usize,
     pub code: usize,
-    pub label: Cell,
+    pub high: u64,
+    pub low: u64,
 }
 
 // Two 16-bit numbers as one.
@@ -84,47 +84,18 @@ pub fn label_at(ranked: &[u16], sums: &[u64], node: usize) -> Cell
     sum_cell(sums, node)
 }
 
-// The state count of one machine, 0 where there is no such machine.
-fn count_at(counts: &[u8], m: usize) -> usize
-    ensures { λ r. ⌜ (r ≡ getD (now (counts .entry)) m 0) × (r < 256) ⌝ }
+// Writes the places of some states in a column, a place for each machine.
+pub fn places_of(places: &mut [u8], states: &[u8], counts: &[u8])
+    requires { ⌜ PlacesPre (now counts) (now states) (now places) ⌝ }
+    ensures { λ _. ⌜ Placed (now (counts .entry)) (now (states .entry)) (now (places .exit)) ⌝ }
 {
-    if m < counts.len() {
-        index(counts[m])
-    } else {
-        0
+    let mut first = 0;
+    let mut m = 0;
+    while m < counts.len() {
+        places[m] = first + states[m];
+        first += counts[m];
+        m += 1;
     }
-}
-
-// The place of one machine's state, its places starting at `first`; 0 where there is no such machine.
-fn place_at(states: &[u8; 6], counts: &[u8], first: usize, m: usize) -> u8
-    requires { ⌜ (m < 6) × (m < length (now counts) → first + getD (now states) m 0 < 40) ⌝ }
-    ensures { λ r. ⌜ (m < length (now (counts .entry)) → r ≡ first + getD (now (states .entry)) m 0) ⌝ }
-{
-    if m < counts.len() {
-        (first + index(states[m])) as u8
-    } else {
-        0
-    }
-}
-
-// The places of some states in a column, a place for each machine.
-pub fn places_of(states: &[u8; 6], counts: &[u8]) -> [u8; 6]
-    requires { ⌜ PlacesPre (now counts) (now states) ⌝ }
-    ensures { λ r. ⌜ Placed (now (counts .entry)) (now (states .entry)) r ⌝ }
-{
-    let first1 = count_at(counts, 0);
-    let first2 = first1 + count_at(counts, 1);
-    let first3 = first2 + count_at(counts, 2);
-    let first4 = first3 + count_at(counts, 3);
-    let first5 = first4 + count_at(counts, 4);
-    [
-        place_at(states, counts, 0, 0),
-        place_at(states, counts, first1, 1),
-        place_at(states, counts, first2, 2),
-        place_at(states, counts, first3, 3),
-        place_at(states, counts, first4, 4),
-        place_at(states, counts, first5, 5),
-    ]
 }
 
 // The joint step of a column at these places.
@@ -186,7 +157,8 @@ pub fn least_tight(
                 return Least {
                     output,
                     code,
-                    label: rest,
+                    high: rest.high,
+                    low: rest.low,
                 };
             }
         }
@@ -195,68 +167,28 @@ pub fn least_tight(
     Least {
         output: 64,
         code: 0,
-        label,
+        high: 0,
+        low: 0,
     }
 }
 
-// One machine's count with its mark of a column at these places.
-fn sum_at(count: u16, steps: &[u16], width: usize, output: usize, places: &[u8], m: usize) -> u16
-    requires { ⌜ ColumnsPre (now steps) (now places) width × (output ≤ 64) × (count + 15 ≤ 65535) ⌝ }
-    ensures { λ r. ⌜ r ≡ count + getD (marksAt (now (steps .entry)) width output (now (places .entry))) m 0 ⌝ }
-{
-    if m >= places.len() {
-        return count;
-    }
-    let step = steps[output * width + index(places[m])];
-    count + step % 16
-}
-
-// Adds the marks of a column at these places to a profile.
-pub fn add_marks(
-    profile: Profile,
+// Passes the steps of a column at these places: the states that they lead to, their marks added.
+pub fn pass(
+    states: &mut [u8],
+    marks: &mut [u16],
     steps: &[u16],
     width: usize,
-    output: usize,
     places: &[u8],
-) -> Profile
-    requires { ⌜ ColumnsPre (now steps) (now places) width × (output ≤ 64) × MarksPre profile ⌝ }
-    ensures { λ r. ⌜ MarksAdded profile (now (steps .entry)) (now (places .entry)) width output r ⌝ }
+    output: usize,
+)
+    requires { ⌜ MovedPre (now steps) (now places) width output × MarksPre (now marks) × (length (now states) ≡ 6) ⌝ }
+    ensures { λ _. ⌜ Moved (now (steps .entry)) (now (places .entry)) width output (now (states .exit)) × MarksAdded (now (marks .entry)) (now (steps .entry)) (now (places .entry)) width output (now (marks .exit)) ⌝ }
 {
-    let counts = profile.counts;
-    Profile {
-        counts: [
-            sum_at(counts[0], steps, width, output, places, 0),
-            sum_at(counts[1], steps, width, output, places, 1),
-            sum_at(counts[2], steps, width, output, places, 2),
-            sum_at(counts[3], steps, width, output, places, 3),
-            sum_at(counts[4], steps, width, output, places, 4),
-            sum_at(counts[5], steps, width, output, places, 5),
-        ],
+    let mut m = 0;
+    while m < places.len() {
+        let step = steps[output * width + index(places[m])];
+        states[m] = (step / 16) as u8;
+        marks[m] = marks[m] + step % 16;
+        m += 1;
     }
-}
-
-// The state that a column at these places leads to on one machine, 0 where there is no such machine.
-fn state_at(steps: &[u16], width: usize, output: usize, places: &[u8], m: usize) -> u8
-    requires { ⌜ MovedPre (now steps) (now places) width output ⌝ }
-    ensures { λ r. ⌜ r ≡ getD (statesAt (now (steps .entry)) width output (now (places .entry))) m 0 ⌝ }
-{
-    if m >= places.len() {
-        return 0;
-    }
-    (steps[output * width + index(places[m])] / 16) as u8
-}
-
-// The states that a column at these places leads to.
-pub fn moved(steps: &[u16], width: usize, output: usize, places: &[u8]) -> [u8; 6]
-    requires { ⌜ MovedPre (now steps) (now places) width output ⌝ }
-    ensures { λ r. ⌜ Moved (now (steps .entry)) (now (places .entry)) width output r ⌝ }
-{
-    [
-        state_at(steps, width, output, places, 0),
-        state_at(steps, width, output, places, 1),
-        state_at(steps, width, output, places, 2),
-        state_at(steps, width, output, places, 3),
-        state_at(steps, width, output, places, 4),
-        state_at(steps, width, output, places, 5),
-    ]
 }

@@ -1,7 +1,9 @@
--- `walk::walk_by`: the outer loop's invariant is `Reached`, the inner one's `Finding`, for all labels that are in the slices. Assumes nothing.
+-- `walk::walk_by`: the outer loop's invariant is `Reached`, the inner one's `Finding` and that the node stays, for all labels that are in the slices. The
+-- inner loop does not read the code, so its invariant is for every code. Assumes nothing.
 use mathlib.Core.Path.{_≡_, refl, sym, _∙_, ap}
-use mathlib.Core.Bool.{_&&_, not}
 use mathlib.Core.Logic.{⊎-elim}
+use mathlib.Core.Bool.{_&&_, not}
+use mathlib.Core.List.{List}
 use Prim.Native.Nat.{ℕ, _+_, _*_}
 use native.Mathlib.Omega.{arith}
 use lib.Dec.{eqb}
@@ -12,33 +14,46 @@ use Rattle.paths.specs.Ranked.{rankedCosts}
 use Rattle.paths.specs.Walk.{Tight}
 use Rattle.product.specs.Laws.LeastPair.{Finding, some-left}
 use Rattle.entering.specs.Entering.{cellGraph}
-use Rattle.walk.proofs.Nodes.{Ground, Reached}
+use Rattle.walk.proofs.Nodes.{At, nodeOf, Ground, Reached, reached-same, pairs-written}
 use Rattle.walk.proofs.Passing.{states-are, states-count, hand-pre, symbol-within, symbol-way, places-pre, insertion-way, ways-start, way-least, way-none, way-go, way-falls, way-next}
 use Rattle.walk.proofs.Ends.{ends-pre, walked-end}
-use Rattle.walk.proofs.Walking.{ground, ground-there, counts-ok, machines-are, machines-few, machines-of, machines-within, insertions-fill, nodes, base-few, sets-few, start-pre, starts-walk}
+use Rattle.walk.proofs.Walking.{ground, ground-there, counts-ok, machines-are, machines-few, machines-of, machines-within, insertions-fill, nodes, base-few, sets-few, start-there, starts-walk}
 use Rattle.walk.proofs.walk_by.Statement.{statement}
 use Rattle.walk.proofs.walk_by.Tie as tie
 
 abbrev Inv-least : tie.InvT-least
-Inv-least ranked sums card counts weights sets size insertions answer₀ machines width kept hand steps₀ at label position states places left₀ answer steps left =
-    ((L : Labels (rankedCosts 1)) → Ground ranked sums card weights sets size L → Finding sets (Tight (cellGraph weights card sets) L (at .position * size + at .code)) (at .position) left) × (length steps ≡ 390) × (answer ≡ answer₀)
+Inv-least ranked sums card counts weights sets size insertions answer₀ machines width kept hand state high₀ low₀ steps₀ states₀ marks₀ position written places left₀ answer high low steps states marks left =
+    ((L : Labels (rankedCosts 1)) → Ground ranked sums card weights sets size L → (code : ℕ) (before : List ℕ) → Reached card weights sets before answer₀ size L (nodeOf position code states₀ high₀ low₀ written marks₀)
+    → Finding sets (Tight (cellGraph weights card sets) L (position * size + code)) position left)
+    × (answer ≡ answer₀)
+    × ((code : ℕ) → nodeOf position code states high low written marks ≡ nodeOf position code states₀ high₀ low₀ written marks₀)
+    × (length steps ≡ 390)
 
 abbrev μ-least : tie.MeasureT-least
-μ-least ranked sums card counts weights sets size insertions answer₀ machines width kept hand steps₀ at label position states places left₀ answer steps left = left
+μ-least ranked sums card counts weights sets size insertions answer₀ machines width kept hand state high₀ low₀ steps₀ states₀ marks₀ position written places left₀ answer high low steps states marks left =
+    left
 
 abbrev Inv-loop : tie.InvT-loop
-Inv-loop ranked sums card counts weights sets size insertions answer₀ machines width kept hand steps₀ at₀ answer steps at =
-    ((L : Labels (rankedCosts 1)) → Ground ranked sums card weights sets size L → Reached card weights sets answer₀ answer size L at) × (length steps ≡ 390) × (length answer ≡ length answer₀)
+Inv-loop ranked sums card counts weights sets size insertions answer₀ machines width kept hand state code₀ high₀ low₀ steps₀ states₀ marks₀ position₀ written₀ answer code high low steps states marks position written =
+    ((L : Labels (rankedCosts 1)) → Ground ranked sums card weights sets size L → Reached card weights sets answer₀ answer size L (nodeOf position code states high low written marks)) × (length steps ≡ 390) × (length answer ≡ length answer₀)
 
 abbrev μ-loop : tie.MeasureT-loop
-μ-loop ranked sums card counts weights sets size insertions answer₀ machines width kept hand steps₀ at₀ answer steps at = at .label .low
+μ-loop ranked sums card counts weights sets size insertions answer₀ machines width kept hand state code₀ high₀ low₀ steps₀ states₀ marks₀ position₀ written₀ answer code high low steps states marks position written =
+    low
 
 -- from the head of a loop to the function's entry, and to the head of the outer loop
 abbrev entry : tie.At-loop Inv-least μ-least Inv-loop μ-loop → tie.Start Inv-least μ-least Inv-loop μ-loop
-entry c = c .before .before .before .before .before .before .before .before .before .before .before .before .before .before .before
+entry c = c .before .before .before .before .before .before .before .before .before .before .before .before .before .before .before .before .before
 
 abbrev node : tie.At-least Inv-least μ-least Inv-loop μ-loop → tie.At-loop Inv-least μ-least Inv-loop μ-loop
-node c = c .before .before .before .before .before .before .before .before
+node c = c .before .before .before .before .before .before .before
+
+-- in the inner loop states and marks are six numbers
+sizes : (t : tie.At-least Inv-least μ-least Inv-loop μ-loop) → (length (t .least .states) ≡ 6) × (length (t .least .marks) ≡ 6)
+sizes t =
+    let l = node t in
+    let R = reached-same (t .least .inv .1) (t .least .inv .2 _) (l .loop .inv .0 _ (ground-there (entry l .pre .0))) in
+    (R .states-size, R .passed-size)
 
 width-of-requires : tie.Need-width-of-requires Inv-least μ-least Inv-loop μ-loop
 width-of-requires c κs = counts-ok (c .before .before .before .before .before .before .before .before .pre .0)
@@ -47,28 +62,39 @@ prepare-requires : tie.Need-prepare-requires Inv-least μ-least Inv-loop μ-loop
 prepare-requires c κs = insertions-fill (c .before .before .before .before .before .before .before .before .before .before .pre .0) _ (c .before .width-of .ensures .0) _ (c .before .before .before .before .before .before .before .before .before .before .pre .1)
 
 start-requires : tie.Need-start-requires Inv-least μ-least Inv-loop μ-loop
-start-requires c κs = start-pre (c .before .before .before .before .before .before .before .before .before .before .before .before .before .pre .0)
+start-requires c κs = tt
+
+start-node-requires : tie.Need-start-node-requires Inv-least μ-least Inv-loop μ-loop
+start-node-requires c κs = tt
+
+label-at-requires : tie.Need-label-at-requires Inv-least μ-least Inv-loop μ-loop
+label-at-requires c κs = start-there (c .before .before .before .before .before .before .before .before .before .before .before .before .before .before .before .pre .0) (c .start-node .ensures)
 
 loop-holds : tie.Need-loop-holds Inv-least μ-least Inv-loop μ-loop
-loop-holds c = (λ L G. starts-walk (c .before .before .before .before .before .before .before .before .before .before .before .before .before .before .pre .0) G (c .start .ensures) _ refl, refl, refl)
+loop-holds c = (λ L G. starts-walk (c .before .before .before .before .before .before .before .before .before .before .before .before .before .before .before .before .pre .0) (c .before .start-node .ensures) G (c .before .before .start .ensures) (c .label-at .ensures) _ refl, refl, refl)
+
+slice-aggregate-places-of : tie.Need-slice-aggregate-places-of Inv-least μ-least Inv-loop μ-loop
+slice-aggregate-places-of c = refl
+
+slice-aggregate-places-of-2 : tie.Need-slice-aggregate-places-of-2 Inv-least μ-least Inv-loop μ-loop
+slice-aggregate-places-of-2 c = let l = c .before .before .before in sym (l .loop .inv .0 _ (ground-there (entry l .pre .0)) .states-size)
 
 places-of-requires : tie.Need-places-of-requires Inv-least μ-least Inv-loop μ-loop
-places-of-requires c κs =
-    let l = c .before .before .before .before .before in
+places-of-requires c κs = let l = c .before .before .before in
     let s = entry l in
     let G = ground-there (s .pre .0) in
-    places-pre G (l .loop .inv .0 _ G) (s .pre .0 .counts-are)
+    places-pre G (l .loop .inv .0 _ G) (s .pre .0 .counts-are) refl
 
 inputs-at-requires : tie.Need-inputs-at-requires Inv-least μ-least Inv-loop μ-loop
 inputs-at-requires c κs = tt
 
 least-holds : tie.Need-least-holds Inv-least μ-least Inv-loop μ-loop
-least-holds c =
-    let l = c .before .before .before .before .before .before .before in
-    (λ L G. ways-start G (l .loop .inv .0 L G) (c .before .before .before .before .if1 .left) _ (c .inputs-at .ensures), l .loop .inv .1, refl)
+least-holds c = (λ L G code before R. ways-start G R (c .before .before .before .before .before .if1 .left) _ (c .inputs-at .ensures), refl, λ code. refl, c .before .before .before .before .before .before .loop .inv .1)
 
 least-requires : tie.Need-least-requires Inv-least μ-least Inv-loop μ-loop
-least-requires c κs = some-left (c .least .inv .0 _ (ground-there (entry (node c) .pre .0)))
+least-requires c κs = let l = node c in
+    let G = ground-there (entry l .pre .0) in
+    some-left (c .least .inv .0 _ G _ _ (l .loop .inv .0 _ G))
 
 cast-input : tie.Need-cast-input Inv-least μ-least Inv-loop μ-loop
 cast-input c = omega (arith, c .least2 .ensures .1)
@@ -76,82 +102,80 @@ cast-input c = omega (arith, c .least2 .ensures .1)
 -- ---- an insertion
 
 mul-least-tight : tie.Need-mul-least-tight Inv-least μ-least Inv-loop μ-loop
-mul-least-tight c =
-    let l = node (c .before .before) in
+mul-least-tight c = let l = node (c .before .before) in
     let s = entry l in
     omega (arith, base-few (s .pre .0) _ (l .loop .inv .0 _ (ground-there (s .pre .0)) .position))
 
 array-share-prefix-places : tie.Need-array-share-prefix-places Inv-least μ-least Inv-loop μ-loop
-array-share-prefix-places c = let t = c .before .before .before in machines-within (entry (node t) .pre .0) (t .before .before .places-of .result) (t .before .before .places-of .ensures .size)
+array-share-prefix-places c = let t = c .before .before .before in machines-within (entry (node t) .pre .0) (t .before .before .before .places-of .last .0) (t .before .before .before .places-of .ensures .size)
 
 slice-aggregate-least-tight : tie.Need-slice-aggregate-least-tight Inv-least μ-least Inv-loop μ-loop
-slice-aggregate-least-tight c = let t = c .before .before .before .before in machines-of (entry (node t) .pre .0) _ (t .before .before .places-of .ensures .size)
+slice-aggregate-least-tight c = let t = c .before .before .before .before in machines-of (entry (node t) .pre .0) _ (t .before .before .before .places-of .ensures .size)
 
 least-tight-requires : tie.Need-least-tight-requires Inv-least μ-least Inv-loop μ-loop
-least-tight-requires c κs =
-    let t = c .before .before .before .before in
+least-tight-requires c κs = let t = c .before .before .before .before in
     let l = node t in
     let s = entry l in
     let G = ground-there (s .pre .0) in
-    let R = l .loop .inv .0 _ G in
-    way-least G R (insertion-way G R (s .pre .0 .counts-are) refl (t .before .before .places-of .ensures) (l .before .before .before .before .prepare .ensures) (c .before .before .if2 .taken)) (nodes (s .pre .0))
-
-array-share-prefix-places-2 : tie.Need-array-share-prefix-places-2 Inv-least μ-least Inv-loop μ-loop
-array-share-prefix-places-2 c = let t = c .before .before .before .before .before .before .before .before in machines-within (entry (node t) .pre .0) (t .before .before .places-of .result) (t .before .before .places-of .ensures .size)
+    let O = l .loop .inv .0 _ G in
+    let R = reached-same (t .least .inv .1) (t .least .inv .2 _) O in
+    way-least G R (insertion-way G O (s .pre .0 .counts-are) refl (t .before .before .before .places-of .ensures) (l .before .before .before .before .before .before .prepare .ensures) (c .before .before .if2 .taken)) (nodes (s .pre .0))
 
 slice-aggregate-go-on : tie.Need-slice-aggregate-go-on Inv-least μ-least Inv-loop μ-loop
-slice-aggregate-go-on c = let t = c .before .before .before .before .before .before .before .before .before in machines-of (entry (node t) .pre .0) _ (t .before .before .places-of .ensures .size)
+slice-aggregate-go-on c = sym (sizes (c .before .before .before .before .before .before .before .before) .0)
+
+slice-aggregate-go-on-2 : tie.Need-slice-aggregate-go-on-2 Inv-least μ-least Inv-loop μ-loop
+slice-aggregate-go-on-2 c = sym (sizes (c .before .before .before .before .before .before .before .before .before) .1)
+
+array-share-prefix-places-2 : tie.Need-array-share-prefix-places-2 Inv-least μ-least Inv-loop μ-loop
+array-share-prefix-places-2 c = let t = c .before .before .before .before .before .before .before .before .before .before in machines-within (entry (node t) .pre .0) (t .before .before .before .places-of .last .0) (t .before .before .before .places-of .ensures .size)
+
+slice-aggregate-go-on-3 : tie.Need-slice-aggregate-go-on-3 Inv-least μ-least Inv-loop μ-loop
+slice-aggregate-go-on-3 c = let t = c .before .before .before .before .before .before .before .before .before .before .before in machines-of (entry (node t) .pre .0) _ (t .before .before .before .places-of .ensures .size)
 
 go-on-requires : tie.Need-go-on-requires Inv-least μ-least Inv-loop μ-loop
-go-on-requires c κs =
-    let t = c .before .before .before .before .before .before .before .before .before .before in
+go-on-requires c κs = let t = c .before .before .before .before .before .before .before .before .before .before .before .before in
     let l = node t in
     let s = entry l in
     let G = ground-there (s .pre .0) in
-    let R = l .loop .inv .0 _ G in
-    let Y = insertion-way G R (s .pre .0 .counts-are) refl (t .before .before .places-of .ensures) (l .before .before .before .before .prepare .ensures) (c .before .before .before .before .before .before .before .before .if2 .taken) in
-    way-go G R Y (c .before .before .before .before .before .least-tight .ensures) (t .least .inv .0 _ G) (c .before .before .before .if3 .taken) (c .before .before .before .before .before .before .before .before .before .least2 .ensures .0) (t .least .inv .2)
+    let O = l .loop .inv .0 _ G in
+    let R = reached-same (t .least .inv .1) (t .least .inv .2 _) O in
+    let Y = insertion-way G O (s .pre .0 .counts-are) refl (t .before .before .before .places-of .ensures) (l .before .before .before .before .before .before .prepare .ensures) (c .before .before .before .before .before .before .before .before .before .before .if2 .taken) in
+    way-go G R Y (c .before .before .before .before .before .before .before .least-tight .ensures) (t .least .inv .0 _ G _ _ O) (c .before .before .before .before .before .if3 .taken) (c .before .before .before .before .before .before .before .before .before .before .before .least2 .ensures .0)
 
 -- ---- a symbol
 
 add-next : tie.Need-add-next Inv-least μ-least Inv-loop μ-loop
-add-next c =
-    let l = node (c .before .before) in
+add-next c = let l = node (c .before .before) in
     let s = entry l in
     omega (arith, sets-few (s .pre .0), l .loop .inv .0 _ (ground-there (s .pre .0)) .position)
 
 slice-aggregate-fill-at : tie.Need-slice-aggregate-fill-at Inv-least μ-least Inv-loop μ-loop
-slice-aggregate-fill-at c = sym (c .before .before .before .least .inv .1)
+slice-aggregate-fill-at c = sym (c .before .before .before .least .inv .3)
 
 array-share-prefix-states : tie.Need-array-share-prefix-states Inv-least μ-least Inv-loop μ-loop
-array-share-prefix-states c =
-    let l = node (c .before .before .before) in
-    let s = entry l in
-    machines-within (s .pre .0) (l .loop .at .states) (l .loop .inv .0 _ (ground-there (s .pre .0)) .states-size)
+array-share-prefix-states c = let t = c .before .before .before in machines-within (entry (node t) .pre .0) (t .least .states) (sizes t .0)
 
 slice-aggregate-fill-at-2 : tie.Need-slice-aggregate-fill-at-2 Inv-least μ-least Inv-loop μ-loop
-slice-aggregate-fill-at-2 c =
-    let l = node (c .before .before .before .before) in
-    let s = entry l in
-    machines-of (s .pre .0) _ (l .loop .inv .0 _ (ground-there (s .pre .0)) .states-size)
+slice-aggregate-fill-at-2 c = let t = c .before .before .before .before in machines-of (entry (node t) .pre .0) _ (sizes t .0)
 
 fill-at-requires : tie.Need-fill-at-requires Inv-least μ-least Inv-loop μ-loop
-fill-at-requires c κs =
-    let l = node (c .before .before .before .before) in
-    let s = entry l in
-    let G = ground-there (s .pre .0) in
-    hand-pre G (l .loop .inv .0 _ G) (machines-are (s .pre .0)) (c .before .before .before .least2 .ensures .1) (omega (arith, c .before .before .before .before .least .inv .1))
-
-mul-least-tight-2 : tie.Need-mul-least-tight-2 Inv-least μ-least Inv-loop μ-loop
-mul-least-tight-2 c =
-    let t = c .before .before .before .before .before .before in
+fill-at-requires c κs = let t = c .before .before .before .before in
     let l = node t in
     let s = entry l in
     let G = ground-there (s .pre .0) in
-    omega (arith, base-few (s .pre .0) _ (symbol-within G (l .loop .inv .0 _ G) (machines-are (s .pre .0)) (t .least .inv .0 _ G) (c .before .before .before .before .before .least2 .ensures .2) (c .before .before .before .before .if2 .left)))
+    hand-pre G (reached-same (t .least .inv .1) (t .least .inv .2 _) (l .loop .inv .0 _ G)) (machines-are (s .pre .0)) (c .before .before .before .least2 .ensures .1) (omega (arith, t .least .inv .3))
+
+mul-least-tight-2 : tie.Need-mul-least-tight-2 Inv-least μ-least Inv-loop μ-loop
+mul-least-tight-2 c = let t = c .before .before .before .before .before .before in
+    let l = node t in
+    let s = entry l in
+    let G = ground-there (s .pre .0) in
+    let O = l .loop .inv .0 _ G in
+    omega (arith, base-few (s .pre .0) _ (symbol-within G O (machines-are (s .pre .0)) (t .least .inv .0 _ G _ _ O) (c .before .before .before .before .before .least2 .ensures .2) (c .before .before .before .before .if2 .left)))
 
 slice-aggregate-least-tight-2 : tie.Need-slice-aggregate-least-tight-2 Inv-least μ-least Inv-loop μ-loop
-slice-aggregate-least-tight-2 c = sym (c .before .before .fill-at .kept .0 ∙ c .before .before .before .before .before .before .before .least .inv .1)
+slice-aggregate-least-tight-2 c = sym (c .before .before .fill-at .kept .0 ∙ c .before .before .before .before .before .before .before .least .inv .3)
 
 array-share-prefix-hand : tie.Need-array-share-prefix-hand Inv-least μ-least Inv-loop μ-loop
 array-share-prefix-hand c = machines-few (entry (node (c .before .before .before .before .before .before .before)) .pre .0)
@@ -160,146 +184,142 @@ slice-aggregate-least-tight-3 : tie.Need-slice-aggregate-least-tight-3 Inv-least
 slice-aggregate-least-tight-3 c = machines-of (entry (node (c .before .before .before .before .before .before .before .before)) .pre .0) _ refl
 
 least-tight-requires-2 : tie.Need-least-tight-requires-2 Inv-least μ-least Inv-loop μ-loop
-least-tight-requires-2 c κs =
-    let t = c .before .before .before .before .before .before .before .before in
+least-tight-requires-2 c κs = let t = c .before .before .before .before .before .before .before .before in
     let l = node t in
     let s = entry l in
     let G = ground-there (s .pre .0) in
-    let R = l .loop .inv .0 _ G in
-    way-least G R (symbol-way G R (machines-are (s .pre .0)) (omega (arith, c .before .before .before .fill-at .kept .0, t .least .inv .1)) (c .before .before .before .fill-at .ensures) (t .least .inv .0 _ G) (c .before .before .before .before .before .before .before .least2 .ensures .2) (c .before .before .before .before .before .before .if2 .left)) (nodes (s .pre .0))
+    let O = l .loop .inv .0 _ G in
+    let R = reached-same (t .least .inv .1) (t .least .inv .2 _) O in
+    way-least G R (symbol-way G R (machines-are (s .pre .0)) (omega (arith, c .before .before .before .fill-at .kept .0, t .least .inv .3)) (c .before .before .before .fill-at .ensures) (t .least .inv .0 _ G _ _ O) (c .before .before .before .before .before .before .before .least2 .ensures .2) (c .before .before .before .before .before .before .if2 .left)) (nodes (s .pre .0))
 
-slice-aggregate-go-on-2 : tie.Need-slice-aggregate-go-on-2 Inv-least μ-least Inv-loop μ-loop
-slice-aggregate-go-on-2 c = sym (c .before .before .before .before .before .before .before .fill-at .kept .0 ∙ c .before .before .before .before .before .before .before .before .before .before .before .before .least .inv .1)
+slice-aggregate-go-on-4 : tie.Need-slice-aggregate-go-on-4 Inv-least μ-least Inv-loop μ-loop
+slice-aggregate-go-on-4 c = sym (sizes (c .before .before .before .before .before .before .before .before .before .before .before .before) .0)
+
+slice-aggregate-go-on-5 : tie.Need-slice-aggregate-go-on-5 Inv-least μ-least Inv-loop μ-loop
+slice-aggregate-go-on-5 c = sym (sizes (c .before .before .before .before .before .before .before .before .before .before .before .before .before) .1)
+
+slice-aggregate-go-on-6 : tie.Need-slice-aggregate-go-on-6 Inv-least μ-least Inv-loop μ-loop
+slice-aggregate-go-on-6 c = sym (c .before .before .before .before .before .before .before .before .before .fill-at .kept .0 ∙ c .before .before .before .before .before .before .before .before .before .before .before .before .before .before .least .inv .3)
 
 array-share-prefix-hand-2 : tie.Need-array-share-prefix-hand-2 Inv-least μ-least Inv-loop μ-loop
-array-share-prefix-hand-2 c = machines-few (entry (node (c .before .before .before .before .before .before .before .before .before .before .before .before)) .pre .0)
+array-share-prefix-hand-2 c = machines-few (entry (node (c .before .before .before .before .before .before .before .before .before .before .before .before .before .before)) .pre .0)
 
-slice-aggregate-go-on-3 : tie.Need-slice-aggregate-go-on-3 Inv-least μ-least Inv-loop μ-loop
-slice-aggregate-go-on-3 c = machines-of (entry (node (c .before .before .before .before .before .before .before .before .before .before .before .before .before)) .pre .0) _ refl
+slice-aggregate-go-on-7 : tie.Need-slice-aggregate-go-on-7 Inv-least μ-least Inv-loop μ-loop
+slice-aggregate-go-on-7 c = machines-of (entry (node (c .before .before .before .before .before .before .before .before .before .before .before .before .before .before .before)) .pre .0) _ refl
 
 go-on-requires-2 : tie.Need-go-on-requires-2 Inv-least μ-least Inv-loop μ-loop
-go-on-requires-2 c κs =
-    let t = c .before .before .before .before .before .before .before .before .before .before .before .before .before .before in
+go-on-requires-2 c κs = let t = c .before .before .before .before .before .before .before .before .before .before .before .before .before .before .before .before in
     let l = node t in
     let s = entry l in
     let G = ground-there (s .pre .0) in
-    let R = l .loop .inv .0 _ G in
-    let T = t .least .inv .0 _ G in
-    let Y = symbol-way G R (machines-are (s .pre .0)) (omega (arith, c .before .before .before .before .before .before .before .before .before .fill-at .kept .0, t .least .inv .1)) (c .before .before .before .before .before .before .before .before .before .fill-at .ensures) T (c .before .before .before .before .before .before .before .before .before .before .before .before .before .least2 .ensures .2) (c .before .before .before .before .before .before .before .before .before .before .before .before .if2 .left) in
-    way-go G R Y (c .before .before .before .before .before .least-tight2 .ensures) T (c .before .before .before .if4 .taken) (c .before .before .before .before .before .before .before .before .before .before .before .before .before .least2 .ensures .0) (t .least .inv .2)
+    let O = l .loop .inv .0 _ G in
+    let R = reached-same (t .least .inv .1) (t .least .inv .2 _) O in
+    let T = t .least .inv .0 _ G _ _ O in
+    let Y = symbol-way G R (machines-are (s .pre .0)) (omega (arith, c .before .before .before .before .before .before .before .before .before .before .before .fill-at .kept .0, t .least .inv .3)) (c .before .before .before .before .before .before .before .before .before .before .before .fill-at .ensures) T (c .before .before .before .before .before .before .before .before .before .before .before .before .before .before .before .least2 .ensures .2) (c .before .before .before .before .before .before .before .before .before .before .before .before .before .before .if2 .left) in
+    way-go G R Y (c .before .before .before .before .before .before .before .least-tight2 .ensures) T (c .before .before .before .before .before .if4 .taken) (c .before .before .before .before .before .before .before .before .before .before .before .before .before .before .before .least2 .ensures .0)
 
 -- ---- the next input
 
 without-least-requires : tie.Need-without-least-requires Inv-least μ-least Inv-loop μ-loop
-without-least-requires c κs = some-left (c .before .before .least .inv .0 _ (ground-there (entry (node (c .before .before)) .pre .0)))
+without-least-requires c κs = let t = c .before .before in
+    let l = node t in
+    let G = ground-there (entry l .pre .0) in
+    some-left (t .least .inv .0 _ G _ _ (l .loop .inv .0 _ G))
 
 least-less : tie.Need-least-less Inv-least μ-least Inv-loop μ-loop
 least-less c = c .without-least .ensures .0
 
 least-again : tie.Need-least-again Inv-least μ-least Inv-loop μ-loop
-least-again c =
-    let t = c .before .before .before in
+least-again c = let t = c .before .before .before in
     let l = node t in
     let s = entry l in
     let x = c .before .before .least2 .ensures in
     let C = s .pre .0 .counts-are in
     let e = machines-are (s .pre .0) in
     let after : (n : ℕ) → member (c .without-least .result) n ≡ (member (t .least .left) n && not (eqb n (c .before .before .least2 .result))) = λ n. c .without-least .ensures .1 n ∙ ap (λ (i : ℕ). member (t .least .left) n && not (eqb n i)) (sym (x .0)) in (
-      λ L G.
-          let R = l .loop .inv .0 L G in
-          let T = t .least .inv .0 L G in
-          ⊎-elim (λ w. way-none G R (insertion-way G R C refl (t .before .before .places-of .ensures) (l .before .before .before .before .prepare .ensures) (w .0 .taken)) (w .3 .ensures) T (w .5 .left) _ after)
-          (λ w. way-none G R (symbol-way G R e (omega (arith, w .3 .kept .0, t .least .inv .1)) (w .3 .ensures) T (x .2) (w .0 .left)) (w .7 .ensures) T (w .9 .left) _ after)
+      λ L G code before O.
+          let R = reached-same (t .least .inv .1) (t .least .inv .2 code) O in
+          let T = t .least .inv .0 L G code before O in
+          ⊎-elim (λ w. way-none G R (insertion-way G O C refl (t .before .before .before .places-of .ensures) (l .before .before .before .before .before .before .prepare .ensures) (w .0 .taken)) (w .3 .ensures) T (w .5 .left) _ after)
+          (λ w. way-none G R (symbol-way G R e (omega (arith, w .3 .kept .0, t .least .inv .3)) (w .3 .ensures) T (x .2) (w .0 .left)) (w .7 .ensures) T (w .9 .left) _ after)
           (c .before .if2 .came),
-      ⊎-elim (λ w. ap length (w .6) ∙ t .least .inv .1) (λ w. ap length (w .10) ∙ w .3 .kept .0 ∙ t .least .inv .1) (c .before .if2 .came),
+      t .least .inv .1,
       t .least .inv .2,
+      ⊎-elim (λ w. ap length (w .6) ∙ t .least .inv .3) (λ w. ap length (w .10) ∙ w .3 .kept .0 ∙ t .least .inv .3) (c .before .if2 .came),
     )
 
 -- ---- the next node
 
+add-written : tie.Need-add-written Inv-least μ-least Inv-loop μ-loop
+add-written c = let l = node (c .before .before) in
+    let G = ground-there (entry l .pre .0) in
+    omega (arith, pairs-written G (l .loop .inv .0 _ G))
+
 loop-less : tie.Need-loop-less Inv-least μ-least Inv-loop μ-loop
-loop-less c =
-    let t = c .before .before .before .before .before .before .before .before .before .before .before .before .before in
+loop-less c = let t = c .before .before in
     let l = node t in
     let s = entry l in
-    let C = s .pre .0 .counts-are in
-    let x = c .before .before .before .before .before .before .before .before .before .before .before .before .least2 .ensures in
     let G = ground-there (s .pre .0) in
-    let R = l .loop .inv .0 _ G in
-    way-falls G R (insertion-way G R C refl (t .before .before .places-of .ensures) (l .before .before .before .before .prepare .ensures) (c .before .before .before .before .before .before .before .before .before .before .before .if2 .taken)) (c .before .before .before .before .before .before .before .before .least-tight .ensures) (t .least .inv .0 _ G) (c .before .before .before .before .before .before .if3 .taken) (x .0) (t .least .inv .2) (c .before .before .go-on .ensures)
+    let O = l .loop .inv .0 _ G in
+    let R = reached-same (t .least .inv .1) (t .least .inv .2 _) O in
+    let T = t .least .inv .0 _ G _ _ O in
+    let x = c .before .least2 .ensures in
+    let same : t .least .low ≡ l .loop .low = ap (λ (a : At). a .label .low) (t .least .inv .2 0) in
+    ⊎-elim (λ w. omega (arith, w .19, same, way-falls G R (insertion-way G O (s .pre .0 .counts-are) refl (t .before .before .before .places-of .ensures) (l .before .before .before .before .before .before .prepare .ensures) (w .0 .taken)) (w .3 .ensures) T (w .5 .taken)))
+    (λ w. omega (arith, w .23, same, way-falls G R (symbol-way G R (machines-are (s .pre .0)) (omega (arith, w .3 .kept .0, t .least .inv .3)) (w .3 .ensures) T (x .2) (w .0 .left)) (w .7 .ensures) T (w .9 .taken)))
+    (c .if2 .came)
 
 loop-again : tie.Need-loop-again Inv-least μ-least Inv-loop μ-loop
-loop-again c =
-    let t = c .before .before .before .before .before .before .before .before .before .before .before .before .before in
+loop-again c = let t = c .before .before in
     let l = node t in
     let s = entry l in
     let C = s .pre .0 .counts-are in
-    let x = c .before .before .before .before .before .before .before .before .before .before .before .before .least2 .ensures in (
-      λ L G. let R = l .loop .inv .0 L G in way-next G R (insertion-way G R C refl (t .before .before .places-of .ensures) (l .before .before .before .before .prepare .ensures) (c .before .before .before .before .before .before .before .before .before .before .before .if2 .taken)) (c .before .before .before .before .before .before .before .before .least-tight .ensures) (t .least .inv .0 _ G) (c .before .before .before .before .before .before .if3 .taken) (x .0) (t .least .inv .2) (c .before .before .go-on .ensures),
-      t .least .inv .1,
-      ap length (c .before .before .go-on .ensures .written) ∙ simp length-set (ap length (t .least .inv .2) ∙ l .loop .inv .2),
-    )
-
-loop-less-2 : tie.Need-loop-less-2 Inv-least μ-least Inv-loop μ-loop
-loop-less-2 c =
-    let t = c .before .before .before .before .before .before .before .before .before .before .before .before .before .before .before .before .before in
-    let l = node t in
-    let s = entry l in
     let e = machines-are (s .pre .0) in
-    let x = c .before .before .before .before .before .before .before .before .before .before .before .before .before .before .before .before .least2 .ensures in
-    let filled = c .before .before .before .before .before .before .before .before .before .before .before .before .fill-at in
-    let G = ground-there (s .pre .0) in
-    let R = l .loop .inv .0 _ G in
-    way-falls G R (symbol-way G R e (omega (arith, filled .kept .0, t .least .inv .1)) (filled .ensures) (t .least .inv .0 _ G) (x .2) (c .before .before .before .before .before .before .before .before .before .before .before .before .before .before .before .if2 .left)) (c .before .before .before .before .before .before .before .before .least-tight2 .ensures) (t .least .inv .0 _ G) (c .before .before .before .before .before .before .if4 .taken) (x .0) (t .least .inv .2) (c .before .before .go-on2 .ensures)
-
-loop-again-2 : tie.Need-loop-again-2 Inv-least μ-least Inv-loop μ-loop
-loop-again-2 c =
-    let t = c .before .before .before .before .before .before .before .before .before .before .before .before .before .before .before .before .before in
-    let l = node t in
-    let s = entry l in
-    let e = machines-are (s .pre .0) in
-    let x = c .before .before .before .before .before .before .before .before .before .before .before .before .before .before .before .before .least2 .ensures in
-    let filled = c .before .before .before .before .before .before .before .before .before .before .before .before .fill-at in (
-      λ L G. let R = l .loop .inv .0 L G in way-next G R (symbol-way G R e (omega (arith, filled .kept .0, t .least .inv .1)) (filled .ensures) (t .least .inv .0 _ G) (x .2) (c .before .before .before .before .before .before .before .before .before .before .before .before .before .before .before .if2 .left)) (c .before .before .before .before .before .before .before .before .least-tight2 .ensures) (t .least .inv .0 _ G) (c .before .before .before .before .before .before .if4 .taken) (x .0) (t .least .inv .2) (c .before .before .go-on2 .ensures),
-      filled .kept .0 ∙ t .least .inv .1,
-      ap length (c .before .before .go-on2 .ensures .written) ∙ simp length-set (ap length (t .least .inv .2) ∙ l .loop .inv .2),
+    let x = c .before .least2 .ensures in (
+      λ L G.
+          let O = l .loop .inv .0 L G in
+          let R = reached-same (t .least .inv .1) (t .least .inv .2 _) O in
+          let T = t .least .inv .0 L G _ _ O in
+          ⊎-elim
+          (λ w. reached-same (w .16) (λ i. nodeOf (w .23 i) (w .17 i) (w .21 i) (w .18 i) (w .19 i) (l .loop .written + 1) (w .22 i)) (way-next G R (insertion-way G O C refl (t .before .before .before .places-of .ensures) (l .before .before .before .before .before .before .prepare .ensures) (w .0 .taken)) (w .3 .ensures) T (w .5 .taken) (x .0) (w .11 .ensures)))
+          (λ w. reached-same (w .20) (λ i. nodeOf (w .27 i) (w .21 i) (w .25 i) (w .22 i) (w .23 i) (l .loop .written + 1) (w .26 i)) (way-next G R (symbol-way G R e (omega (arith, w .3 .kept .0, t .least .inv .3)) (w .3 .ensures) T (x .2) (w .0 .left)) (w .7 .ensures) T (w .9 .taken) (x .0) (w .15 .ensures)))
+          (c .if2 .came),
+      ⊎-elim (λ w. ap length (w .20) ∙ t .least .inv .3) (λ w. ap length (w .24) ∙ w .3 .kept .0 ∙ t .least .inv .3) (c .if2 .came),
+      ⊎-elim (λ w. ap length (w .16) ∙ ap length (w .11 .ensures .bytes) ∙ simp length-set (ap length (t .least .inv .1) ∙ l .loop .inv .2)) (λ w. ap length (w .20) ∙ ap length (w .15 .ensures .bytes) ∙ simp length-set (ap length (t .least .inv .1) ∙ l .loop .inv .2)) (c .if2 .came),
     )
 
 -- ---- the end
 
 array-share-prefix-states-2 : tie.Need-array-share-prefix-states-2 Inv-least μ-least Inv-loop μ-loop
-array-share-prefix-states-2 c =
-    let l = c .before .before .before .before .before in
+array-share-prefix-states-2 c = let l = c .before in
     let s = entry l in
-    machines-within (s .pre .0) (l .loop .at .states) (l .loop .inv .0 _ (ground-there (s .pre .0)) .states-size)
+    machines-within (s .pre .0) (l .loop .states) (l .loop .inv .0 _ (ground-there (s .pre .0)) .states-size)
 
 slice-aggregate-with-ending : tie.Need-slice-aggregate-with-ending Inv-least μ-least Inv-loop μ-loop
-slice-aggregate-with-ending c =
-    let l = c .before .before .before .before .before .before in
+slice-aggregate-with-ending c = let l = c .before .before in
     let s = entry l in
     machines-of (s .pre .0) _ (l .loop .inv .0 _ (ground-there (s .pre .0)) .states-size)
 
 with-ending-requires : tie.Need-with-ending-requires Inv-least μ-least Inv-loop μ-loop
-with-ending-requires c κs =
-    let l = c .before .before .before .before .before .before in
+with-ending-requires c κs = let l = c .before .before in
     let s = entry l in
     let G = ground-there (s .pre .0) in
     let R = l .loop .inv .0 _ G in
     ends-pre G R (machines-are (s .pre .0)) (states-count G R (machines-are (s .pre .0)))
 
 same-length : tie.Need-same-length Inv-least μ-least Inv-loop μ-loop
-same-length c = c .before .before .before .before .before .before .before .before .before .before .before .prepare .kept .0
+same-length c = c .before .before .before .before .before .before .before .before .before .prepare .kept .0
 
 same-length-2 : tie.Need-same-length-2 Inv-least μ-least Inv-loop μ-loop
-same-length-2 c = c .before .before .before .before .before .before .before .loop .inv .2
+same-length-2 c = c .before .before .before .loop .inv .2
 
 returns : tie.Need-returns Inv-least μ-least Inv-loop μ-loop
 returns c = λ L K.
-    let l = c .before .before .before .before .before .before .before in
+    let l = c .before .before .before in
     let s = entry l in
     let G = ground (s .pre .0) K in
     let R = l .loop .inv .0 L G in
-    walked-end G R (c .before .before .before .before .if1 .taken) _ refl _ (states-are G R (machines-are (s .pre .0))) (c .with-ending .ensures)
+    walked-end G R (c .before .before .if1 .taken) _ refl _ (states-are G R (machines-are (s .pre .0))) (c .with-ending .ensures)
 
 pub walk-by-spec : {M : Type 1} → statement M
 walk-by-spec =
@@ -312,7 +332,11 @@ walk-by-spec =
     width-of-requires
     prepare-requires
     start-requires
+    start-node-requires
+    label-at-requires
     loop-holds
+    slice-aggregate-places-of
+    slice-aggregate-places-of-2
     places-of-requires
     inputs-at-requires
     least-holds
@@ -322,8 +346,10 @@ walk-by-spec =
     array-share-prefix-places
     slice-aggregate-least-tight
     least-tight-requires
-    array-share-prefix-places-2
     slice-aggregate-go-on
+    slice-aggregate-go-on-2
+    array-share-prefix-places-2
+    slice-aggregate-go-on-3
     go-on-requires
     add-next
     slice-aggregate-fill-at
@@ -335,17 +361,18 @@ walk-by-spec =
     array-share-prefix-hand
     slice-aggregate-least-tight-3
     least-tight-requires-2
-    slice-aggregate-go-on-2
+    slice-aggregate-go-on-4
+    slice-aggregate-go-on-5
+    slice-aggregate-go-on-6
     array-share-prefix-hand-2
-    slice-aggregate-go-on-3
+    slice-aggregate-go-on-7
     go-on-requires-2
     without-least-requires
     least-less
     least-again
+    add-written
     loop-less
     loop-again
-    loop-less-2
-    loop-again-2
     array-share-prefix-states-2
     slice-aggregate-with-ending
     with-ending-requires

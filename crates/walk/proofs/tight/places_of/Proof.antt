@@ -1,76 +1,60 @@
+-- `walk::tight::places_of`: the loop's invariant is `PlacedTo`. Assumes nothing.
+use mathlib.Core.Path.{sym, _∙_}
+use Prim.Native.Nat.{_-_}
 use borrow.Author.Needs.{needs}
-use mathlib.Core.Path.{_≡_}
 use native.Mathlib.Omega.{arith}
-use Prim.Native.Nat.{_+_}
-use Rattle.walk.proofs.Placing.{startOf, start-first, start-second, start-next, place-few, place-of, placed}
+use lib.ListN.{length}
+use Rattle.walk.proofs.Placing.{PlacedTo, placed-start, in-six, next-few, place-few, placed-next, placed-end}
 use Rattle.walk.proofs.tight.places_of.Statement.{statement}
 use Rattle.walk.proofs.tight.places_of.Tie as tie
 
-abbrev entry : tie.After-count-at5 → tie.Start
-entry c = c .before .before .before .before .before .before
+abbrev Inv-loop : tie.InvT-loop
+Inv-loop places₀ states counts first₀ m₀ places first m = PlacedTo counts states places first m
 
--- where the places of each machine start
-start1 : (c : tie.After-count-at5) → c .before .before .before .before .count-at .result ≡ startOf (entry c .args .counts .now) 1
-start1 c = start-second _ (c .before .before .before .before .count-at .ensures .0)
+abbrev μ-loop : tie.MeasureT-loop
+μ-loop places₀ states counts first₀ m₀ places first m = length counts - m
 
-start2 : (c : tie.After-count-at5) → c .before .before .before .before .count-at .result + c .before .before .before .count-at2 .result ≡ startOf (entry c .args .counts .now) 2
-start2 c = start-next _ 1 (start1 c) (c .before .before .before .count-at2 .ensures .0)
+loop-holds : tie.Need-loop-holds Inv-loop μ-loop
+loop-holds c = placed-start (c .pre)
 
-start3 : (c : tie.After-count-at5) → c .before .before .before .before .count-at .result + c .before .before .before .count-at2 .result + c .before .before .count-at3 .result ≡ startOf (entry c .args .counts .now) 3
-start3 c = start-next _ 2 (start2 c) (c .before .before .count-at3 .ensures .0)
+shared-slice-read-places : tie.Need-shared-slice-read-places Inv-loop μ-loop
+shared-slice-read-places c = let k = c .before in omega (arith, in-six (k .before .before .pre) (k .before .loop .inv) (k .loop-test .taken), k .before .before .pre .size)
 
-start4 : (c : tie.After-count-at5) → c .before .before .before .before .count-at .result + c .before .before .before .count-at2 .result + c .before .before .count-at3 .result + c .before .count-at4 .result ≡ startOf (entry c .args .counts .now) 4
-start4 c = start-next _ 3 (start3 c) (c .before .count-at4 .ensures .0)
+add-places : tie.Need-add-places Inv-loop μ-loop
+add-places c = let k = c .before in omega (arith, place-few (k .before .before .pre) (k .before .loop .inv) (k .loop-test .taken))
 
-start5 : (c : tie.After-count-at5) → c .before .before .before .before .count-at .result + c .before .before .before .count-at2 .result + c .before .before .count-at3 .result + c .before .count-at4 .result + c .count-at5 .result ≡ startOf (entry c .args .counts .now) 5
-start5 c = start-next _ 4 (start4 c) (c .count-at5 .ensures .0)
+slice-write-places : tie.Need-slice-write-places Inv-loop μ-loop
+slice-write-places c = let k = c .before in omega (arith, in-six (k .before .before .pre) (k .before .loop .inv) (k .loop-test .taken), k .before .loop .inv .size)
 
-place-at-requires : tie.Need-place-at-requires
-place-at-requires c κs = let k = c in (omega arith, place-few (entry k .pre) 0 _ (start-first _))
+shared-slice-read-first : tie.Need-shared-slice-read-first Inv-loop μ-loop
+shared-slice-read-first c = c .before .before .loop-test .taken
 
-place-at-requires-2 : tie.Need-place-at-requires-2
-place-at-requires-2 c κs = let k = c .before in (omega arith, place-few (entry k .pre) 1 _ (start1 k))
+add-first : tie.Need-add-first Inv-loop μ-loop
+add-first c = let k = c .before .before in omega (arith, next-few (k .before .before .pre) (k .before .loop .inv) (k .loop-test .taken))
 
-place-at-requires-3 : tie.Need-place-at-requires-3
-place-at-requires-3 c κs = let k = c .before .before in (omega arith, place-few (entry k .pre) 2 _ (start2 k))
+loop-again : tie.Need-loop-again Inv-loop μ-loop
+loop-again c = let k = c .before .before in placed-next (k .before .before .pre) (k .before .loop .inv) (k .loop-test .taken)
 
-place-at-requires-4 : tie.Need-place-at-requires-4
-place-at-requires-4 c κs = let k = c .before .before .before in (omega arith, place-few (entry k .pre) 3 _ (start3 k))
+same-length : tie.Need-same-length Inv-loop μ-loop
+same-length c = c .before .loop .inv .size ∙ sym (c .before .before .pre .room)
 
-place-at-requires-5 : tie.Need-place-at-requires-5
-place-at-requires-5 c κs = let k = c .before .before .before .before in (omega arith, place-few (entry k .pre) 4 _ (start4 k))
-
-place-at-requires-6 : tie.Need-place-at-requires-6
-place-at-requires-6 c κs = let k = c .before .before .before .before .before in (omega arith, place-few (entry k .pre) 5 _ (start5 k))
-
-returns : tie.Need-returns
-returns c =
-    let k = c .before .before .before .before .before .before in
-    placed (entry k .pre) _ _ _ _ _ _
-    (place-of (entry k .pre) 0 _ _ (start-first _) (c .before .before .before .before .before .place-at .ensures))
-    (place-of (entry k .pre) 1 _ _ (start1 k) (c .before .before .before .before .place-at2 .ensures))
-    (place-of (entry k .pre) 2 _ _ (start2 k) (c .before .before .before .place-at3 .ensures))
-    (place-of (entry k .pre) 3 _ _ (start3 k) (c .before .before .place-at4 .ensures))
-    (place-of (entry k .pre) 4 _ _ (start4 k) (c .before .place-at5 .ensures))
-    (place-of (entry k .pre) 5 _ _ (start5 k) (c .place-at6 .ensures))
+returns : tie.Need-returns Inv-loop μ-loop
+returns c = placed-end (c .before .before .pre) (c .before .loop .inv) (omega (arith, c .loop-test .left))
 
 pub places-of-spec : {M : Type 1} → statement M
 places-of-spec =
     tie.close
     (tie.spec
-    (λ c κs. search needs)
-    (λ c κs. search needs)
+    Inv-loop
+    μ-loop
+    loop-holds
+    shared-slice-read-places
+    add-places
+    slice-write-places
+    shared-slice-read-first
+    add-first
     (λ c. search needs)
-    (λ c κs. search needs)
     (λ c. search needs)
-    (λ c κs. search needs)
-    (λ c. search needs)
-    (λ c κs. search needs)
-    (λ c. search needs)
-    place-at-requires
-    place-at-requires-2
-    place-at-requires-3
-    place-at-requires-4
-    place-at-requires-5
-    place-at-requires-6
+    loop-again
+    same-length
     returns)
