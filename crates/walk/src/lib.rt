@@ -155,6 +155,7 @@ fn walk_by(
                     code = least.code;
                     high = least.high;
                     low = least.low;
+                    written += 1;
                     break 'least position;
                 }
             } else {
@@ -186,12 +187,12 @@ fn walk_by(
                     code = least.code;
                     high = least.high;
                     low = least.low;
+                    written += 1;
                     break 'least next;
                 }
             }
             left = sets::without_least(left);
         };
-        written += 1;
     };
     let passed = Profile { counts: marks };
     let profile = with_ending(passed, card, &states[..machines]);

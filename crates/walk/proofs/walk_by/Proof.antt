@@ -22,15 +22,15 @@ use Rattle.walk.proofs.walk_by.Statement.{statement}
 use Rattle.walk.proofs.walk_by.Tie as tie
 
 abbrev Inv-least : tie.InvT-least
-Inv-least ranked sums card counts weights sets size insertions answer₀ machines width kept hand state high₀ low₀ steps₀ states₀ marks₀ position written places left₀ answer high low steps states marks left =
-    ((L : Labels (rankedCosts 1)) → Ground ranked sums card weights sets size L → (code : ℕ) (before : List ℕ) → Reached card weights sets before answer₀ size L (nodeOf position code states₀ high₀ low₀ written marks₀)
+Inv-least ranked sums card counts weights sets size insertions answer₀ machines width kept hand state high₀ low₀ steps₀ states₀ marks₀ position written₀ places left₀ answer high low steps states marks written left =
+    ((L : Labels (rankedCosts 1)) → Ground ranked sums card weights sets size L → (code : ℕ) (before : List ℕ) → Reached card weights sets before answer₀ size L (nodeOf position code states₀ high₀ low₀ written₀ marks₀)
     → Finding sets (Tight (cellGraph weights card sets) L (position * size + code)) position left)
     × (answer ≡ answer₀)
-    × ((code : ℕ) → nodeOf position code states high low written marks ≡ nodeOf position code states₀ high₀ low₀ written marks₀)
+    × ((code : ℕ) → nodeOf position code states high low written marks ≡ nodeOf position code states₀ high₀ low₀ written₀ marks₀)
     × (length steps ≡ 390)
 
 abbrev μ-least : tie.MeasureT-least
-μ-least ranked sums card counts weights sets size insertions answer₀ machines width kept hand state high₀ low₀ steps₀ states₀ marks₀ position written places left₀ answer high low steps states marks left =
+μ-least ranked sums card counts weights sets size insertions answer₀ machines width kept hand state high₀ low₀ steps₀ states₀ marks₀ position written₀ places left₀ answer high low steps states marks written left =
     left
 
 abbrev Inv-loop : tie.InvT-loop
@@ -143,6 +143,13 @@ go-on-requires c κs = let t = c .before .before .before .before .before .before
     let Y = insertion-way G O (s .pre .0 .counts-are) refl (t .before .before .before .places-of .ensures) (l .before .before .before .before .before .before .prepare .ensures) (c .before .before .before .before .before .before .before .before .before .before .if2 .taken) in
     way-go G R Y (c .before .before .before .before .before .before .before .least-tight .ensures) (t .least .inv .0 _ G _ _ O) (c .before .before .before .before .before .if3 .taken) (c .before .before .before .before .before .before .before .before .before .before .before .least2 .ensures .0)
 
+add-written : tie.Need-add-written Inv-least μ-least Inv-loop μ-loop
+add-written c =
+    let t = c .before .before .before .before .before .before .before .before .before .before .before .before .before .before .before .before .before in
+    let l = node t in
+    let G = ground-there (entry l .pre .0) in
+    omega (arith, pairs-written G (reached-same (t .least .inv .1) (t .least .inv .2 _) (l .loop .inv .0 _ G)))
+
 -- ---- a symbol
 
 add-next : tie.Need-add-next Inv-least μ-least Inv-loop μ-loop
@@ -218,6 +225,13 @@ go-on-requires-2 c κs = let t = c .before .before .before .before .before .befo
     let Y = symbol-way G R (machines-are (s .pre .0)) (omega (arith, c .before .before .before .before .before .before .before .before .before .before .before .fill-at .kept .0, t .least .inv .3)) (c .before .before .before .before .before .before .before .before .before .before .before .fill-at .ensures) T (c .before .before .before .before .before .before .before .before .before .before .before .before .before .before .before .least2 .ensures .2) (c .before .before .before .before .before .before .before .before .before .before .before .before .before .before .if2 .left) in
     way-go G R Y (c .before .before .before .before .before .before .before .least-tight2 .ensures) T (c .before .before .before .before .before .if4 .taken) (c .before .before .before .before .before .before .before .before .before .before .before .before .before .before .before .least2 .ensures .0)
 
+add-written-2 : tie.Need-add-written-2 Inv-least μ-least Inv-loop μ-loop
+add-written-2 c =
+    let t = c .before .before .before .before .before .before .before .before .before .before .before .before .before .before .before .before .before .before .before .before .before in
+    let l = node t in
+    let G = ground-there (entry l .pre .0) in
+    omega (arith, pairs-written G (reached-same (t .least .inv .1) (t .least .inv .2 _) (l .loop .inv .0 _ G)))
+
 -- ---- the next input
 
 without-least-requires : tie.Need-without-least-requires Inv-least μ-least Inv-loop μ-loop
@@ -250,42 +264,58 @@ least-again c = let t = c .before .before .before in
 
 -- ---- the next node
 
-add-written : tie.Need-add-written Inv-least μ-least Inv-loop μ-loop
-add-written c = let l = node (c .before .before) in
-    let G = ground-there (entry l .pre .0) in
-    omega (arith, pairs-written G (l .loop .inv .0 _ G))
-
 loop-less : tie.Need-loop-less Inv-least μ-least Inv-loop μ-loop
-loop-less c = let t = c .before .before in
+loop-less c =
+    let t = c .before .before .before .before .before .before .before .before .before .before .before .before .before .before .before .before .before in
     let l = node t in
     let s = entry l in
     let G = ground-there (s .pre .0) in
     let O = l .loop .inv .0 _ G in
     let R = reached-same (t .least .inv .1) (t .least .inv .2 _) O in
     let T = t .least .inv .0 _ G _ _ O in
-    let x = c .before .least2 .ensures in
     let same : t .least .low ≡ l .loop .low = ap (λ (a : At). a .label .low) (t .least .inv .2 0) in
-    ⊎-elim (λ w. omega (arith, w .19, same, way-falls G R (insertion-way G O (s .pre .0 .counts-are) refl (t .before .before .before .places-of .ensures) (l .before .before .before .before .before .before .prepare .ensures) (w .0 .taken)) (w .3 .ensures) T (w .5 .taken)))
-    (λ w. omega (arith, w .23, same, way-falls G R (symbol-way G R (machines-are (s .pre .0)) (omega (arith, w .3 .kept .0, t .least .inv .3)) (w .3 .ensures) T (x .2) (w .0 .left)) (w .7 .ensures) T (w .9 .taken)))
-    (c .if2 .came)
+    omega (arith, same, way-falls G R (insertion-way G O (s .pre .0 .counts-are) refl (t .before .before .before .places-of .ensures) (l .before .before .before .before .before .before .prepare .ensures) (c .before .before .before .before .before .before .before .before .before .before .before .before .before .before .before .if2 .taken)) (c .before .before .before .before .before .before .before .before .before .before .before .before .least-tight .ensures) T (c .before .before .before .before .before .before .before .before .before .before .if3 .taken))
 
 loop-again : tie.Need-loop-again Inv-least μ-least Inv-loop μ-loop
-loop-again c = let t = c .before .before in
+loop-again c =
+    let t = c .before .before .before .before .before .before .before .before .before .before .before .before .before .before .before .before .before in
     let l = node t in
-    let s = entry l in
-    let C = s .pre .0 .counts-are in
-    let e = machines-are (s .pre .0) in
-    let x = c .before .least2 .ensures in (
+    let s = entry l in (
       λ L G.
           let O = l .loop .inv .0 L G in
           let R = reached-same (t .least .inv .1) (t .least .inv .2 _) O in
           let T = t .least .inv .0 L G _ _ O in
-          ⊎-elim
-          (λ w. reached-same (w .16) (λ i. nodeOf (w .23 i) (w .17 i) (w .21 i) (w .18 i) (w .19 i) (l .loop .written + 1) (w .22 i)) (way-next G R (insertion-way G O C refl (t .before .before .before .places-of .ensures) (l .before .before .before .before .before .before .prepare .ensures) (w .0 .taken)) (w .3 .ensures) T (w .5 .taken) (x .0) (w .11 .ensures)))
-          (λ w. reached-same (w .20) (λ i. nodeOf (w .27 i) (w .21 i) (w .25 i) (w .22 i) (w .23 i) (l .loop .written + 1) (w .26 i)) (way-next G R (symbol-way G R e (omega (arith, w .3 .kept .0, t .least .inv .3)) (w .3 .ensures) T (x .2) (w .0 .left)) (w .7 .ensures) T (w .9 .taken) (x .0) (w .15 .ensures)))
-          (c .if2 .came),
-      ⊎-elim (λ w. ap length (w .20) ∙ t .least .inv .3) (λ w. ap length (w .24) ∙ w .3 .kept .0 ∙ t .least .inv .3) (c .if2 .came),
-      ⊎-elim (λ w. ap length (w .16) ∙ ap length (w .11 .ensures .bytes) ∙ simp length-set (ap length (t .least .inv .1) ∙ l .loop .inv .2)) (λ w. ap length (w .20) ∙ ap length (w .15 .ensures .bytes) ∙ simp length-set (ap length (t .least .inv .1) ∙ l .loop .inv .2)) (c .if2 .came),
+          way-next G R (insertion-way G O (s .pre .0 .counts-are) refl (t .before .before .before .places-of .ensures) (l .before .before .before .before .before .before .prepare .ensures) (c .before .before .before .before .before .before .before .before .before .before .before .before .before .before .before .if2 .taken)) (c .before .before .before .before .before .before .before .before .before .before .before .before .least-tight .ensures) T (c .before .before .before .before .before .before .before .before .before .before .if3 .taken) (c .before .before .before .before .before .before .before .before .before .before .before .before .before .before .before .before .least2 .ensures .0) (c .before .before .before .before .go-on .ensures),
+      t .least .inv .3,
+      ap length (c .before .before .before .before .go-on .ensures .bytes) ∙ simp length-set (ap length (t .least .inv .1) ∙ l .loop .inv .2),
+    )
+
+loop-less-2 : tie.Need-loop-less-2 Inv-least μ-least Inv-loop μ-loop
+loop-less-2 c =
+    let t = c .before .before .before .before .before .before .before .before .before .before .before .before .before .before .before .before .before .before .before .before .before in
+    let l = node t in
+    let s = entry l in
+    let filled = c .before .before .before .before .before .before .before .before .before .before .before .before .before .before .before .before .fill-at in
+    let G = ground-there (s .pre .0) in
+    let O = l .loop .inv .0 _ G in
+    let R = reached-same (t .least .inv .1) (t .least .inv .2 _) O in
+    let T = t .least .inv .0 _ G _ _ O in
+    let same : t .least .low ≡ l .loop .low = ap (λ (a : At). a .label .low) (t .least .inv .2 0) in
+    omega (arith, same, way-falls G R (symbol-way G R (machines-are (s .pre .0)) (omega (arith, filled .kept .0, t .least .inv .3)) (filled .ensures) T (c .before .before .before .before .before .before .before .before .before .before .before .before .before .before .before .before .before .before .before .before .least2 .ensures .2) (c .before .before .before .before .before .before .before .before .before .before .before .before .before .before .before .before .before .before .before .if2 .left)) (c .before .before .before .before .before .before .before .before .before .before .before .before .least-tight2 .ensures) T (c .before .before .before .before .before .before .before .before .before .before .if4 .taken))
+
+loop-again-2 : tie.Need-loop-again-2 Inv-least μ-least Inv-loop μ-loop
+loop-again-2 c =
+    let t = c .before .before .before .before .before .before .before .before .before .before .before .before .before .before .before .before .before .before .before .before .before in
+    let l = node t in
+    let s = entry l in
+    let filled = c .before .before .before .before .before .before .before .before .before .before .before .before .before .before .before .before .fill-at in (
+      λ L G.
+          let O = l .loop .inv .0 L G in
+          let R = reached-same (t .least .inv .1) (t .least .inv .2 _) O in
+          let T = t .least .inv .0 L G _ _ O in
+          way-next G R (symbol-way G R (machines-are (s .pre .0)) (omega (arith, filled .kept .0, t .least .inv .3)) (filled .ensures) T (c .before .before .before .before .before .before .before .before .before .before .before .before .before .before .before .before .before .before .before .before .least2 .ensures .2) (c .before .before .before .before .before .before .before .before .before .before .before .before .before .before .before .before .before .before .before .if2 .left)) (c .before .before .before .before .before .before .before .before .before .before .before .before .least-tight2 .ensures) T (c .before .before .before .before .before .before .before .before .before .before .if4 .taken) (c .before .before .before .before .before .before .before .before .before .before .before .before .before .before .before .before .before .before .before .before .least2 .ensures .0) (c .before .before .before .before .go-on2 .ensures),
+      filled .kept .0 ∙ t .least .inv .3,
+      ap length (c .before .before .before .before .go-on2 .ensures .bytes) ∙ simp length-set (ap length (t .least .inv .1) ∙ l .loop .inv .2),
     )
 
 -- ---- the end
@@ -351,6 +381,7 @@ walk-by-spec =
     array-share-prefix-places-2
     slice-aggregate-go-on-3
     go-on-requires
+    add-written
     add-next
     slice-aggregate-fill-at
     array-share-prefix-states
@@ -367,12 +398,14 @@ walk-by-spec =
     array-share-prefix-hand-2
     slice-aggregate-go-on-7
     go-on-requires-2
+    add-written-2
     without-least-requires
     least-less
     least-again
-    add-written
     loop-less
     loop-again
+    loop-less-2
+    loop-again-2
     array-share-prefix-states-2
     slice-aggregate-with-ending
     with-ending-requires
