@@ -177,7 +177,7 @@ module _ {ranked sums card ws sets : List ℕ} {size : ℕ} {L : Labels (rankedC
     pub states-count : length (take n (at .states)) ≡ length (machinesOf card)
     states-count = ap length states-are ∙ states-length (stateCounts (machinesOf card)) (at .code) ∙ counts-length (machinesOf card)
 
-    pub hand-pre : {x : ℕ} {steps : List ℕ} → x < 64 → 390 ≤ length steps → AtHandPre card (take n (at .states)) steps x
+    pub hand-pre : {x : ℕ} {steps : List ℕ} → x < 64 → length steps ≡ 390 → AtHandPre card (take n (at .states)) steps x
     hand-pre h room = record {
       accepted = G .labelled .setting .accepted;
       size = states-count;
@@ -190,7 +190,7 @@ module _ {ranked sums card ws sets : List ℕ} {size : ℕ} {L : Labels (rankedC
     pub symbol-within : {left : ℕ} → Finding sets (Tight (cellGraph ws card sets) L (at .position * size + at .code)) (at .position) left → {x : ℕ} → member left x ≡ true → x ≢ emptySymbol → at .position + 1 ≤ length sets
     symbol-within T {x} m symbol = omega (arith, member-within sets (at .position) x (T .inside x m symbol))
 
-    pub symbol-way : {x outputs : ℕ} {steps : List ℕ} → 390 ≤ length steps → FilledAtHand (machinesOf card) (take n (at .states)) x steps outputs → {left : ℕ} → Finding sets (Tight (cellGraph ws card sets) L (at .position * size + at .code)) (at .position) left → member left x ≡ true → x ≢ emptySymbol
+    pub symbol-way : {x outputs : ℕ} {steps : List ℕ} → length steps ≡ 390 → FilledAtHand (machinesOf card) (take n (at .states)) x steps outputs → {left : ℕ} → Finding sets (Tight (cellGraph ws card sets) L (at .position * size + at .code)) (at .position) left → member left x ≡ true → x ≢ emptySymbol
         → Way card ws sets size (at .position) (at .code) x (at .position + 1) n steps (take n hand) outputs
     symbol-way {x} {outputs} {steps} room F T m symbol = record {
       holds = subst (λ (k : ℕ). HoldsAt (machinesOf card) (at .code) x k steps (take k hand) outputs) (sym e) (filled-holds M (at .code) states-are (omega (arith, M .machines)) F);

@@ -1,14 +1,15 @@
 -- `walk::walk_by`: the outer loop's invariant is `Reached`, the inner one's `Finding` and that the node stays, for all labels that are in the slices. The
 -- inner loop does not read the code, so its invariant is for every code. Assumes nothing.
-use mathlib.Core.Path.{_≡_, refl, sym, _∙_, ap}
-use mathlib.Core.Logic.{⊎-elim}
-use mathlib.Core.Bool.{_&&_, not}
+use mathlib.Core.Path.{_≡_, refl, sym, _∙_, ap, subst}
+use mathlib.Core.Logic.{⊎-elim, _≢_}
+use mathlib.Core.Bool.{true, _&&_, not}
 use mathlib.Core.List.{List}
-use Prim.Native.Nat.{ℕ, _+_, _*_}
+use Prim.Native.Nat.{ℕ, _+_, _*_, _<_, _≤_}
 use native.Mathlib.Omega.{arith}
 use lib.Dec.{eqb}
 use lib.ListN.{length, length-set}
 use Rattle.basics.specs.Sets.{member}
+use Rattle.machine.specs.Symbols.{emptySymbol}
 use Rattle.paths.specs.Costs.{Labels}
 use Rattle.paths.specs.Ranked.{rankedCosts}
 use Rattle.paths.specs.Walk.{Tight}
@@ -48,12 +49,26 @@ entry c = c .before .before .before .before .before .before .before .before .bef
 abbrev node : tie.At-least Inv-least μ-least Inv-loop μ-loop → tie.At-loop Inv-least μ-least Inv-loop μ-loop
 node c = c .before .before .before .before .before .before .before
 
--- in the inner loop states and marks are six numbers
-sizes : (t : tie.At-least Inv-least μ-least Inv-loop μ-loop) → (length (t .least .states) ≡ 6) × (length (t .least .marks) ≡ 6)
+-- the node of the outer loop, and that of the inner one
+position-within : (l : tie.At-loop Inv-least μ-least Inv-loop μ-loop) → l .loop .position ≤ length (entry l .args .sets .now)
+position-within l = l .loop .inv .0 _ (ground-there (entry l .pre .0)) .position
+
+base-fits : (l : tie.At-loop Inv-least μ-least Inv-loop μ-loop) (i : ℕ) → i ≤ length (entry l .args .sets .now) → i * entry l .args .size ≤ 3200
+base-fits l i h = base-few (entry l .pre .0) i h
+
+next-within : (t : tie.At-least Inv-least μ-least Inv-loop μ-loop) (x : ℕ) → member (t .least .left) x ≡ true → x ≢ emptySymbol → node t .loop .position + 1 ≤ length (entry (node t) .args .sets .now)
+next-within t x m symbol =
+    let l = node t in
+    let G = ground-there (entry l .pre .0) in
+    let O = l .loop .inv .0 _ G in
+    symbol-within G O (machines-are (entry l .pre .0)) (t .least .inv .0 _ G _ _ O) m symbol
+
+sizes : (t : tie.At-least Inv-least μ-least Inv-loop μ-loop) → (length (t .least .states) ≡ 6) × (length (t .least .marks) ≡ 6) × (t .least .written < 3200)
 sizes t =
     let l = node t in
-    let R = reached-same (t .least .inv .1) (t .least .inv .2 _) (l .loop .inv .0 _ (ground-there (entry l .pre .0))) in
-    (R .states-size, R .passed-size)
+    let G = ground-there (entry l .pre .0) in
+    let R = reached-same (t .least .inv .1) (t .least .inv .2 _) (l .loop .inv .0 _ G) in
+    (R .states-size, R .passed-size, pairs-written G R)
 
 width-of-requires : tie.Need-width-of-requires Inv-least μ-least Inv-loop μ-loop
 width-of-requires c κs = counts-ok (c .before .before .before .before .before .before .before .before .pre .0)
@@ -102,9 +117,7 @@ cast-input c = omega (arith, c .least2 .ensures .1)
 -- ---- an insertion
 
 mul-least-tight : tie.Need-mul-least-tight Inv-least μ-least Inv-loop μ-loop
-mul-least-tight c = let l = node (c .before .before) in
-    let s = entry l in
-    omega (arith, base-few (s .pre .0) _ (l .loop .inv .0 _ (ground-there (s .pre .0)) .position))
+mul-least-tight c = let l = node (c .before .before) in omega (arith, base-fits l _ (position-within l))
 
 array-share-prefix-places : tie.Need-array-share-prefix-places Inv-least μ-least Inv-loop μ-loop
 array-share-prefix-places c = let t = c .before .before .before in machines-within (entry (node t) .pre .0) (t .before .before .before .places-of .last .0) (t .before .before .before .places-of .ensures .size)
@@ -144,18 +157,12 @@ go-on-requires c κs = let t = c .before .before .before .before .before .before
     way-go G R Y (c .before .before .before .before .before .before .before .least-tight .ensures) (t .least .inv .0 _ G _ _ O) (c .before .before .before .before .before .if3 .taken) (c .before .before .before .before .before .before .before .before .before .before .before .least2 .ensures .0)
 
 add-written : tie.Need-add-written Inv-least μ-least Inv-loop μ-loop
-add-written c =
-    let t = c .before .before .before .before .before .before .before .before .before .before .before .before .before .before .before .before .before in
-    let l = node t in
-    let G = ground-there (entry l .pre .0) in
-    omega (arith, pairs-written G (reached-same (t .least .inv .1) (t .least .inv .2 _) (l .loop .inv .0 _ G)))
+add-written c = omega (arith, sizes (c .before .before .before .before .before .before .before .before .before .before .before .before .before .before .before .before .before) .2)
 
 -- ---- a symbol
 
 add-next : tie.Need-add-next Inv-least μ-least Inv-loop μ-loop
-add-next c = let l = node (c .before .before) in
-    let s = entry l in
-    omega (arith, sets-few (s .pre .0), l .loop .inv .0 _ (ground-there (s .pre .0)) .position)
+add-next c = let l = node (c .before .before) in omega (arith, sets-few (entry l .pre .0), position-within l)
 
 slice-aggregate-fill-at : tie.Need-slice-aggregate-fill-at Inv-least μ-least Inv-loop μ-loop
 slice-aggregate-fill-at c = sym (c .before .before .before .least .inv .3)
@@ -171,15 +178,10 @@ fill-at-requires c κs = let t = c .before .before .before .before in
     let l = node t in
     let s = entry l in
     let G = ground-there (s .pre .0) in
-    hand-pre G (reached-same (t .least .inv .1) (t .least .inv .2 _) (l .loop .inv .0 _ G)) (machines-are (s .pre .0)) (c .before .before .before .least2 .ensures .1) (omega (arith, t .least .inv .3))
+    hand-pre G (reached-same (t .least .inv .1) (t .least .inv .2 _) (l .loop .inv .0 _ G)) (machines-are (s .pre .0)) (c .before .before .before .least2 .ensures .1) (t .least .inv .3)
 
 mul-least-tight-2 : tie.Need-mul-least-tight-2 Inv-least μ-least Inv-loop μ-loop
-mul-least-tight-2 c = let t = c .before .before .before .before .before .before in
-    let l = node t in
-    let s = entry l in
-    let G = ground-there (s .pre .0) in
-    let O = l .loop .inv .0 _ G in
-    omega (arith, base-few (s .pre .0) _ (symbol-within G O (machines-are (s .pre .0)) (t .least .inv .0 _ G _ _ O) (c .before .before .before .before .before .least2 .ensures .2) (c .before .before .before .before .if2 .left)))
+mul-least-tight-2 c = let t = c .before .before .before .before .before .before in omega (arith, base-fits (node t) _ (next-within t _ (c .before .before .before .before .before .least2 .ensures .2) (c .before .before .before .before .if2 .left)))
 
 slice-aggregate-least-tight-2 : tie.Need-slice-aggregate-least-tight-2 Inv-least μ-least Inv-loop μ-loop
 slice-aggregate-least-tight-2 c = sym (c .before .before .fill-at .kept .0 ∙ c .before .before .before .before .before .before .before .least .inv .3)
@@ -197,7 +199,7 @@ least-tight-requires-2 c κs = let t = c .before .before .before .before .before
     let G = ground-there (s .pre .0) in
     let O = l .loop .inv .0 _ G in
     let R = reached-same (t .least .inv .1) (t .least .inv .2 _) O in
-    way-least G R (symbol-way G R (machines-are (s .pre .0)) (omega (arith, c .before .before .before .fill-at .kept .0, t .least .inv .3)) (c .before .before .before .fill-at .ensures) (t .least .inv .0 _ G _ _ O) (c .before .before .before .before .before .before .before .least2 .ensures .2) (c .before .before .before .before .before .before .if2 .left)) (nodes (s .pre .0))
+    way-least G R (symbol-way G R (machines-are (s .pre .0)) (c .before .before .before .fill-at .kept .0 ∙ t .least .inv .3) (c .before .before .before .fill-at .ensures) (t .least .inv .0 _ G _ _ O) (c .before .before .before .before .before .before .before .least2 .ensures .2) (c .before .before .before .before .before .before .if2 .left)) (nodes (s .pre .0))
 
 slice-aggregate-go-on-4 : tie.Need-slice-aggregate-go-on-4 Inv-least μ-least Inv-loop μ-loop
 slice-aggregate-go-on-4 c = sym (sizes (c .before .before .before .before .before .before .before .before .before .before .before .before) .0)
@@ -222,15 +224,11 @@ go-on-requires-2 c κs = let t = c .before .before .before .before .before .befo
     let O = l .loop .inv .0 _ G in
     let R = reached-same (t .least .inv .1) (t .least .inv .2 _) O in
     let T = t .least .inv .0 _ G _ _ O in
-    let Y = symbol-way G R (machines-are (s .pre .0)) (omega (arith, c .before .before .before .before .before .before .before .before .before .before .before .fill-at .kept .0, t .least .inv .3)) (c .before .before .before .before .before .before .before .before .before .before .before .fill-at .ensures) T (c .before .before .before .before .before .before .before .before .before .before .before .before .before .before .before .least2 .ensures .2) (c .before .before .before .before .before .before .before .before .before .before .before .before .before .before .if2 .left) in
+    let Y = symbol-way G R (machines-are (s .pre .0)) (c .before .before .before .before .before .before .before .before .before .before .before .fill-at .kept .0 ∙ t .least .inv .3) (c .before .before .before .before .before .before .before .before .before .before .before .fill-at .ensures) T (c .before .before .before .before .before .before .before .before .before .before .before .before .before .before .before .least2 .ensures .2) (c .before .before .before .before .before .before .before .before .before .before .before .before .before .before .if2 .left) in
     way-go G R Y (c .before .before .before .before .before .before .before .least-tight2 .ensures) T (c .before .before .before .before .before .if4 .taken) (c .before .before .before .before .before .before .before .before .before .before .before .before .before .before .before .least2 .ensures .0)
 
 add-written-2 : tie.Need-add-written-2 Inv-least μ-least Inv-loop μ-loop
-add-written-2 c =
-    let t = c .before .before .before .before .before .before .before .before .before .before .before .before .before .before .before .before .before .before .before .before .before in
-    let l = node t in
-    let G = ground-there (entry l .pre .0) in
-    omega (arith, pairs-written G (reached-same (t .least .inv .1) (t .least .inv .2 _) (l .loop .inv .0 _ G)))
+add-written-2 c = omega (arith, sizes (c .before .before .before .before .before .before .before .before .before .before .before .before .before .before .before .before .before .before .before .before .before) .2)
 
 -- ---- the next input
 
@@ -255,7 +253,7 @@ least-again c = let t = c .before .before .before in
           let R = reached-same (t .least .inv .1) (t .least .inv .2 code) O in
           let T = t .least .inv .0 L G code before O in
           ⊎-elim (λ w. way-none G R (insertion-way G O C refl (t .before .before .before .places-of .ensures) (l .before .before .before .before .before .before .prepare .ensures) (w .0 .taken)) (w .3 .ensures) T (w .5 .left) _ after)
-          (λ w. way-none G R (symbol-way G R e (omega (arith, w .3 .kept .0, t .least .inv .3)) (w .3 .ensures) T (x .2) (w .0 .left)) (w .7 .ensures) T (w .9 .left) _ after)
+          (λ w. way-none G R (symbol-way G R e (w .3 .kept .0 ∙ t .least .inv .3) (w .3 .ensures) T (x .2) (w .0 .left)) (w .7 .ensures) T (w .9 .left) _ after)
           (c .before .if2 .came),
       t .least .inv .1,
       t .least .inv .2,
@@ -274,7 +272,7 @@ loop-less c =
     let R = reached-same (t .least .inv .1) (t .least .inv .2 _) O in
     let T = t .least .inv .0 _ G _ _ O in
     let same : t .least .low ≡ l .loop .low = ap (λ (a : At). a .label .low) (t .least .inv .2 0) in
-    omega (arith, same, way-falls G R (insertion-way G O (s .pre .0 .counts-are) refl (t .before .before .before .places-of .ensures) (l .before .before .before .before .before .before .prepare .ensures) (c .before .before .before .before .before .before .before .before .before .before .before .before .before .before .before .if2 .taken)) (c .before .before .before .before .before .before .before .before .before .before .before .before .least-tight .ensures) T (c .before .before .before .before .before .before .before .before .before .before .if3 .taken))
+    subst (λ (n : ℕ). c .before .before .before .before .before .before .before .before .before .before .before .before .least-tight .result .low < n) same (way-falls G R (insertion-way G O (s .pre .0 .counts-are) refl (t .before .before .before .places-of .ensures) (l .before .before .before .before .before .before .prepare .ensures) (c .before .before .before .before .before .before .before .before .before .before .before .before .before .before .before .if2 .taken)) (c .before .before .before .before .before .before .before .before .before .before .before .before .least-tight .ensures) T (c .before .before .before .before .before .before .before .before .before .before .if3 .taken))
 
 loop-again : tie.Need-loop-again Inv-least μ-least Inv-loop μ-loop
 loop-again c =
@@ -301,7 +299,7 @@ loop-less-2 c =
     let R = reached-same (t .least .inv .1) (t .least .inv .2 _) O in
     let T = t .least .inv .0 _ G _ _ O in
     let same : t .least .low ≡ l .loop .low = ap (λ (a : At). a .label .low) (t .least .inv .2 0) in
-    omega (arith, same, way-falls G R (symbol-way G R (machines-are (s .pre .0)) (omega (arith, filled .kept .0, t .least .inv .3)) (filled .ensures) T (c .before .before .before .before .before .before .before .before .before .before .before .before .before .before .before .before .before .before .before .before .least2 .ensures .2) (c .before .before .before .before .before .before .before .before .before .before .before .before .before .before .before .before .before .before .before .if2 .left)) (c .before .before .before .before .before .before .before .before .before .before .before .before .least-tight2 .ensures) T (c .before .before .before .before .before .before .before .before .before .before .if4 .taken))
+    subst (λ (n : ℕ). c .before .before .before .before .before .before .before .before .before .before .before .before .least-tight2 .result .low < n) same (way-falls G R (symbol-way G R (machines-are (s .pre .0)) (filled .kept .0 ∙ t .least .inv .3) (filled .ensures) T (c .before .before .before .before .before .before .before .before .before .before .before .before .before .before .before .before .before .before .before .before .least2 .ensures .2) (c .before .before .before .before .before .before .before .before .before .before .before .before .before .before .before .before .before .before .before .if2 .left)) (c .before .before .before .before .before .before .before .before .before .before .before .before .least-tight2 .ensures) T (c .before .before .before .before .before .before .before .before .before .before .if4 .taken))
 
 loop-again-2 : tie.Need-loop-again-2 Inv-least μ-least Inv-loop μ-loop
 loop-again-2 c =
@@ -313,7 +311,7 @@ loop-again-2 c =
           let O = l .loop .inv .0 L G in
           let R = reached-same (t .least .inv .1) (t .least .inv .2 _) O in
           let T = t .least .inv .0 L G _ _ O in
-          way-next G R (symbol-way G R (machines-are (s .pre .0)) (omega (arith, filled .kept .0, t .least .inv .3)) (filled .ensures) T (c .before .before .before .before .before .before .before .before .before .before .before .before .before .before .before .before .before .before .before .before .least2 .ensures .2) (c .before .before .before .before .before .before .before .before .before .before .before .before .before .before .before .before .before .before .before .if2 .left)) (c .before .before .before .before .before .before .before .before .before .before .before .before .least-tight2 .ensures) T (c .before .before .before .before .before .before .before .before .before .before .if4 .taken) (c .before .before .before .before .before .before .before .before .before .before .before .before .before .before .before .before .before .before .before .before .least2 .ensures .0) (c .before .before .before .before .go-on2 .ensures),
+          way-next G R (symbol-way G R (machines-are (s .pre .0)) (filled .kept .0 ∙ t .least .inv .3) (filled .ensures) T (c .before .before .before .before .before .before .before .before .before .before .before .before .before .before .before .before .before .before .before .before .least2 .ensures .2) (c .before .before .before .before .before .before .before .before .before .before .before .before .before .before .before .before .before .before .before .if2 .left)) (c .before .before .before .before .before .before .before .before .before .before .before .before .least-tight2 .ensures) T (c .before .before .before .before .before .before .before .before .before .before .if4 .taken) (c .before .before .before .before .before .before .before .before .before .before .before .before .before .before .before .before .before .before .before .before .least2 .ensures .0) (c .before .before .before .before .go-on2 .ensures),
       filled .kept .0 ∙ t .least .inv .3,
       ap length (c .before .before .before .before .go-on2 .ensures .bytes) ∙ simp length-set (ap length (t .least .inv .1) ∙ l .loop .inv .2),
     )
