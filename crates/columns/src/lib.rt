@@ -214,21 +214,6 @@ fn is_same(steps: &[u16], width: usize, a: usize, b: usize) -> bool
     true
 }
 
-// Whether an output has the column of one that is kept, none of which is behind it.
-fn is_repeated(steps: &[u16], width: usize, kept: u64, output: usize) -> bool
-    requires { ⌜ Wide (now steps) width × (output < 64) × ((k : ℕ) → member kept k ≡ true → k ≤ output) ⌝ }
-    ensures { λ r. ⌜ (r ≡ true → Told (now (steps .entry)) width kept output) ⌝ }
-{
-    let mut left = kept;
-    while left > 0 {
-        if is_same(steps, width, sets::least(left), output) {
-            return true;
-        }
-        left = sets::without_least(left);
-    }
-    false
-}
-
 // The key of an output's column: outputs with the same column have the same key.
 fn key_of(steps: &[u16], width: usize, output: usize) -> usize
     requires { ⌜ Wide (now steps) width × (output < 64) ⌝ }
@@ -243,21 +228,21 @@ fn key_of(steps: &[u16], width: usize, output: usize) -> usize
     sum % 256
 }
 
-// Whether an output has the column of one that is kept, none of which is behind it. `seen` has a bit for each key met so far: a new key is a new
-// column, and no columns are compared.
-fn is_known(steps: &[u16], width: usize, kept: u64, output: usize, seen: &mut [u64]) -> bool
-    requires { ⌜ Wide (now steps) width × (output < 64) × ((k : ℕ) → member kept k ≡ true → k ≤ output) × (length (now seen) ≡ 4) ⌝ }
+// Whether an output has the column of one that is kept, none of which is behind it. `last` has at each key the last output that was kept with it: with
+// that one alone the output is compared, so of outputs with the same column two may be kept.
+fn is_known(steps: &[u16], width: usize, kept: u64, output: usize, last: &mut [u8]) -> bool
+    requires { ⌜ Wide (now steps) width × (output < 64) × ((k : ℕ) → member kept k ≡ true → k ≤ output) × (length (now last) ≡ 256) ⌝ }
     ensures { λ r. ⌜ (r ≡ true → Told (now (steps .entry)) width kept output) ⌝ }
 {
     let key = key_of(steps, width, output);
-    let one = sets::set_of((key % 64) as u8);
-    let keys = seen[key / 64];
-    seen[key / 64] = keys | one;
-    if sets::holds(keys, one) {
-        is_repeated(steps, width, kept, output)
-    } else {
-        false
+    let other = last[key] % 64;
+    if sets::holds(kept, sets::set_of(other)) {
+        if is_same(steps, width, index(other), output) {
+            return true;
+        }
     }
+    last[key] = output as u8;
+    false
 }
 
 // Of some outputs those worth trying: without those whose column is that of a smaller one.
@@ -265,13 +250,13 @@ pub fn worth(steps: &[u16], width: usize, outputs: u64) -> u64
     requires { ⌜ Wide (now steps) width ⌝ }
     ensures { λ r. ⌜ Worth (now (steps .entry)) width outputs r ⌝ }
 {
-    let mut seen = [0u64; 4];
+    let mut last = [63u8; 256];
     let mut kept: u64 = 0;
     let mut left = outputs;
     while left > 0 {
         let output = sets::least(left);
         let rest = sets::without_least(left);
-        if !is_known(steps, width, kept, output, &mut seen) {
+        if !is_known(steps, width, kept, output, &mut last) {
             kept = kept | sets::set_of(output as u8);
         }
         left = rest;

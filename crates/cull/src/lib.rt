@@ -749,7 +749,7 @@ fn label_stages(
     }
 }
 
-// Writes the insertions of a card in lists. `steps` is lent for its columns.
+// Writes the insertions of a card in lists. `steps` is lent for its columns, `high` and `low` for joint steps.
 fn list_insertions(
     entries: &mut [u32],
     ends: &mut [u16; 514],
@@ -758,14 +758,27 @@ fn list_insertions(
     counts: &[u8],
     weights: &[u64],
     g: Groups,
+    high: &mut [u64],
+    low: &mut [u64],
 )
-    requires { ⌜ ListPre (now card) (now counts) (now weights) (now steps) g × (length (now ends) ≡ 514) × (8064 ≤ length (now entries)) ⌝ }
+    requires { ⌜ ListPre (now card) (now counts) (now weights) (now steps) g × (length (now ends) ≡ 514) × (8064 ≤ length (now entries)) × (length (now high) ≡ 264) × (length (now low) ≡ 264) ⌝ }
     ensures { λ _. ⌜ ((ranking : List ℕ) → RankedWeights (sixPlaces ranking) (now (weights .entry)) → SixPlaces (sixPlaces ranking) → ListsOf (now (card .entry)) ranking (now (entries .exit)) (now (ends .exit))) ⌝ }
 {
     let width = columns::width_of(counts);
     let kept = columns::prepare(steps, card, counts, width, machine::Pair::EMPTY);
-    insertions::count(ends, steps, kept, width, counts, weights, g);
-    insertions::list(entries, ends, steps, kept, width, counts, weights, g);
+    insertions::count(ends, steps, kept, width, counts, weights, g, high, low);
+    insertions::list(
+        entries,
+        ends,
+        steps,
+        kept,
+        width,
+        counts,
+        weights,
+        g,
+        high,
+        low,
+    );
 }
 
 // Labels all nodes, by the weights of the machines in the order of the ranking.
@@ -787,7 +800,17 @@ fn label_by(
     let mut low = [0u64; 264];
     let mut entries = [0u32; 8064];
     let mut ends = [0u16; 514];
-    list_insertions(&mut entries, &mut ends, steps, card, counts, weights, g);
+    list_insertions(
+        &mut entries,
+        &mut ends,
+        steps,
+        card,
+        counts,
+        weights,
+        g,
+        &mut high,
+        &mut low,
+    );
     label_stages(
         work,
         card,

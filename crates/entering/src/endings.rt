@@ -1,6 +1,7 @@
 // The labels of the last position: the endings, joined as a column of their own.
 ghost use mathlib.Core.Path.{_≡_};
 ghost use Prim.Native.Nat.{_*_};
+ghost use lib.ListN.{length};
 ghost use Rattle.columns.specs.Filling.{Small};
 ghost use Rattle.entering.specs.Entering.{Ready, EndingsEntered};
 ghost use Rattle.entering.specs.Endings.{endingCell, WritePre, EndingsWritten};
@@ -45,7 +46,7 @@ fn write_endings(own: &mut [u64], front: usize, back: usize, high: &[u64], low: 
     }
 }
 
-// Enters the last position. `weights` has three numbers a machine; `steps` is overwritten.
+// Enters the last position. `weights` has three numbers a machine; `steps`, `high` and `low` are overwritten.
 pub fn enter_endings(
     own: &mut [u64],
     steps: &mut [u16],
@@ -54,14 +55,14 @@ pub fn enter_endings(
     weights: &[u64],
     width: usize,
     g: Groups,
+    high: &mut [u64],
+    low: &mut [u64],
 )
-    requires { ⌜ Ready (now card) (now counts) (now weights) (now own) (now steps) width g × Small (now steps) ⌝ }
+    requires { ⌜ Ready (now card) (now counts) (now weights) (now own) (now steps) width g × Small (now steps) × (length (now high) ≡ 264) × (length (now low) ≡ 264) ⌝ }
     ensures { λ _. ⌜ EndingsEntered (now (card .entry)) (now (weights .entry)) (now (own .exit)) ⌝ }
 {
     columns::fill_endings(steps, card, counts);
     let four = [0u8, 64, 64, 64];
-    let mut high = [0u64; 264];
-    let mut low = [0u64; 264];
-    cells::join_four(steps, width, &four, counts, weights, g, &mut high, &mut low);
-    write_endings(own, g.front, g.back, &high, &low);
+    cells::join_four(steps, width, &four, counts, weights, g, high, low);
+    write_endings(own, g.front, g.back, high, low);
 }

@@ -135,7 +135,8 @@ fn fill_on(ends: &mut [u16; 514], first: usize)
     }
 }
 
-// Counts the insertions of the kept outputs by their lists: where each list starts, one place behind it. How many there are.
+// Counts the insertions of the kept outputs by their lists: where each list starts, one place behind it. How many there are. `high` and `low` are lent,
+// and overwritten.
 pub fn count(
     ends: &mut [u16; 514],
     steps: &[u16],
@@ -144,20 +145,20 @@ pub fn count(
     counts: &[u8],
     weights: &[u64],
     g: Groups,
+    high: &mut [u64],
+    low: &mut [u64],
 ) -> usize
-    requires { ⌜ (length (now ends) ≡ 514) × ListPre (now steps) (now counts) (now weights) width kept g ⌝ }
+    requires { ⌜ (length (now ends) ≡ 514) × ListPre (now steps) (now counts) (now weights) width kept g × (length (now high) ≡ 264) × (length (now low) ≡ 264) ⌝ }
     ensures { λ r. ⌜ Counted (now (steps .entry)) (now (counts .entry)) (now (weights .entry)) width kept (now (ends .exit)) × (r ≡ getD (now (ends .exit)) 513 0) ⌝ }
 {
     clear(ends);
     let front = g.front;
     let back = g.back;
-    let mut high = [0u64; 264];
-    let mut low = [0u64; 264];
     let mut left = kept;
     while left > 0 {
         let four = fours::next_four(left);
-        cells::join_four(steps, width, &four, counts, weights, g, &mut high, &mut low);
-        count_four(ends, front, back, &high);
+        cells::join_four(steps, width, &four, counts, weights, g, high, low);
+        count_four(ends, front, back, high);
         left = fours::without_four(left);
     }
     let lists = front * back * 4 + 2;
@@ -245,7 +246,8 @@ fn list_four(
     }
 }
 
-// Writes the insertions of the kept outputs in their lists, which are counted: those of the list l from ends[l] on and before ends[l + 1].
+// Writes the insertions of the kept outputs in their lists, which are counted: those of the list l from ends[l] on and before ends[l + 1]. `high` and
+// `low` are lent as above.
 pub fn list(
     entries: &mut [u32],
     ends: &mut [u16; 514],
@@ -255,19 +257,19 @@ pub fn list(
     counts: &[u8],
     weights: &[u64],
     g: Groups,
+    high: &mut [u64],
+    low: &mut [u64],
 )
-    requires { ⌜ ListPre (now steps) (now counts) (now weights) width kept g × Counted (now steps) (now counts) (now weights) width kept (now ends) × (getD (now ends) 513 0 ≤ length (now entries)) ⌝ }
+    requires { ⌜ ListPre (now steps) (now counts) (now weights) width kept g × Counted (now steps) (now counts) (now weights) width kept (now ends) × (getD (now ends) 513 0 ≤ length (now entries)) × (length (now high) ≡ 264) × (length (now low) ≡ 264) ⌝ }
     ensures { λ _. ⌜ ListedBy (now (steps .entry)) (now (counts .entry)) (now (weights .entry)) width kept (now (entries .exit)) (now (ends .exit)) ⌝ }
 {
     let front = g.front;
     let back = g.back;
-    let mut high = [0u64; 264];
-    let mut low = [0u64; 264];
     let mut left = kept;
     while left > 0 {
         let four = fours::next_four(left);
-        cells::join_four(steps, width, &four, counts, weights, g, &mut high, &mut low);
-        list_four(entries, ends, front, back, &high, &low);
+        cells::join_four(steps, width, &four, counts, weights, g, high, low);
+        list_four(entries, ends, front, back, high, low);
         left = fours::without_four(left);
     }
 }

@@ -1,9 +1,12 @@
 // The labels of all nodes, position by position, from the last to the first. Labels are two numbers while a position is at hand; then they stand in one
 // of two work slices, the other being empty: as ranked counts, or as one number by weights.
-ghost use Prim.Native.Nat.{_*_, _≤_};
-ghost use lib.ListN.{length};
+ghost use mathlib.Core.Path.{_≡_};
+ghost use Prim.Native.Nat.{_+_, _*_, _≤_};
+ghost use lib.ListN.{length, take};
+ghost use Rattle.cells.specs.Groups.{GroupsOf};
 ghost use Rattle.grid.specs.Grids.{GridOf};
 ghost use Rattle.labelling.specs.Labelling.{LabelPre, PositionsDone, FinishPre, Finished, PositionsPre, SearchPre, AllLabelled};
+use cells::Groups;
 use grid::Grid;
 use machine::Pair;
 
@@ -38,7 +41,7 @@ fn finish(
     }
 }
 
-// Labels the nodes of all positions, by insertions in lists.
+// Labels the nodes of all positions, by insertions in lists. `high` and `low` are lent.
 fn label_positions(
     ranked: &mut [u16],
     sums: &mut [u64],
@@ -49,21 +52,31 @@ fn label_positions(
     steps: &mut [u16],
     entries: &[u32],
     ends: &[u16; 514],
+    g: Groups,
+    high: &mut [u64],
+    low: &mut [u64],
 )
-    requires { ⌜ PositionsPre (now ranked) (now sums) (now card) grid (now numbers) (now sets) (now steps) (now entries) (now ends) ⌝ }
+    requires { ⌜ PositionsPre (now ranked) (now sums) (now card) grid (now numbers) (now sets) (now steps) (now entries) (now ends) × GroupsOf (take (grid .machines) (grid .counts)) g × (g .front + g .back ≤ 66) × (length (now high) ≡ 264) × (length (now low) ≡ 264) ⌝ }
     ensures { λ _. ⌜ AllLabelled (now (card .entry)) (now (numbers .entry)) (now (sets .entry)) (now (ranked .entry)) (now (ranked .exit)) (now (sums .entry)) (now (sums .exit)) ⌝ }
 {
     let all = grid.counts;
     let machines = grid.machines;
     let size = grid.size;
     let counts = &all[..machines];
-    let g = cells::grouped(counts, size);
     let mut own = [0u64; 256];
     let mut next = [0u64; 256];
-    let mut high = [0u64; 264];
-    let mut low = [0u64; 264];
     let mut position = sets.len();
-    entering::endings::enter_endings(&mut own, steps, card, counts, numbers, grid.states, g);
+    entering::endings::enter_endings(
+        &mut own,
+        steps,
+        card,
+        counts,
+        numbers,
+        grid.states,
+        g,
+        high,
+        low,
+    );
     finish(
         ranked,
         sums,
@@ -86,8 +99,8 @@ fn label_positions(
             numbers,
             g,
             sets[position],
-            &mut high,
-            &mut low,
+            high,
+            low,
         );
         finish(
             ranked,
@@ -124,9 +137,32 @@ fn label_with(
     let counts = &all[..machines];
     let g = cells::grouped(counts, grid.size);
     let mut ends = [0u16; 514];
+    let mut high = [0u64; 264];
+    let mut low = [0u64; 264];
     let kept = columns::prepare(steps, card, counts, states, Pair::EMPTY);
-    insertions::count(&mut ends, steps, kept, states, counts, marks, g);
-    insertions::list(entries, &mut ends, steps, kept, states, counts, marks, g);
+    insertions::count(
+        &mut ends,
+        steps,
+        kept,
+        states,
+        counts,
+        marks,
+        g,
+        &mut high,
+        &mut low,
+    );
+    insertions::list(
+        entries,
+        &mut ends,
+        steps,
+        kept,
+        states,
+        counts,
+        marks,
+        g,
+        &mut high,
+        &mut low,
+    );
     label_positions(
         ranked,
         sums,
@@ -137,6 +173,9 @@ fn label_with(
         steps,
         entries,
         &ends,
+        g,
+        &mut high,
+        &mut low,
     );
 }
 

@@ -1,8 +1,18 @@
 use borrow.Author.Needs.{needs}
-use mathlib.Core.Path.{refl}
+use mathlib.Core.Path.{_≡_, refl, sym, ap, _∙_}
+use mathlib.Core.Bool.{true}
+use Prim.Native.Nat.{ℕ, _^_}
+use Rattle.basics.specs.Sets.{member}
 use Rattle.basics.proofs.Bools.{clash}
 use Rattle.columns.proofs.is_known.Statement.{statement}
 use Rattle.columns.proofs.is_known.Tie as tie
+
+returns : tie.Need-returns
+returns c = let s = c .before .before .before .before .before .before .before .before .before .before in
+    let i = c .before .before .index in
+    let one = c .before .before .before .before .before .set-of .ensures ∙ ap (λ (n : ℕ). 2 ^ n) (sym (i .ensures .0)) in
+    let t : member (s .args .kept) (i .result) ≡ true = sym (c .before .before .before .before .holds .ensures (i .result) one) ∙ c .before .before .before .if1 .taken in
+    λ e. record { other = i .result; before = s .pre .2 (i .result) t; is-kept = t; same = c .before .is-same .ensures (c .if2 .taken) }
 
 returns-2 : tie.Need-returns-2
 returns-2 c = λ e. absurd (clash e refl)
@@ -14,12 +24,10 @@ is-known-spec =
     (λ c κs. search needs)
     (λ c. search needs)
     (λ c κs. search needs)
-    (λ c. search needs)
-    (λ c. search needs)
-    (λ c. search needs)
-    (λ c. search needs)
     (λ c κs. search needs)
     (λ c κs. search needs)
+    (λ c κs. search needs)
+    returns
     (λ c. search needs)
     (λ c. search needs)
     (λ c. search needs)

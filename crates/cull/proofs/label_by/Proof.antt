@@ -1,5 +1,5 @@
 -- `label_by` meets its contract.
-use mathlib.Core.Path.{refl}
+use mathlib.Core.Path.{refl, sym, _∙_}
 use Prim.Native.Nat.{ℕ}
 use native.Mathlib.Omega.{arith}
 use lib.ListN.{length-replicate}
@@ -13,15 +13,24 @@ mul-size : tie.Need-mul-size
 mul-size c = omega (arith, size-few (c .before .before .before .before .before .before .before .before .pre .0))
 
 list-insertions-requires : tie.Need-list-insertions-requires
-list-insertions-requires c κs = (list-ready (c .before .before .before .before .before .before .before .before .before .before .before .pre .0), length-replicate {A = ℕ} 514 0, omega (arith, length-replicate {A = ℕ} 8064 0))
+list-insertions-requires c κs =
+    (list-ready (c .before .before .before .before .before .before .before .before .before .before .before .before .before .pre .0), length-replicate {A = ℕ} 514 0, omega (arith, length-replicate {A = ℕ} 8064 0), length-replicate {A = ℕ} 264 0, length-replicate {A = ℕ} 264 0)
+
+slice-aggregate-label-stages-2 : tie.Need-slice-aggregate-label-stages-2
+slice-aggregate-label-stages-2 c = sym (c .before .before .before .before .before .before .before .before .before .before .list-insertions .kept .1 .1 .1 .1 .1 .1 .1 .0 ∙ length-replicate {A = ℕ} 264 0)
+
+slice-aggregate-label-stages-3 : tie.Need-slice-aggregate-label-stages-3
+slice-aggregate-label-stages-3 c = sym (c .before .before .before .before .before .before .before .before .before .before .before .list-insertions .kept .1 .1 .1 .1 .1 .1 .1 .1 .0 ∙ length-replicate {A = ℕ} 264 0)
 
 label-stages-requires : tie.Need-label-stages-requires
 label-stages-requires c κs =
-    let t = c .before .before .before .before .before .before .before .before .before .before .before .before .before .before .before .before .before .before .before .before .before in
+    let t = c .before .before .before .before .before .before .before .before .before .before .before .before .before .before .before .before .before .before .before .before .before .before .before .before .before in
     let p = t .pre in
+    let l = c .before .before .before .before .before .before .before .before .before .before .before .list-insertions in
+    let k = l .kept .1 .1 .1 .1 .1 .1 .1 in
     let six = places-six (t .args .card .now) (p .0 .setting .accepted) (t .args .ranking .now) refl (p .2) in (
-      cull-ready (p .0) (t .args .ranking .now) (p .2) (c .before .before .before .before .before .before .before .before .before .list-insertions .ensures _ (p .1) six),
-      lent-ready (p .0) (t .args .ranking .now) (p .1) six (c .before .before .before .before .before .before .before .before .before .list-insertions .kept .1 .1 .0) (length-replicate {A = ℕ} 264 0) (length-replicate {A = ℕ} 264 0),
+      cull-ready (p .0) (t .args .ranking .now) (p .2) (l .ensures _ (p .1) six),
+      lent-ready (p .0) (t .args .ranking .now) (p .1) six (l .kept .1 .1 .0) (k .0 ∙ length-replicate {A = ℕ} 264 0) (k .1 .0 ∙ length-replicate {A = ℕ} 264 0),
     )
 
 returns : tie.Need-returns
@@ -33,10 +42,12 @@ label-by-spec =
     (tie.spec
     mul-size
     (λ c. search needs)
+    (λ c. search needs)
+    (λ c. search needs)
     list-insertions-requires
     (λ c. search needs)
-    (λ c. search needs)
-    (λ c. search needs)
+    slice-aggregate-label-stages-2
+    slice-aggregate-label-stages-3
     label-stages-requires
     (λ c. search needs)
     (λ c. search needs)

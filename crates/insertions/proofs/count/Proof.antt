@@ -1,5 +1,5 @@
 use borrow.Author.Needs.{needs}
-use mathlib.Core.Path.{_≡_, refl, sym, _∙_, ap}
+use mathlib.Core.Path.{_≡_, refl, _∙_, ap}
 use Prim.Native.Nat.{ℕ, _^_, _<_}
 use native.Mathlib.Omega.{arith}
 use lib.ListN.{length}
@@ -12,75 +12,72 @@ use Rattle.insertions.proofs.count.Statement.{statement}
 use Rattle.insertions.proofs.count.Tie as tie
 
 abbrev Inv-loop : tie.InvT-loop
-Inv-loop ends₀ steps kept width counts weights g front back high₀ low₀ left₀ ends high low left = CountTo steps counts weights width kept ends left × (length high ≡ 264) × (length low ≡ 264)
+Inv-loop ends₀ steps kept width counts weights g high₀ low₀ front back left₀ ends high low left = CountTo steps counts weights width kept ends left × (length high ≡ 264) × (length low ≡ 264)
 
 abbrev μ-loop : tie.MeasureT-loop
-μ-loop ends₀ steps kept width counts weights g front back high₀ low₀ left₀ ends high low left = left
+μ-loop ends₀ steps kept width counts weights g high₀ low₀ front back left₀ ends high low left = left
 
 small : (s : tie.Start Inv-loop μ-loop) → s .args .kept < 2 ^ 64
 small s = search needs
 
 clear-requires : tie.Need-clear-requires Inv-loop μ-loop
-clear-requires c κs = c .before .before .before .before .pre .0
+clear-requires c κs = c .before .before .before .before .before .before .pre .0
 
 loop-holds : tie.Need-loop-holds Inv-loop μ-loop
-loop-holds c = (count-start (zeros-of (c .before .before .before .before .before .args .ends .now) (c .before .before .before .before .before .pre .0) (c .clear .ensures)), refl, refl)
-
-slice-aggregate-join-four : tie.Need-slice-aggregate-join-four Inv-loop μ-loop
-slice-aggregate-join-four c = sym (c .before .before .before .before .loop .inv .1)
-
-slice-aggregate-join-four-2 : tie.Need-slice-aggregate-join-four-2 Inv-loop μ-loop
-slice-aggregate-join-four-2 c = sym (c .before .before .before .before .before .loop .inv .2)
+loop-holds c = let s = c .before .before .before .before .before .before .before in (count-start (zeros-of (s .args .ends .now) (s .pre .0) (c .clear .ensures)), s .pre .2, s .pre .3)
 
 join-four-requires : tie.Need-join-four-requires Inv-loop μ-loop
 join-four-requires c κs = let l = c .before .before .before .before .before .loop in
-    asks-four (c .before .before .before .before .before .before .before .before .before .before .before .pre .1) (l .left) _ _ (c .before .before .before .next-four .ensures) (l .inv .1) (l .inv .2)
-
-slice-aggregate-count-four : tie.Need-slice-aggregate-count-four Inv-loop μ-loop
-slice-aggregate-count-four c = sym (c .before .before .before .before .join-four .kept .1 .1 .1 .1 .1 .1 .0 ∙ c .before .before .before .before .before .before .before .before .before .before .loop .inv .1)
+    asks-four (c .before .before .before .before .before .before .before .before .before .before .before .before .before .pre .1) (l .left) _ _ (c .before .before .before .next-four .ensures) (l .inv .1) (l .inv .2)
 
 count-four-requires : tie.Need-count-four-requires Inv-loop μ-loop
-count-four-requires c κs = let s = c .before .before .before .before .before .before .before .before .before .before .before .before .before .before .before .before in
-    let l = c .before .before .before .before .before .before .before .before .before .before .loop in
-    let j = c .before .before .before .before .join-four in
-    (room-for-four (s .pre .1) (small s) (l .inv .0), high-pre (s .pre .1) (l .inv .0 .fours) (c .before .before .before .before .before .before .before .before .next-four .ensures ∙ ap nextFour (l .inv .0 .fours-to .left-is)) (j .ensures) (j .kept .1 .1 .1 .1 .1 .1 .0 ∙ l .inv .1))
+count-four-requires c κs = let s = c .before .before .before .before .before .before .before .before .before .before .before .before .before .before .before .before .before .before .before .before in
+    let l = c .before .before .before .before .before .before .before .before .before .before .before .before .loop in
+    let j = c .before .before .before .before .before .before .join-four in
+    (room-for-four (s .pre .1) (small s) (l .inv .0), high-pre (s .pre .1) (l .inv .0 .fours) (c .before .before .before .before .before .before .before .before .before .before .next-four .ensures ∙ ap nextFour (l .inv .0 .fours-to .left-is)) (j .ensures) (j .kept .1 .1 .1 .1 .1 .1 .0 ∙ l .inv .1))
 
 loop-less : tie.Need-loop-less Inv-loop μ-loop
-loop-less c = let l = c .before .before .before .before .before .before .before .before .before .before .before .before .loop in
-    omega (arith, c .without-four .ensures, without-less (l .left) (omega (arith, l .inv .0 .fours-to .left-is, fours-small (small (c .before .before .before .before .before .before .before .before .before .before .before .before .before .before .before .before .before .before)) (l .inv .0 .fours))) (omega (arith, c .before .before .before .before .before .before .before .before .before .before .before .loop-test .taken)))
+loop-less c = let l = c .before .before .before .before .before .before .before .before .before .before .before .before .before .before .loop in
+    omega (arith, c .without-four .ensures, without-less (l .left) (omega (arith, l .inv .0 .fours-to .left-is, fours-small (small (c .before .before .before .before .before .before .before .before .before .before .before .before .before .before .before .before .before .before .before .before .before .before)) (l .inv .0 .fours))) (omega (arith, c .before .before .before .before .before .before .before .before .before .before .before .before .before .loop-test .taken)))
 
 loop-again : tie.Need-loop-again Inv-loop μ-loop
-loop-again c = let s = c .before .before .before .before .before .before .before .before .before .before .before .before .before .before .before .before .before .before in
-    let l = c .before .before .before .before .before .before .before .before .before .before .before .before .loop in
-    let j = c .before .before .before .before .before .before .join-four in (
-      four-counted (s .pre .1) (small s) (l .inv .0) (omega (arith, c .before .before .before .before .before .before .before .before .before .before .before .loop-test .taken)) (c .before .before .before .before .before .before .before .before .before .before .next-four .ensures) (j .ensures) (c .before .count-four .ensures) (c .without-four .ensures),
+loop-again c = let s = c .before .before .before .before .before .before .before .before .before .before .before .before .before .before .before .before .before .before .before .before .before .before in
+    let l = c .before .before .before .before .before .before .before .before .before .before .before .before .before .before .loop in
+    let j = c .before .before .before .before .before .before .before .before .join-four in (
+      four-counted (s .pre .1) (small s) (l .inv .0) (omega (arith, c .before .before .before .before .before .before .before .before .before .before .before .before .before .loop-test .taken)) (c .before .before .before .before .before .before .before .before .before .before .before .before .next-four .ensures) (j .ensures) (c .before .count-four .ensures) (c .without-four .ensures),
       j .kept .1 .1 .1 .1 .1 .1 .0 ∙ l .inv .1,
       j .kept .1 .1 .1 .1 .1 .1 .1 .0 ∙ l .inv .2,
     )
 
 -- there are at most 128 codes
 mul-lists : tie.Need-mul-lists Inv-loop μ-loop
-mul-lists c = let R = c .before .before .before .before .before .before .before .pre .1 in omega (arith, codes-are R, codes-few R)
+mul-lists c = let R = c .before .before .before .before .before .before .before .before .before .pre .1 in omega (arith, codes-are R, codes-few R)
 
 mul-lists-2 : tie.Need-mul-lists-2 Inv-loop μ-loop
-mul-lists-2 c = let R = c .before .before .before .before .before .before .before .pre .1 in omega (arith, codes-are R, codes-few R)
+mul-lists-2 c = let R = c .before .before .before .before .before .before .before .before .before .pre .1 in omega (arith, codes-are R, codes-few R)
 
 add-lists : tie.Need-add-lists Inv-loop μ-loop
-add-lists c = let R = c .before .before .before .before .before .before .before .pre .1 in omega (arith, codes-are R, codes-few R)
+add-lists c = let R = c .before .before .before .before .before .before .before .before .before .pre .1 in omega (arith, codes-are R, codes-few R)
 
 add-up-requires : tie.Need-add-up-requires Inv-loop μ-loop
-add-up-requires c κs = let s = c .before .before .before .before .before .before .before .before in add-pre (s .pre .1) (small s) (c .before .before .loop .inv .0)
+add-up-requires c κs = let s = c .before .before .before .before .before .before .before .before .before .before in add-pre (s .pre .1) (small s) (c .before .before .loop .inv .0)
 
 fill-on-requires : tie.Need-fill-on-requires Inv-loop μ-loop
-fill-on-requires c κs = let R = c .before .before .before .before .before .before .before .before .before .before .pre .1 in (c .before .add-up .ensures .size, omega arith, omega (arith, codes-are R, codes-few R))
+fill-on-requires c κs = let R = c .before .before .before .before .before .before .before .before .before .before .before .before .pre .1 in (c .before .add-up .ensures .size, omega arith, omega (arith, codes-are R, codes-few R))
 
 cast-result : tie.Need-cast-result Inv-loop μ-loop
-cast-result c = let s = c .before .before .before .before .before .before .before .before .before .before .before .before in
+cast-result c = let s = c .before .before .before .before .before .before .before .before .before .before .before .before .before .before in
     let C = counted (s .pre .1) (small s) (c .before .before .before .before .before .before .loop .inv .0) (omega (arith, c .before .before .before .before .before .loop-test .left)) (c .before .before .before .add-up .ensures) (c .before .fill-on .ensures) in
     omega (arith, C .few, codes-few (s .pre .1))
 
+same-length : tie.Need-same-length Inv-loop μ-loop
+same-length c = omega (arith, c .before .before .before .before .before .before .loop .inv .1, c .before .before .before .before .before .before .before .before .before .before .before .before .before .before .pre .2)
+
+same-length-2 : tie.Need-same-length-2 Inv-loop μ-loop
+same-length-2 c = omega (arith, c .before .before .before .before .before .before .loop .inv .2, c .before .before .before .before .before .before .before .before .before .before .before .before .before .before .pre .3)
+
 returns : tie.Need-returns Inv-loop μ-loop
-returns c = let s = c .before .before .before .before .before .before .before .before .before .before .before .before in
+returns c = let s = c .before .before .before .before .before .before .before .before .before .before .before .before .before .before in
     (counted (s .pre .1) (small s) (c .before .before .before .before .before .before .loop .inv .0) (omega (arith, c .before .before .before .before .before .loop-test .left)) (c .before .before .before .add-up .ensures) (c .before .fill-on .ensures), refl)
 
 pub count-spec : {M : Type 1} → statement M
@@ -92,10 +89,7 @@ count-spec =
     clear-requires
     loop-holds
     (λ c κs. search needs)
-    slice-aggregate-join-four
-    slice-aggregate-join-four-2
     join-four-requires
-    slice-aggregate-count-four
     count-four-requires
     (λ c κs. search needs)
     loop-less
@@ -107,4 +101,6 @@ count-spec =
     fill-on-requires
     (λ c. search needs)
     cast-result
+    same-length
+    same-length-2
     returns)

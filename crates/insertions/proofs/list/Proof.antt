@@ -1,5 +1,5 @@
 use borrow.Author.Needs.{needs}
-use mathlib.Core.Path.{_≡_, refl, sym, _∙_, ap}
+use mathlib.Core.Path.{_≡_, _∙_, ap}
 use Prim.Native.Nat.{ℕ, _*_, _^_, _<_}
 use native.Mathlib.Omega.{arith}
 use lib.ListN.{length}
@@ -16,66 +16,60 @@ use Rattle.insertions.proofs.list.Statement.{statement}
 use Rattle.insertions.proofs.list.Tie as tie
 
 abbrev Inv-loop : tie.InvT-loop
-Inv-loop entries₀ ends₀ steps kept width counts weights g front back high₀ low₀ left₀ entries ends high low left = ListTo steps counts weights width kept entries₀ ends₀ entries ends left × (length high ≡ 264) × (length low ≡ 264)
+Inv-loop entries₀ ends₀ steps kept width counts weights g high₀ low₀ front back left₀ entries ends high low left = ListTo steps counts weights width kept entries₀ ends₀ entries ends left × (length high ≡ 264) × (length low ≡ 264)
 
 abbrev μ-loop : tie.MeasureT-loop
-μ-loop entries₀ ends₀ steps kept width counts weights g front back high₀ low₀ left₀ entries ends high low left = left
+μ-loop entries₀ ends₀ steps kept width counts weights g high₀ low₀ front back left₀ entries ends high low left = left
 
 small : (s : tie.Start Inv-loop μ-loop) → s .args .kept < 2 ^ 64
 small s = search needs
 
 loop-holds : tie.Need-loop-holds Inv-loop μ-loop
-loop-holds c = (list-start, refl, refl)
-
-slice-aggregate-join-four : tie.Need-slice-aggregate-join-four Inv-loop μ-loop
-slice-aggregate-join-four c = sym (c .before .before .before .before .loop .inv .1)
-
-slice-aggregate-join-four-2 : tie.Need-slice-aggregate-join-four-2 Inv-loop μ-loop
-slice-aggregate-join-four-2 c = sym (c .before .before .before .before .before .loop .inv .2)
+loop-holds c = let s = c .before .before .before .before .before .before in (list-start, s .pre .3, s .pre .4)
 
 join-four-requires : tie.Need-join-four-requires Inv-loop μ-loop
 join-four-requires c κs = let l = c .before .before .before .before .before .loop in
-    asks-four (c .before .before .before .before .before .before .before .before .before .before .pre .0) (l .left) _ _ (c .before .before .before .next-four .ensures) (l .inv .1) (l .inv .2)
-
-slice-aggregate-list-four : tie.Need-slice-aggregate-list-four Inv-loop μ-loop
-slice-aggregate-list-four c = sym (c .before .before .before .before .before .join-four .kept .1 .1 .1 .1 .1 .1 .0 ∙ c .before .before .before .before .before .before .before .before .before .before .before .loop .inv .1)
-
-slice-aggregate-list-four-2 : tie.Need-slice-aggregate-list-four-2 Inv-loop μ-loop
-slice-aggregate-list-four-2 c = sym (c .before .before .before .before .before .before .join-four .kept .1 .1 .1 .1 .1 .1 .1 .0 ∙ c .before .before .before .before .before .before .before .before .before .before .before .before .loop .inv .2)
+    asks-four (c .before .before .before .before .before .before .before .before .before .before .before .before .pre .0) (l .left) _ _ (c .before .before .before .next-four .ensures) (l .inv .1) (l .inv .2)
 
 list-four-requires : tie.Need-list-four-requires Inv-loop μ-loop
-list-four-requires c κs = let s = c .before .before .before .before .before .before .before .before .before .before .before .before .before .before .before .before .before in
-    let l = c .before .before .before .before .before .before .before .before .before .before .before .before .loop in
-    let j = c .before .before .before .before .before .before .join-four in
-    let e = c .before .before .before .before .before .before .before .before .before .before .next-four .ensures in
+list-four-requires c κs = let s = c .before .before .before .before .before .before .before .before .before .before .before .before .before .before .before .before .before .before .before .before .before in
+    let l = c .before .before .before .before .before .before .before .before .before .before .before .before .before .before .loop in
+    let j = c .before .before .before .before .before .before .before .before .join-four in
+    let e = c .before .before .before .before .before .before .before .before .before .before .before .before .next-four .ensures in
     let q = l .inv .0 .fours in
     let d = e ∙ ap nextFour (l .inv .0 .fours-to .left-is) in (
-      room-to-list (s .pre .0) (s .pre .1) (s .pre .2) (l .inv .0) (omega (arith, c .before .before .before .before .before .before .before .before .before .before .before .loop-test .taken)) e (j .ensures),
+      room-to-list (s .pre .0) (s .pre .1) (s .pre .2) (l .inv .0) (omega (arith, c .before .before .before .before .before .before .before .before .before .before .before .before .before .loop-test .taken)) e (j .ensures),
       high-pre (s .pre .0) q d (j .ensures) (j .kept .1 .1 .1 .1 .1 .1 .0 ∙ l .inv .1),
       low-pre (s .pre .0) q d (j .ensures) (j .kept .1 .1 .1 .1 .1 .1 .1 .0 ∙ l .inv .2),
     )
 
 loop-less : tie.Need-loop-less Inv-loop μ-loop
-loop-less c = let l = c .before .before .before .before .before .before .before .before .before .before .before .before .before .before .before .before .loop in
-    omega (arith, c .without-four .ensures, without-less (l .left) (omega (arith, l .inv .0 .fours-to .left-is, fours-small (small (c .before .before .before .before .before .before .before .before .before .before .before .before .before .before .before .before .before .before .before .before .before)) (l .inv .0 .fours))) (omega (arith, c .before .before .before .before .before .before .before .before .before .before .before .before .before .before .before .loop-test .taken)))
+loop-less c = let l = c .before .before .before .before .before .before .before .before .before .before .before .before .before .before .before .before .before .before .loop in
+    omega (arith, c .without-four .ensures, without-less (l .left) (omega (arith, l .inv .0 .fours-to .left-is, fours-small (small (c .before .before .before .before .before .before .before .before .before .before .before .before .before .before .before .before .before .before .before .before .before .before .before .before .before)) (l .inv .0 .fours))) (omega (arith, c .before .before .before .before .before .before .before .before .before .before .before .before .before .before .before .before .before .loop-test .taken)))
 
 loop-again : tie.Need-loop-again Inv-loop μ-loop
-loop-again c = let s = c .before .before .before .before .before .before .before .before .before .before .before .before .before .before .before .before .before .before .before .before .before in
-    let l = c .before .before .before .before .before .before .before .before .before .before .before .before .before .before .before .before .loop in
-    let j = c .before .before .before .before .before .before .before .before .before .before .join-four in
+loop-again c = let s = c .before .before .before .before .before .before .before .before .before .before .before .before .before .before .before .before .before .before .before .before .before .before .before .before .before in
+    let l = c .before .before .before .before .before .before .before .before .before .before .before .before .before .before .before .before .before .before .loop in
+    let j = c .before .before .before .before .before .before .before .before .before .before .before .before .join-four in
     let d = c .before .before .before .list-four .ensures in (
-      four-listed (s .pre .0) (s .pre .1) (s .pre .2) (l .inv .0) (omega (arith, c .before .before .before .before .before .before .before .before .before .before .before .before .before .before .before .loop-test .taken)) (c .before .before .before .before .before .before .before .before .before .before .before .before .before .before .next-four .ensures) (j .ensures) (d .0) (d .1) (c .without-four .ensures),
+      four-listed (s .pre .0) (s .pre .1) (s .pre .2) (l .inv .0) (omega (arith, c .before .before .before .before .before .before .before .before .before .before .before .before .before .before .before .before .before .loop-test .taken)) (c .before .before .before .before .before .before .before .before .before .before .before .before .before .before .before .before .next-four .ensures) (j .ensures) (d .0) (d .1) (c .without-four .ensures),
       j .kept .1 .1 .1 .1 .1 .1 .0 ∙ l .inv .1,
       j .kept .1 .1 .1 .1 .1 .1 .1 .0 ∙ l .inv .2,
     )
 
 same-length : tie.Need-same-length Inv-loop μ-loop
-same-length c = let s = c .before .before .before .before .before .before in
+same-length c = let s = c .before .before .before .before .before .before .before .before in
     let l = c .before .loop in
     ap length (l .inv .0 .entries-are) ∙ placed-size (keptLane (s .args .steps .now) (s .args .weights .now) (s .args .counts .now) (s .args .width) (s .args .kept)) (s .args .entries .now) (s .args .ends .now) (l .inv .0 .fours * product (s .args .counts .now) * 4)
 
+same-length-2 : tie.Need-same-length-2 Inv-loop μ-loop
+same-length-2 c = omega (arith, c .before .loop .inv .1, c .before .before .before .before .before .before .before .before .pre .3)
+
+same-length-3 : tie.Need-same-length-3 Inv-loop μ-loop
+same-length-3 c = omega (arith, c .before .loop .inv .2, c .before .before .before .before .before .before .before .before .pre .4)
+
 returns : tie.Need-returns Inv-loop μ-loop
-returns c = let s = c .before .before .before .before .before .before in
+returns c = let s = c .before .before .before .before .before .before .before .before in
     let l = c .before .loop .inv .0 in
     let f = all-fours (l .fours-to) (omega (arith, c .loop-test .left)) in
     listed-by (s .args .entries .now) (s .pre .0 .weights) (small s) (s .pre .1) (s .pre .2) (l .fours) f (fours-same (s .pre .1 .fours-are) f) (l .entries-are) (l .ends-are)
@@ -88,14 +82,12 @@ list-spec =
     μ-loop
     loop-holds
     (λ c κs. search needs)
-    slice-aggregate-join-four
-    slice-aggregate-join-four-2
     join-four-requires
-    slice-aggregate-list-four
-    slice-aggregate-list-four-2
     list-four-requires
     (λ c κs. search needs)
     loop-less
     loop-again
     same-length
+    same-length-2
+    same-length-3
     returns)

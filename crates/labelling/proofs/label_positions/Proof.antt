@@ -3,36 +3,33 @@ use mathlib.Core.Path.{_≡_, refl, sym, _∙_}
 use Prim.Native.Nat.{ℕ, _-_, _≤_}
 use native.Mathlib.Omega.{arith}
 use lib.ListN.{length, length-replicate}
-use Rattle.labelling.proofs.Sizes.{counts-fit, counts-length, counts-some, size-is, states-are}
+use Rattle.labelling.proofs.Sizes.{counts-fit, counts-length, states-are}
 use Rattle.labelling.proofs.Finishing.{PositionClosed}
 use Rattle.labelling.proofs.Looping.{enter-ready, base-few, last-ready, last-closed, blank-there, next-there, symbols-ready, symbols-closed, all-closed, one-before, zeros-fit}
 use Rattle.labelling.proofs.label_positions.Statement.{statement}
 use Rattle.labelling.proofs.label_positions.Tie as tie
 
 abbrev Inv-loop : tie.InvT-loop
-Inv-loop ranked₀ sums₀ card numbers sets steps₀ entries ends machines size counts g own₀ next₀ high₀ low₀ position₀ ranked sums steps own next high low position =
+Inv-loop ranked₀ sums₀ card numbers sets steps₀ entries ends g high₀ low₀ machines size counts own₀ next₀ position₀ ranked sums steps high low own next position =
     (position ≤ length sets) × PositionClosed card numbers sets ranked sums own next (length counts) size position × (length ranked ≡ length ranked₀) × (length sums ≡ length sums₀)
     × (length steps ≡ length steps₀) × (length high ≡ 264) × (length low ≡ 264)
 
 abbrev μ-loop : tie.MeasureT-loop
-μ-loop ranked₀ sums₀ card numbers sets steps₀ entries ends machines size counts g own₀ next₀ high₀ low₀ position₀ ranked sums steps own next high low position = position
+μ-loop ranked₀ sums₀ card numbers sets steps₀ entries ends g high₀ low₀ machines size counts own₀ next₀ position₀ ranked sums steps high low own next position = position
 
 -- ---- the places on the way, from the last to the first
 
-abbrev start : tie.After-grouped Inv-loop μ-loop → tie.Start Inv-loop μ-loop
-start c = c .before .before .before .before .before .before .before .before .before .before
-
-abbrev grouped : tie.After-enter-endings Inv-loop μ-loop → tie.After-grouped Inv-loop μ-loop
-grouped c = c .before .before .before
+abbrev start : tie.After-enter-endings Inv-loop μ-loop → tie.Start Inv-loop μ-loop
+start c = c .before .before .before .before .before .before .before .before .before .before .before .before .before .before .before .before
 
 abbrev entered : tie.After-finish Inv-loop μ-loop → tie.After-enter-endings Inv-loop μ-loop
-entered c = c .before .before .before .before .before .before .before .before
+entered c = c .before .before .before .before .before .before .before .before .before .before .before .before
 
 abbrev first : tie.At-loop Inv-loop μ-loop → tie.After-finish Inv-loop μ-loop
 first c = c .before .before .before .before .before
 
-abbrev groups : tie.At-loop Inv-loop μ-loop → tie.After-grouped Inv-loop μ-loop
-groups c = grouped (entered (first c))
+abbrev begun : tie.At-loop Inv-loop μ-loop → tie.Start Inv-loop μ-loop
+begun c = start (entered (first c))
 
 abbrev loop : tie.After-enter-symbols Inv-loop μ-loop → tie.At-loop Inv-loop μ-loop
 loop c = c .before .before .before .before .before .before .before .before
@@ -40,34 +37,33 @@ loop c = c .before .before .before .before .before .before .before .before
 -- ---- before the loop
 
 array-share-prefix-all : tie.Need-array-share-prefix-all Inv-loop μ-loop
-array-share-prefix-all c = let q = c .before .before .before .before .before .before .before .before .pre .search in counts-fit (q .setting .accepted) (q .grid-of)
+array-share-prefix-all c = let q = c .before .before .before .before .before .before .before .before .before .before .pre .0 .search in counts-fit (q .setting .accepted) (q .grid-of)
 
 slice-aggregate-counts : tie.Need-slice-aggregate-counts Inv-loop μ-loop
-slice-aggregate-counts c = let q = c .before .before .before .before .before .before .before .before .before .pre .search in counts-length (q .setting .accepted) (q .grid-of)
-
-grouped-requires : tie.Need-grouped-requires Inv-loop μ-loop
-grouped-requires c κs = let q = c .before .before .before .before .before .before .before .before .before .pre .search in (counts-some (q .setting .accepted) (q .grid-of), size-is (q .setting .accepted) (q .grid-of))
+slice-aggregate-counts c = let q = c .before .before .before .before .before .before .before .before .before .before .before .pre .0 .search in counts-length (q .setting .accepted) (q .grid-of)
 
 slice-aggregate-enter-endings : tie.Need-slice-aggregate-enter-endings Inv-loop μ-loop
 slice-aggregate-enter-endings c = refl
 
 enter-endings-requires : tie.Need-enter-endings-requires Inv-loop μ-loop
 enter-endings-requires c κs =
-    let g = c .before .before in
-    let p = start g .pre in
-    (enter-ready p (states-are (p .search .setting .accepted) (p .search .grid-of)) refl (length-replicate {A = ℕ} 256 0) (g .grouped .ensures), p .prepared .columns .small)
+    let q = c .before .before .before .before .before .before .before .before .before .before .before .before .before .before .before .pre in
+    let p = q .0 in
+    (enter-ready p (states-are (p .search .setting .accepted) (p .search .grid-of)) refl (length-replicate {A = ℕ} 256 0) (q .1, q .2), p .prepared .columns .small, q .3, q .4)
 
 mul-finish : tie.Need-mul-finish Inv-loop μ-loop
-mul-finish c = let s = start (c .before .before .before .before .before .before .before .before) in omega (arith, base-few (s .pre) (length (s .args .sets .now)) (omega arith))
+mul-finish c = let s = c .before .before .before .before .before .before .before .before .before .before .before .before .before .before .before .before .before .before .before .before .before .before .before .before .before in omega (arith, base-few (s .pre .0) (length (s .args .sets .now)) (omega arith))
 
 finish-requires : tie.Need-finish-requires Inv-loop μ-loop
-finish-requires c κs = let e = c .before .before .before .before .before .before .before in last-ready (start (grouped e) .pre) (e .enter-endings .ensures) (length-replicate {A = ℕ} 256 0)
+finish-requires c κs = let e = c .before .before .before .before .before .before .before .before .before .before .before in last-ready (start e .pre .0) (e .enter-endings .ensures) (length-replicate {A = ℕ} 256 0)
 
 loop-holds : tie.Need-loop-holds Inv-loop μ-loop
 loop-holds c =
     let f = c .before .before .before .before in
     let e = entered f in
-    (omega arith, last-closed (start (grouped e) .pre) (e .enter-endings .ensures) zeros-fit (f .finish .ensures), refl, refl, refl, length-replicate {A = ℕ} 264 0, length-replicate {A = ℕ} 264 0)
+    let q = start e .pre in
+    let k = e .enter-endings .kept .1 .1 .1 .1 .1 .1 .1 in
+    (omega arith, last-closed (q .0) (e .enter-endings .ensures) zeros-fit (f .finish .ensures), refl, refl, refl, k .0 ∙ q .3, k .1 .0 ∙ q .4)
 
 -- ---- in the loop
 
@@ -78,24 +74,19 @@ slice-aggregate-enter-symbols : tie.Need-slice-aggregate-enter-symbols Inv-loop 
 slice-aggregate-enter-symbols c = sym (c .before .before .loop .inv .1 .own-size)
 
 mul-enter-symbols : tie.Need-mul-enter-symbols Inv-loop μ-loop
-mul-enter-symbols c = let l = c .before .before .before .before in omega (arith, l .loop .inv .0, start (groups l) .pre .search .setting .few)
+mul-enter-symbols c = let l = c .before .before .before .before in omega (arith, l .loop .inv .0, begun l .pre .0 .search .setting .few)
 
 shared-slice-read-enter-symbols : tie.Need-shared-slice-read-enter-symbols Inv-loop μ-loop
 shared-slice-read-enter-symbols c = omega (arith, c .before .before .before .before .before .loop .inv .0)
 
-slice-aggregate-enter-symbols-2 : tie.Need-slice-aggregate-enter-symbols-2 Inv-loop μ-loop
-slice-aggregate-enter-symbols-2 c = sym (c .before .before .before .before .before .before .loop .inv .5)
-
-slice-aggregate-enter-symbols-3 : tie.Need-slice-aggregate-enter-symbols-3 Inv-loop μ-loop
-slice-aggregate-enter-symbols-3 c = sym (c .before .before .before .before .before .before .before .loop .inv .6)
-
 enter-symbols-requires : tie.Need-enter-symbols-requires Inv-loop μ-loop
 enter-symbols-requires c κs =
     let a = c .before .before .before .before .before .before .before in
-    let p = start (groups a) .pre in
+    let q = begun a .pre in
+    let p = q .0 in
     let l = a .loop .inv in
     let B = one-before (omega arith) (l .1) in (
-      enter-ready p refl (l .4 ∙ entered (first a) .enter-endings .kept .1 .0) (l .1 .own-size) (groups a .grouped .ensures),
+      enter-ready p refl (l .4 ∙ entered (first a) .enter-endings .kept .1 .0) (l .1 .own-size) (q .1, q .2),
       blank-there p (omega (arith, l .0)) B,
       next-there p (omega (arith, l .0)) B,
       p .search .setting .symbols _,
@@ -104,29 +95,29 @@ enter-symbols-requires c κs =
     )
 
 mul-finish-2 : tie.Need-mul-finish-2 Inv-loop μ-loop
-mul-finish-2 c = let a = c .before .before .before .before .before .before .before .before .before .before .before .before .before .before .before in omega (arith, base-few (start (groups a) .pre) (a .loop .position - 1) (omega (arith, a .loop .inv .0)))
+mul-finish-2 c = let a = c .before .before .before .before .before .before .before .before .before .before .before .before .before .before .before .before .before in omega (arith, base-few (begun a .pre .0) (a .loop .position - 1) (omega (arith, a .loop .inv .0)))
 
 finish-requires-2 : tie.Need-finish-requires-2 Inv-loop μ-loop
 finish-requires-2 c κs =
-    let e = c .before .before .before .before .before .before .before .before .before in
+    let e = c .before .before .before .before .before .before .before .before .before .before .before in
     let a = loop e in
     let l = a .loop .inv in
     let f = first a .finish .ensures .closed in
-    symbols-ready (start (groups a) .pre) (omega (arith, l .0)) (one-before (omega arith) (l .1)) (e .enter-symbols .ensures) (l .3 ∙ f .sums-size) (l .2 ∙ f .ranked-size)
+    symbols-ready (begun a .pre .0) (omega (arith, l .0)) (one-before (omega arith) (l .1)) (e .enter-symbols .ensures) (l .3 ∙ f .sums-size) (l .2 ∙ f .ranked-size)
 
 loop-less : tie.Need-loop-less Inv-loop μ-loop
 loop-less c = omega arith
 
 loop-again : tie.Need-loop-again Inv-loop μ-loop
 loop-again c =
-    let e = c .before .before .before .before .before .before .before .before .before .before .before .before .before .before in
+    let e = c .before .before .before .before .before .before .before .before .before .before .before .before .before .before .before .before in
     let a = loop e in
     let l = a .loop .inv in
-    let t = c .before .before .before .before .before .before .before .before .before .before .before .before .before .before .before .before .before .before .before .before .before .loop-test .taken in
+    let t = c .before .before .before .before .before .before .before .before .before .before .before .before .before .before .before .before .before .before .before .before .before .before .before .loop-test .taken in
     let f = c .before .before .before .before .finish2 .ensures in
     let k = e .enter-symbols .kept in (
       omega (arith, l .0),
-      symbols-closed (start (groups a) .pre) (omega (arith, l .0, t)) (one-before (omega (arith, t)) (l .1)) (e .enter-symbols .ensures) (l .3 ∙ first a .finish .ensures .closed .sums-size) f,
+      symbols-closed (begun a .pre .0) (omega (arith, l .0, t)) (one-before (omega (arith, t)) (l .1)) (e .enter-symbols .ensures) (l .3 ∙ first a .finish .ensures .closed .sums-size) f,
       f .closed .ranked-size ∙ l .2,
       f .closed .sums-size ∙ l .3,
       k .1 .1 .0 ∙ l .4,
@@ -143,6 +134,12 @@ same-length-2 c = let a = c .before in a .loop .inv .3 ∙ first a .finish .ensu
 same-length-3 : tie.Need-same-length-3 Inv-loop μ-loop
 same-length-3 c = let a = c .before in a .loop .inv .4 ∙ entered (first a) .enter-endings .kept .1 .0
 
+same-length-4 : tie.Need-same-length-4 Inv-loop μ-loop
+same-length-4 c = let a = c .before in a .loop .inv .5 ∙ sym (begun a .pre .3)
+
+same-length-5 : tie.Need-same-length-5 Inv-loop μ-loop
+same-length-5 c = let a = c .before in a .loop .inv .6 ∙ sym (begun a .pre .4)
+
 returns : tie.Need-returns Inv-loop μ-loop
 returns c =
     let a = c .before in
@@ -157,7 +154,6 @@ label-positions-spec =
     μ-loop
     array-share-prefix-all
     slice-aggregate-counts
-    grouped-requires
     slice-aggregate-enter-endings
     enter-endings-requires
     mul-finish
@@ -167,8 +163,6 @@ label-positions-spec =
     slice-aggregate-enter-symbols
     mul-enter-symbols
     shared-slice-read-enter-symbols
-    slice-aggregate-enter-symbols-2
-    slice-aggregate-enter-symbols-3
     enter-symbols-requires
     mul-finish-2
     finish-requires-2
@@ -177,4 +171,6 @@ label-positions-spec =
     same-length
     same-length-2
     same-length-3
+    same-length-4
+    same-length-5
     returns)

@@ -1,5 +1,5 @@
 use borrow.Author.Needs.{needs}
-use mathlib.Core.Path.{refl}
+use mathlib.Core.Path.{_∙_}
 use Rattle.entering.proofs.LastPosition.{fill-ready, join-ready, write-ready, last-entered}
 use Rattle.entering.proofs.endings.enter_endings.Statement.{statement}
 use Rattle.entering.proofs.endings.enter_endings.Tie as tie
@@ -7,27 +7,29 @@ use Rattle.entering.proofs.endings.enter_endings.Tie as tie
 -- ---- the places on the way
 
 abbrev start : tie.After-fill-endings → tie.Start
-start c = c .before .before .before .before .before .before .before
+start c = c .before .before .before .before .before .before .before .before .before
 
-abbrev filled : tie.After-low → tie.After-fill-endings
+abbrev filled : tie.After-join-four-arg3 → tie.After-fill-endings
 filled c = c .before .before .before .before .before .before
 
-abbrev joined : tie.After-low3 → tie.After-join-four
-joined c = c .before .before .before .before .before
+abbrev joined : tie.After-write-endings-arg3 → tie.After-join-four
+joined c = c .before .before .before .before .before .before .before
 
 fill-endings-requires : tie.Need-fill-endings-requires
-fill-endings-requires c κs = fill-ready (c .before .before .before .before .before .before .pre .0)
+fill-endings-requires c κs = fill-ready (c .before .before .before .before .before .before .before .before .pre .0)
 
 join-four-requires : tie.Need-join-four-requires
 join-four-requires c κs =
     let f = filled c in
-    join-ready (start f .pre .0) (start f .pre .1) (f .fill-endings .ensures) _ _ refl refl
+    let s = start f in
+    join-ready (s .pre .0) (s .pre .1) (f .fill-endings .ensures) _ _ (s .pre .2) (s .pre .3)
 
 write-endings-requires : tie.Need-write-endings-requires
 write-endings-requires c κs =
     let j = joined c in
     let f = filled (j .before) in
-    write-ready (start f .pre .0) (start f .pre .1) (f .fill-endings .ensures) (j .join-four .ensures) (j .join-four .kept .1 .1 .1 .1 .1 .1 .0) (j .join-four .kept .1 .1 .1 .1 .1 .1 .1 .0)
+    let s = start f in
+    write-ready (s .pre .0) (s .pre .1) (f .fill-endings .ensures) (j .join-four .ensures) (j .join-four .kept .1 .1 .1 .1 .1 .1 .0 ∙ s .pre .2) (j .join-four .kept .1 .1 .1 .1 .1 .1 .1 .0 ∙ s .pre .3)
 
 returns : tie.Need-returns
 returns c =
@@ -41,12 +43,10 @@ enter-endings-spec =
     tie.close
     (tie.spec
     fill-endings-requires
-    (λ c. search needs)
-    (λ c. search needs)
     join-four-requires
-    (λ c. search needs)
-    (λ c. search needs)
     write-endings-requires
+    (λ c. search needs)
+    (λ c. search needs)
     (λ c. search needs)
     (λ c. search needs)
     returns)
