@@ -8,9 +8,10 @@ use Prim.Native.Nat.{ℕ, _+_, _≤_, _<_}
 use native.Mathlib.Omega.{arith}
 use lib.ListN.{length}
 use Rattle.machine.specs.declared.Pair.{Pair}
-use Rattle.paths.specs.Ranked.{Ranked, countAt, rankedCosts}
+use Rattle.paths.specs.Ranked.{Ranked, Less, countAt, rankedCosts, less-total}
 use Rattle.paths.specs.Graph.{Graph, pathCost, run→cost}
 use Rattle.paths.specs.Labels.{Attained, held→run}
+use Rattle.paths.specs.Improvement.{Falls, improves-falls}
 use Rattle.labels.specs.Marks.{marksCost}
 use Rattle.product.specs.ProductGraph.{pairs}
 use Rattle.cull.specs.StageLabels.{countOf, stageLabel, total}
@@ -35,9 +36,18 @@ arc-facts (unlabelled l q e) = facts-same q e
 arc-facts (dropped d l i h n q e) = facts-same q e
 arc-facts (lowered d l f L) = record { size = L .size; counts = L .counts; others = L .label .others; same = L .same; less = L .less }
 
+pub arc-falls : {xs ys : List ℕ} {u v m k : ℕ} {r : Bool} → ArcTried xs ys u v m k r → Falls (Less 1) (stageLabel xs k) (stageLabel ys k)
+arc-falls {xs} {ys} {k = k} (unlabelled l q e) = subst (λ (zs : List ℕ). Falls (Less 1) (stageLabel xs k) (stageLabel zs k)) (sym e) (λ w c m. m)
+arc-falls {xs} {ys} {k = k} (dropped d l i h n q e) = subst (λ (zs : List ℕ). Falls (Less 1) (stageLabel xs k) (stageLabel zs k)) (sym e) (λ w c m. m)
+arc-falls (lowered d l f L) = improves-falls (less-total 1) (L .label)
+
 pub step-facts : {xs ys : List ℕ} {o : Option (ℕ × ℕ)} {u t k : ℕ} {r : Bool} → StepTried xs ys o u t k r → StepFacts xs ys k u r
 step-facts (nothing n q e) = facts-same q e
 step-facts (arc to m s T) = arc-facts T
+
+pub step-falls : {xs ys : List ℕ} {o : Option (ℕ × ℕ)} {u t k : ℕ} {r : Bool} → StepTried xs ys o u t k r → Falls (Less 1) (stageLabel xs k) (stageLabel ys k)
+step-falls {xs} {k = k} (nothing n q e) = subst (λ (zs : List ℕ). Falls (Less 1) (stageLabel xs k) (stageLabel zs k)) (sym e) (λ w c m. m)
+step-falls (arc to m s T) = arc-falls T
 
 module _ (S : Graph (rankedCosts 1) pairs) {xs : List ℕ} {k u t : ℕ} {p : Pair} {o : Option (ℕ × ℕ)} (E : LinkedEntry S xs k u p t o) (A : Attained S (stageLabel xs k)) where
   -- where nothing was done

@@ -13,9 +13,8 @@ use Rattle.paths.specs.Costs.{AtMost, Lowers, kept, lowered}
 use Rattle.paths.specs.Ranked.{Ranked, Less, countAt, rankedCosts, less-total}
 use Rattle.paths.specs.Graph.{Graph, run→cost}
 use Rattle.paths.specs.Labels.{Attained, held→run}
-use Rattle.paths.specs.Improvement.{Improves, Falls, improves-upto, improves-falls, improve-edge}
+use Rattle.paths.specs.Improvement.{Improves, Falls, improves-upto, improve-edge}
 use Rattle.labels.specs.Marks.{marksCost}
-use Rattle.labels.specs.Work.{stateOf}
 use Rattle.product.specs.ProductGraph.{pairs}
 use Rattle.settling.specs.Insertions.{codeIn, marksIn, isListed}
 use Rattle.settling.specs.OpenCodes.{isOpen, OneMore, OneLess}
@@ -23,9 +22,8 @@ use Rattle.settling.proofs.Insertions.{listed-low, listed-high}
 use Rattle.settling.proofs.OpenCodes.{one-in, chosen-front, chosen-back}
 use Rattle.cull.specs.StageLabels.{countOf, stageLabel, total}
 use Rattle.cull.specs.Relaxing.{ArcPre, ArcTried, unlabelled, dropped, lowered as lowered-arc}
-use Rattle.cull.specs.Settling.{Kept, wayBy, marksOf, fromOf, ArcsOf, SettlePre, EntryPre, EntryTried, OpenIn, SomeIn, openCount, turns, Fell, RelaxedAt, Spread, OpenedIf, Opened, SettledBy}
-use Rattle.cull.proofs.StageWork.{stage-unlabelled}
-use Rattle.cull.proofs.Relaxing.{StepFacts, arc-facts}
+use Rattle.cull.specs.Settling.{Kept, wayBy, marksOf, fromOf, ArcsOf, SettlePre, EntryPre, EntryTried, OpenIn, SomeIn, openCount, turns, Fell, RelaxedAt, Spread, SettledBy}
+use Rattle.cull.proofs.Relaxing.{StepFacts, arc-facts, arc-falls}
 
 -- ---- the number of open codes
 
@@ -81,11 +79,6 @@ target-same {xs} {ys} {u} {v} {m} {k} (lowered-arc d l f L) = go (ℕ-discrete v
         no-less : Less 1 (wayBy k m d) d → ⊥
         no-less (inl h) = omega arith
         no-less (inr h) = omega (arith, h .1)
-
-arc-falls : {xs ys : List ℕ} {u v m k : ℕ} {r : Bool} → ArcTried xs ys u v m k r → Falls (Less 1) (stageLabel xs k) (stageLabel ys k)
-arc-falls {xs} {ys} {k = k} (unlabelled l q e) = subst (λ (zs : List ℕ). Falls (Less 1) (stageLabel xs k) (stageLabel zs k)) (sym e) (λ w c m. m)
-arc-falls {xs} {ys} {k = k} (dropped d l i h n q e) = subst (λ (zs : List ℕ). Falls (Less 1) (stageLabel xs k) (stageLabel zs k)) (sym e) (λ w c m. m)
-arc-falls (lowered-arc d l f L) = improves-falls (less-total 1) (L .label)
 
 -- the arc gives its node no less then
 arc-relaxed : {xs ys : List ℕ} {u v m k : ℕ} {r : Bool} → ArcTried xs ys u v m k r → (d : Ranked 1) → stageLabel xs k v ≡ some d → Kept xs k u v m → AtMost (Less 1) (stageLabel ys k u) (wayBy k m d)
@@ -246,8 +239,8 @@ entry-ready {xs} {entries = entries} {k = k} {b = b} v at Q two p = record {
 
 -- ---- until no code is open
 
--- the codes that are not open are done
-pub record Settling (xs ys os entries ends : List ℕ) (k b P : ℕ) : Type 0 where
+-- the codes from n on that are not open are done
+pub record Settling (xs ys os entries ends : List ℕ) (k b P n : ℕ) : Type 0 where
   pub size : length ys ≡ length xs
   pub counts : (i w : ℕ) → i < k → countOf ys i w ≡ countOf xs i w
   pub others : (w : ℕ) → (w < b) ⊎ (b + P ≤ w) → stageLabel ys k w ≡ stageLabel xs k w
@@ -255,52 +248,21 @@ pub record Settling (xs ys os entries ends : List ℕ) (k b P : ℕ) : Type 0 wh
   pub attained : (S : Graph (rankedCosts 1) pairs) → ArcsOf S xs entries ends k b → Attained S (stageLabel xs k) → Attained S (stageLabel ys k)
   pub bits : length os ≡ 2
   pub inside : (w : ℕ) → isOpen os w ≡ true → w < P
-  pub relaxed : (v at : ℕ) → isListed ends v at ≡ true → isOpen os v ≡ false → RelaxedAt ys entries k b v at
+  pub relaxed : (v at : ℕ) → n ≤ v → isListed ends v at ≡ true → isOpen os v ≡ false → RelaxedAt ys entries k b v at
 
-pub opened-start : {xs os : List ℕ} {b : ℕ} → Opened xs os os b 0
-opened-start = record { bits = refl; inside = λ w h. inl h; closed = λ w h. absurd (omega arith) }
-
-pub opened-next : {xs os ps qs : List ℕ} {b n : ℕ} → Opened xs os ps b n → OpenedIf xs ps qs (b + n) n → Opened xs os qs b (n + 1)
-opened-next {xs} {os} {ps} {qs} {b} {n} O T = record { bits = T .bits ∙ O .bits; inside = λ w h. inside w h (ℕ-discrete w n); closed = λ w h z. closed w h z (ℕ-discrete w n) }
-  where
-    before : (w : ℕ) → (isOpen os w ≡ true) ⊎ (w < n) → (isOpen os w ≡ true) ⊎ (w < n + 1)
-    before w (inl h) = inl h
-    before w (inr h) = inr (omega arith)
-
-    inside : (w : ℕ) → isOpen qs w ≡ true → Dec (w ≡ n) → (isOpen os w ≡ true) ⊎ (w < n + 1)
-    inside w h (yes q) = inr (omega arith)
-    inside w h (no d) = before w (O .inside w (sym (T .others w d) ∙ h))
-
-    closed : (w : ℕ) → w < n + 1 → isOpen qs w ≡ false → Dec (w ≡ n) → stateOf xs (b + w) ≡ 0
-    closed w h z (yes q) = ap (λ (j : ℕ). stateOf xs (b + j)) q ∙ T .closed (ap (isOpen qs) (sym q) ∙ z)
-    closed w h z (no d) = O .closed w (omega arith) (sym (T .others w d) ∙ z)
-
-pub opened-end : {xs os ps : List ℕ} {b i n : ℕ} → Opened xs os ps b i → i ≡ n → Opened xs os ps b n
-opened-end {xs} {os} {ps} {b} O q = subst (λ (j : ℕ). Opened xs os ps b j) q O
-
-pub opened-none : {xs os : List ℕ} {u c : ℕ} → stateOf xs u ≡ 0 → OpenedIf xs os os u c
-opened-none e = record { bits = refl; others = λ w n. refl; closed = λ _. e }
-
-pub opened-one : {xs os ps : List ℕ} {u c : ℕ} → OneMore os ps c → OpenedIf xs os ps u c
-opened-one O = record { bits = O .size; others = O .others; closed = λ z. absurd (clash (O .here) z) }
-
-pub settling-start : {xs os ps entries ends : List ℕ} {k b P : ℕ} → SettlePre xs entries ends k b P → length os ≡ 2 → ((w : ℕ) → isOpen os w ≡ false) → Opened xs os ps b P → Settling xs xs ps entries ends k b P
-settling-start {xs} {os} {ps} {k = k} {b = b} {P = P} Q two n O = record {
+pub settling-start : {xs os entries ends : List ℕ} {k b P : ℕ} → SettlePre xs entries ends k b P → length os ≡ 2 → ((w : ℕ) → isOpen os w ≡ false) → Settling xs xs os entries ends k b P P
+settling-start Q two n = record {
   size = refl;
   counts = λ i w h. refl;
   others = λ w d. refl;
   falls = λ w c m. m;
   attained = λ S E A. A;
-  bits = O .bits ∙ two;
-  inside = λ w h. go w (O .inside w h);
-  relaxed = λ v at p z d l f. absurd (Option·none-ne-some d (sym (stage-unlabelled xs k (b + v) (O .closed v (Q .to v at p) z)) ∙ l));
+  bits = two;
+  inside = λ w h. absurd (clash h (n w));
+  relaxed = λ v at h p z. absurd (omega (arith, h, Q .to v at p));
 }
-  where
-    go : (w : ℕ) → (isOpen os w ≡ true) ⊎ (w < P) → w < P
-    go w (inl h) = absurd (clash h (n w))
-    go w (inr h) = h
 
-module _ {xs ys os entries ends : List ℕ} {k b P : ℕ} (Z : Settling xs ys os entries ends k b P) where
+module _ {xs ys os entries ends : List ℕ} {k b P n : ℕ} (Z : Settling xs ys os entries ends k b P n) where
   pub settling-ready : SettlePre xs entries ends k b P → SettlePre ys entries ends k b P
   settling-ready Q = record {
     graph = Q .graph;
@@ -319,12 +281,13 @@ module _ {xs ys os entries ends : List ℕ} {k b P : ℕ} (Z : Settling xs ys os
   pub open-there : SettlePre xs entries ends k b P → OpenIn ys os b
   open-there Q = record { bits = Z .bits; few = omega (arith, Q .few-nodes); there = λ w h. omega (arith, Z .inside w h, Z .size, Q .nodes) }
 
-  pub settling-end : ((w : ℕ) → isOpen os w ≡ false) → SettledBy xs ys entries ends k b P
-  settling-end n = record { size = Z .size; counts = Z .counts; others = Z .others; falls = Z .falls; attained = Z .attained; closed = λ v at p. Z .relaxed v at p (n v) }
+  pub settling-end : n ≤ 0 → ((w : ℕ) → isOpen os w ≡ false) → SettledBy xs ys entries ends k b P
+  settling-end z o = record { size = Z .size; counts = Z .counts; others = Z .others; falls = Z .falls; attained = Z .attained; closed = λ v at p. Z .relaxed v at (omega arith) p (o v) }
 
   module _ {zs qs ps : List ℕ} {v : ℕ} (o : OneLess os qs v) (T : Spread ys zs qs ps entries ends k b P v) where
-    pub settling-step : Settling xs zs ps entries ends k b P
-    settling-step = record {
+    -- and with v the codes from m on
+    pub settling-step : (m : ℕ) → ((w : ℕ) → m ≤ w → w ≢ v → n ≤ w) → Settling xs zs ps entries ends k b P m
+    settling-step m up = record {
       size = T .fell .size ∙ Z .size;
       counts = λ i w h. T .fell .counts i w h ∙ Z .counts i w h;
       others = λ w d. T .fell .others w d ∙ Z .others w d;
@@ -332,7 +295,7 @@ module _ {xs ys os entries ends : List ℕ} {k b P : ℕ} (Z : Settling xs ys os
       attained = λ S E A. T .fell .attained S (arcs-kept (Z .counts) E) (Z .attained S E A);
       bits = T .fell .bits ∙ o .size ∙ Z .bits;
       inside = λ w h. inside w (T .fell .inside w h);
-      relaxed = λ w at p h. relaxed w at p h (ℕ-discrete w v);
+      relaxed = λ w at l p h. relaxed w at l p h (ℕ-discrete w v);
     }
       where
         was : (w : ℕ) → isOpen qs w ≡ true → Dec (w ≡ v) → isOpen os w ≡ true
@@ -343,11 +306,11 @@ module _ {xs ys os entries ends : List ℕ} {k b P : ℕ} (Z : Settling xs ys os
         inside w (inl h) = Z .inside w (was w h (ℕ-discrete w v))
         inside w (inr h) = h
 
-        relaxed : (w at : ℕ) → isListed ends w at ≡ true → isOpen ps w ≡ false → Dec (w ≡ v) → RelaxedAt zs entries k b w at
-        relaxed w at p h (yes q) = subst (λ (n : ℕ). RelaxedAt zs entries k b n at) (sym q) (T .relaxed at (subst (λ (n : ℕ). isListed ends n at ≡ true) q p))
-        relaxed w at p h (no n) = λ d l f.
+        relaxed : (w at : ℕ) → m ≤ w → isListed ends w at ≡ true → isOpen ps w ≡ false → Dec (w ≡ v) → RelaxedAt zs entries k b w at
+        relaxed w at a p h (yes q) = subst (λ (n : ℕ). RelaxedAt zs entries k b n at) (sym q) (T .relaxed at (subst (λ (n : ℕ). isListed ends n at ≡ true) q p))
+        relaxed w at a p h (no d′) = λ d l f.
             let still : isOpen qs w ≡ false = fails (isOpen qs w) (λ t. clash (T .fell .stays w t) h) in
-            T .fell .falls _ _ (Z .relaxed w at p (sym (o .others w n) ∙ still) d (sym (T .fell .same w h) ∙ l) (kept-back ys zs k (T .fell .counts) (fromOf entries b at) (b + w) (marksOf entries at) f))
+            T .fell .falls _ _ (Z .relaxed w at (up w a d′) p (sym (o .others w d′) ∙ still) d (sym (T .fell .same w h) ∙ l) (kept-back ys zs k (T .fell .counts) (fromOf entries b at) (b + w) (marksOf entries at) f))
 
     -- a turn: an open code is closed, and spread
     pub turn-less : isOpen os v ≡ true → turns zs ps k b P < turns ys os k b P

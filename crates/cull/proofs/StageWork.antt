@@ -10,7 +10,7 @@ use native.Mathlib.Decide.{ℕ-discrete, decLt}
 use lib.Dec.{eqb, ltb}
 use lib.ListN.{length, getD, set, length-set}
 use lib.Seq.{getD-set-same, getD-set-other}
-use borrow.Author.Tests.{eq-eqb, ne-eqb, ltb-true, ltb-false}
+use borrow.Author.Tests.{eqb-true, eq-eqb, ne-eqb, ltb-true, ltb-false}
 use Rattle.paths.specs.Total.{Upto}
 use Rattle.paths.specs.Costs.{AtMost, Above, kept, lowered, above-none, above-some}
 use Rattle.paths.specs.Ranked.{Ranked, Less, countAt}
@@ -58,6 +58,13 @@ left-told f h = record { kept = λ _ j l. f .is j (omega arith); dropped = λ q.
 
 pub left-broken : {xs : List ℕ} {u m : ℕ} (i : ℕ) {k a : ℕ} {after : ℕ → ℕ} → i < k → a ≡ countAt 6 i (marksCost m) → countOf xs i u ≢ a + after i → LeftTold xs u m k after false
 left-broken i h e n = record { kept = λ q. absurd (false≢true q); dropped = λ _. (i, h, λ z. n (omega (arith, z, e))) }
+
+-- one count was compared
+pub makes-next : {xs : List ℕ} {u m i a : ℕ} {r : Bool} (v : ℕ) → KeptBelow xs u m (countsOf xs v) i → a ≡ countAt 6 i (marksCost m) → r ≡ eqb (countOf xs i u) (a + countOf xs i v) → r ≡ true → KeptBelow xs u m (countsOf xs v) (i + 1)
+makes-next {xs} {u} {i = i} {a = a} v K e p q = left-next K e (eqb-true (countOf xs i u) (a + countOf xs i v) (sym p ∙ q))
+
+pub makes-broken : {xs : List ℕ} {u m : ℕ} (i v : ℕ) {k a : ℕ} {r : Bool} → i < k → a ≡ countAt 6 i (marksCost m) → r ≡ eqb (countOf xs i u) (a + countOf xs i v) → r ≡ false → LeftTold xs u m k (countsOf xs v) false
+makes-broken {xs} {u} i v {a = a} h e p q = left-broken i h e (λ z. false≢true (sym q ∙ p ∙ eq-eqb (countOf xs i u) (a + countOf xs i v) z))
 
 -- ---- comparing
 

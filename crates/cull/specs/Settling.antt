@@ -117,18 +117,6 @@ pub record Spread (xs ys os ps entries ends : List ℕ) (k b P v : ℕ) : Type 0
   pub fell : Fell xs ys os ps entries ends k b P
   pub relaxed : (at : ℕ) → isListed ends v at ≡ true → RelaxedAt ys entries k b v at
 
--- the code c is open, if the node u has a label
-pub record OpenedIf (xs os ps : List ℕ) (u c : ℕ) : Type 0 where
-  pub bits : length ps ≡ length os
-  pub others : (w : ℕ) → w ≢ c → isOpen ps w ≡ isOpen os w
-  pub closed : isOpen ps c ≡ false → stateOf xs u ≡ 0
-
--- the labelled codes below n are open, besides those that were
-pub record Opened (xs os ps : List ℕ) (b n : ℕ) : Type 0 where
-  pub bits : length ps ≡ length os
-  pub inside : (w : ℕ) → isOpen ps w ≡ true → (isOpen os w ≡ true) ⊎ (w < n)
-  pub closed : (w : ℕ) → w < n → isOpen ps w ≡ false → stateOf xs (b + w) ≡ 0
-
 -- no insertion gives a node less
 pub record SettledBy (xs ys entries ends : List ℕ) (k b P : ℕ) : Type 0 where
   pub size : length ys ≡ length xs

@@ -5,6 +5,7 @@ ghost use mathlib.Core.List.{List};
 ghost use Prim.Native.Nat.{ℕ, _+_, _*_, _^_, _≤_, _<_};
 ghost use Rattle.paths.specs.Ranked.{countAt};
 ghost use Rattle.labels.specs.Marks.{marksCost};
+ghost use lib.Dec.{eqb};
 ghost use lib.ListN.{length};
 ghost use Rattle.labels.specs.Work.{HasNode, HasNodes};
 ghost use Rattle.tables.specs.Places.{sixPlaces, SixPlaces};
@@ -22,8 +23,9 @@ ghost use Rattle.readout.specs.Searching.{SetsPre, SearchPre, Searched};
 ghost use Rattle.grid.specs.Grids.{GridOf};
 ghost use Rattle.cull.specs.Relaxing.{countsOf, noCounts, LeftTold, NodePre, Compared, Written, Lowered, ArcPre, ArcTried};
 ghost use Rattle.cull.specs.Tables.{TablesPre, ListPre, ListsOf};
+ghost use Rattle.cull.specs.StageLabels.{countOf};
 ghost use Rattle.cull.specs.Entering.{marksBy, LanePre, LaneTried, CodePre, LanesTried, codesAt, FourPre, CodesTried, InputPre, InputTried, laneEnding, EndingTried, EndingsPre};
-ghost use Rattle.cull.specs.Settling.{OpenIn, SomeIn, EntryPre, EntryTried, SettlePre, Spread, OpenedIf, Opened, SettledBy};
+ghost use Rattle.cull.specs.Settling.{OpenIn, SomeIn, EntryPre, EntryTried, SettlePre, Spread, SettledBy};
 ghost use Rattle.cull.specs.Culling.{LentTables, CullPre, PositionPre, PositionEntered, PositionDone, EndPre, EndsTried, CodesEnded, StagePre, StageDone, Blanked, PlaceCleared};
 use candidate::Evaluation;
 use candidate::refused;
@@ -66,19 +68,48 @@ fn wide(x: u16) -> u32
     x as u32
 }
 
+// Whether the marks of the constraint at a place, with the target's fewest, make the node's.
+fn makes(work: &[u16], node: usize, target: usize, place: usize, marks: u32) -> bool
+    requires { ⌜ HasNode (now work) node × HasNode (now work) target × (place < 6) × (marks < 65536) ⌝ }
+    ensures { λ r. ⌜ r ≡ eqb (countOf (now (work .entry)) place node) (marks + countOf (now (work .entry)) place target) ⌝ }
+{
+    wide(work[node * 8 + 1 + place]) == marks + wide(work[target * 8 + 1 + place])
+}
+
 // Whether the stages before kept an arc with those marks from the node to the target: with the target's fewest marks its marks make the node's.
 fn arc_left(work: &[u16], node: usize, target: usize, marks: u32, stage: usize) -> bool
     requires { ⌜ HasNode (now work) node × HasNode (now work) target × (marks < 16 ^ 6) × (stage < 6) ⌝ }
     ensures { λ r. ⌜ LeftTold (now (work .entry)) node marks stage (countsOf (now (work .entry)) target) r ⌝ }
 {
-    let mut i = 0;
-    while i < stage {
-        let here = wide(work[node * 8 + 1 + i]);
-        let there = wide(work[target * 8 + 1 + i]);
-        if here != wide(marks_at(marks, i)) + there {
-            return false;
-        }
-        i += 1;
+    if stage == 0 {
+        return true;
+    }
+    if !makes(work, node, target, 0, marks / 1048576) {
+        return false;
+    }
+    if stage == 1 {
+        return true;
+    }
+    if !makes(work, node, target, 1, marks % 1048576 / 65536) {
+        return false;
+    }
+    if stage == 2 {
+        return true;
+    }
+    if !makes(work, node, target, 2, marks % 65536 / 4096) {
+        return false;
+    }
+    if stage == 3 {
+        return true;
+    }
+    if !makes(work, node, target, 3, marks % 4096 / 256) {
+        return false;
+    }
+    if stage == 4 {
+        return true;
+    }
+    if !makes(work, node, target, 4, marks % 256 / 16) {
+        return false;
     }
     true
 }
@@ -301,29 +332,6 @@ fn take(opened: &mut [u64; 2], code: usize)
     );
 }
 
-// Opens the code of a node, if that has a label.
-fn open_if_labelled(work: &[u16], opened: &mut [u64; 2], node: usize, code: usize)
-    requires { ⌜ HasNode (now work) node × (node < 3200) × (code < 128) × (length (now opened) ≡ 2) ⌝ }
-    ensures { λ _. ⌜ OpenedIf (now (work .entry)) (now (opened .entry)) (now (opened .exit)) node code ⌝ }
-{
-    if work[node * 8] == 0 {
-        return;
-    }
-    put(opened, code);
-}
-
-// Opens the codes below size that have a label; the nodes of the position are from base on.
-fn open_labelled(work: &[u16], opened: &mut [u64; 2], base: usize, size: usize)
-    requires { ⌜ HasNodes (now work) (base + size) × (base + size ≤ 3200) × (size ≤ 128) × (length (now opened) ≡ 2) ⌝ }
-    ensures { λ _. ⌜ Opened (now (work .entry)) (now (opened .entry)) (now (opened .exit)) base size ⌝ }
-{
-    let mut code = 0;
-    while code < size {
-        open_if_labelled(work, opened, base + code, code);
-        code += 1;
-    }
-}
-
 // Whether the marks and the pairs of the node a are fewer than those of b, both labelled.
 fn is_before(work: &[u16], a: usize, b: usize, stage: usize) -> bool
     requires { ⌜ NodePre (now work) a stage × HasNode (now work) b ⌝ }
@@ -414,7 +422,7 @@ fn spread(
     }
 }
 
-// Tries the nodes of a position by insertions in lists, until none is given less: the open codes one after the other.
+// Tries the nodes of a position by insertions in lists, until none is given less: those to every code once, then those to the open ones.
 fn settle(
     work: &mut [u16],
     entries: &[u32],
@@ -427,7 +435,12 @@ fn settle(
     ensures { λ _. ⌜ SettledBy (now (work .entry)) (now (work .exit)) (now (entries .entry)) (now (ends .entry)) stage base size ⌝ }
 {
     let mut opened = [0u64; 2];
-    open_labelled(work, &mut opened, base, size);
+    let mut left = size;
+    while left > 0 {
+        left -= 1;
+        take(&mut opened, left);
+        spread(work, &mut opened, entries, ends, base, size, left, stage);
+    }
     loop {
         let code = choose(work, &opened, base, stage);
         if code >= 128 {

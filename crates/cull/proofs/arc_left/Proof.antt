@@ -1,108 +1,95 @@
 use native.Mathlib.Omega.{arith}
-use Prim.Native.Nat.{_-_, _≤_}
-use Rattle.cull.specs.Relaxing.{countsOf}
-use Rattle.cull.proofs.StageWork.{KeptBelow, left-start, left-next, left-told, left-broken}
+use borrow.Author.Tests.{not-true, not-false}
+use Rattle.cull.proofs.Marks.{place-0, place-1, place-2, place-3, place-4}
+use Rattle.cull.proofs.StageWork.{left-start, makes-next, left-told, makes-broken}
 use borrow.Author.Needs.{needs}
 use Rattle.cull.proofs.arc_left.Statement.{statement}
 use Rattle.cull.proofs.arc_left.Tie as tie
+use Rattle.cull.proofs.arc_left.Reads as reads
+use Rattle.cull.proofs.arc_left.Lts as lts
+use Rattle.cull.proofs.makes.Reads as makes-reads
 
-abbrev Inv-loop : tie.InvT-loop
-Inv-loop work node target marks stage i₀ i = (i ≤ stage) × KeptBelow work node marks (countsOf work target) i
+-- src/lib.rt:91:9
+returns : tie.Need-returns
+returns c = left-told left-start (omega (arith, c .if1 .taken))
 
-abbrev μ-loop : tie.MeasureT-loop
-μ-loop work node target marks stage i₀ i = stage - i
+-- src/lib.rt:93:9
+makes-requires : tie.Need-makes-requires
+makes-requires c κs = search needs
 
-loop-holds : tie.Need-loop-holds Inv-loop μ-loop
-loop-holds c = (omega arith, left-start)
+-- src/lib.rt:94:9
+returns-2 : tie.Need-returns-2
+returns-2 c = makes-broken 0 (c .before .before .before .before .args .target) (omega (arith, c .before .before .if1 .left)) (place-0 _) (c .before .makes .ensures) (not-true _ (c .if2 .taken))
 
-mul-wide : tie.Need-mul-wide Inv-loop μ-loop
-mul-wide c = search needs
+-- src/lib.rt:97:9
+returns-3 : tie.Need-returns-3
+returns-3 c = left-told (makes-next (c .before .before .before .before .before .args .target) left-start (place-0 _) (c .before .before .makes .ensures) (not-false _ (c .before .if2 .left))) (omega (arith, c .if3 .taken))
 
-add-wide : tie.Need-add-wide Inv-loop μ-loop
-add-wide c = search needs
+-- src/lib.rt:99:9
+makes-requires-2 : tie.Need-makes-requires-2
+makes-requires-2 c κs = search needs
 
-add-wide-2 : tie.Need-add-wide-2 Inv-loop μ-loop
-add-wide-2 c = search needs
+-- src/lib.rt:100:9
+returns-4 : tie.Need-returns-4
+returns-4 c = makes-broken 1 (c .before .before .before .before .before .before .before .args .target) (omega (arith, c .before .before .before .before .before .if1 .left, c .before .before .if3 .left)) (place-1 _) (c .before .makes2 .ensures) (not-true _ (c .if4 .taken))
 
-mul-wide-2 : tie.Need-mul-wide-2 Inv-loop μ-loop
-mul-wide-2 c = search needs
+-- src/lib.rt:103:9
+returns-5 : tie.Need-returns-5
+returns-5 c = left-told (makes-next (c .before .before .before .before .before .before .before .before .args .target) (makes-next (c .before .before .before .before .before .before .before .before .args .target) left-start (place-0 _) (c .before .before .before .before .before .makes .ensures) (not-false _ (c .before .before .before .before .if2 .left))) (place-1 _) (c .before .before .makes2 .ensures) (not-false _ (c .before .if4 .left))) (omega (arith, c .if5 .taken))
 
-shared-slice-read-wide : tie.Need-shared-slice-read-wide Inv-loop μ-loop
-shared-slice-read-wide c = search needs
+-- src/lib.rt:105:9
+makes-requires-3 : tie.Need-makes-requires-3
+makes-requires-3 c κs = search needs
 
-wide-requires : tie.Need-wide-requires Inv-loop μ-loop
-wide-requires c κs = search needs
+-- src/lib.rt:106:9
+returns-6 : tie.Need-returns-6
+returns-6 c = makes-broken 2 (c .before .before .before .before .before .before .before .before .before .before .args .target) (omega (arith, c .before .before .before .before .before .before .before .before .if1 .left, c .before .before .before .before .before .if3 .left, c .before .before .if5 .left)) (place-2 _) (c .before .makes3 .ensures) (not-true _ (c .if6 .taken))
 
-mul-wide-3 : tie.Need-mul-wide-3 Inv-loop μ-loop
-mul-wide-3 c = search needs
+-- src/lib.rt:109:9
+returns-7 : tie.Need-returns-7
+returns-7 c = left-told (makes-next (c .before .before .before .before .before .before .before .before .before .before .before .args .target) (makes-next (c .before .before .before .before .before .before .before .before .before .before .before .args .target) (makes-next (c .before .before .before .before .before .before .before .before .before .before .before .args .target) left-start (place-0 _) (c .before .before .before .before .before .before .before .before .makes .ensures) (not-false _ (c .before .before .before .before .before .before .before .if2 .left))) (place-1 _) (c .before .before .before .before .before .makes2 .ensures) (not-false _ (c .before .before .before .before .if4 .left))) (place-2 _) (c .before .before .makes3 .ensures) (not-false _ (c .before .if6 .left))) (omega (arith, c .if7 .taken))
 
-add-wide-3 : tie.Need-add-wide-3 Inv-loop μ-loop
-add-wide-3 c = search needs
+-- src/lib.rt:111:9
+makes-requires-4 : tie.Need-makes-requires-4
+makes-requires-4 c κs = search needs
 
-add-wide-4 : tie.Need-add-wide-4 Inv-loop μ-loop
-add-wide-4 c = search needs
+-- src/lib.rt:112:9
+returns-8 : tie.Need-returns-8
+returns-8 c = makes-broken 3 (c .before .before .before .before .before .before .before .before .before .before .before .before .before .args .target) (omega (arith, c .before .before .before .before .before .before .before .before .before .before .before .if1 .left, c .before .before .before .before .before .before .before .before .if3 .left, c .before .before .before .before .before .if5 .left, c .before .before .if7 .left)) (place-3 _) (c .before .makes4 .ensures) (not-true _ (c .if8 .taken))
 
-mul-wide-4 : tie.Need-mul-wide-4 Inv-loop μ-loop
-mul-wide-4 c = search needs
+-- src/lib.rt:115:9
+returns-9 : tie.Need-returns-9
+returns-9 c = left-told (makes-next (c .before .before .before .before .before .before .before .before .before .before .before .before .before .before .args .target) (makes-next (c .before .before .before .before .before .before .before .before .before .before .before .before .before .before .args .target) (makes-next (c .before .before .before .before .before .before .before .before .before .before .before .before .before .before .args .target) (makes-next (c .before .before .before .before .before .before .before .before .before .before .before .before .before .before .args .target) left-start (place-0 _) (c .before .before .before .before .before .before .before .before .before .before .before .makes .ensures) (not-false _ (c .before .before .before .before .before .before .before .before .before .before .if2 .left))) (place-1 _) (c .before .before .before .before .before .before .before .before .makes2 .ensures) (not-false _ (c .before .before .before .before .before .before .before .if4 .left))) (place-2 _) (c .before .before .before .before .before .makes3 .ensures) (not-false _ (c .before .before .before .before .if6 .left))) (place-3 _) (c .before .before .makes4 .ensures) (not-false _ (c .before .if8 .left))) (omega (arith, c .if9 .taken))
 
-shared-slice-read-wide-2 : tie.Need-shared-slice-read-wide-2 Inv-loop μ-loop
-shared-slice-read-wide-2 c = search needs
+-- src/lib.rt:117:9
+makes-requires-5 : tie.Need-makes-requires-5
+makes-requires-5 c κs = search needs
 
-wide-requires-2 : tie.Need-wide-requires-2 Inv-loop μ-loop
-wide-requires-2 c κs = search needs
+-- src/lib.rt:118:9
+returns-10 : tie.Need-returns-10
+returns-10 c = makes-broken 4 (c .before .before .before .before .before .before .before .before .before .before .before .before .before .before .before .before .args .target) (omega (arith, c .before .before .before .before .before .before .before .before .before .before .before .before .before .before .if1 .left, c .before .before .before .before .before .before .before .before .before .before .before .if3 .left, c .before .before .before .before .before .before .before .before .if5 .left, c .before .before .before .before .before .if7 .left, c .before .before .if9 .left)) (place-4 _) (c .before .makes5 .ensures) (not-true _ (c .if10 .taken))
 
-marks-at-requires : tie.Need-marks-at-requires Inv-loop μ-loop
-marks-at-requires c κs = search needs
-
-wide-requires-3 : tie.Need-wide-requires-3 Inv-loop μ-loop
-wide-requires-3 c κs = search needs
-
-add-if1 : tie.Need-add-if1 Inv-loop μ-loop
-add-if1 c = search needs
-
-returns : tie.Need-returns Inv-loop μ-loop
-returns c =
-    let w = c .before in
-    left-broken (c .before .before .before .before .before .before .before .before .loop .i) (omega arith) (w .before .marks-at .ensures) (omega (arith, c .if1 .taken, w .wide3 .ensures, w .before .before .wide2 .ensures, w .before .before .before .before .wide .ensures))
-
-add-i : tie.Need-add-i Inv-loop μ-loop
-add-i c = search needs
-
-loop-less : tie.Need-loop-less Inv-loop μ-loop
-loop-less c = search needs
-
-loop-again : tie.Need-loop-again Inv-loop μ-loop
-loop-again c =
-    let w = c .before in
-    (omega arith, left-next (c .before .before .before .before .before .before .before .before .loop .inv .1) (w .before .marks-at .ensures) (omega (arith, c .if1 .left, w .wide3 .ensures, w .before .before .wide2 .ensures, w .before .before .before .before .wide .ensures)))
-
-returns-2 : tie.Need-returns-2 Inv-loop μ-loop
-returns-2 c = left-told (c .before .loop .inv .1) (omega arith)
+-- src/lib.rt:86:1
+returns-11 : tie.Need-returns-11
+returns-11 c = left-told (makes-next (c .before .before .before .before .before .before .before .before .before .before .before .before .before .before .before .before .args .target) (makes-next (c .before .before .before .before .before .before .before .before .before .before .before .before .before .before .before .before .args .target) (makes-next (c .before .before .before .before .before .before .before .before .before .before .before .before .before .before .before .before .args .target) (makes-next (c .before .before .before .before .before .before .before .before .before .before .before .before .before .before .before .before .args .target) (makes-next (c .before .before .before .before .before .before .before .before .before .before .before .before .before .before .before .before .args .target) left-start (place-0 _) (c .before .before .before .before .before .before .before .before .before .before .before .before .before .makes .ensures) (not-false _ (c .before .before .before .before .before .before .before .before .before .before .before .before .if2 .left))) (place-1 _) (c .before .before .before .before .before .before .before .before .before .before .makes2 .ensures) (not-false _ (c .before .before .before .before .before .before .before .before .before .if4 .left))) (place-2 _) (c .before .before .before .before .before .before .before .makes3 .ensures) (not-false _ (c .before .before .before .before .before .before .if6 .left))) (place-3 _) (c .before .before .before .before .makes4 .ensures) (not-false _ (c .before .before .before .if8 .left))) (place-4 _) (c .before .makes5 .ensures) (not-false _ (c .if10 .left))) (omega (arith, c .before .before .before .before .before .before .before .before .before .before .before .before .before .before .before .before .pre .3))
 
 pub arc-left-spec : {M : Type 1} → statement M
 arc-left-spec =
     tie.close
     (tie.spec
-    Inv-loop
-    μ-loop
-    loop-holds
-    mul-wide
-    add-wide
-    add-wide-2
-    mul-wide-2
-    shared-slice-read-wide
-    wide-requires
-    mul-wide-3
-    add-wide-3
-    add-wide-4
-    mul-wide-4
-    shared-slice-read-wide-2
-    wide-requires-2
-    marks-at-requires
-    wide-requires-3
-    add-if1
     returns
-    add-i
-    loop-less
-    loop-again
-    returns-2)
+    makes-requires
+    returns-2
+    returns-3
+    makes-requires-2
+    returns-4
+    returns-5
+    makes-requires-3
+    returns-6
+    returns-7
+    makes-requires-4
+    returns-8
+    returns-9
+    makes-requires-5
+    returns-10
+    returns-11)

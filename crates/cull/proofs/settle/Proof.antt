@@ -1,45 +1,86 @@
--- `settle` meets its contract.
+use borrow.Author.Needs.{needs}
 use mathlib.Core.Path.{refl, _∙_}
+use mathlib.Core.List.{List}
+use Prim.Native.Nat.{ℕ, _≤_}
 use native.Mathlib.Omega.{arith}
 use Rattle.settling.proofs.OpenCodes.{none-open}
 use Rattle.cull.specs.Settling.{turns}
 use Rattle.cull.proofs.Spreading.{Settling, settling-start, settling-ready, open-there, settling-step, settling-end, turn-less}
-use borrow.Author.Needs.{needs}
 use Rattle.cull.proofs.settle.Statement.{statement}
 use Rattle.cull.proofs.settle.Tie as tie
+use Rattle.cull.proofs.settle.Reads as reads
+use Rattle.cull.proofs.settle.Lts as lts
+use Rattle.cull.proofs.choose.Reads as choose-reads
+use Rattle.cull.proofs.spread.Reads as spread-reads
+use Rattle.cull.proofs.take.Reads as take-reads
 
 abbrev Inv-loop : tie.InvT-loop
-Inv-loop work₀ entries ends base size stage opened₀ work opened = Settling work₀ work opened entries ends stage base size
+Inv-loop work₀ entries ends base size stage opened₀ left₀ work opened left = (left ≤ size) × Settling work₀ work opened entries ends stage base size left
 
 abbrev μ-loop : tie.MeasureT-loop
-μ-loop work₀ entries ends base size stage opened₀ work opened = turns work opened stage base size
+μ-loop work₀ entries ends base size stage opened₀ left₀ work opened left = left
 
-open-labelled-requires : tie.Need-open-labelled-requires Inv-loop μ-loop
-open-labelled-requires c κs = let Q = c .before .before .before .before .pre in (Q .nodes, Q .few-nodes, Q .few, refl)
+abbrev Inv-loop2 : tie.InvT-loop2
+Inv-loop2 work₀ entries ends base size stage opened₀ left work opened = (xs : List ℕ) → Settling xs work₀ opened₀ entries ends stage base size left → Settling xs work opened entries ends stage base size left
 
-loop-holds : tie.Need-loop-holds Inv-loop μ-loop
-loop-holds c = settling-start (c .before .before .before .before .before .pre) refl (none-open _ refl refl refl) (c .open-labelled .ensures)
+abbrev μ-loop2 : tie.MeasureT-loop2
+μ-loop2 work₀ entries ends base size stage opened₀ left work opened = turns work opened stage base size
 
-choose-requires : tie.Need-choose-requires Inv-loop μ-loop
-choose-requires c κs = (open-there (c .before .before .loop .inv) (c .before .before .before .before .before .before .before .before .pre), c .before .before .before .before .before .before .before .before .pre .stage)
+-- src/lib.rt:534:5
+loop-holds : tie.Need-loop-holds Inv-loop μ-loop Inv-loop2 μ-loop2
+loop-holds c = (omega arith, settling-start (c .before .before .pre) refl (none-open _ refl refl refl))
 
-same-length : tie.Need-same-length Inv-loop μ-loop
-same-length c = c .before .before .before .before .loop .inv .size
+-- src/lib.rt:535:9
+sub-left : tie.Need-sub-left Inv-loop μ-loop Inv-loop2 μ-loop2
+sub-left c = omega (arith, c .loop-test .taken)
 
-returns : tie.Need-returns Inv-loop μ-loop
-returns c = settling-end (c .before .before .before .before .loop .inv) (c .before .choose .ensures .none-open (omega (arith, c .if1 .taken)))
+-- src/lib.rt:536:9
+take-requires : tie.Need-take-requires Inv-loop μ-loop Inv-loop2 μ-loop2
+take-requires c κs = (omega (arith, c .before .loop-test .taken, c .before .before .loop .inv .0, c .before .before .before .before .before .pre .few), c .before .before .loop .inv .1 .bits)
 
-take-requires : tie.Need-take-requires Inv-loop μ-loop
-take-requires c κs = (omega (arith, c .before .if1 .left), c .before .before .before .before .before .loop .inv .bits)
+-- src/lib.rt:537:9
+spread-requires : tie.Need-spread-requires Inv-loop μ-loop Inv-loop2 μ-loop2
+spread-requires c κs = (settling-ready (c .before .before .before .before .before .loop .inv .1) (c .before .before .before .before .before .before .before .before .pre), c .before .before .take .ensures .size ∙ c .before .before .before .before .before .loop .inv .1 .bits, omega (arith, c .before .before .before .before .loop-test .taken, c .before .before .before .before .before .loop .inv .0))
 
-spread-requires : tie.Need-spread-requires Inv-loop μ-loop
-spread-requires c κs = (settling-ready (c .before .before .before .before .before .before .before .before .loop .inv) (c .before .before .before .before .before .before .before .before .before .before .before .before .before .before .pre), c .before .before .take .ensures .size ∙ c .before .before .before .before .before .before .before .before .loop .inv .bits, c .before .before .before .before .before .before .before .before .loop .inv .inside _ (c .before .before .before .before .before .choose .ensures .found (omega (arith, c .before .before .before .before .if1 .left))))
+-- src/lib.rt:534:5
+loop-less : tie.Need-loop-less Inv-loop μ-loop Inv-loop2 μ-loop2
+loop-less c = omega (arith, c .before .before .before .before .before .before .before .loop-test .taken)
 
-loop-less : tie.Need-loop-less Inv-loop μ-loop
-loop-less c = turn-less (c .before .before .before .before .before .before .before .before .before .before .before .loop .inv) (c .before .before .before .before .before .take .ensures) (c .before .before .spread .ensures) (c .before .before .before .before .before .before .before .before .choose .ensures .found (omega (arith, c .before .before .before .before .before .before .before .if1 .left)))
+-- src/lib.rt:534:5
+loop-again : tie.Need-loop-again Inv-loop μ-loop Inv-loop2 μ-loop2
+loop-again c = (omega (arith, c .before .before .before .before .before .before .before .before .loop .inv .0), settling-step (c .before .before .before .before .before .before .before .before .loop .inv .1) (c .before .before .before .before .before .take .ensures) (c .before .before .spread .ensures) _ (λ w a n. omega (arith, a, n, c .before .before .before .before .before .before .before .loop-test .taken)))
 
-loop-again : tie.Need-loop-again Inv-loop μ-loop
-loop-again c = settling-step (c .before .before .before .before .before .before .before .before .before .before .before .loop .inv) (c .before .before .before .before .before .take .ensures) (c .before .before .spread .ensures)
+-- src/lib.rt:539:5
+loop2-holds : tie.Need-loop2-holds Inv-loop μ-loop Inv-loop2 μ-loop2
+loop2-holds c = λ xs s. s
+
+-- src/lib.rt:540:13
+choose-requires : tie.Need-choose-requires Inv-loop μ-loop Inv-loop2 μ-loop2
+choose-requires c κs = (open-there (c .before .before .loop2 .inv _ (c .before .before .before .before .loop .inv .1)) (c .before .before .before .before .before .before .before .pre), c .before .before .before .before .before .before .before .pre .stage)
+
+-- src/lib.rt:542:13
+same-length : tie.Need-same-length Inv-loop μ-loop Inv-loop2 μ-loop2
+same-length c = c .before .before .before .before .loop2 .inv _ (c .before .before .before .before .before .before .loop .inv .1) .size
+
+-- src/lib.rt:542:13
+returns : tie.Need-returns Inv-loop μ-loop Inv-loop2 μ-loop2
+returns c = settling-end (c .before .before .before .before .loop2 .inv _ (c .before .before .before .before .before .before .loop .inv .1)) (omega (arith, c .before .before .before .before .before .loop-test .left)) (c .before .choose .ensures .none-open (omega (arith, c .if1 .taken)))
+
+-- src/lib.rt:544:9
+take-requires-2 : tie.Need-take-requires-2 Inv-loop μ-loop Inv-loop2 μ-loop2
+take-requires-2 c κs = (omega (arith, c .before .if1 .left), c .before .before .before .before .before .loop2 .inv _ (c .before .before .before .before .before .before .before .loop .inv .1) .bits)
+
+-- src/lib.rt:545:9
+spread-requires-2 : tie.Need-spread-requires-2 Inv-loop μ-loop Inv-loop2 μ-loop2
+spread-requires-2 c κs = let Z = c .before .before .before .before .before .before .before .before .loop2 .inv _ (c .before .before .before .before .before .before .before .before .before .before .loop .inv .1) in (settling-ready Z (c .before .before .before .before .before .before .before .before .before .before .before .before .before .pre), c .before .before .take2 .ensures .size ∙ Z .bits, Z .inside _ (c .before .before .before .before .before .choose .ensures .found (omega (arith, c .before .before .before .before .if1 .left))))
+
+-- src/lib.rt:539:5
+loop2-less : tie.Need-loop2-less Inv-loop μ-loop Inv-loop2 μ-loop2
+loop2-less c = turn-less (c .before .before .before .before .before .before .before .before .before .before .before .loop2 .inv _ (c .before .before .before .before .before .before .before .before .before .before .before .before .before .loop .inv .1)) (c .before .before .before .before .before .take2 .ensures) (c .before .before .spread2 .ensures) (c .before .before .before .before .before .before .before .before .choose .ensures .found (omega (arith, c .before .before .before .before .before .before .before .if1 .left)))
+
+-- src/lib.rt:539:5
+loop2-again : tie.Need-loop2-again Inv-loop μ-loop Inv-loop2 μ-loop2
+loop2-again c = λ xs s. settling-step (c .before .before .before .before .before .before .before .before .before .before .before .loop2 .inv xs s) (c .before .before .before .before .before .take2 .ensures) (c .before .before .spread2 .ensures) _ (λ w a n. a)
 
 pub settle-spec : {M : Type 1} → statement M
 settle-spec =
@@ -47,12 +88,19 @@ settle-spec =
     (tie.spec
     Inv-loop
     μ-loop
-    open-labelled-requires
+    Inv-loop2
+    μ-loop2
     loop-holds
-    choose-requires
-    same-length
-    returns
+    sub-left
     take-requires
     spread-requires
     loop-less
-    loop-again)
+    loop-again
+    loop2-holds
+    choose-requires
+    same-length
+    returns
+    take-requires-2
+    spread-requires-2
+    loop2-less
+    loop2-again)
