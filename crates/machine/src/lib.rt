@@ -10,11 +10,11 @@ ghost use Rattle.machine.specs.Symbols.{emptySymbol, pairOf, isPair, wit
 ghost use Rattle.machine.specs.Machine.{startState, takes, stepOf, stepped, endingOf, ended};
 ghost use Rattle.machine.specs.Part.{stateCount, arcCount, arcsOf, machineOf, shaped, soundArc, partRefusal};
 
-pub mod sets; // sets.rt: sets of symbols
 mod part; // part.rt: what a part's bytes say, and its checks
 
 use basics::index;
 use refusals::Checked;
+pub use symbols::sets;
 
 // A pair of symbols, in and out.
 pub struct Pair {
@@ -24,7 +24,7 @@ pub struct Pair {
 
 impl Pair {
     // The empty symbol.
-    pub const EMPTY: u8 = 0;
+    pub const EMPTY: u8 = symbols::EMPTY;
 
     // The first of the other symbols.
     pub const FIRST: usize = Pair::EMPTY as usize + 1;

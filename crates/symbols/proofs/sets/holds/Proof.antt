@@ -1,7 +1,7 @@
 use borrow.Author.Needs.{needs}
-use Rattle.machine.proofs.SymbolSets.{meets-one}
-use Rattle.machine.proofs.sets.holds.Statement.{statement}
-use Rattle.machine.proofs.sets.holds.Tie as tie
+use Rattle.symbols.proofs.SymbolSets.{meets-one}
+use Rattle.symbols.proofs.sets.holds.Statement.{statement}
+use Rattle.symbols.proofs.sets.holds.Tie as tie
 
 returns : tie.Need-returns
 returns c symbol e = rw e (meets-one (c .args .set) symbol (search needs))

@@ -2,9 +2,9 @@ use mathlib.Core.Path.{refl}
 use native.Mathlib.Omega.{arith}
 use lib.Count.{trailing-le}
 use borrow.Author.Needs.{needs}
-use Rattle.machine.proofs.SymbolSets.{least-at}
-use Rattle.machine.proofs.sets.least.Statement.{statement}
-use Rattle.machine.proofs.sets.least.Tie as tie
+use Rattle.symbols.proofs.SymbolSets.{least-at}
+use Rattle.symbols.proofs.sets.least.Statement.{statement}
+use Rattle.symbols.proofs.sets.least.Tie as tie
 
 cast-result : tie.Need-cast-result
 cast-result c = omega (arith, trailing-le 64 (c .args .set))

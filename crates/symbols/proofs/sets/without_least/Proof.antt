@@ -2,9 +2,9 @@ use native.Mathlib.Omega.{arith}
 use Prim.Native.Nat.{_-_}
 use lib.Bits.{and-le-r}
 use borrow.Author.Needs.{needs}
-use Rattle.machine.proofs.SymbolSets.{without-least}
-use Rattle.machine.proofs.sets.without_least.Statement.{statement}
-use Rattle.machine.proofs.sets.without_least.Tie as tie
+use Rattle.symbols.proofs.SymbolSets.{without-least}
+use Rattle.symbols.proofs.sets.without_least.Statement.{statement}
+use Rattle.symbols.proofs.sets.without_least.Tie as tie
 
 returns : tie.Need-returns
 returns c =

@@ -4,12 +4,10 @@ ghost use mathlib.Core.Bool.{true, not, _&&_};
 ghost use Prim.Native.Nat.{ℕ, _<_, _^_};
 ghost use lib.Dec.{eqb};
 ghost use Rattle.basics.specs.Sets.{member};
-ghost use Rattle.machine.specs.SymbolSets.{leastSymbol, withoutSymbol, withoutEmpty, partners};
-ghost use Rattle.machine.specs.Part.{soundSet};
-use crate::Pair;
+ghost use Rattle.symbols.specs.SymbolSets.{leastSymbol, withoutSymbol, withoutEmpty, soundSet, partners};
 
 // The set of the empty symbol.
-pub const EMPTY: u64 = 1 << Pair::EMPTY;
+pub const EMPTY: u64 = 1 << crate::EMPTY;
 
 // The set of one symbol.
 pub fn set_of(symbol: u8) -> u64

@@ -1,8 +1,8 @@
 use borrow.Author.Needs.{needs}
 use mathlib.Core.Path.{refl}
-use Rattle.machine.specs.Symbols.{emptySymbol}
-use Rattle.machine.proofs.sets.without_empty.Statement.{statement}
-use Rattle.machine.proofs.sets.without_empty.Tie as tie
+use Rattle.symbols.specs.Symbols.{emptySymbol}
+use Rattle.symbols.proofs.sets.without_empty.Statement.{statement}
+use Rattle.symbols.proofs.sets.without_empty.Tie as tie
 
 returns : tie.Need-returns
 returns c = c .without .ensures emptySymbol refl

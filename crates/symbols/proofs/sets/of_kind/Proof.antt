@@ -1,8 +1,8 @@
 use borrow.Author.Needs.{needs}
 use mathlib.Core.Path.{_∙_}
-use Rattle.machine.proofs.Partners.{any-partners, same-partners, unlike-partners}
-use Rattle.machine.proofs.sets.of_kind.Statement.{statement}
-use Rattle.machine.proofs.sets.of_kind.Tie as tie
+use Rattle.symbols.proofs.Partners.{any-partners, same-partners, unlike-partners}
+use Rattle.symbols.proofs.sets.of_kind.Statement.{statement}
+use Rattle.symbols.proofs.sets.of_kind.Tie as tie
 
 returns : tie.Need-returns
 returns c x e = any-partners _ _ _ (c .if1 .taken)

@@ -1,8 +1,8 @@
 use mathlib.Core.Path.{ap}
 use Prim.Native.Nat.{ℕ}
 use lib.Bits.{bitAnd, bitXor}
-use Rattle.machine.proofs.sets.without.Statement.{statement}
-use Rattle.machine.proofs.sets.without.Tie as tie
+use Rattle.symbols.proofs.sets.without.Statement.{statement}
+use Rattle.symbols.proofs.sets.without.Tie as tie
 
 returns : tie.Need-returns
 returns c symbol e = ap (λ (n : ℕ). bitAnd (c .args .set) (bitXor (c .args .set) n)) e

@@ -4,8 +4,8 @@ use mathlib.Core.Path.{_∙_}
 use Prim.Native.Nat.{_^_}
 use lib.Pow.{shl-exact}
 use borrow.Author.Needs.{needs}
-use Rattle.machine.proofs.sets.set_of.Statement.{statement}
-use Rattle.machine.proofs.sets.set_of.Tie as tie
+use Rattle.symbols.proofs.sets.set_of.Statement.{statement}
+use Rattle.symbols.proofs.sets.set_of.Tie as tie
 
 -- the shift does not wrap
 returns : tie.Need-returns
