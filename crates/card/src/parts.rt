@@ -31,7 +31,7 @@ pub fn check_parts(bytes: &[u8], start: usize, lengths: &[u16], symbols: u8) -> 
     for i in 0..lengths.len() {
         let end = offset + wide(lengths[i]);
         let part = &bytes[offset..end];
-        let answer = machine::check(part, symbols);
+        let answer = part_check::check(part, symbols);
         let Checked::Passed = answer else {
             return answer;
         };

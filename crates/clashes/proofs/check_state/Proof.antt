@@ -3,10 +3,10 @@ use mathlib.Core.Path.{ap, sym}
 use native.Mathlib.Omega.{arith}
 use Prim.Native.Nat.{_+_, _*_, _-_}
 use Rattle.refusals.specs.Refusals.{refuse}
 use Rattle.machine.specs.Accepted.{shape-facts}
-use Rattle.machine.proofs.Clashes.{StateChecked, state-start, state-next, state-stop, state-end}
-use Rattle.machine.proofs.part.check_state.Statement.{statement}
-use Rattle.machine.proofs.part.check_state.Tie as tie
+use Rattle.clashes.proofs.Clashes.{StateChecked, state-start, state-next, state-stop, state-end}
+use Rattle.clashes.proofs.check_state.Statement.{statement}
+use Rattle.clashes.proofs.check_state.Tie as tie
 
 abbrev Inv-loop : tie.InvT-loop
 Inv-loop part states from taken₀ left₀ taken left = StateChecked part from taken left

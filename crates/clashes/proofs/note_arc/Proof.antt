@@ -1,8 +1,8 @@
 use borrow.Author.Needs.{needs}
 use Rattle.machine.specs.Part.{arcAt}
-use Rattle.machine.proofs.Clashes.{other-arc, this-arc}
-use Rattle.machine.proofs.part.note_arc.Statement.{statement}
-use Rattle.machine.proofs.part.note_arc.Tie as tie
+use Rattle.clashes.proofs.Clashes.{other-arc, this-arc}
+use Rattle.clashes.proofs.note_arc.Statement.{statement}
+use Rattle.clashes.proofs.note_arc.Tie as tie
 
 returns : tie.Need-returns
 unfolding arcAt

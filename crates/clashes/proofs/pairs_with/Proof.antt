@@ -4,10 +4,10 @@ use mathlib.Core.Bool.{Bool, cond}
 use native.Mathlib.Omega.{arith}
 use Prim.Native.Nat.{ℕ}
 use borrow.Author.Tests.{eq-eqb, ne-eqb}
 use Rattle.machine.specs.Symbols.{emptySymbol}
 use Rattle.machine.specs.SymbolSets.{withoutEmpty, partners}
-use Rattle.machine.proofs.part.pairs_with.Statement.{statement}
-use Rattle.machine.proofs.part.pairs_with.Tie as tie
+use Rattle.clashes.proofs.pairs_with.Statement.{statement}
+use Rattle.clashes.proofs.pairs_with.Tie as tie
 
 returns : tie.Need-returns
 returns c =

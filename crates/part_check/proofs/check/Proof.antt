@@ -7,10 +7,10 @@ use lib.Dec.{lit<}
 use borrow.Author.Needs.{needs}
 use Rattle.refusals.specs.Refusals.{refuse, firstOf}
 use Rattle.refusals.proofs.Refusals.{last-one, was-true, goes-on, goes-up}
 use Rattle.machine.specs.Part.{shaped, soundStates, soundArcs, noClash, partRefusal}
-use Rattle.machine.proofs.Clashes.{sound-leaves}
-use Rattle.machine.proofs.check.Statement.{statement}
-use Rattle.machine.proofs.check.Tie as tie
+use Rattle.clashes.proofs.Clashes.{sound-leaves}
+use Rattle.part_check.proofs.check.Statement.{statement}
+use Rattle.part_check.proofs.check.Tie as tie
 
 -- the numbers of the checks from each on
 from-5 : List ℕ → List ℕ

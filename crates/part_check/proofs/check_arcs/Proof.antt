@@ -6,11 +6,11 @@ use borrow.Author.Needs.{needs}
 use borrow.Author.Tests.{not-true, not-false}
 use Rattle.basics.specs.Search.{allOf}
 use Rattle.refusals.specs.Refusals.{refuse}
 use Rattle.machine.specs.Part.{arcsAt, soundArc, soundArcs}
 use Rattle.machine.specs.Accepted.{shape-facts}
 use Rattle.machine.proofs.Arcs.{all-go-on, all-stop, all-end}
-use Rattle.machine.proofs.part.check_arcs.Statement.{statement}
-use Rattle.machine.proofs.part.check_arcs.Tie as tie
+use Rattle.part_check.proofs.check_arcs.Statement.{statement}
+use Rattle.part_check.proofs.check_arcs.Tie as tie
 
 abbrev Inv-loop : tie.InvT-loop
 Inv-loop part symbols states last at₀ left₀ at left =

@@ -2,9 +2,9 @@ use native.Mathlib.Omega.{arith}
 use lib.ListN.{length}
 use borrow.Author.Tests.{lt-leb, le-leb}
 use borrow.Author.Needs.{needs}
 use Rattle.machine.specs.Part.{shaped}
-use Rattle.machine.proofs.part.check_length.Statement.{statement}
-use Rattle.machine.proofs.part.check_length.Tie as tie
+use Rattle.part_check.proofs.check_length.Statement.{statement}
+use Rattle.part_check.proofs.check_length.Tie as tie
 
 returns : tie.Need-returns
 unfolding shaped

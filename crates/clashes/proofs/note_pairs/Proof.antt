@@ -7,10 +7,10 @@ use lib.Bits.{bitAnd, bitOr, and-le-r}
 use lib.Dec.{eqb}
 use lib.ListN.{length, length-set, getD}
 use Rattle.basics.specs.Sets.{member}
 use Rattle.machine.specs.Machine.{takes}
-use Rattle.machine.proofs.Clashes.{PairsPassed, pairs-none, pair-found, not-yet, pairs-next, pairs-end}
-use Rattle.machine.proofs.part.note_pairs.Statement.{statement}
-use Rattle.machine.proofs.part.note_pairs.Tie as tie
+use Rattle.clashes.proofs.Clashes.{PairsPassed, pairs-none, pair-found, not-yet, pairs-next, pairs-end}
+use Rattle.clashes.proofs.note_pairs.Statement.{statement}
+use Rattle.clashes.proofs.note_pairs.Tie as tie
 
 abbrev Inv-loop : tie.InvT-loop
 Inv-loop taken₀ inputs kind left₀ taken left = (length taken ≡ 64) × PairsPassed taken₀ taken kind inputs left₀ left

@@ -10,11 +10,11 @@ use borrow.Author.Tests.{lt-leb, le-leb}
 use Rattle.basics.specs.Search.{allOf}
 use Rattle.refusals.specs.Refusals.{refuse}
 use Rattle.basics.proofs.Search.{all-next, all-fails, all-none}
 use Rattle.machine.specs.Part.{soundStates}
 use Rattle.machine.specs.Accepted.{shape-facts}
 use Rattle.machine.proofs.States.{bytes-cons}
-use Rattle.machine.proofs.part.check_states.Statement.{statement}
-use Rattle.machine.proofs.part.check_states.Tie as tie
+use Rattle.part_check.proofs.check_states.Statement.{statement}
+use Rattle.part_check.proofs.check_states.Tie as tie
 
 abbrev Inv-loop : tie.InvT-loop
 Inv-loop part end at₀ at =

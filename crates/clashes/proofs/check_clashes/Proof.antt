@@ -7,13 +7,13 @@ use borrow.Author.Needs.{needs}
 use Rattle.basics.specs.Search.{pairwise, everyBelow}
 use Rattle.refusals.specs.Refusals.{refuse}
 use Rattle.basics.proofs.Below.{every-start, every-next, every-at}
 use Rattle.machine.specs.Part.{stateCount, arcsOf}
 use Rattle.machine.specs.Accepted.{shape-facts}
-use Rattle.machine.specs.Clashes.{clashFreeFrom}
+use Rattle.clashes.specs.Clashes.{clashFreeFrom}
 use Rattle.refusals.proofs.Refusals.{was-true, was-false}
-use Rattle.machine.proofs.Clashes.{state-clash, states-free}
-use Rattle.machine.proofs.part.check_clashes.Statement.{statement}
-use Rattle.machine.proofs.part.check_clashes.Tie as tie
+use Rattle.clashes.proofs.Clashes.{state-clash, states-free}
+use Rattle.clashes.proofs.check_clashes.Statement.{statement}
+use Rattle.clashes.proofs.check_clashes.Tie as tie
 
 abbrev Inv-loop : tie.InvT-loop
 Inv-loop part states count from₀ from = (from ≤ states) × (everyBelow (λ s. pairwise (clashFreeFrom s) (arcsOf part)) from ≡ true)

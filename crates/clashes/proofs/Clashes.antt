@@ -15,19 +15,19 @@ use Rattle.basics.specs.Sets.{member}
 use Rattle.basics.proofs.Bools.{clash as never, both, left, right, fails, left-fails, right-fails}
 use Rattle.basics.proofs.Search.{pairwise-next, pairwise-fails}
 use Rattle.basics.proofs.Sets.{no-member, its-member, member-and, member-or}
 use Rattle.machine.specs.declared.Arc.{Arc}
 use Rattle.machine.specs.declared.Pair.{Pair}
 use Rattle.machine.specs.Symbols.{emptySymbol, isPair}
 use Rattle.machine.specs.Machine.{ofKind, takes, takesFrom, takeOnePair, clash}
 use Rattle.machine.specs.Part.{stateCount, arcCount, arcAt, arcsOf, soundArc, soundArcs, clashFree}
 use Rattle.machine.specs.Accepted.{sound-facts}
 use Rattle.machine.specs.CommonPair.{common-pair}
 use Rattle.machine.specs.Steps.{clash-at}
 use Rattle.machine.specs.SymbolSets.{withoutEmpty}
-use Rattle.machine.specs.Clashes.{LeavesStates, clashFreeFrom, pairsWith, noted, takenFrom, Taken, PairsNoted}
+use Rattle.clashes.specs.Clashes.{LeavesStates, clashFreeFrom, pairsWith, noted, takenFrom, Taken, PairsNoted}
 use Rattle.machine.proofs.Partners.{without-empty, in-partners}
 use Rattle.machine.proofs.SetLoops.{Passed, with-true, passed-none, still-old, passed-next, passed-all}
 use Rattle.machine.proofs.Arcs.{leaves, leaves-other, arc-at, arcs-count}
 
 -- the inputs that make a pair of a kind with an output
 pub pairs-member : (kind w : ℕ) (p : Pair) → member (pairsWith kind w (p .output)) (p .input) ≡ (isPair p && (member w (p .input) && ofKind kind p))
