@@ -7,9 +7,9 @@ use native.Mathlib.Omega.{arith}
 use lib.ListN.{length, getD, take, drop, set, length-append, length-drop, take-append-drop, drop-of-length-le}
 use lib.Seq.{take-suc, drop-cons, set-at, append-snoc, length-take-le, take-at, drop-at, take-add, drop-drop, take-all, take-length, drop-set-lt, drop-append-add}
 use borrow.Rule.Slice.PartMut.{putMid}
-use Rattle.card.specs.Packing.{total, table, packed}
-use Rattle.card.specs.Laws.Places.{PlaceAt}
-use Rattle.card.specs.Laws.Packed.{length-table, packed-length, packed-place}
+use Rattle.card_bytes.specs.Packing.{total, table, packed}
+use Rattle.card_bytes.specs.Laws.Places.{PlaceAt}
+use Rattle.card_bytes.specs.Laws.Packed.{length-table, packed-length, packed-place}
 
 -- the first n of the bytes are written to a target
 abbrev pub written : List ℕ → ℕ → List ℕ → List ℕ

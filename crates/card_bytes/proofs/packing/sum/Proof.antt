@@ -5,10 +5,10 @@ use Prim.Native.Nat.{_*_, _-_, _≤_}
 use native.Mathlib.Numerals.{add-one}
 use lib.ListN.{length, take}
 use lib.Seq.{take-length}
-use Rattle.card.specs.Laws.Parts.{total-next}
-use Rattle.card.specs.Packing.{total}
-use Rattle.card.proofs.packing.sum.Statement.{statement}
-use Rattle.card.proofs.packing.sum.Tie as tie
+use Rattle.card_bytes.specs.Laws.Parts.{total-next}
+use Rattle.card_bytes.specs.Packing.{total}
+use Rattle.card_bytes.proofs.packing.sum.Statement.{statement}
+use Rattle.card_bytes.proofs.packing.sum.Tie as tie
 
 abbrev Inv-loop : tie.InvT-loop
 Inv-loop lengths sum₀ i₀ i-end sum i = (i-end ≡ length lengths) × (i ≤ length lengths) × (sum ≡ total (take i lengths)) × (sum ≤ 65535 * i)

@@ -4,13 +4,13 @@ use mathlib.Core.Path.{_≡_, refl, ap, _∙_}
 use mathlib.Core.List.{[]}
 use Prim.Native.Nat.{_+_, _*_, _-_, _≤_}
 use lib.ListN.{length, set, take, length-set}
-use Rattle.card.specs.Packing.{total, packed}
-use Rattle.card.proofs.Writing.{written, written-length, written-two, places-next, table-written}
-use Rattle.card.specs.Laws.Parts.{total-next, total-parted}
-use Rattle.card.specs.Laws.Packed.{packed-length}
+use Rattle.card_bytes.specs.Packing.{total, packed}
+use Rattle.card_bytes.proofs.Writing.{written, written-length, written-two, places-next, table-written}
+use Rattle.card_bytes.specs.Laws.Parts.{total-next, total-parted}
+use Rattle.card_bytes.specs.Laws.Packed.{packed-length}
 use native.Mathlib.Numerals.{add-one}
-use Rattle.card.proofs.packing.write_table.Statement.{statement}
-use Rattle.card.proofs.packing.write_table.Tie as tie
+use Rattle.card_bytes.proofs.packing.write_table.Statement.{statement}
+use Rattle.card_bytes.proofs.packing.write_table.Tie as tie
 
 abbrev Inv-loop : tie.InvT-loop
 Inv-loop target₀ symbols lengths start₀ i₀ i-end target start i =

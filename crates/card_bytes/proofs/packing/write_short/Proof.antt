@@ -1,8 +1,8 @@
 use borrow.Author.Needs.{needs}
 use native.Mathlib.Omega.{arith}
 use lib.ListN.{length-set}
-use Rattle.card.proofs.packing.write_short.Statement.{statement}
-use Rattle.card.proofs.packing.write_short.Tie as tie
+use Rattle.card_bytes.proofs.packing.write_short.Statement.{statement}
+use Rattle.card_bytes.proofs.packing.write_short.Tie as tie
 
 slice-write-target-2 : tie.Need-slice-write-target-2
 slice-write-target-2 c = simp length-set (omega arith)

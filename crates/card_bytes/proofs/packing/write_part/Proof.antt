@@ -3,9 +3,9 @@ use native.Mathlib.Omega.{arith}
 use mathlib.Core.Path.{_≡_, refl, ap, _∙_}
 use Prim.Native.Nat.{_-_, _≤_}
 use lib.ListN.{length, getD, set}
-use Rattle.card.proofs.Writing.{written, written-length, written-next, written-whole}
-use Rattle.card.proofs.packing.write_part.Statement.{statement}
-use Rattle.card.proofs.packing.write_part.Tie as tie
+use Rattle.card_bytes.proofs.Writing.{written, written-length, written-next, written-whole}
+use Rattle.card_bytes.proofs.packing.write_part.Statement.{statement}
+use Rattle.card_bytes.proofs.packing.write_part.Tie as tie
 
 abbrev Inv-loop : tie.InvT-loop
 Inv-loop stretch₀ part i₀ i-end stretch i = (i-end ≡ length part) × (i ≤ length part) × (stretch ≡ written part i stretch₀)

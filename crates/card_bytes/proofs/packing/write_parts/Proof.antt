@@ -6,11 +6,11 @@ use mathlib.Core.List.{_++_}
 use Prim.Native.Nat.{_+_, _*_, _-_, _≤_}
 use lib.ListN.{length, getD, take, length-take, length-drop}
 use lib.Seq.{take-length}
-use Rattle.card.specs.Packing.{total}
-use Rattle.card.specs.Laws.Parts.{total-next, total-within, total-parted}
-use Rattle.card.proofs.Writing.{written, parts-none, parts-next, parts-all, parts-length}
-use Rattle.card.proofs.packing.write_parts.Statement.{statement}
-use Rattle.card.proofs.packing.write_parts.Tie as tie
+use Rattle.card_bytes.specs.Packing.{total}
+use Rattle.card_bytes.specs.Laws.Parts.{total-next, total-within, total-parted}
+use Rattle.card_bytes.proofs.Writing.{written, parts-none, parts-next, parts-all, parts-length}
+use Rattle.card_bytes.proofs.packing.write_parts.Statement.{statement}
+use Rattle.card_bytes.proofs.packing.write_parts.Tie as tie
 
 abbrev Inv-loop : tie.InvT-loop
 Inv-loop target₀ lengths parts offset₀ from₀ i₀ i-end target offset from i =

@@ -7,8 +7,8 @@ use native.Mathlib.Omega.{arith}
 use lib.ListN.{length, getD, take, drop}
 use lib.Seq.{drop-cons, getD-drop}
 use Rattle.layout.specs.Layout.{Bytes}
-use Rattle.card.specs.Packing.{total, places}
-use Rattle.card.specs.Laws.Bytes.{bytes-none, bytes-cons}
+use Rattle.card_bytes.specs.Packing.{total, places}
+use Rattle.card_bytes.specs.Laws.Bytes.{bytes-none, bytes-cons}
 
 pub length-places : (at : ℕ) (ns : List ℕ) → length (places at ns) ≡ 4 * length ns
 unfolding places

@@ -3,8 +3,8 @@ ghost use mathlib.Core.Path.{_≡_};
 ghost use mathlib.Core.List.{_++_};
 ghost use Prim.Native.Nat.{_+_, _*_, _/_, _%_, _<_, _≤_};
 ghost use lib.ListN.{length, take, drop, set};
-ghost use Rattle.card.specs.Packing.{total, table};
-use crate::parts::wide;
+ghost use Rattle.card_bytes.specs.Packing.{total, table};
+use crate::wide;
 
 // The sum of the lengths.
 pub fn sum(lengths: &[u16]) -> usize
