@@ -1,8 +1,8 @@
 use mathlib.Core.Path.{sym, _∙_}
 use borrow.Author.Needs.{needs}
-use Rattle.live.proofs.Checks.{two-passed, two-refused}
-use Rattle.live.proofs.check.Statement.{statement}
-use Rattle.live.proofs.check.Tie as tie
+use Rattle.live_checks.proofs.Checks.{two-passed, two-refused}
+use Rattle.live_checks.proofs.check.Statement.{statement}
+use Rattle.live_checks.proofs.check.Tie as tie
 
 returns : tie.Need-returns
 returns c =

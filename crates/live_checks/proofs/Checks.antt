@@ -15,7 +15,7 @@ use Rattle.refusals.specs.declared.Refusal.{Refusal}
 use Rattle.refusals.specs.declared.Checked.{Checked}
 use Rattle.refusals.specs.declared.Checked.the-variants.{Passed, Refused}
 use Rattle.ranking.specs.Lemmas.Rankings.{ranking-facts, machine-count}
-use Rattle.live.specs.Rows.{fits, hasRoom}
+use Rattle.live_checks.specs.Room.{fits, hasRoom}
 
 -- the number of some checks is that of one more, or the last decides
 two-stay : (a b c : ℕ) → 0 < firstOf (a ∷ b ∷ []) → firstOf (a ∷ b ∷ c ∷ []) ≡ firstOf (a ∷ b ∷ [])
