@@ -1,9 +1,9 @@
 use mathlib.Core.Path.{ap, sym, _∙_}
 use Rattle.ranking.specs.Conditions.{DerivedCondition, derived}
-use Rattle.results.specs.Results.{conditionNumbers}
+use Rattle.numbers.specs.Numbers.{conditionNumbers}
 use borrow.Author.Needs.{needs}
-use Rattle.results.proofs.give_derived.Statement.{statement}
-use Rattle.results.proofs.give_derived.Tie as tie
+use Rattle.numbers.proofs.give_derived.Statement.{statement}
+use Rattle.numbers.proofs.give_derived.Tie as tie
 
 returns : tie.Need-returns
 returns c =

@@ -1,9 +1,9 @@
 use mathlib.Core.Path.{ap, sym, _∙_}
 use Rattle.ranking.specs.Harmony.{Compared, compared}
-use Rattle.results.specs.Results.{orderNumbers}
+use Rattle.numbers.specs.Numbers.{orderNumbers}
 use borrow.Author.Needs.{needs}
-use Rattle.results.proofs.give_comparison.Statement.{statement}
-use Rattle.results.proofs.give_comparison.Tie as tie
+use Rattle.numbers.proofs.give_comparison.Statement.{statement}
+use Rattle.numbers.proofs.give_comparison.Tie as tie
 
 returns : tie.Need-returns
 returns c =

@@ -3,10 +3,10 @@ use mathlib.Core.List.{[], _∷_}
 use Prim.Native.Nat.{ℕ}
 use lib.ListN.{length}
 use borrow.Author.Needs.{length-unmapped}
-use Rattle.results.proofs.Results.{six-counts}
+use Rattle.numbers.proofs.Numbers.{six-counts}
 use borrow.Author.Needs.{needs}
-use Rattle.results.proofs.give_evaluation.Statement.{statement}
-use Rattle.results.proofs.give_evaluation.Tie as tie
+use Rattle.numbers.proofs.give_evaluation.Statement.{statement}
+use Rattle.numbers.proofs.give_evaluation.Tie as tie
 
 -- a profile has six counts
 six : (c : tie.Start) → length (c .args .evaluation .profile .counts) ≡ 6
