@@ -1,13 +1,11 @@
 // The live tableau: rows proposed and withdrawn in class, kept in a lent list of records in order of arrival, and the leader among them.
 ghost use mathlib.Core.Path.{_≡_};
 ghost use mathlib.Core.Bool.{true, not};
-ghost use mathlib.Core.List.{[], _∷_};
 ghost use Prim.Native.Nat.{_+_, _-_, _<_, _≤_};
-ghost use lib.Dec.{eqb};
 ghost use lib.ListN.{length, take};
-ghost use Rattle.refusals.specs.Refusals.{checkedNumber, refuse, firstOf, unlessRefused};
-ghost use Rattle.ranking.specs.Rankings.{isMachineCount, isRanking};
-ghost use Rattle.live.specs.Rows.{zeroRow, hasId, present, counted, fits, hasRoom, refusedCount, unled, led};
+ghost use Rattle.refusals.specs.Refusals.{checkedNumber, refuse, unlessRefused};
+ghost use Rattle.ranking.specs.Rankings.{isRanking};
+ghost use Rattle.live.specs.Rows.{zeroRow, hasId, present, counted, refusedCount, unled, led};
 ghost use Rattle.live.specs.Steps.{place, closing, puttingIn, takingOut, betterOf, leaderDown};
 ghost use Rattle.live.specs.Calls.{Adds, Removes, leading};
 use ranking::Profile;
