@@ -1,5 +1,5 @@
 -- The answers of reading and packing by the number of their refusal. Assumes nothing.
-use mathlib.Core.Path.{_≡_, refl, ap, sym, _∙_}
+use mathlib.Core.Path.{_≡_, refl, ap, ap₂, sym, _∙_}
 use mathlib.Core.List.{List, [], _∷_, _++_}
 use Prim.Native.Nat.{ℕ, zero, suc, _+_, _*_, _<_}
 use native.Mathlib.Omega.{arith}
@@ -7,6 +7,7 @@ use lib.ListN.{length, take, drop}
 use lib.Seq.{take-at, drop-at, drop-drop}
 use Rattle.refusals.specs.Refusals.{firstOf}
 use Rattle.layout.specs.Layout.{offsetOf, lengthOf}
+use Rattle.card.specs.declared.PartPlace.{PartPlace}
 use Rattle.card.specs.Reading.{readingRefusal, reading}
 use Rattle.card.specs.Packing.{table, packed, packingRefusal, packing, packedTarget}
 use Rattle.card.specs.Laws.Packed.{length-table, packed-length}
@@ -31,6 +32,12 @@ read-refused card i (suc n) e h = rw e
 pub read-accepted : (card : List ℕ) (i : ℕ) → readingRefusal card i ≡ 0 → reading card i ≡ record { number = 0; offset = offsetOf card i; length = lengthOf card i }
 unfolding reading
 read-accepted card i e = rw e
+
+-- the place of a part, by its number as it was widened
+pub read-placed : (card : List ℕ) (i j offset size : ℕ) → readingRefusal card i ≡ 0 → j ≡ i → offset ≡ offsetOf card j → size ≡ lengthOf card j → record { number = 0; offset = offset; length = size } ≡ reading card i
+read-placed card i j offset size e w o z =
+    let p : ℕ → ℕ → PartPlace = λ x y. record { number = 0; offset = x; length = y } in
+    ap₂ p (o ∙ ap (offsetOf card) w) (z ∙ ap (lengthOf card) w) ∙ sym (read-accepted card i e)
 
 -- packing
 module _ (S : ℕ) (lengths parts target : List ℕ) where

@@ -1,4 +1,3 @@
 pub mod Lengths
 pub mod PartSteps
-pub mod Writing
 pub mod Answers

@@ -14,7 +14,7 @@ use Rattle.layout.specs.Layout.{Bytes, laidOut, partOf}
 use Rattle.card.specs.Layout.{machineCount, symbolCount, counted, partsOf}
 use Rattle.card.specs.Card.{partsRefusal, fewStates, cardRefusal}
 use Rattle.card.specs.Laws.Search.{first-passed, rest-passed}
-use Rattle.card.specs.Laws.Bytes.{bytes-drop}
+use Rattle.card_bytes.specs.Laws.Bytes.{bytes-drop}
 use Rattle.layout.specs.LaidOut.{LaidOut, PartWithin, layout-told, part-within}
 use Rattle.card.specs.Laws.Layout.{Headed, head-told, length-parts, part-at}
 use Rattle.card.specs.Laws.Repacked.{table-parts, table-total}

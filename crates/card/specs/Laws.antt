@@ -2,7 +2,6 @@
 pub mod Search
 pub mod Bytes
 pub mod Parts
-pub mod Places
 pub mod Layout
 pub mod Machines
 pub mod Repacked

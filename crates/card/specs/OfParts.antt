@@ -10,7 +10,7 @@ use Rattle.layout.specs.Layout.{Bytes}
 use Rattle.card.specs.Layout.{machineCount, symbolCount, partsOf}
 use Rattle.card.specs.Card.{machinesOf, cardRefusal}
 use Rattle.card.specs.Packing.{packed, packingRefusal}
-use Rattle.card.specs.Laws.Bytes.{bytes-none, bytes-append}
+use Rattle.card_bytes.specs.Laws.Bytes.{bytes-none, bytes-append}
 use Rattle.card.specs.Laws.Parts.{joined-split}
 use Rattle.card.specs.Laws.Packed.{packed-machines}
 use Rattle.card.specs.Laws.Packable.{PartsPass, parts-pack}

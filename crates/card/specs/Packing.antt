@@ -1,35 +1,14 @@
 -- Packing machine parts into a card.
 use mathlib.Core.List.{List, [], _∷_, _++_}
-use Prim.Native.Nat.{ℕ, _+_, _*_, _/_, _%_}
-use lib.ListN.{length, take, drop}
+use Prim.Native.Nat.{ℕ}
+use lib.ListN.{length, drop}
 use lib.Dec.{eqb, leb}
 use Rattle.refusals.specs.Refusals.{refuse, firstOf, unlessRefused}
 use Rattle.card.specs.declared.Packed.{Packed}
 use Rattle.card.specs.Layout.{soundCounts}
 use Rattle.card.specs.Card.{partsRefusal, fewStates}
-
--- the sum of the lengths, without wrapping
-unfoldable pub total : List ℕ → ℕ
-total [] = 0
-total (n ∷ ns) = n + total ns
-
--- the parts that are joined, by their lengths
-unfoldable pub split : List ℕ → List ℕ → List (List ℕ)
-split [] bytes = []
-split (n ∷ ns) bytes = take n bytes ∷ split ns (drop n bytes)
-
--- the offset and the length of each part, the first at a place
-unfoldable pub places : ℕ → List ℕ → List ℕ
-places at [] = []
-places at (n ∷ ns) = at % 256 ∷ at / 256 ∷ n % 256 ∷ n / 256 ∷ places (at + n) ns
-
--- what stands before the parts: K, S, the places of the parts
-abbrev pub table : ℕ → List ℕ → List ℕ
-table S lengths = length lengths ∷ S ∷ places (2 + 4 * length lengths) lengths
-
--- the card: the table, the parts
-unfoldable pub packed : ℕ → List ℕ → List ℕ → List ℕ
-packed S lengths joined = table S lengths ++ joined
+pub use Rattle.card_bytes.specs.Packing.{table}
+unfoldable pub use Rattle.card_bytes.specs.Packing.{total, split, places, packed}
 
 -- 0 where the input is accepted for a target of a length, else the first refusal: 1, 17, 3 to 6, 18
 unfoldable pub packingRefusal : ℕ → List ℕ → List ℕ → ℕ → ℕ

@@ -13,8 +13,8 @@ use Rattle.card.specs.Layout.{machineCount, symbolCount, counted, partsO
 use Rattle.card.specs.Card.{machinesOf, cardRefusal}
 use Rattle.card.specs.Reading.{reading}
 use Rattle.card.specs.Packing.{split, places, packed, packingRefusal, packing, packedTarget}
-use Rattle.card.specs.Laws.Bytes.{bytes-cons, bytes-append}
-use Rattle.card.specs.Laws.Places.{places-bytes}
+use Rattle.card_bytes.specs.Laws.Bytes.{bytes-cons, bytes-append}
+use Rattle.card_bytes.specs.Laws.Places.{places-bytes}
 use Rattle.card.specs.Laws.Parts.{split-lengths, split-joined}
 use Rattle.layout.specs.LaidOut.{layout-holds}
 use Rattle.card.specs.Laws.Layout.{counts-told, part-at, length-parts}

@@ -10,16 +10,10 @@ ghost use Rattle.card.specs.Card.{machinesRefusal};
 ghost use Rattle.card.specs.Packing.{total, split};
 use crate::head::read_lengths;
 use basics::index;
+use card_bytes::wide;
 use refusals::Checked;
 use refusals::Refusal;
 use refusals::tested;
-
-// A part's length as a number to index with.
-pub fn wide(x: u16) -> usize
-    ensures { λ r. ⌜ (r ≡ x) × (r < 65536) ⌝ }
-{
-    x as usize
-}
 
 // Refusals 3 to 5 of each part in turn, then 6. The parts lie in `bytes` from `start` on, one after another.
 pub fn check_parts(bytes: &[u8], start: usize, lengths: &[u16], symbols: u8) -> Checked
@@ -31,7 +25,7 @@ pub fn check_parts(bytes: &[u8], start: usize, lengths: &[u16], symbols: u8) -> 
     for i in 0..lengths.len() {
         let end = offset + wide(lengths[i]);
         let part = &bytes[offset..end];
-        let answer = machine::check(part, symbols);
+        let answer = part_check::check(part, symbols);
         let Checked::Passed = answer else {
             return answer;
         };

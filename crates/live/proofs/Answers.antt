@@ -16,7 +16,7 @@ use Rattle.live.specs.Rows.{present, added, removed, fits, hasRoom, lead
 use Rattle.live.specs.Steps.{puttingIn, takingOut, leaderDown}
 use Rattle.live.specs.Laws.Rows.{some-row}
 use Rattle.live.specs.Calls.{addingRefusal, removingRefusal, leadingRefusal, leading, Adds, Removes}
-use Rattle.live.proofs.Checks.{firstThree, three-stay, three-go}
+use Rattle.live_checks.proofs.Checks.{firstThree, three-stay, three-go}
 use Rattle.live.proofs.Leading.{leader-found}
 
 module _ (K : ℕ) (ranking : List ℕ) (count : ℕ) (l : List Row) where

@@ -4,5 +4,4 @@ pub mod Shared
 pub mod Tests
 pub mod Places
 pub mod Leading
-pub mod Checks
 pub mod Answers

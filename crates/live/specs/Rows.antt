@@ -1,9 +1,9 @@
 -- The rows of a live tableau, in order of arrival, and what a list of records is after a row is added or removed: its first records are the rows.
-use mathlib.Core.Bool.{Bool, true, false, not, _&&_, _||_}
+use mathlib.Core.Bool.{Bool, true, false, not, _||_}
 use mathlib.Core.List.{List, [], _∷_, _++_}
 use mathlib.Core.Option.{Option, some, none}
 use Prim.Native.Nat.{ℕ}
-use lib.Dec.{eqb, leb, ltb}
+use lib.Dec.{eqb}
 use lib.ListN.{set, take, drop}
 use Rattle.basics.specs.Search.{allOf, firstThat}
 use Rattle.ranking.specs.Profiles.{zeroProfile}
@@ -11,6 +11,7 @@ use Rattle.ranking.specs.Harmony.{better}
 use Rattle.live.specs.declared.Row.{Row}
 use Rattle.live.specs.declared.Counted.{Counted}
 use Rattle.live.specs.declared.Lead.{Lead}
+pub use Rattle.live_checks.specs.Room.{fits, hasRoom}
 
 -- what a freed record is set to
 abbrev pub zeroRow : Row
@@ -37,13 +38,6 @@ added count l row = set l count row
 -- a list after the first row with an id is taken out: the later rows moved up, zeros in the freed last record
 abbrev pub removed : ℕ → ℕ → List Row → List Row
 removed id count l = without id (take count l) ++ (zeroRow ∷ drop count l)
-
--- 23: a row count that a list can have; on an add, one more fits
-abbrev pub fits : ℕ → ℕ → Bool
-fits count length = leb count 32 && leb count length
-
-abbrev pub hasRoom : ℕ → ℕ → Bool
-hasRoom count length = ltb count 32 && ltb count length
 
 -- no row has a better profile
 abbrev pub unbeaten : List ℕ → List Row → Row → Bool

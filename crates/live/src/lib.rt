@@ -1,22 +1,15 @@
 // The live tableau: rows proposed and withdrawn in class, kept in a lent list of records in order of arrival, and the leader among them.
 ghost use mathlib.Core.Path.{_≡_};
 ghost use mathlib.Core.Bool.{true, not};
-ghost use mathlib.Core.List.{[], _∷_};
 ghost use Prim.Native.Nat.{_+_, _-_, _<_, _≤_};
-ghost use lib.Dec.{eqb};
 ghost use lib.ListN.{length, take};
-ghost use Rattle.refusals.specs.Refusals.{checkedNumber, refuse, firstOf, unlessRefused};
-ghost use Rattle.ranking.specs.Rankings.{isMachineCount, isRanking};
-ghost use Rattle.live.specs.Rows.{zeroRow, hasId, present, counted, fits, hasRoom, refusedCount, unled, led};
+ghost use Rattle.refusals.specs.Refusals.{checkedNumber, refuse, unlessRefused};
+ghost use Rattle.ranking.specs.Rankings.{isRanking};
+ghost use Rattle.live.specs.Rows.{zeroRow, hasId, present, counted, refusedCount, unled, led};
 ghost use Rattle.live.specs.Steps.{place, closing, puttingIn, takingOut, betterOf, leaderDown};
 ghost use Rattle.live.specs.Calls.{Adds, Removes, leading};
-use ranking::Order;
 use ranking::Profile;
-use ranking::harmony;
-use ranking::rankings;
 use refusals::Checked;
-use refusals::Refusal;
-use refusals::tested;
 
 // A row: its id, and the profile that was handed in.
 #[repr(C)]
@@ -60,51 +53,10 @@ fn better(ranking: &[u8], row: Row, best: Row) -> Row
     requires { ⌜ (isRanking (length (now ranking)) (now ranking) ≡ true) × (length (now ranking) ≤ 6) ⌝ }
     ensures { λ r. ⌜ r ≡ betterOf (now (ranking .entry)) row best ⌝ }
 {
-    let order = harmony::harmony(ranking, row.profile, best.profile);
-    match order {
-        Order::Better(_) => row,
-        Order::Equal => best,
-        Order::Worse(_) => best,
+    if live_checks::takes_lead(ranking, row.profile, best.profile) {
+        return row;
     }
-}
-
-// The checks 1, 7 and 23, the test of the last of which is handed in.
-fn check(machines: u8, ranking: &[u8], sound: bool) -> Checked
-    ensures { λ r. ⌜ checkedNumber r ≡ firstOf (refuse 1 (isMachineCount machines) ∷ refuse 7 (isRanking machines (now (ranking .entry))) ∷ refuse 23 sound ∷ []) ⌝ }
-{
-    let answer = rankings::check(machines, ranking);
-    let Checked::Passed = answer else {
-        return answer;
-    };
-    tested(sound, Refusal::RowCount)
-}
-
-// The checks 1, 7 and 23 of a removal and of the leader's call.
-fn check_rows(machines: u8, ranking: &[u8], count: usize, length: usize) -> Checked
-    ensures { λ r. ⌜ checkedNumber r ≡ firstOf (refuse 1 (isMachineCount machines) ∷ refuse 7 (isRanking machines (now (ranking .entry))) ∷ refuse 23 (fits count length) ∷ []) ⌝ }
-{
-    check(machines, ranking, (count <= 32) & (count <= length))
-}
-
-// The checks 1, 7 and 23 of an add.
-fn check_room(machines: u8, ranking: &[u8], count: usize, length: usize) -> Checked
-    ensures { λ r. ⌜ checkedNumber r ≡ firstOf (refuse 1 (isMachineCount machines) ∷ refuse 7 (isRanking machines (now (ranking .entry))) ∷ refuse 23 (hasRoom count length) ∷ []) ⌝ }
-{
-    check(machines, ranking, (count < 32) & (count < length))
-}
-
-// Refusal 24 of an add: its id stands at no place among the rows.
-fn check_absent(at: usize, count: usize) -> Checked
-    ensures { λ r. ⌜ checkedNumber r ≡ refuse 24 (eqb at count) ⌝ }
-{
-    tested(at == count, Refusal::Presence)
-}
-
-// Refusal 24 of a removal: its id stands at a place among the rows.
-fn check_present(at: usize, count: usize) -> Checked
-    ensures { λ r. ⌜ checkedNumber r ≡ refuse 24 (not (eqb at count)) ⌝ }
-{
-    tested(at != count, Refusal::Presence)
+    best
 }
 
 // The answer of a refusal.
@@ -205,7 +157,7 @@ fn put_in(rows: &mut [Row], count: usize, row: Row) -> Checked
     ensures { λ r. ⌜ (now (rows .exit) ≡ puttingIn count (now (rows .entry)) row) × (checkedNumber r ≡ refuse 24 (not (present (row .id) (take count (now (rows .entry)))))) ⌝ }
 {
     let at = find(rows, count, row.id);
-    let answer = check_absent(at, count);
+    let answer = live_checks::check_absent(at, count);
     let Checked::Passed = answer else {
         return answer;
     };
@@ -219,7 +171,7 @@ fn take_out(rows: &mut [Row], count: usize, id: u16) -> Checked
     ensures { λ r. ⌜ (now (rows .exit) ≡ takingOut id count (now (rows .entry))) × (checkedNumber r ≡ refuse 24 (present id (take count (now (rows .entry))))) ⌝ }
 {
     let at = find(rows, count, id);
-    let answer = check_present(at, count);
+    let answer = live_checks::check_present(at, count);
     let Checked::Passed = answer else {
         return answer;
     };
@@ -245,7 +197,7 @@ fn foremost(ranking: &[u8], count: usize, rows: &[Row]) -> Row
 pub fn add(machines: u8, ranking: &[u8], count: usize, rows: &mut [Row], row: Row) -> Counted
     ensures { λ r. ⌜ Adds machines (now (ranking .entry)) count (now (rows .entry)) (now (rows .exit)) row r ⌝ }
 {
-    let answer = check_room(machines, ranking, count, rows.len());
+    let answer = live_checks::check_room(machines, ranking, count, rows.len());
     let Checked::Passed = answer else {
         return refused(answer);
     };
@@ -257,7 +209,7 @@ pub fn add(machines: u8, ranking: &[u8], count: usize, rows: &mut [Row], row: Ro
 pub fn remove(machines: u8, ranking: &[u8], count: usize, rows: &mut [Row], id: u16) -> Counted
     ensures { λ r. ⌜ Removes machines (now (ranking .entry)) count (now (rows .entry)) (now (rows .exit)) id r ⌝ }
 {
-    let answer = check_rows(machines, ranking, count, rows.len());
+    let answer = live_checks::check_rows(machines, ranking, count, rows.len());
     let Checked::Passed = answer else {
         return refused(answer);
     };
@@ -269,7 +221,7 @@ pub fn remove(machines: u8, ranking: &[u8], count: usize, rows: &mut [Row], id: 
 pub fn leader(machines: u8, ranking: &[u8], count: usize, rows: &[Row]) -> Lead
     ensures { λ r. ⌜ r ≡ leading machines (now (ranking .entry)) count (now (rows .entry)) ⌝ }
 {
-    let answer = check_rows(machines, ranking, count, rows.len());
+    let answer = live_checks::check_rows(machines, ranking, count, rows.len());
     let Checked::Passed = answer else {
         return no_leader(answer);
     };

@@ -2,5 +2,4 @@ pub mod SymbolSets
 pub mod Partners
 pub mod SetLoops
 pub mod Arcs
-pub mod Clashes
 pub mod States

@@ -2,7 +2,6 @@ pub mod Symbols
 pub mod Machine
 pub mod Part
 pub mod SymbolSets
-pub mod Clashes
 pub mod Accepted
 pub mod CommonPair
 pub mod Steps

@@ -10,6 +10,7 @@ use Rattle.basics.specs.Search.{allOf, pairwise}
 use Rattle.refusals.specs.Refusals.{refuse, firstOf}
 use Rattle.machine.specs.declared.Arc.{Arc}
 use Rattle.machine.specs.Machine.{Machine, clash}
+pub use Rattle.symbols.specs.SymbolSets.{soundSet}
 
 -- Q, states, and A, arcs
 abbrev pub stateCount : List ℕ → ℕ
@@ -55,10 +56,6 @@ machineOf part = record { endings = map endingByte (stateBytes part); arcs = arc
 unfoldable pub shaped : List ℕ → Bool
 shaped part =
     leb 2 (length part) && leb 1 (stateCount part) && leb (stateCount part) 32 && eqb (length part) (2 + stateCount part + 20 * arcCount part)
-
--- a set is not empty and has no bit over S
-abbrev pub soundSet : ℕ → ℕ → Bool
-soundSet S set = not (eqb set 0) && ltb set (2 ^ (S + 1))
 
 -- arc states below Q, marks at most 15, the kind at most 2, sound sets
 unfoldable pub soundArc : ℕ → ℕ → Arc → Bool

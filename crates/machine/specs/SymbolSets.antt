@@ -1,22 +1,3 @@
--- Sets of symbols: going through one from the least symbol on, and the symbols that make pairs of a kind.
-use Prim.Native.Nat.{ℕ, zero, suc, _^_}
-use lib.Bits.{bitAnd, bitXor}
-use lib.Count.{trailingZeros}
-use Rattle.machine.specs.Symbols.{emptySymbol}
-
--- the least symbol of a set of symbols, 64 where it is empty
-abbrev pub leastSymbol : ℕ → ℕ
-leastSymbol set = trailingZeros 64 set
-
--- a set without a symbol, and without the empty symbol
-abbrev pub withoutSymbol : ℕ → ℕ → ℕ
-withoutSymbol set x = bitAnd set (bitXor set (2 ^ x))
-
-abbrev pub withoutEmpty : ℕ → ℕ
-withoutEmpty set = withoutSymbol set emptySymbol
-
--- the symbols of a set that make a pair of an arc's kind with the symbol x: any, x itself unless it is the empty symbol, all but x
-unfoldable pub partners : ℕ → ℕ → ℕ → ℕ
-partners zero set x = set
-partners (suc zero) set x = withoutEmpty (bitAnd set (2 ^ x))
-partners (suc (suc k)) set x = withoutSymbol set x
+-- Sets of symbols, as the crate `symbols` has them.
+pub use Rattle.symbols.specs.SymbolSets.{leastSymbol, withoutSymbol, withoutEmpty}
+unfoldable pub use Rattle.symbols.specs.SymbolSets.{partners}

@@ -1,16 +1,9 @@
 -- Symbols and pairs.
 use mathlib.Core.Bool.{Bool, _&&_, not}
-use Prim.Native.Nat.{ℕ, _+_}
+use Prim.Native.Nat.{ℕ}
 use lib.Dec.{eqb, leb}
 use Rattle.machine.specs.declared.Pair.{Pair}
-
--- byte 0 is the empty symbol
-abbrev pub emptySymbol : ℕ
-emptySymbol = 0
-
--- the other symbols start behind it
-abbrev pub firstSymbol : ℕ
-firstSymbol = emptySymbol + 1
+pub use Rattle.symbols.specs.Symbols.{emptySymbol, firstSymbol}
 
 -- the pair of an in and an out
 abbrev pub pairOf : ℕ → ℕ → Pair

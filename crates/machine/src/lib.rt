@@ -1,20 +1,18 @@
-// Constraint machines: pairs of symbols, arcs, the check of a machine part, steps and endings.
+// Constraint machines: pairs of symbols, arcs, steps and endings.
 ghost use mathlib.Core.Path.{_≡_};
 ghost use mathlib.Core.Bool.{true};
 ghost use Prim.Native.Nat.{ℕ, _<_, _^_};
 ghost use lib.Dec.{eqb};
 ghost use lib.ListN.{getD};
 ghost use Rattle.basics.specs.Sets.{member};
-ghost use Rattle.refusals.specs.Refusals.{checkedNumber};
 ghost use Rattle.machine.specs.Symbols.{emptySymbol, pairOf, isPair, withinSymbols};
 ghost use Rattle.machine.specs.Machine.{startState, takes, stepOf, stepped, endingOf, ended};
-ghost use Rattle.machine.specs.Part.{stateCount, arcCount, arcsOf, machineOf, shaped, soundArc, partRefusal};
+ghost use Rattle.machine.specs.Part.{stateCount, arcCount, arcsOf, machineOf, shaped, soundArc};
 
-pub mod sets; // sets.rt: sets of symbols
-mod part; // part.rt: what a part's bytes say, and its checks
+pub mod part; // part.rt: what a part's bytes say
 
 use basics::index;
-use refusals::Checked;
+pub use symbols::sets;
 
 // A pair of symbols, in and out.
 pub struct Pair {
@@ -24,7 +22,7 @@ pub struct Pair {
 
 impl Pair {
     // The empty symbol.
-    pub const EMPTY: u8 = 0;
+    pub const EMPTY: u8 = symbols::EMPTY;
 
     // The first of the other symbols.
     pub const FIRST: usize = Pair::EMPTY as usize + 1;
@@ -98,26 +96,6 @@ impl Arc {
             & sets::is_sound(self.inputs, last)
             & sets::is_sound(self.outputs, last)
     }
-}
-
-// The first of refusals 3, 4 and 5 that applies to a part, on a card of `symbols` symbols.
-pub fn check(part: &[u8], symbols: u8) -> Checked
-    requires { ⌜ symbols < 64 ⌝ }
-    ensures { λ r. ⌜ checkedNumber r ≡ partRefusal symbols (now (part .entry)) ⌝ }
-{
-    let answer = part::check_length(part);
-    let Checked::Passed = answer else {
-        return answer;
-    };
-    let answer = part::check_states(part);
-    let Checked::Passed = answer else {
-        return answer;
-    };
-    let answer = part::check_arcs(part, symbols);
-    let Checked::Passed = answer else {
-        return answer;
-    };
-    part::check_clashes(part)
 }
 
 // Q, the number of states of a part.

@@ -12,7 +12,7 @@ use Rattle.card.specs.Card.{cardRefusal}
 use Rattle.card.specs.Reading.{readingRefusal}
 use Rattle.card.specs.Laws.Search.{first-passed, rest-passed}
 use Rattle.card.specs.Accepted.{accepted}
-use Rattle.card.proofs.Answers.{read-refused, read-accepted}
+use Rattle.card.proofs.Answers.{read-refused, read-placed}
 use borrow.Author.Needs.{needs}
 use Rattle.card.proofs.read_part.Statement.{statement}
 use Rattle.card.proofs.read_part.Tie as tie
@@ -48,10 +48,10 @@ part-length-requires c κs = placed (c .before)
 
 returns-2 : tie.Need-returns-2
 returns-2 c =
-    let p = c .before .before .before in
+    let w = c .before .before in
+    let p = w .before in
     let a = p .before .before .before .before .args in
-    let e = read-accepted (a .card .now) (a .machine) (all-passed p) in
-    cc
+    read-placed (a .card .now) (a .machine) (w .index .result) (c .before .part-offset .result) (c .part-length .result) (all-passed p) (w .index .ensures .0) (c .before .part-offset .ensures .0) (c .part-length .ensures .0)
 
 pub read-part-spec : {M : Type 1} → statement M
 read-part-spec =

@@ -13,7 +13,7 @@ use Rattle.layout.specs.Layout.{Bytes}
 use Rattle.card.specs.Card.{partsRefusal}
 use Rattle.card.specs.Packing.{total, split}
 use Rattle.card.specs.Laws.Search.{first-passed, rest-passed}
-use Rattle.card.specs.Laws.Bytes.{bytes-take, bytes-drop}
+use Rattle.card_bytes.specs.Laws.Bytes.{bytes-take, bytes-drop}
 
 -- the shape of a part that is accepted
 pub part-shaped : (S : ℕ) (part : List ℕ) → partRefusal S part ≡ 0 → Shaped part

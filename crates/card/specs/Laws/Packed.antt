@@ -3,28 +3,19 @@ use mathlib.Core.Path.{_≡_, refl, ap, sym, _∙_}
 use mathlib.Core.List.{List, [], _∷_, _++_, map}
 use Prim.Native.Nat.{ℕ, zero, suc, _+_, _*_, _<_, _≤_}
 use native.Mathlib.Omega.{arith}
-use lib.ListN.{length, getD, take, drop, length-append}
+use lib.ListN.{length, getD, take, drop}
 use lib.Seq.{take-suc, take-length, drop-append-add}
 use Rattle.basics.specs.Search.{numbersBelow}
 use Rattle.layout.specs.Layout.{offsetOf, lengthOf, dueOffset, partOf, partsIn}
 use Rattle.card.specs.Layout.{machineCount, symbolCount, partsOf}
-use Rattle.card.specs.Packing.{total, split, places, table, packed}
+use Rattle.card.specs.Packing.{total, split, table, packed}
 use Rattle.card.specs.Laws.Search.{map-snoc}
-use Rattle.card.specs.Laws.Parts.{total-next, split-snoc}
-use Rattle.card.specs.Laws.Places.{length-places, PlaceAt, place-at}
+use Rattle.card_bytes.specs.Laws.Parts.{total-next, split-snoc}
+use Rattle.card_bytes.specs.Laws.Packed.{packed-table, packed-place}
+pub use Rattle.card_bytes.specs.Laws.Packed.{length-table, packed-length}
 use Rattle.layout.specs.LaidOut.{LaidOut}
 
-pub length-table : (S : ℕ) (lengths : List ℕ) → length (table S lengths) ≡ 2 + 4 * length lengths
-length-table S lengths = omega (arith, length-places (2 + 4 * length lengths) lengths)
-
 module _ (S : ℕ) (lengths bytes : List ℕ) where
-  packed-table : packed S lengths bytes ≡ table S lengths ++ bytes
-  unfolding packed
-  packed-table = refl
-
-  pub packed-length : length (packed S lengths bytes) ≡ 2 + 4 * length lengths + length bytes
-  packed-length = ap length packed-table ∙ length-append (table S lengths) bytes ∙ ap (λ (n : ℕ). n + length bytes) (length-table S lengths)
-
   pub packed-machines : machineCount (packed S lengths bytes) ≡ length lengths
   unfolding packed
   packed-machines = refl
@@ -37,31 +28,17 @@ module _ (S : ℕ) (lengths bytes : List ℕ) where
   pub packed-bytes : (n : ℕ) → drop (2 + 4 * length lengths + n) (packed S lengths bytes) ≡ drop n bytes
   packed-bytes n =
       ap (λ (k : ℕ). drop (k + n) (packed S lengths bytes)) (sym (length-table S lengths))
-      ∙ ap (λ (l : List ℕ). drop (length (table S lengths) + n) l) packed-table
+      ∙ ap (λ (l : List ℕ). drop (length (table S lengths) + n) l) (packed-table S lengths bytes)
       ∙ drop-append-add (table S lengths) bytes n
 
-  -- part i's place, its offset and its length
-  pub packed-place : (i : ℕ) → i < length lengths → PlaceAt (packed S lengths bytes) (2 + 4 * i) (2 + 4 * length lengths + total (take i lengths)) (getD lengths i 0)
-  unfolding packed
-  packed-place i h =
-      let l = places (2 + 4 * length lengths) lengths ++ bytes in
-      let p = place-at bytes (2 + 4 * length lengths) lengths i h in
-      let past : (n m : ℕ) → n ≡ suc (suc m) → getD (length lengths ∷ S ∷ l) n 0 ≡ getD l m 0 = λ n m e. rw e in
-      record {
-        offset-low = past (2 + 4 * i) (4 * i) (omega arith) ∙ p .offset-low;
-        offset-high = past (2 + 4 * i + 1) (4 * i + 1) (omega arith) ∙ p .offset-high;
-        length-low = past (2 + 4 * i + 2) (4 * i + 2) (omega arith) ∙ p .length-low;
-        length-high = past (2 + 4 * i + 3) (4 * i + 3) (omega arith) ∙ p .length-high;
-      }
-
   pub packed-offset : (i : ℕ) → i < length lengths → offsetOf (packed S lengths bytes) i ≡ 2 + 4 * length lengths + total (take i lengths)
-  packed-offset i h = omega (arith, packed-place i h)
+  packed-offset i h = omega (arith, packed-place S lengths bytes i h)
 
   pub packed-length-of : (i : ℕ) → i < length lengths → lengthOf (packed S lengths bytes) i ≡ getD lengths i 0
   packed-length-of i h =
       let e : 4 + 4 * i ≡ 2 + 4 * i + 2 = omega arith in
       let f : 4 + 4 * i + 1 ≡ 2 + 4 * i + 3 = omega arith in
-      rw (f, e) (omega (arith, packed-place i h))
+      rw (f, e) (omega (arith, packed-place S lengths bytes i h))
 
   pub packed-part : (i : ℕ) → i < length lengths → partOf (packed S lengths bytes) i ≡ take (getD lengths i 0) (drop (total (take i lengths)) bytes)
   packed-part i h = rw (packed-offset i h, packed-length-of i h, packed-bytes (total (take i lengths)))
@@ -74,9 +51,9 @@ module _ (S : ℕ) (lengths bytes : List ℕ) where
   pub packed-laid-out : total lengths ≡ length bytes → LaidOut (length lengths) (packed S lengths bytes)
   packed-laid-out e =
       record {
-        table = omega (arith, packed-length);
+        table = omega (arith, packed-length S lengths bytes);
         offsets = λ i h. packed-offset i h ∙ sym (packed-due i (omega arith));
-        end = packed-due (length lengths) (omega arith) ∙ rw (take-length lengths, e) (sym packed-length);
+        end = packed-due (length lengths) (omega arith) ∙ rw (take-length lengths, e) (sym (packed-length S lengths bytes));
       }
 
   first-packed : (n : ℕ) → n ≤ length lengths → map (partOf (packed S lengths bytes)) (numbersBelow n) ≡ split (take n lengths) bytes

@@ -12,9 +12,9 @@ use Rattle.card.specs.Packing.{total, split, places, packed}
 use Rattle.basics.proofs.Search.{map-at}
 use Rattle.card.specs.Laws.Search.{map-snoc, joined-snoc}
 use Rattle.basics.proofs.Below.{length-numbers}
-use Rattle.card.specs.Laws.Bytes.{low-byte, high-byte}
+use Rattle.card_bytes.specs.Laws.Bytes.{low-byte, high-byte}
 use Rattle.card.specs.Laws.Parts.{total-snoc, joined-split, joined-total}
-use Rattle.card.specs.Laws.Places.{places-snoc}
+use Rattle.card_bytes.specs.Laws.Places.{places-snoc}
 use Rattle.layout.specs.LaidOut.{LaidOut, due-next, part-length}
 use Rattle.card.specs.Laws.Layout.{length-parts, part-at}
 

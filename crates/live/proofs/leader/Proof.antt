@@ -46,7 +46,7 @@ use Rattle.live.specs.Rows.{fits, led, unled}
 use Rattle.live.specs.Steps.{leaderDown}
 use Rattle.live.specs.Calls.{leading}
 use Rattle.live.proofs.Tests.{positive}
-use Rattle.live.proofs.Checks.{firstThree, ThreePassed, all-passed, ranking-sound, fits-within}
+use Rattle.live_checks.proofs.Checks.{firstThree, ThreePassed, all-passed, ranking-sound, fits-within}
 use Rattle.live.proofs.Answers.{lead-refused, lead-none, lead-done}
 use Rattle.live.proofs.RowKind.{R, by-value, named as row-name}
 use Rattle.live.proofs.CheckedKind.{Answer, by-value as checked, val, spelled, shown, makes, typed as typed-checked}
@@ -58,10 +58,10 @@ use Rattle.live.proofs.Row as T
 use Rattle.live.proofs.Row.Laws as T′
 use Rattle.live.proofs.Lead as T₁
 use Rattle.live.proofs.Lead.Laws as T₁′
-use Rattle.live.proofs.check_rows as check
-use Rattle.live.proofs.check_rows.Symbol as check-def
-use Rattle.live.proofs.check_rows.Symbol.{name as #live·check-rows}
-use Rattle.live.proofs.check_rows.Met as check-thm
+use Rattle.live_checks.proofs.check_rows as check
+use Rattle.live_checks.proofs.check_rows.Symbol as check-def
+use Rattle.live_checks.proofs.check_rows.Symbol.{name as #live-checks·check-rows}
+use Rattle.live_checks.proofs.check_rows.Met as check-thm
 use Rattle.live.proofs.no_leader as no-leader
 use Rattle.live.proofs.no_leader.Symbol as no-leader-def
 use Rattle.live.proofs.no_leader.Symbol.{name as #live·no-leader}
@@ -194,7 +194,7 @@ module _ {M : Type 1} (𝓤 : URA M) (H : Heap 𝓤) (A : Atoms 𝓤) (W : Given
       nothing ! $ move ! (3 ∷ 0 ∷ []) $ fjoin ! $ owned ! usize (Is usize) (uint-makes 𝓤 H A W w64) count _ (refl, gc) $ fjoin ! $ move ! (2 ∷ 0 ∷ []) $ fjoin ! $
       owned ! u8 (Is u8) (uint-makes 𝓤 H A W w8) machines _ (refl, gm) $ fjoin ! $ frame ! $ done !
 
-  module _ (𝓣 : Tables 𝓤 H) (known-check : Triple 𝓤 (𝓣 .C #live·check-rows) (Check 𝓤 H A mem run)) (known-none : Triple 𝓤 (𝓣 .C #live·no-leader) (None 𝓤 H A mem run)) (known-best : Triple 𝓤 (𝓣 .C #live·foremost) (Best 𝓤 H A mem run)) (known-led : Triple 𝓤 (𝓣 .C #live·led-by) (Led 𝓤 H A mem run)) where
+  module _ (𝓣 : Tables 𝓤 H) (known-check : Triple 𝓤 (𝓣 .C #live-checks·check-rows) (Check 𝓤 H A mem run)) (known-none : Triple 𝓤 (𝓣 .C #live·no-leader) (None 𝓤 H A mem run)) (known-best : Triple 𝓤 (𝓣 .C #live·foremost) (Best 𝓤 H A mem run)) (known-led : Triple 𝓤 (𝓣 .C #live·led-by) (Led 𝓤 H A mem run)) where
     module _ (l₀ l₁ l₂ l₃ l₄ l₅ l₆ l₇ l₈ : ℕ) where
       abbrev En : Env 𝓤 H
       En = (answer, l₀) ∷ (tyInt w8, l₁) ∷ (bytes, l₂) ∷ (word, l₃) ∷ (slice, l₄) ∷ (checked, l₅) ∷ (by-value, l₆) ∷ (word, l₇) ∷ (tyBool, l₈) ∷ []
@@ -277,7 +277,7 @@ module _ {M : Type 1} (𝓤 : URA M) (H : Heap 𝓤) (A : Atoms 𝓤) (W : Given
         -- [the answer; the ranking's token; true; K; the rows' token; true; S; _8; …]
         keep ! (1 ∷ 4 ∷ 3 ∷ 6 ∷ 23 ∷ 21 ∷ 19 ∷ 17 ∷ 15 ∷ 13 ∷ 11 ∷ 9 ∷ 7 ∷ 24 ∷ 22 ∷ 20 ∷ 18 ∷ 16 ∷ 14 ∷ 12 ∷ 10 ∷ 8 ∷ []) $ decides l₀ l₁ l₂ l₃ l₄ l₅ l₆ l₇ l₈ n (shown n w is) e)))))))))))))
 
-module _ {M : Type 1} (𝓤 : URA M) (H : Heap 𝓤) (A : Atoms 𝓤) (W : Given 𝓤 H A) (mem : Memory → SProp 𝓤) (run : Routine → Fun 𝓤) (𝓣 : Tables 𝓤 H) (known-check : Triple 𝓤 (𝓣 .C #live·check-rows) (Check 𝓤 H A mem run)) (known-none : Triple 𝓤 (𝓣 .C #live·no-leader) (None 𝓤 H A mem run)) (known-best : Triple 𝓤 (𝓣 .C #live·foremost) (Best 𝓤 H A mem run)) (known-led : Triple 𝓤 (𝓣 .C #live·led-by) (Led 𝓤 H A mem run)) where
+module _ {M : Type 1} (𝓤 : URA M) (H : Heap 𝓤) (A : Atoms 𝓤) (W : Given 𝓤 H A) (mem : Memory → SProp 𝓤) (run : Routine → Fun 𝓤) (𝓣 : Tables 𝓤 H) (known-check : Triple 𝓤 (𝓣 .C #live-checks·check-rows) (Check 𝓤 H A mem run)) (known-none : Triple 𝓤 (𝓣 .C #live·no-leader) (None 𝓤 H A mem run)) (known-best : Triple 𝓤 (𝓣 .C #live·foremost) (Best 𝓤 H A mem run)) (known-led : Triple 𝓤 (𝓣 .C #live·led-by) (Led 𝓤 H A mem run)) where
   leader-walks : Walks 𝓤 H A leader.ended stayed (WpFn 𝓤 H (𝓣 .C) (𝓣 .Λ) code.function) (leader.clauses 𝓤 H A mem run)
   leader-walks = walked 𝓤 H A leader.ended stayed (leader.clauses 𝓤 H A mem run) (WpFn 𝓤 H (𝓣 .C) (𝓣 .Λ) code.function) (λ κs. (uint-vals w8, (slice-vals, (uint-vals w64, (slice-vals, tt))))) (λ κs. (uint-tells w8, (shr-slice-tells (named 0) (κs .0) u8, (uint-tells w64, (shr-slice-tells (named 1) (κs .1 .0) R, tt)))))
       (λ κs qs bounds a g are. via 𝓤 _ (fst∗ 𝓤 _ (emp 𝓤))
@@ -294,7 +294,7 @@ leader-spec 𝓤 H 𝓜 𝓖 𝓡 =
     entered 𝓤 H (tripleOf 𝓤 H (𝓖 .A) leader.signature (leader.spec 𝓤 H (𝓖 .A) (𝓜 .mem) (𝓡 .run)))
     (tables 𝓤 H 𝓜 𝓡 code.env .C) (tables 𝓤 H 𝓜 𝓡 code.env .Λ) #live·leader code.function (code.unfolded 𝓤 H 𝓜 𝓡)
     (leader-meets 𝓤 H (𝓖 .A) (givenOf 𝓤 H 𝓜 𝓖) (𝓜 .mem) (𝓡 .run) (tablesOf 𝓤 H 𝓜 (tables 𝓤 H 𝓜 𝓡 code.env))
-    (cited 𝓤 H (Check 𝓤 H (𝓖 .A) (𝓜 .mem) (𝓡 .run)) 𝓜 𝓡 code.env #live·check-rows check-def.routine code.calls-live·check-rows (check-thm.met 𝓤 H 𝓜 𝓖 𝓡))
+    (cited 𝓤 H (Check 𝓤 H (𝓖 .A) (𝓜 .mem) (𝓡 .run)) 𝓜 𝓡 code.env #live-checks·check-rows check-def.routine code.calls-live-checks·check-rows (check-thm.met 𝓤 H 𝓜 𝓖 𝓡))
     (cited 𝓤 H (None 𝓤 H (𝓖 .A) (𝓜 .mem) (𝓡 .run)) 𝓜 𝓡 code.env #live·no-leader no-leader-def.routine code.calls-live·no-leader (no-leader-thm.met 𝓤 H 𝓜 𝓖 𝓡))
     (cited 𝓤 H (Best 𝓤 H (𝓖 .A) (𝓜 .mem) (𝓡 .run)) 𝓜 𝓡 code.env #live·foremost foremost-def.routine code.calls-live·foremost (foremost-thm.met 𝓤 H 𝓜 𝓖 𝓡))
     (cited 𝓤 H (Led 𝓤 H (𝓖 .A) (𝓜 .mem) (𝓡 .run)) 𝓜 𝓡 code.env #live·led-by led-by-def.routine code.calls-live·led-by (led-by-thm.met 𝓤 H 𝓜 𝓖 𝓡)))

@@ -62,10 +62,10 @@ use Rattle.live.proofs.find as find
 use Rattle.live.proofs.find.Symbol as find-def
 use Rattle.live.proofs.find.Symbol.{name as #live·find}
 use Rattle.live.proofs.find.Met as find-thm
-use Rattle.live.proofs.check_absent as its-check
-use Rattle.live.proofs.check_absent.Symbol as its-check-def
-use Rattle.live.proofs.check_absent.Symbol.{name as #live·check-absent}
-use Rattle.live.proofs.check_absent.Met as its-check-thm
+use Rattle.live_checks.proofs.check_absent as its-check
+use Rattle.live_checks.proofs.check_absent.Symbol as its-check-def
+use Rattle.live_checks.proofs.check_absent.Symbol.{name as #live-checks·check-absent}
+use Rattle.live_checks.proofs.check_absent.Met as its-check-thm
 use Rattle.live.proofs.put_in.Key.{name as #live·put-in}
 use Rattle.live.proofs.put_in as put-in
 use Rattle.live.proofs.put_in.Statement as stated
@@ -155,7 +155,7 @@ module _ {M : Type 1} (𝓤 : URA M) (H : Heap 𝓤) (A : Atoms 𝓤) (W : Given
       nothing ! $ owned ! R (Is R) (L.makes T.the-type T′.the-plain 𝓤 H A) row _ g $ fjoin ! $ owned ! usize (Is usize) (uint-makes 𝓤 H A W w64) count _ (refl, gc) $ fjoin ! $ move ! (1 ∷ 0 ∷ []) $ fjoin ! $
       frame ! $ owned ! Answer (Is Answer) (makes 𝓤 H A) a _ f $ done !
 
-  module _ (C : Calls 𝓤 H) (Λ : Loops 𝓤 H) (fm : FmC 𝓤 H (W .laws) C) (known-find : Triple 𝓤 (C #live·find) (Find 𝓤 H A mem run)) (known-check : Triple 𝓤 (C #live·check-absent) (Check 𝓤 H A mem run)) where
+  module _ (C : Calls 𝓤 H) (Λ : Loops 𝓤 H) (fm : FmC 𝓤 H (W .laws) C) (known-find : Triple 𝓤 (C #live·find) (Find 𝓤 H A mem run)) (known-check : Triple 𝓤 (C #live-checks·check-absent) (Check 𝓤 H A mem run)) where
     module _ (l₀ l₁ l₂ l₃ l₄ l₅ l₆ l₇ l₈ l₉ : ℕ) where
       abbrev En : Env 𝓤 H
       En = (checked, l₀) ∷ (slice, l₁) ∷ (word, l₂) ∷ (by-value, l₃) ∷ (word, l₄) ∷ (checked, l₅) ∷ (lent, l₆) ∷ (sliceTy lent, l₇) ∷ (word, l₈) ∷ (tyPtr, l₉) ∷ []
@@ -240,7 +240,7 @@ module _ {M : Type 1} (𝓤 : URA M) (H : Heap 𝓤) (A : Atoms 𝓤) (W : Given
         rewrite ! 16 (λ (v : Val). ‵ (fat fullShare word l₄ 0 v)) (ap only (is .0)) refl $
         keep ! (2 ∷ 1 ∷ 24 ∷ 22 ∷ 20 ∷ 18 ∷ 16 ∷ 14 ∷ 12 ∷ 10 ∷ 8 ∷ 6 ∷ 25 ∷ 23 ∷ 21 ∷ 19 ∷ 17 ∷ 15 ∷ 13 ∷ 11 ∷ 9 ∷ 7 ∷ []) $ decides l₀ l₁ l₂ l₃ l₄ l₅ l₆ l₇ l₈ l₉ r (is .1) e))))))))))))))))
 
-module _ {M : Type 1} (𝓤 : URA M) (H : Heap 𝓤) (A : Atoms 𝓤) (W : Given 𝓤 H A) (mem : Memory → SProp 𝓤) (run : Routine → Fun 𝓤) (𝓣 : Tables 𝓤 H) (known-find : Triple 𝓤 (𝓣 .C #live·find) (Find 𝓤 H A mem run)) (known-check : Triple 𝓤 (𝓣 .C #live·check-absent) (Check 𝓤 H A mem run)) where
+module _ {M : Type 1} (𝓤 : URA M) (H : Heap 𝓤) (A : Atoms 𝓤) (W : Given 𝓤 H A) (mem : Memory → SProp 𝓤) (run : Routine → Fun 𝓤) (𝓣 : Tables 𝓤 H) (known-find : Triple 𝓤 (𝓣 .C #live·find) (Find 𝓤 H A mem run)) (known-check : Triple 𝓤 (𝓣 .C #live-checks·check-absent) (Check 𝓤 H A mem run)) where
   put-in-walks : Walks 𝓤 H A put-in.ended stayed (WpFn 𝓤 H (𝓣 .C) (𝓣 .Λ) code.function) (put-in.clauses 𝓤 H A mem run)
   put-in-walks = walked 𝓤 H A put-in.ended stayed (put-in.clauses 𝓤 H A mem run) (WpFn 𝓤 H (𝓣 .C) (𝓣 .Λ) code.function) (λ κs. (slice-vals, (uint-vals w64, (copies .vals, tt)))) (λ κs. (mut-slice-tells (named 0) (κs .0) R, (uint-tells w64, (copies .tells, tt))))
       (λ κs qs bounds a g are. needs 𝓤 _ _
@@ -258,4 +258,4 @@ put-in-spec 𝓤 H 𝓜 𝓖 𝓡 =
     (tables 𝓤 H 𝓜 𝓡 code.env .C) (tables 𝓤 H 𝓜 𝓡 code.env .Λ) #live·put-in code.function (code.unfolded 𝓤 H 𝓜 𝓡)
     (put-in-meets 𝓤 H (𝓖 .A) (givenOf 𝓤 H 𝓜 𝓖) (𝓜 .mem) (𝓡 .run) (tablesOf 𝓤 H 𝓜 (tables 𝓤 H 𝓜 𝓡 code.env))
     (cited 𝓤 H (Find 𝓤 H (𝓖 .A) (𝓜 .mem) (𝓡 .run)) 𝓜 𝓡 code.env #live·find find-def.routine code.calls-live·find (find-thm.met 𝓤 H 𝓜 𝓖 𝓡))
-    (cited 𝓤 H (Check 𝓤 H (𝓖 .A) (𝓜 .mem) (𝓡 .run)) 𝓜 𝓡 code.env #live·check-absent its-check-def.routine code.calls-live·check-absent (its-check-thm.met 𝓤 H 𝓜 𝓖 𝓡)))
+    (cited 𝓤 H (Check 𝓤 H (𝓖 .A) (𝓜 .mem) (𝓡 .run)) 𝓜 𝓡 code.env #live-checks·check-absent its-check-def.routine code.calls-live-checks·check-absent (its-check-thm.met 𝓤 H 𝓜 𝓖 𝓡)))

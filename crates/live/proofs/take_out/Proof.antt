@@ -61,10 +61,10 @@ use Rattle.live.proofs.close_gap as close-gap
 use Rattle.live.proofs.close_gap.Symbol as close-gap-def
 use Rattle.live.proofs.close_gap.Symbol.{name as #live·close-gap}
 use Rattle.live.proofs.close_gap.Met as close-gap-thm
-use Rattle.live.proofs.check_present as its-check
-use Rattle.live.proofs.check_present.Symbol as its-check-def
-use Rattle.live.proofs.check_present.Symbol.{name as #live·check-present}
-use Rattle.live.proofs.check_present.Met as its-check-thm
+use Rattle.live_checks.proofs.check_present as its-check
+use Rattle.live_checks.proofs.check_present.Symbol as its-check-def
+use Rattle.live_checks.proofs.check_present.Symbol.{name as #live-checks·check-present}
+use Rattle.live_checks.proofs.check_present.Met as its-check-thm
 use Rattle.live.proofs.take_out.Key.{name as #live·take-out}
 use Rattle.live.proofs.take_out as take-out
 use Rattle.live.proofs.take_out.Statement as stated
@@ -155,7 +155,7 @@ module _ {M : Type 1} (𝓤 : URA M) (H : Heap 𝓤) (A : Atoms 𝓤) (W : Given
       nothing ! $ owned ! u16 (Is u16) (uint-makes 𝓤 H A W w16) id _ (refl, gi) $ fjoin ! $ owned ! usize (Is usize) (uint-makes 𝓤 H A W w64) count _ (refl, gc) $ fjoin ! $ move ! (1 ∷ 0 ∷ []) $ fjoin ! $
       frame ! $ owned ! Answer (Is Answer) (makes 𝓤 H A) a _ g $ done !
 
-  module _ (C : Calls 𝓤 H) (Λ : Loops 𝓤 H) (fm : FmC 𝓤 H (W .laws) C) (known-find : Triple 𝓤 (C #live·find) (Find 𝓤 H A mem run)) (known-check : Triple 𝓤 (C #live·check-present) (Check 𝓤 H A mem run)) (known-close : Triple 𝓤 (C #live·close-gap) (Close 𝓤 H A mem run)) where
+  module _ (C : Calls 𝓤 H) (Λ : Loops 𝓤 H) (fm : FmC 𝓤 H (W .laws) C) (known-find : Triple 𝓤 (C #live·find) (Find 𝓤 H A mem run)) (known-check : Triple 𝓤 (C #live-checks·check-present) (Check 𝓤 H A mem run)) (known-close : Triple 𝓤 (C #live·close-gap) (Close 𝓤 H A mem run)) where
     module _ (l₀ l₁ l₂ l₃ l₄ l₅ l₆ l₇ l₈ l₉ l₁₀ l₁₁ : ℕ) where
       abbrev En : Env 𝓤 H
       En = (checked, l₀) ∷ (slice, l₁) ∷ (word, l₂) ∷ (tyInt w16, l₃) ∷ (word, l₄) ∷ (checked, l₅) ∷ (lent, l₆) ∷ (sliceTy lent, l₇) ∷ (tyUnit, l₈) ∷ (given, l₉) ∷ (sliceTy given, l₁₀) ∷ (word, l₁₁) ∷ []
@@ -249,7 +249,7 @@ module _ {M : Type 1} (𝓤 : URA M) (H : Heap 𝓤) (A : Atoms 𝓤) (W : Given
         rewrite ! 20 (λ (v : Val). ‵ (fat fullShare word l₄ 0 v)) (ap only (is .0)) refl $
         keep ! (2 ∷ 1 ∷ 28 ∷ 26 ∷ 24 ∷ 22 ∷ 20 ∷ 18 ∷ 16 ∷ 14 ∷ 12 ∷ 10 ∷ 8 ∷ 6 ∷ 29 ∷ 27 ∷ 25 ∷ 23 ∷ 21 ∷ 19 ∷ 17 ∷ 15 ∷ 13 ∷ 11 ∷ 9 ∷ 7 ∷ []) $ decides l₀ l₁ l₂ l₃ l₄ l₅ l₆ l₇ l₈ l₉ l₁₀ l₁₁ r (is .1) e))))))))))))))))))
 
-module _ {M : Type 1} (𝓤 : URA M) (H : Heap 𝓤) (A : Atoms 𝓤) (W : Given 𝓤 H A) (mem : Memory → SProp 𝓤) (run : Routine → Fun 𝓤) (𝓣 : Tables 𝓤 H) (known-find : Triple 𝓤 (𝓣 .C #live·find) (Find 𝓤 H A mem run)) (known-check : Triple 𝓤 (𝓣 .C #live·check-present) (Check 𝓤 H A mem run)) (known-close : Triple 𝓤 (𝓣 .C #live·close-gap) (Close 𝓤 H A mem run)) where
+module _ {M : Type 1} (𝓤 : URA M) (H : Heap 𝓤) (A : Atoms 𝓤) (W : Given 𝓤 H A) (mem : Memory → SProp 𝓤) (run : Routine → Fun 𝓤) (𝓣 : Tables 𝓤 H) (known-find : Triple 𝓤 (𝓣 .C #live·find) (Find 𝓤 H A mem run)) (known-check : Triple 𝓤 (𝓣 .C #live-checks·check-present) (Check 𝓤 H A mem run)) (known-close : Triple 𝓤 (𝓣 .C #live·close-gap) (Close 𝓤 H A mem run)) where
   take-out-walks : Walks 𝓤 H A take-out.ended stayed (WpFn 𝓤 H (𝓣 .C) (𝓣 .Λ) code.function) (take-out.clauses 𝓤 H A mem run)
   take-out-walks = walked 𝓤 H A take-out.ended stayed (take-out.clauses 𝓤 H A mem run) (WpFn 𝓤 H (𝓣 .C) (𝓣 .Λ) code.function) (λ κs. (slice-vals, (uint-vals w64, (uint-vals w16, tt)))) (λ κs. (mut-slice-tells (named 0) (κs .0) R, (uint-tells w64, (uint-tells w16, tt))))
       (λ κs qs bounds a g are. needs 𝓤 _ _
@@ -267,5 +267,5 @@ take-out-spec 𝓤 H 𝓜 𝓖 𝓡 =
     (tables 𝓤 H 𝓜 𝓡 code.env .C) (tables 𝓤 H 𝓜 𝓡 code.env .Λ) #live·take-out code.function (code.unfolded 𝓤 H 𝓜 𝓡)
     (take-out-meets 𝓤 H (𝓖 .A) (givenOf 𝓤 H 𝓜 𝓖) (𝓜 .mem) (𝓡 .run) (tablesOf 𝓤 H 𝓜 (tables 𝓤 H 𝓜 𝓡 code.env))
     (cited 𝓤 H (Find 𝓤 H (𝓖 .A) (𝓜 .mem) (𝓡 .run)) 𝓜 𝓡 code.env #live·find find-def.routine code.calls-live·find (find-thm.met 𝓤 H 𝓜 𝓖 𝓡))
-    (cited 𝓤 H (Check 𝓤 H (𝓖 .A) (𝓜 .mem) (𝓡 .run)) 𝓜 𝓡 code.env #live·check-present its-check-def.routine code.calls-live·check-present (its-check-thm.met 𝓤 H 𝓜 𝓖 𝓡))
+    (cited 𝓤 H (Check 𝓤 H (𝓖 .A) (𝓜 .mem) (𝓡 .run)) 𝓜 𝓡 code.env #live-checks·check-present its-check-def.routine code.calls-live-checks·check-present (its-check-thm.met 𝓤 H 𝓜 𝓖 𝓡))
     (cited 𝓤 H (Close 𝓤 H (𝓖 .A) (𝓜 .mem) (𝓡 .run)) 𝓜 𝓡 code.env #live·close-gap close-gap-def.routine code.calls-live·close-gap (close-gap-thm.met 𝓤 H 𝓜 𝓖 𝓡)))

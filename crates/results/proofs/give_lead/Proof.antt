@@ -4,7 +4,7 @@ use Prim.Native.Nat.{ℕ}
 use lib.ListN.{length}
 use borrow.Author.Needs.{needs, length-unmapped}
 use Rattle.results.specs.Results.{flagNumber}
-use Rattle.results.proofs.Results.{six-alone}
+use Rattle.numbers.proofs.Numbers.{six-alone}
 use Rattle.results.proofs.give_lead.Statement.{statement}
 use Rattle.results.proofs.give_lead.Tie as tie
 

@@ -3,7 +3,7 @@ use mathlib.Core.List.{[], _∷_}
 use Prim.Native.Nat.{ℕ}
 use lib.ListN.{length}
 use borrow.Author.Needs.{needs, length-unmapped}
-use Rattle.results.proofs.Results.{six-counts}
+use Rattle.numbers.proofs.Numbers.{six-counts}
 use Rattle.results.proofs.give_weighing.Statement.{statement}
 use Rattle.results.proofs.give_weighing.Tie as tie
 

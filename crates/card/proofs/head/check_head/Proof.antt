@@ -1,8 +1,11 @@
 use borrow.Author.Needs.{needs}
 use native.Mathlib.Omega.{arith}
-use lib.ListN.{length}
+use mathlib.Core.Path.{ap, _∙_}
+use Prim.Native.Nat.{ℕ}
+use lib.ListN.{length, getD}
 use borrow.Author.Tests.{lt-leb, le-leb}
-use Rattle.card.specs.Layout.{counted}
+use Rattle.refusals.specs.Refusals.{refuse}
+use Rattle.card.specs.Layout.{soundCounts, counted}
 use Rattle.card.proofs.head.check_head.Statement.{statement}
 use Rattle.card.proofs.head.check_head.Tie as tie
 
@@ -13,7 +16,8 @@ returns c = rw (lt-leb _ _ (c .if1 .taken))
 returns-2 : tie.Need-returns-2
 unfolding counted
 returns-2 c =
-    rw (le-leb 2 (length (c .before .before .before .before .before .before .args .card .now)) (omega arith)) (cc)
+    let l = c .before .before .before .before .before .before .args .card .now in
+    rw (le-leb 2 (length l) (omega arith)) (c .check-counts .ensures ∙ ap (λ (n : ℕ). refuse 1 (soundCounts n (getD l 1 0))) (c .before .before .index .ensures .0))
 
 pub check-head-spec : {M : Type 1} → statement M
 check-head-spec =

@@ -1,0 +1,20 @@
+use borrow.Author.Needs.{needs}
+use native.Mathlib.Omega.{arith}
+use lib.ListN.{length-set}
+use Rattle.card_bytes.proofs.packing.write_short.Statement.{statement}
+use Rattle.card_bytes.proofs.packing.write_short.Tie as tie
+
+slice-write-target-2 : tie.Need-slice-write-target-2
+slice-write-target-2 c = simp length-set (omega arith)
+
+pub write-short-spec : {M : Type 1} → statement M
+write-short-spec =
+    tie.close
+    (tie.spec
+    (λ c. search needs)
+    (λ c. search needs)
+    (λ c. search needs)
+    (λ c. search needs)
+    slice-write-target-2
+    (λ c. search needs)
+    (λ c. search needs))

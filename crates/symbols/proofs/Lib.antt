@@ -1,0 +1,2 @@
+pub mod SymbolSets
+pub mod Partners
