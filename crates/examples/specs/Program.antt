@@ -21,8 +21,8 @@ use Rattle.lines.specs.Decimal.{digitsWithin, decimal, valueFrom}
 use Rattle.lines.specs.Parsing.{isRankingText, isSymbolText, symbolsIn, parsedLine}
 use Rattle.lines.specs.Input.{linesOf}
 use Rattle.lines.specs.Writing.{nextCount, withCommas, pairText, pairsText, acceptedLine, lineOf, answeredLine, totalLine, closingLines}
-use Rattle.session.specs.Printed.{bestLine, printed}
-use Rattle.session.specs.Tally.{countsOf, shownMachines}
+use Rattle.lesson.specs.Printed.{bestLine, printed}
+use Rattle.lesson.specs.Tally.{countsOf, shownMachines}
 use Rattle.session.specs.Output.{totalOf, totals, closing, lessonOutput, output}
 use Rattle.examples.specs.Cards.{cardB}
 

@@ -2,10 +2,10 @@ use mathlib.Core.Path.{refl}
 use Prim.Native.Nat.{ℕ}
 use native.Mathlib.Omega.{arith}
 use lib.ListN.{length-replicate}
-use Rattle.session.proofs.Replies.{prints, best-line, best-counts}
+use Rattle.lesson.proofs.Replies.{prints, best-line, best-counts}
 use borrow.Author.Needs.{needs}
-use Rattle.session.proofs.write_best.Statement.{statement}
-use Rattle.session.proofs.write_best.Tie as tie
+use Rattle.lesson.proofs.write_best.Statement.{statement}
+use Rattle.lesson.proofs.write_best.Tie as tie
 
 returns : tie.Need-returns
 returns c =

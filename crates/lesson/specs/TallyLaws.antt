@@ -3,15 +3,18 @@ use mathlib.Core.Path.{_≡_, refl, ap, sym, _∙_}
 use mathlib.Core.Bool.{Bool, true, false}
 use mathlib.Core.List.{List, [], _∷_, _++_}
 use mathlib.Core.Option.{Option, some, none}
-use Prim.Native.Nat.{ℕ, zero, suc, _+_, _<_, _≤_}
+use Prim.Native.Nat.{ℕ, zero, suc, _+_, _<_, _≤_, zero-le}
 use native.Mathlib.Omega.{arith}
 use native.Mathlib.Nat.{add-zero}
 use lib.ListN.{length, getD}
 use borrow.Author.Tests.{le-leb, lt-leb}
 use Rattle.basics.proofs.Bools.{clash}
-use Rattle.session.specs.declared.Tally.{Tally}
-use Rattle.session.specs.Printed.{printed}
-use Rattle.session.specs.Tally.{lineCounts, added, counted, isFull, passed, pastText, lineTally, lineText, linesTally, linesText, Fits}
+use Rattle.card.specs.Layout.{machineCount}
+use Rattle.card.specs.Card.{cardRefusal}
+use Rattle.card.specs.Accepted.{accepted}
+use Rattle.lesson.specs.declared.Tally.{Tally}
+use Rattle.lesson.specs.Printed.{printed}
+use Rattle.lesson.specs.Tally.{lineCounts, added, counted, isFull, passed, pastText, lineTally, lineText, linesTally, linesText, shownMachines, Fits}
 
 -- numbers added place by place
 pub added-length : (ts cs : List ℕ) → length (added ts cs) ≡ length ts
@@ -115,3 +118,12 @@ module _ (card : List ℕ) where
   unfolding linesTally
   tally-append t [] ys = refl
   tally-append t (x ∷ xs) ys = tally-append (lineTally card t x) xs ys
+
+  -- at most six are shown
+  pub shown-few : shownMachines card ≤ 6
+  unfolding shownMachines
+  shown-few = go (cardRefusal card) refl
+    where
+      go : (n : ℕ) → cardRefusal card ≡ n → (elim n as (λ _. ℕ) [ zero ↦ machineCount card | suc n ↦ 0 ]) ≤ 6
+      go zero e = accepted card e .head .counts .machines
+      go (suc n) e = zero-le

@@ -1,7 +1,7 @@
-use Rattle.session.proofs.First.{empty-first}
+use Rattle.lesson.proofs.First.{empty-first}
 use borrow.Author.Needs.{needs}
-use Rattle.session.proofs.machine_count.Statement.{statement}
-use Rattle.session.proofs.machine_count.Tie as tie
+use Rattle.lesson.proofs.machine_count.Statement.{statement}
+use Rattle.lesson.proofs.machine_count.Tie as tie
 
 returns : tie.Need-returns
 returns c = empty-first (c .before .args .card .now) (c .if1 .taken)

@@ -11,8 +11,8 @@ use Rattle.candidate.specs.declared.Evaluation.{Evaluation}
 use Rattle.product.specs.Optimizing.{optimized}
 use Rattle.lines.specs.Parsing.{Request, parsedLine}
 use Rattle.lines.specs.Writing.{refusedLine, closingLines}
-use Rattle.session.specs.declared.Tally.{Tally}
-use Rattle.session.specs.Printed.{printed}
+use Rattle.lesson.specs.declared.Tally.{Tally}
+use Rattle.lesson.specs.Printed.{printed}
 
 -- the counts of an answer in card order, unused places 0; a refusal has none
 unfoldable pub countsOf : Evaluation → Option (List ℕ)

@@ -2,11 +2,11 @@ use mathlib.Core.Path.{_∙_}
 use Prim.Native.Nat.{zero-le}
 use native.Mathlib.Omega.{arith}
 use Rattle.refusals.proofs.Refusals.{passed-number, refused-number}
-use Rattle.session.specs.Totals.{shown-few}
-use Rattle.session.proofs.Tallies.{shown-none, shown-all}
+use Rattle.lesson.specs.TallyLaws.{shown-few}
+use Rattle.lesson.proofs.Tallies.{shown-none, shown-all}
 use borrow.Author.Needs.{needs}
-use Rattle.session.proofs.shown_machines.Statement.{statement}
-use Rattle.session.proofs.shown_machines.Tie as tie
+use Rattle.lesson.proofs.shown_machines.Statement.{statement}
+use Rattle.lesson.proofs.shown_machines.Tie as tie
 
 returns : tie.Need-returns
 returns c = (shown-none (c .before .before .before .before .args .card .now) (refused-number (c .enum-told2 .given .1) (c .before .before .check .ensures)), zero-le)

@@ -17,8 +17,8 @@ use Rattle.lines.specs.declared.Parsed.the-variants as parsed
 use Rattle.lines.specs.Buffers.{atFront}
 use Rattle.lines.specs.Parsing.{Request, parsedAnswer, rankingOf, wordOf}
 use Rattle.lines.specs.Writing.{badLine, lineOf}
-use Rattle.session.specs.Printed.{bestLine, reply, Prints}
-use Rattle.session.specs.Tally.{countsOf, bestCounts, requestCounts, told}
+use Rattle.lesson.specs.Printed.{bestLine, reply, Prints}
+use Rattle.lesson.specs.Tally.{countsOf, bestCounts, requestCounts, told}
 
 -- a text that is the reply, written to the front of a slice
 pub prints : {text other old new : List ℕ} {r : ℕ} → text ≡ other → r ≡ length text → new ≡ atFront text old → length new ≡ length old → Prints other old new r

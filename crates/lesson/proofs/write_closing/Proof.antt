@@ -5,11 +5,11 @@ use lib.ListN.{length, take, length-take}
 use lib.Seq.{length-take-le}
 use borrow.Author.Needs.{length-unmapped}
 use Rattle.lines.specs.Writing.{closingLines}
-use Rattle.session.specs.Tally.{closingText}
-use Rattle.session.proofs.Replies.{prints}
+use Rattle.lesson.specs.Tally.{closingText}
+use Rattle.lesson.proofs.Replies.{prints}
 use borrow.Author.Needs.{needs}
-use Rattle.session.proofs.write_closing.Statement.{statement}
-use Rattle.session.proofs.write_closing.Tie as tie
+use Rattle.lesson.proofs.write_closing.Statement.{statement}
+use Rattle.lesson.proofs.write_closing.Tie as tie
 
 -- there are six totals
 six : (c : tie.Start) → length (c .args .tally .totals) ≡ 6

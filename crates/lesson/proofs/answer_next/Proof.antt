@@ -6,13 +6,13 @@ use borrow.Author.Tests.{not-true, not-false}
 use Rattle.refusals.specs.Refusals.{checkedNumber, refuse}
 use Rattle.refusals.proofs.Refusals.{was-true, was-false}
 use Rattle.lines.specs.Writing.{refusedLine}
-use Rattle.session.specs.Tally.{counted, isFull, pastText}
-use Rattle.session.specs.TallyLaws.{tally-full, tally-open, text-full, text-open}
-use Rattle.session.proofs.Replies.{prints}
-use Rattle.session.proofs.Tallies.{fewer}
+use Rattle.lesson.specs.Tally.{counted, isFull, pastText}
+use Rattle.lesson.specs.TallyLaws.{tally-full, tally-open, text-full, text-open}
+use Rattle.lesson.proofs.Replies.{prints}
+use Rattle.lesson.proofs.Tallies.{fewer}
 use borrow.Author.Needs.{needs}
-use Rattle.session.proofs.answer_next.Statement.{statement}
-use Rattle.session.proofs.answer_next.Tie as tie
+use Rattle.lesson.proofs.answer_next.Statement.{statement}
+use Rattle.lesson.proofs.answer_next.Tie as tie
 
 -- check 22, by the tally
 tested-22 : (c : tie.After-tested) → checkedNumber (c .tested .result) ≡ refuse 22 (not (isFull (c .before .before .before .before .before .args .tally)))

@@ -1,8 +1,8 @@
 use mathlib.Core.Path.{refl}
-use Rattle.session.specs.Tally.{isFull}
+use Rattle.lesson.specs.Tally.{isFull}
 use borrow.Author.Needs.{needs}
-use Rattle.session.proofs.Tally.is_full.Statement.{statement}
-use Rattle.session.proofs.Tally.is_full.Tie as tie
+use Rattle.lesson.proofs.Tally.is_full.Statement.{statement}
+use Rattle.lesson.proofs.Tally.is_full.Tie as tie
 
 returns : tie.Need-returns
 unfolding isFull

@@ -1,6 +1,6 @@
 -- The tally as it is made. Assumes nothing.
 use mathlib.Core.Path.{_≡_, refl, ap, sym, _∙_}
-use mathlib.Core.Bool.{Bool, true, false, not, _||_}
+use mathlib.Core.Bool.{false}
 use mathlib.Core.List.{List, [], _∷_}
 use mathlib.Core.Option.{some}
 use Prim.Native.Nat.{ℕ, zero, suc, _+_, _<_, zero-le}
@@ -11,9 +11,9 @@ use borrow.Author.Tests.{leb-false}
 use Rattle.card.specs.Layout.{machineCount}
 use Rattle.card.specs.Card.{cardRefusal}
 use Rattle.lines.proofs.Lists.{six-numbers, six-below}
-use Rattle.session.specs.declared.Tally.{Tally}
-use Rattle.session.specs.Tally.{noLines, added, counted, isFull, shownMachines, Fits}
-use Rattle.session.specs.TallyLaws.{added-length, added-at}
+use Rattle.lesson.specs.declared.Tally.{Tally}
+use Rattle.lesson.specs.Tally.{noLines, added, counted, isFull, shownMachines, Fits}
+use Rattle.lesson.specs.TallyLaws.{added-length, added-at}
 
 -- no line yet
 pub none-fits : Fits noLines
@@ -44,12 +44,6 @@ pub answered-tally : (t : Tally) (counts : List ℕ) {totals : List ℕ} → tot
     → _≡_ {A = Tally} (record { answered = t .answered + 1; refused = t .refused; totals = totals; past = t .past }) (counted t (some counts))
 unfolding with-totals
 answered-tally t counts e = ap (with-totals t) e
-
--- the line past the thousandth, or a write that failed
-pub past-written : (past written : Bool) → (past || not written) ≡ true → written ≡ true → past ≡ true
-past-written true written h e = refl
-past-written false true h e = h
-past-written false false h e = e
 
 -- the totals of a refused card, and of an accepted one
 module _ (card : List ℕ) where

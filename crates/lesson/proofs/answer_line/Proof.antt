@@ -5,10 +5,10 @@ use lib.ListN.{replicate}
 use lib.Seq.{length-take-le}
 use Rattle.lines.specs.Parsing.{parsedLine}
 use Rattle.lines.proofs.Bounds.{parsed-bounds}
-use Rattle.session.proofs.Replies.{prints, bad-reply, good-reply, bad-counts, good-counts}
+use Rattle.lesson.proofs.Replies.{prints, bad-reply, good-reply, bad-counts, good-counts}
 use borrow.Author.Needs.{needs}
-use Rattle.session.proofs.answer_line.Statement.{statement}
-use Rattle.session.proofs.answer_line.Tie as tie
+use Rattle.lesson.proofs.answer_line.Statement.{statement}
+use Rattle.lesson.proofs.answer_line.Tie as tie
 
 -- what a line that parses has fits the buffers
 ranking-bound : (c : tie.After-parsed) → c .parsed .given .0 .0 ≤ 9
