@@ -6,8 +6,8 @@ ghost use lib.ListN.{length, getD, take};
 ghost use Rattle.card.specs.Layout.{machineCount, partsOf};
 ghost use Rattle.join.specs.JoinedCard.{joinedParts, joinedCard};
 ghost use Rattle.join.specs.Writing.{placed, tableLength, joinedBytes, oldNumber, CardJoins, JoinedArcCount};
-use crate::arcs;
-use crate::part;
+use joined::arcs;
+use joined::part;
 
 // The number that a machine had, where the machine `gone` has gone.
 fn old_number(gone: usize, machine: usize) -> usize

@@ -10,12 +10,11 @@ ghost use Rattle.card.specs.Card.{cardRefusal};
 ghost use Rattle.join.specs.JoinedMachine.{joinedMachine};
 ghost use Rattle.join.specs.JoinedCard.{fitsPart, joinable, machinesRefusal, joiningAnswer, joiningTarget};
 
-mod arcs; // arcs.rt: what two arcs and two parts have in common
 mod card_parts; // card_parts.rt: the parts of the new card
-mod part; // part.rt: the writing of the joined part
 
 use basics::index;
 use card::Packed;
+use joined::arcs;
 use refusals::Checked;
 use refusals::Refusal;
 use refusals::tested;
