@@ -1,18 +1,19 @@
--- A lesson's tally: how its lines are counted, one after another, and what is then printed.
+-- A lesson's lines counted one after another, and what is then printed.
 use mathlib.Core.Bool.{Bool, true, false}
 use mathlib.Core.List.{List, [], _∷_, _++_}
 use mathlib.Core.Option.{Option, some, none}
-use Prim.Native.Nat.{ℕ, zero, suc, _+_, _*_, _≤_}
-use lib.ListN.{getD, take}
-use lib.Dec.{leb}
+use Prim.Native.Nat.{ℕ, zero, suc}
+use lib.ListN.{take}
 use Rattle.card.specs.Layout.{machineCount}
 use Rattle.card.specs.Card.{cardRefusal}
 use Rattle.candidate.specs.declared.Evaluation.{Evaluation}
 use Rattle.product.specs.Optimizing.{optimized}
 use Rattle.lines.specs.Parsing.{Request, parsedLine}
 use Rattle.lines.specs.Writing.{refusedLine, closingLines}
-use Rattle.lesson.specs.declared.Tally.{Tally}
+use Rattle.tally.specs.declared.Tally.{Tally}
 use Rattle.lesson.specs.Printed.{printed}
+pub use Rattle.tally.specs.Tally.{told, noLines, counted, passed, Fits}
+unfoldable pub use Rattle.tally.specs.Tally.{added, isFull}
 
 -- the counts of an answer in card order, unused places 0; a refusal has none
 unfoldable pub countsOf : Evaluation → Option (List ℕ)
@@ -29,34 +30,6 @@ requestCounts card (some request) = bestCounts card (request .ranking) (request 
 
 abbrev pub lineCounts : List ℕ → List ℕ → Option (List ℕ)
 lineCounts card line = requestCounts card (parsedLine line)
-
--- counts as they are handed on: whether the line was answered, and six places
-abbrev pub told : Bool → List ℕ → Option (List ℕ)
-told true counts = some counts
-told false counts = none
-
--- no line yet
-abbrev pub noLines : Tally
-noLines = record { answered = 0; refused = 0; totals = 0 ∷ 0 ∷ 0 ∷ 0 ∷ 0 ∷ 0 ∷ []; past = false }
-
--- numbers added place by place
-unfoldable pub added : List ℕ → List ℕ → List ℕ
-added [] cs = []
-added (t ∷ ts) [] = t ∷ ts
-added (t ∷ ts) (c ∷ cs) = (t + c) ∷ added ts cs
-
--- one line more, answered with its counts or refused
-abbrev pub counted : Tally → Option (List ℕ) → Tally
-counted t none = record { answered = t .answered; refused = t .refused + 1; totals = t .totals; past = t .past }
-counted t (some counts) = record { answered = t .answered + 1; refused = t .refused; totals = added (t .totals) counts; past = t .past }
-
--- a thousand lines are counted
-unfoldable pub isFull : Tally → Bool
-isFull t = leb 1000 (t .answered + t .refused)
-
--- a line past the thousandth has come
-abbrev pub passed : Tally → Tally
-passed t = record { answered = t .answered; refused = t .refused; totals = t .totals; past = true }
 
 -- the tally after a line: past the thousandth nothing is counted
 unfoldable pub lineTally : List ℕ → Tally → List ℕ → Tally
@@ -87,8 +60,3 @@ shownMachines card = elim (cardRefusal card) [ zero ↦ machineCount card | suc 
 -- what is printed after the last line
 unfoldable pub closingText : List ℕ → Tally → List ℕ
 closingText card t = closingLines (t .answered) (t .refused) (take (shownMachines card) (t .totals))
-
--- no sum of a tally wraps: at most a thousand lines are counted, and each adds at most 65,535 to a total
-pub record Fits (t : Tally) : Type 0 where
-  pub few : t .answered + t .refused ≤ 1000
-  pub small : (i : ℕ) → getD (t .totals) i 0 ≤ 65535 * t .answered

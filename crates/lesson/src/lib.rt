@@ -1,17 +1,18 @@
-// One line's answer and the lesson's tally: what is printed for a line, how it is counted, and what is printed after the last one.
+// One line's answer: what is printed for a line, what it adds to the lesson's tally, and what is printed after the last one.
 use lines::Parsed;
 use ranking::Profile;
 use refusals::Checked;
 use refusals::Refusal;
 use refusals::tested;
+use tally::Reply;
+use tally::Tally;
 ghost use mathlib.Core.Path.{_≡_};
 ghost use mathlib.Core.Bool.{false};
-ghost use mathlib.Core.Option.{some, none};
-ghost use Prim.Native.Nat.{_+_, _<_, _≤_};
+ghost use Prim.Native.Nat.{_≤_};
 ghost use lib.ListN.{length};
 ghost use Rattle.card.specs.Layout.{machineCount};
 ghost use Rattle.lesson.specs.Printed.{bestLine, printed, Prints};
-ghost use Rattle.lesson.specs.Tally.{bestCounts, lineCounts, told, noLines, counted, isFull, passed, lineTally, lineText, shownMachines, closingText, Fits};
+ghost use Rattle.lesson.specs.Tally.{bestCounts, lineCounts, told, lineTally, lineText, shownMachines, closingText, Fits};
 
 // What the optimizer is lent.
 const WORK_NUMBERS: usize = 25600;
@@ -23,114 +24,6 @@ fn machine_count(card: &[u8]) -> u8
     ensures { λ r. ⌜ r ≡ machineCount (now (card .entry)) ⌝ }
 {
     if card.len() == 0 { 0 } else { card[0] }
-}
-
-// What a lesson's lines come to: how many were answered, how many refused, of each machine the sum of its counts in the answered
-// lines, and whether a line past the thousandth has come.
-pub struct Tally {
-    pub answered: u32,
-    pub refused: u32,
-    pub totals: [u32; 6],
-    pub past: bool,
-}
-
-// What a line's answer is: the length of what is printed for it, whether it was answered, and its counts.
-struct Reply {
-    size: usize,
-    answered: bool,
-    counts: [u16; 6],
-}
-
-fn plus(total: u32, count: u16) -> u32
-    requires { ⌜ total ≤ 65469465 ⌝ }
-    ensures { λ r. ⌜ (r ≡ total + count) × (r ≤ total + 65535) ⌝ }
-{
-    total + count as u32
-}
-
-impl Tally {
-    // No line yet.
-    pub fn none() -> Tally
-        ensures { λ r. ⌜ (r ≡ noLines) × Fits r ⌝ }
-    {
-        let totals = [0u32; 6];
-        Tally {
-            answered: 0,
-            refused: 0,
-            totals,
-            past: false,
-        }
-    }
-
-    // Whether a thousand lines are counted.
-    fn is_full(self) -> bool
-        requires { ⌜ Fits self ⌝ }
-        ensures { λ r. ⌜ r ≡ isFull self ⌝ }
-    {
-        1000 <= self.answered + self.refused
-    }
-
-    // A line past the thousandth has come: it is not counted.
-    fn passed(self) -> Tally
-        requires { ⌜ Fits self ⌝ }
-        ensures { λ r. ⌜ (r ≡ passed self) × Fits r ⌝ }
-    {
-        let totals = self.totals;
-        Tally {
-            answered: self.answered,
-            refused: self.refused,
-            totals,
-            past: true,
-        }
-    }
-
-    // A line that was refused.
-    fn refuse(self) -> Tally
-        requires { ⌜ Fits self × (self .answered + self .refused < 1000) ⌝ }
-        ensures { λ r. ⌜ (r ≡ counted self none) × Fits r ⌝ }
-    {
-        let totals = self.totals;
-        Tally {
-            answered: self.answered,
-            refused: self.refused + 1,
-            totals,
-            past: self.past,
-        }
-    }
-
-    // A line that was answered: its counts are added to the totals.
-    fn answer(self, reply: Reply) -> Tally
-        requires { ⌜ Fits self × (self .answered + self .refused < 1000) ⌝ }
-        ensures { λ r. ⌜ (r ≡ counted self (some (reply .counts))) × Fits r ⌝ }
-    {
-        let before = self.totals;
-        let counts = reply.counts;
-        let totals = [
-            plus(before[0], counts[0]),
-            plus(before[1], counts[1]),
-            plus(before[2], counts[2]),
-            plus(before[3], counts[3]),
-            plus(before[4], counts[4]),
-            plus(before[5], counts[5]),
-        ];
-        Tally {
-            answered: self.answered + 1,
-            refused: self.refused,
-            totals,
-            past: self.past,
-        }
-    }
-
-    // One line more, answered or refused.
-    fn count(self, reply: Reply) -> Tally
-        requires { ⌜ Fits self × (self .answered + self .refused < 1000) ⌝ }
-        ensures { λ r. ⌜ (r ≡ counted self (told (reply .answered) (reply .counts))) × Fits r ⌝ }
-    {
-        if reply.answered {
-            return self.answer(reply);
-        }
-        self.refuse()
-    }
 }
 
 // Writes the line of the optimizer's answer to the front of a slice.

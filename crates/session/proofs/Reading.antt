@@ -14,7 +14,7 @@ use Rattle.basics.proofs.Bools.{clash, either}
 use Rattle.lines.specs.Taking.{endedLines, heldAfter}
 use Rattle.lines.specs.Buffers.{atFront}
 use Rattle.lines.specs.LinesOfPieces.{ended-append}
-use Rattle.lesson.specs.declared.Tally.{Tally}
+use Rattle.tally.specs.declared.Tally.{Tally}
 use Rattle.lesson.specs.Printed.{Prints}
 use Rattle.lesson.specs.Tally.{isFull, pastText, lineTally, lineText, linesTally, linesText, closingText, Fits}
 use Rattle.lesson.specs.TallyLaws.{full-passed, tally-full, text-full, past-means, nothing-after, tally-append}

@@ -16,7 +16,7 @@ use Rattle.lines.specs.Writing.{refusedLine, closingLines}
 use Rattle.lines.specs.Input.{linesOf, kept}
 use Rattle.lines.specs.Taking.{endedLines, heldAfter, linesTaken}
 use Rattle.lines.specs.LinesOfPieces.{lines-of-pieces, kept-parsed}
-use Rattle.lesson.specs.declared.Tally.{Tally}
+use Rattle.tally.specs.declared.Tally.{Tally}
 use Rattle.lesson.specs.Printed.{reply, printed}
 use Rattle.lesson.specs.Tally.{requestCounts, lineCounts, noLines, counted, isFull, pastText, lineTally, lineText, linesTally, linesText, shownMachines, closingText}
 use Rattle.lesson.specs.TallyLaws.{added-length, added-at, counted-past, counted-lines, full-at, open-at, tally-full, tally-open, text-full, text-open, passed-tally, passed-text, tally-append, shown-few}

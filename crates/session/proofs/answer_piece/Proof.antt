@@ -9,7 +9,7 @@ use lib.Seq.{length-take-le, take-at}
 use Rattle.basics.proofs.Bools.{clash, left-fails}
 use Rattle.lines.specs.Taking.{endedLines, heldAfter}
 use Rattle.lines.proofs.Bounds.{next-bounds}
-use Rattle.lesson.specs.declared.Tally.{Tally}
+use Rattle.tally.specs.declared.Tally.{Tally}
 use Rattle.lesson.specs.Tally.{linesTally, Fits}
 use Rattle.lesson.specs.TallyLaws.{nothing-after, tally-cons, tally-none}
 use Rattle.session.proofs.Pieces.{held-ended, held-open, first-ended, none-ended}

@@ -2,7 +2,7 @@ use lib.ListN.{drop}
 use mathlib.Core.Path.{ap, sym, _∙_}
 use mathlib.Core.List.{_++_}
 use Rattle.basics.proofs.Bools.{left-fails, right-fails}
-use Rattle.lesson.specs.declared.Tally.{Tally}
+use Rattle.tally.specs.declared.Tally.{Tally}
 use Rattle.lesson.specs.Tally.{lineText, closingText}
 use Rattle.lesson.proofs.Replies.{prints}
 use Rattle.session.proofs.Reading.{end-closing, end-line, front-lent, front-room, room-before, room-behind, text-fits, front-part, prints-after}

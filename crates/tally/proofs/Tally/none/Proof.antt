@@ -1,7 +1,7 @@
 use mathlib.Core.Path.{refl}
-use Rattle.lesson.proofs.Tallies.{none-fits}
-use Rattle.lesson.proofs.Tally.none.Statement.{statement}
-use Rattle.lesson.proofs.Tally.none.Tie as tie
+use Rattle.tally.proofs.Tallies.{none-fits}
+use Rattle.tally.proofs.Tally.none.Statement.{statement}
+use Rattle.tally.proofs.Tally.none.Tie as tie
 
 returns : tie.Need-returns
 returns c = (refl, none-fits)

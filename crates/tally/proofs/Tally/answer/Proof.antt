@@ -4,10 +4,10 @@ use native.Mathlib.Omega.{arith}
 use lib.ListN.{length}
 use borrow.Author.Needs.{length-unmapped}
 use Rattle.lines.proofs.Lists.{six-below}
-use Rattle.lesson.proofs.Tallies.{sums-added, answered-tally}
+use Rattle.tally.proofs.Tallies.{sums-added, answered-tally}
 use borrow.Author.Needs.{needs}
-use Rattle.lesson.proofs.Tally.answer.Statement.{statement}
-use Rattle.lesson.proofs.Tally.answer.Tie as tie
+use Rattle.tally.proofs.Tally.answer.Statement.{statement}
+use Rattle.tally.proofs.Tally.answer.Tie as tie
 
 -- there are six totals
 six : (c : tie.Start) → length (c .args .self .totals) ≡ 6

@@ -1,8 +1,8 @@
 use mathlib.Core.Path.{refl}
-use Rattle.lesson.specs.Tally.{isFull}
+use Rattle.tally.specs.Tally.{isFull}
 use borrow.Author.Needs.{needs}
-use Rattle.lesson.proofs.Tally.is_full.Statement.{statement}
-use Rattle.lesson.proofs.Tally.is_full.Tie as tie
+use Rattle.tally.proofs.Tally.is_full.Statement.{statement}
+use Rattle.tally.proofs.Tally.is_full.Tie as tie
 
 returns : tie.Need-returns
 unfolding isFull

@@ -1,9 +1,9 @@
 use mathlib.Core.Path.{ap, sym, _∙_}
 use mathlib.Core.Bool.{Bool}
-use Rattle.lesson.specs.Tally.{told, counted}
+use Rattle.tally.specs.Tally.{told, counted}
 use borrow.Author.Needs.{needs}
-use Rattle.lesson.proofs.Tally.count.Statement.{statement}
-use Rattle.lesson.proofs.Tally.count.Tie as tie
+use Rattle.tally.proofs.Tally.count.Statement.{statement}
+use Rattle.tally.proofs.Tally.count.Tie as tie
 
 returns : tie.Need-returns
 returns c =
