@@ -14,9 +14,9 @@ use Rattle.candidate.specs.declared.Evaluation.{Evaluation}
 use Rattle.card.specs.Layout.{machineCount}
 use Rattle.product.specs.Optimizing.{optimized, optimizedAnswer}
 use Rattle.lines.specs.declared.Parsed.the-variants as parsed
-use Rattle.lines.specs.Buffers.{atFront}
+use Rattle.writing.specs.Buffers.{atFront}
 use Rattle.lines.specs.Parsing.{Request, parsedAnswer, rankingOf, wordOf}
-use Rattle.lines.specs.Writing.{badLine, lineOf}
+use Rattle.writing.specs.Writing.{badLine, lineOf}
 use Rattle.lesson.specs.Printed.{bestLine, reply, Prints}
 use Rattle.lesson.specs.Tally.{countsOf, bestCounts, requestCounts, told}
 

@@ -6,9 +6,9 @@ use Prim.Native.Nat.{ℕ, _≤_}
 use lib.ListN.{length, replicate}
 use Rattle.card.specs.Layout.{machineCount}
 use Rattle.product.specs.Optimizing.{optimized, optimizedAnswer}
-use Rattle.lines.specs.Buffers.{atFront}
+use Rattle.writing.specs.Buffers.{atFront}
 use Rattle.lines.specs.Parsing.{Request, parsedLine}
-use Rattle.lines.specs.Writing.{badLine, lineOf}
+use Rattle.writing.specs.Writing.{badLine, lineOf}
 
 -- the line of the optimizer's answer, which is lent 25,600 work numbers and 6,398 answer bytes
 unfoldable pub bestLine : List ℕ → List ℕ → List ℕ → List ℕ

@@ -9,7 +9,7 @@ use Rattle.card.specs.Card.{cardRefusal}
 use Rattle.candidate.specs.declared.Evaluation.{Evaluation}
 use Rattle.product.specs.Optimizing.{optimized}
 use Rattle.lines.specs.Parsing.{Request, parsedLine}
-use Rattle.lines.specs.Writing.{refusedLine, closingLines}
+use Rattle.writing.specs.Writing.{refusedLine, closingLines}
 use Rattle.tally.specs.declared.Tally.{Tally}
 use Rattle.lesson.specs.Printed.{printed}
 pub use Rattle.tally.specs.Tally.{told, noLines, counted, passed, Fits}

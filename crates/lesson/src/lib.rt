@@ -35,7 +35,7 @@ fn write_best(card: &[u8], ranking: &[u8], word: &[u8], out: &mut [u8]) -> Reply
     let mut work = [0u16; WORK_NUMBERS];
     let mut answer = [0u8; ANSWER_BYTES];
     let evaluation = optimizer::optimize(card, ranking, word, &mut work, &mut answer);
-    let size = lines::write_answer(evaluation, machine_count(card), &answer, out);
+    let size = writing::write_answer(evaluation, machine_count(card), &answer, out);
     let profile = evaluation.profile;
     let counts = profile.counts;
     Reply {
@@ -59,7 +59,7 @@ fn answer_line(card: &[u8], line: &[u8], out: &mut [u8]) -> Reply
         word: symbols,
     } = parsed
     else {
-        let size = lines::write_bad_line(out);
+        let size = writing::write_bad_line(out);
         let counts = Profile::ZERO.counts;
         return Reply {
             size,
@@ -84,7 +84,7 @@ pub fn answer_next(card: &[u8], line: &[u8], tally: Tally, out: &mut [u8]) -> Tu
 {
     let answer = tested(!tally.is_full(), Refusal::Line);
     let Checked::Passed = answer else {
-        let size = lines::write_refused(answer.number(), out);
+        let size = writing::write_refused(answer.number(), out);
         let tally = tally.passed();
         return Turn { size, tally };
     };
@@ -112,5 +112,5 @@ pub fn write_closing(card: &[u8], tally: Tally, out: &mut [u8]) -> usize
 {
     let totals = tally.totals;
     let shown = shown_machines(card);
-    lines::write_closing(tally.answered, tally.refused, &totals[..shown], out)
+    writing::write_closing(tally.answered, tally.refused, &totals[..shown], out)
 }

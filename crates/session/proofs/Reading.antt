@@ -12,7 +12,7 @@ use lib.Seq.{drop-drop, take-at, drop-at, take-length, drop-length, drop-append-
 use borrow.Author.Tests.{ne-eqb}
 use Rattle.basics.proofs.Bools.{clash, either}
 use Rattle.lines.specs.Taking.{endedLines, heldAfter}
-use Rattle.lines.specs.Buffers.{atFront}
+use Rattle.writing.specs.Buffers.{atFront}
 use Rattle.lines.specs.LinesOfPieces.{ended-append}
 use Rattle.tally.specs.declared.Tally.{Tally}
 use Rattle.lesson.specs.Printed.{Prints}

@@ -9,7 +9,7 @@ use Rattle.basics.specs.Search.{joined, those, numbersBelow}
 use Rattle.candidate.specs.Candidates.{isSome}
 use Rattle.lines.specs.Input.{linesOf}
 use Rattle.lines.specs.Taking.{endedLines, heldAfter, lastLine}
-use Rattle.lines.specs.Writing.{refusedLine, closingLines}
+use Rattle.writing.specs.Writing.{refusedLine, closingLines}
 use Rattle.tally.specs.declared.Tally.{Tally}
 use Rattle.lesson.specs.Printed.{printed}
 use Rattle.lesson.specs.Tally.{lineCounts, linesTally, linesText, shownMachines, closingText, Fits}

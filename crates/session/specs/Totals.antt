@@ -12,7 +12,7 @@ use Rattle.basics.specs.Search.{joined, those, numbersBelow}
 use Rattle.basics.proofs.Below.{length-numbers, number-at}
 use Rattle.basics.proofs.Search.{map-at}
 use Rattle.lines.specs.Parsing.{Request, parsedLine}
-use Rattle.lines.specs.Writing.{refusedLine, closingLines}
+use Rattle.writing.specs.Writing.{refusedLine, closingLines}
 use Rattle.lines.specs.Input.{linesOf, kept}
 use Rattle.lines.specs.Taking.{endedLines, heldAfter, linesTaken}
 use Rattle.lines.specs.LinesOfPieces.{lines-of-pieces, kept-parsed}

@@ -12,7 +12,7 @@ ghost use mathlib.Core.List.{[]};
 ghost use Prim.Native.Nat.{_≤_};
 ghost use lib.ListN.{length, take};
 ghost use Rattle.io.specs.Counts.{Counts};
-ghost use Rattle.lines.specs.Buffers.{atFront};
+ghost use Rattle.writing.specs.Buffers.{atFront};
 ghost use Rattle.lesson.specs.Printed.{Prints};
 ghost use Rattle.lesson.specs.Tally.{isFull, lineTally, lineText, Fits};
 ghost use Rattle.session.specs.Output.{Answers, Reads, Finishes, printedPieces};

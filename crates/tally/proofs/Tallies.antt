@@ -6,7 +6,7 @@ use Prim.Native.Nat.{ℕ, _+_, _<_, zero-le}
 use native.Mathlib.Omega.{arith}
 use lib.Dec.{lit<}
 use lib.ListN.{length, getD}
-use Rattle.lines.proofs.Lists.{six-numbers, six-below}
+use Rattle.writing.proofs.Lists.{six-numbers, six-below}
 use Rattle.tally.specs.declared.Tally.{Tally}
 use Rattle.tally.specs.Tally.{noLines, added, counted, Fits}
 use Rattle.tally.specs.TallyLaws.{added-length, added-at}

@@ -5,7 +5,7 @@ use lib.Dec.{lit<}
 use borrow.Author.Tests.{not-true, not-false}
 use Rattle.refusals.specs.Refusals.{checkedNumber, refuse}
 use Rattle.refusals.proofs.Refusals.{was-true, was-false}
-use Rattle.lines.specs.Writing.{refusedLine}
+use Rattle.writing.specs.Writing.{refusedLine}
 use Rattle.lesson.specs.Tally.{counted, isFull, pastText}
 use Rattle.lesson.specs.TallyLaws.{tally-full, tally-open, text-full, text-open}
 use Rattle.lesson.proofs.Replies.{prints}

@@ -4,7 +4,7 @@ use native.Mathlib.Omega.{arith}
 use lib.ListN.{length, take, length-take}
 use lib.Seq.{length-take-le}
 use borrow.Author.Needs.{length-unmapped}
-use Rattle.lines.specs.Writing.{closingLines}
+use Rattle.writing.specs.Writing.{closingLines}
 use Rattle.lesson.specs.Tally.{closingText}
 use Rattle.lesson.proofs.Replies.{prints}
 use borrow.Author.Needs.{needs}

@@ -3,7 +3,7 @@ use Prim.Native.Nat.{ℕ, _+_, _*_, _<_}
 use native.Mathlib.Omega.{arith}
 use lib.ListN.{length}
 use borrow.Author.Needs.{length-unmapped}
-use Rattle.lines.proofs.Lists.{six-below}
+use Rattle.writing.proofs.Lists.{six-below}
 use Rattle.tally.proofs.Tallies.{sums-added, answered-tally}
 use borrow.Author.Needs.{needs}
 use Rattle.tally.proofs.Tally.answer.Statement.{statement}
