@@ -6,7 +6,7 @@ use mathlib.Core.Option.{Option, some, none}
 use Prim.Native.Nat.{ℕ, zero, suc, _+_, _*_, _/_, _%_, _^_, _<_, _≤_}
 use native.Mathlib.Omega.{arith}
 use lib.Dec.{leb, lit<}
-use lib.ListN.{length, getD, take, drop, length-map, length-append}
+use lib.ListN.{length, getD, take, drop, length-map}
 use lib.Pow.{pow-mono}
 use lib.Seq.{getD-drop, drop-drop, take-at, drop-at}
 use borrow.Author.Tests.{leb-true, le-leb, eq-eqb}

@@ -1,14 +1,13 @@
 -- What input and tableau promise where nothing is refused. Assumes nothing.
 use mathlib.Core.Path.{_≡_, refl, _∙_}
 use mathlib.Core.Logic.{_↔_}
-use mathlib.Core.Bool.{true, not, _&&_}
+use mathlib.Core.Bool.{true, _&&_}
 use mathlib.Core.List.{List, [], _∷_}
 use mathlib.Core.Option.{Option, some, none}
-use Prim.Native.Nat.{ℕ, _*_, _%_, _<_, _≤_}
+use Prim.Native.Nat.{ℕ, _*_, _%_, _<_}
 use native.Mathlib.Omega.{arith}
-use lib.Dec.{eqb, leb, ltb, lit<}
-use lib.ListN.{length, drop}
-use borrow.Author.Tests.{leb-true, ltb-true}
+use lib.Dec.{eqb, leb, lit<}
+use lib.ListN.{length}
 use Rattle.basics.specs.Search.{allOf}
 use Rattle.refusals.specs.Refusals.{refuse}
 use Rattle.basics.proofs.Bools.{left, right}
@@ -17,8 +16,6 @@ use Rattle.basics.proofs.Below.{every-at}
 use Rattle.machine.specs.declared.Pair.{Pair}
 use Rattle.machine.specs.Symbols.{isPair, withinSymbols}
 use Rattle.ranking.specs.Rankings.{isRanking}
-use Rattle.layout.specs.Layout.{laidOut}
-use Rattle.layout.specs.LaidOut.{layout-told}
 use Rattle.card.specs.Layout.{machineCount, symbolCount}
 use Rattle.card.specs.Card.{cardRefusal, machinesOf}
 use Rattle.card.specs.Accepted.{accepted}
@@ -31,7 +28,7 @@ use Rattle.product.specs.Laws.Accepted.{accepted-machines}
 use Rattle.product.specs.Laws.BestCandidate.{profile-length}
 use Rattle.product.specs.Laws.Candidates.{same-word}
 use Rattle.input.specs.AcceptedInput.{AcceptedInput, accepted-input}
-use Rattle.tableau.specs.Tableau.{rowCount, claimedRow, rowOf, countsOf, candidateOf, everyRow, soundRow, soundTableau}
+use Rattle.tableau.specs.Tableau.{rowCount, rowOf, countsOf, candidateOf, everyRow, soundTableau}
 use Rattle.tableau.specs.Judging.{isForWord, countsAreProfile, hasProfileOf, judgingRefusal}
 use Rattle.tableau.specs.Laws.Winning.{NoneBetter, wins-by-best}
 use Rattle.tableau.specs.Laws.Counts.{equal-counts}
