@@ -16,13 +16,13 @@ use Rattle.ranking.specs.ByteStrings.{smaller}
 use Rattle.product.specs.Best.{winsTie, preferred, sameWord, pairsOver, listsBelow, contendersAmong, leastOf, bestBelow, bestOf, bestIn, best}
 use Rattle.product.specs.Answering.{answered, answeredSlice}
 use Rattle.product.specs.Optimizing.{soundWord, inputRefusal}
-use Rattle.lines.specs.Text.{textOf, before, after, segments}
-use Rattle.lines.specs.Decimal.{digitsWithin, decimal, valueFrom}
+use Rattle.writing.specs.Text.{textOf, before, after, segments}
+use Rattle.writing.specs.Decimal.{digitsWithin, decimal, valueFrom}
 use Rattle.lines.specs.Parsing.{isRankingText, isSymbolText, symbolsIn, parsedLine}
 use Rattle.lines.specs.Input.{linesOf}
-use Rattle.lines.specs.Writing.{nextCount, withCommas, pairText, pairsText, acceptedLine, lineOf, answeredLine, totalLine, closingLines}
-use Rattle.session.specs.Printed.{bestLine, printed}
-use Rattle.session.specs.Tally.{countsOf, shownMachines}
+use Rattle.writing.specs.Writing.{nextCount, withCommas, pairText, pairsText, acceptedLine, lineOf, answeredLine, totalLine, closingLines}
+use Rattle.lesson.specs.Printed.{bestLine, printed}
+use Rattle.lesson.specs.Tally.{countsOf, shownMachines}
 use Rattle.session.specs.Output.{totalOf, totals, closing, lessonOutput, output}
 use Rattle.examples.specs.Cards.{cardB}
 

@@ -27,9 +27,10 @@ use Rattle.card.specs.Laws.Parts.{joined-total}
 use Rattle.join.specs.JoinedMachine.{machineAt, joinedArcs, joinedMachine, markless}
 use Rattle.join.specs.JoinedCard.{fitsPart, joinedPart, joinedParts, joinedCard}
 use Rattle.join.specs.JoinedCardTheorem.{card-joined}
-use Rattle.join.specs.Writing.{placed, oldNumber, tableLength, joinedBytes, PartsJoin, CardJoins}
+use Rattle.join.specs.Writing.{placed, oldNumber, tableLength, joinedBytes, CardJoins}
+use Rattle.joined.specs.Writing.{PartsJoin}
 use Rattle.join.specs.Laws.Merged.{length-merged, merged-here, merged-before, merged-after}
-use Rattle.join.specs.Laws.Placed.{placed-next}
+use Rattle.joined.specs.Laws.Placed.{placed-next}
 
 -- the number that a machine had
 pub old-before : (j k : ℕ) → k < j → k ≡ oldNumber j k

@@ -1,4 +1,2 @@
-pub mod Rest
-pub mod Parts
 pub mod CardParts
 pub mod Answers

@@ -23,7 +23,8 @@ use Rattle.join.specs.JoinedMachine.{machineAt, joinedMachine, joinedMac
 use Rattle.join.specs.Laws.Machines.{soundMachine}
 use Rattle.join.specs.Laws.Merged.{map-merged, all-merged, product-merged}
 use Rattle.join.specs.Laws.Steps.{joined-marks}
-use Rattle.join.specs.Laws.Sound.{joined-states, joined-sound}
+use Rattle.joined.specs.Laws.Crossed.{joined-states}
+use Rattle.join.specs.Laws.Sound.{joined-sound}
 
 -- the machines i and j of a card of S symbols, i < j, all of them sound
 pub record Joins (S i j : ℕ) (ms : List Machine) : Type 0 where

@@ -1,47 +1,21 @@
--- The bytes of a machine as a part, and the card with two of its machines joined.
+-- The card with two of its machines joined.
 use mathlib.Core.Path.{_≡_}
 use mathlib.Core.Logic.{_⊎_}
 use mathlib.Core.Bool.{Bool, true, not, _&&_, _||_}
-use mathlib.Core.List.{List, [], _∷_, _++_, map}
-use mathlib.Core.Option.{Option, some, none}
-use Prim.Native.Nat.{ℕ, zero, suc, _/_, _%_, _<_, min, max}
+use mathlib.Core.List.{List, [], _∷_, _++_}
+use Prim.Native.Nat.{ℕ, _<_, min, max}
 use lib.Dec.{eqb, ltb, leb}
 use lib.ListN.{length, drop}
-use Rattle.basics.specs.Search.{joined}
 use Rattle.refusals.specs.Refusals.{refuse, firstOf, unlessRefused}
-use Rattle.machine.specs.declared.Arc.{Arc}
-use Rattle.machine.specs.Machine.{Machine, stateCountOf}
-use Rattle.machine.specs.Part.{machineOf}
+use Rattle.machine.specs.Machine.{Machine}
 use Rattle.card.specs.declared.Packed.{Packed}
 use Rattle.card.specs.Layout.{machineCount, symbolCount, partsOf}
 use Rattle.card.specs.Card.{machinesOf, cardRefusal}
 use Rattle.card.specs.OfParts.{cardOf}
 use Rattle.join.specs.Merged.{mergedAt}
 use Rattle.join.specs.JoinedMachine.{machineAt, joinedMachine, markless}
-
--- ---- the bytes of a machine
-
--- the low bytes of a number, least first
-abbrev pub littleEndian : ℕ → ℕ → List ℕ
-littleEndian zero w = []
-littleEndian (suc n) w = w % 256 ∷ littleEndian n (w / 256)
-
--- the 20 bytes of an arc
-abbrev pub arcBytes : Arc → List ℕ
-arcBytes a = a .from ∷ a .to ∷ a .marks ∷ a .kind ∷ littleEndian 8 (a .inputs) ++ littleEndian 8 (a .outputs)
-
--- the state byte for the marks of ending there: 0 is not final, else final with that many less one marks
-abbrev pub stateByte : Option ℕ → ℕ
-stateByte none = 0
-stateByte (some marks) = suc marks
-
--- the part whose machine it is
-unfoldable pub machineBytes : Machine → List ℕ
-machineBytes m = stateCountOf m ∷ length (m .arcs) ∷ map stateByte (m .endings) ++ joined arcBytes (m .arcs)
-
--- at most 32 states and 255 arcs
-abbrev pub fitsPart : Machine → Bool
-fitsPart m = leb (stateCountOf m) 32 && leb (length (m .arcs)) 255
+pub use Rattle.joined.specs.MachineBytes.{littleEndian, arcBytes, stateByte, fitsPart, joinedPart}
+unfoldable pub use Rattle.joined.specs.MachineBytes.{machineBytes}
 
 -- two machines of a card that may be joined: one has no marks, and the joined one has at most 32 states and 255 arcs
 pub record MayJoin (i j : ℕ) (ms : List Machine) : Type 0 where
@@ -51,10 +25,6 @@ pub record MayJoin (i j : ℕ) (ms : List Machine) : Type 0 where
   pub fits : fitsPart (joinedMachine (machineAt ms i) (machineAt ms j)) ≡ true
 
 -- ---- the card
-
--- two parts as one
-abbrev pub joinedPart : List ℕ → List ℕ → List ℕ
-joinedPart p q = machineBytes (joinedMachine (machineOf p) (machineOf q))
 
 -- the parts of a card with i and j joined, i < j
 abbrev pub joinedParts : ℕ → ℕ → List (List ℕ) → List (List ℕ)

@@ -2,7 +2,6 @@ pub mod Merged
 pub mod JoinedMachine
 pub mod JoinedRanking
 pub mod JoinedCard
-pub mod CommonPairs
 pub mod Writing
 pub mod Laws
 pub mod JoinTheorem

@@ -6,8 +6,6 @@ ghost use lib.ListN.{length, getD, take};
 ghost use Rattle.card.specs.Layout.{machineCount, partsOf};
 ghost use Rattle.join.specs.JoinedCard.{joinedParts, joinedCard};
 ghost use Rattle.join.specs.Writing.{placed, tableLength, joinedBytes, oldNumber, CardJoins, JoinedArcCount};
-use crate::arcs;
-use crate::part;
 
 // The number that a machine had, where the machine `gone` has gone.
 fn old_number(gone: usize, machine: usize) -> usize
@@ -25,7 +23,7 @@ fn arc_count(card: &[u8], lower: usize, other: usize) -> usize
     requires { ⌜ CardJoins (now card) lower other ⌝ }
     ensures { λ r. ⌜ JoinedArcCount (now (card .entry)) lower other r ⌝ }
 {
-    arcs::arc_count(card::part(card, lower), card::part(card, other))
+    joined::arc_count(card::part(card, lower), card::part(card, other))
 }
 
 // How many bytes the new card's part i has.
@@ -70,7 +68,7 @@ fn write_part(stretch: &mut [u8], card: &[u8], lower: usize, other: usize, arcs:
     ensures { λ _. ⌜ now (stretch .exit) ≡ getD (joinedParts lower other (partsOf (now (card .entry)))) i [] ⌝ }
 {
     if i == lower {
-        part::write_joined(
+        joined_part::write_joined(
             stretch,
             card::part(card, lower),
             card::part(card, other),

@@ -10,9 +10,7 @@ ghost use Rattle.card.specs.Card.{cardRefusal};
 ghost use Rattle.join.specs.JoinedMachine.{joinedMachine};
 ghost use Rattle.join.specs.JoinedCard.{fitsPart, joinable, machinesRefusal, joiningAnswer, joiningTarget};
 
-mod arcs; // arcs.rt: what two arcs and two parts have in common
 mod card_parts; // card_parts.rt: the parts of the new card
-mod part; // part.rt: the writing of the joined part
 
 use basics::index;
 use card::Packed;
@@ -29,7 +27,7 @@ fn is_joinable(card: &[u8], first: usize, second: usize) -> bool
     if (first == second) | (machines <= first) | (machines <= second) {
         return false;
     }
-    arcs::has_no_marks(card::part(card, first)) | arcs::has_no_marks(card::part(card, second))
+    joined::has_no_marks(card::part(card, first)) | joined::has_no_marks(card::part(card, second))
 }
 
 // Refusal 28: the joined machine has at most 32 states and 255 arcs.
@@ -40,7 +38,7 @@ fn fits_part(card: &[u8], lower: usize, other: usize) -> bool
     let first = card::part(card, lower);
     let second = card::part(card, other);
     let states = machine::state_count(first) * machine::state_count(second);
-    (states <= 32) & (arcs::arc_count(first, second) <= 255)
+    (states <= 32) & (joined::arc_count(first, second) <= 255)
 }
 
 // The lower of two numbers.

@@ -10,11 +10,11 @@ use lib.ListN.{length, drop, length-map, length-take, length-drop}
 use borrow.Author.Tests.{leb-true, leb-false}
 use Rattle.lines.specs.declared.Parsed.{Parsed}
 use Rattle.lines.specs.declared.Next.{Next}
-use Rattle.lines.specs.Text.{space, lineEnd, before, after}
-use Rattle.lines.specs.Decimal.{digitValue, valueOf}
+use Rattle.writing.specs.Text.{space, lineEnd, before, after}
+use Rattle.writing.specs.Decimal.{digitValue, valueOf}
 use Rattle.lines.specs.Parsing.{isRankingText, symbolsIn, isWordText, parsedParts, parsedLine, parsedAnswer}
 use Rattle.lines.specs.Input.{kept, nextOf}
-use Rattle.lines.proofs.Cutting.{before-short, after-short}
+use Rattle.writing.proofs.Cutting.{before-short, after-short}
 use Rattle.lines.proofs.Forms.{line-long, line-parts, parts-unranked, parts-unworded, parts-formed, ranking-digits, word-symbols}
 use Rattle.lines.specs.declared.Next.the-variants as next
 use Rattle.lines.specs.declared.Parsed.the-variants as parsed

@@ -12,13 +12,13 @@ use borrow.Author.Tests.{leb-true, le-leb, lt-leb}
 use Rattle.basics.specs.Search.{allOf}
 use Rattle.lines.specs.declared.Parsed.the-variants.{BadLine, Line}
 use Rattle.lines.specs.declared.Parsed.{Parsed}
-use Rattle.lines.specs.Text.{space, comma, before, after, segments}
-use Rattle.lines.specs.Decimal.{isDigit, digitValue, valueOf}
-use Rattle.lines.specs.Buffers.{atFront}
+use Rattle.writing.specs.Text.{space, comma, before, after, segments}
+use Rattle.writing.specs.Decimal.{isDigit, digitValue, valueOf}
+use Rattle.writing.specs.Buffers.{atFront}
 use Rattle.lines.specs.Parsing.{isRankingText, isSymbolText, symbolsIn, isWordText, requestOf, parsedParts, parsedLine, parsedAnswer, rankingOf, wordOf}
 use Rattle.basics.proofs.Bools.{left, right}
-use Rattle.lines.proofs.Lists.{all-first, all-rest}
-use Rattle.lines.proofs.Cutting.{take-before, after-none, after-some, part-rest, lengths, segments-lengths}
+use Rattle.writing.proofs.Lists.{all-first, all-rest}
+use Rattle.writing.proofs.Cutting.{take-before, after-none, after-some, part-rest, lengths, segments-lengths}
 
 -- 1 to so many digits
 abbrev pub someDigits : ℕ → List ℕ → Bool

@@ -1,8 +1,3 @@
-pub mod Lists
-pub mod Cutting
-pub mod Decimals
-pub mod Writes
-pub mod Texts
 pub mod Forms
 pub mod Receiving
 pub mod Bounds

@@ -9,10 +9,10 @@ use lib.ListN.{length, take, length-take, length-append}
 use lib.Seq.{take-all, take-take, take-append-add, length-take-le, sets-eq}
 use borrow.Author.Tests.{leb-true, leb-false}
 use Rattle.lines.specs.declared.Next.the-variants.{Line, Open}
-use Rattle.lines.specs.Text.{lineEnd, before}
-use Rattle.lines.specs.Buffers.{Written, atFront}
+use Rattle.writing.specs.Text.{lineEnd, before}
+use Rattle.writing.specs.Buffers.{Written, atFront}
 use Rattle.lines.specs.Input.{kept, nextOf}
-use Rattle.lines.proofs.Cutting.{take-before, after-none, after-some}
+use Rattle.writing.proofs.Cutting.{take-before, after-none, after-some}
 
 -- a front of a front
 take-both : {A : Type 0} (k n : ℕ) (l : List A) → take k (take n l) ≡ take (min n k) l

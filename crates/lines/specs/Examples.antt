@@ -4,10 +4,10 @@ use mathlib.Core.List.{[], _∷_}
 use mathlib.Core.Option.{some, none}
 use Rattle.basics.specs.Search.{joined, allOf}
 use Rattle.candidate.specs.Candidates.{pairsOf}
-use Rattle.lines.specs.Text.{before, after, segments, textOf}
-use Rattle.lines.specs.Decimal.{digitsWithin, decimal, valueFrom}
+use Rattle.writing.specs.Text.{before, after, segments, textOf}
+use Rattle.writing.specs.Decimal.{digitsWithin, decimal, valueFrom}
 use Rattle.lines.specs.Parsing.{isRankingText, isSymbolText, symbolsIn, parsedLine}
-use Rattle.lines.specs.Writing.{nextCount, withCommas, pairText, pairsText, acceptedLine, lineOf}
+use Rattle.writing.specs.Writing.{nextCount, withCommas, pairText, pairsText, acceptedLine, lineOf}
 
 pub line-read : parsedLine (textOf "021 2") ≡ some (record { ranking = 0 ∷ 2 ∷ 1 ∷ []; word = 2 ∷ [] })
 unfolding parsedLine before after isRankingText isSymbolText symbolsIn allOf segments valueFrom

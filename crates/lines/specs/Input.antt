@@ -7,7 +7,7 @@ use lib.ListN.{length, take}
 use lib.Dec.{eqb}
 use Rattle.lines.specs.declared.Next.{Next}
 use Rattle.lines.specs.declared.Next.the-variants.{Line, Open}
-use Rattle.lines.specs.Text.{lineEnd, toFirst, before, after}
+use Rattle.writing.specs.Text.{lineEnd, toFirst, before, after}
 
 -- a line end ends a line, any other byte belongs to the line that goes on after it; so the last line may lack its line end,
 -- and nothing after the last line end is no line

@@ -1,11 +1,5 @@
-pub mod Text
-pub mod Decimal
-pub mod Buffers
 pub mod Parsing
-pub mod Writing
 pub mod Input
-pub mod Cutting
-pub mod DecimalRead
 pub mod Taking
 pub mod LinesOfPieces
 pub mod Examples

@@ -10,10 +10,10 @@ use lib.Seq.{take-all, append-snoc}
 use lib.Dec.{eqb, leb}
 use borrow.Author.Tests.{leb-true, leb-false, lt-leb}
 use Rattle.basics.specs.Search.{joined}
-use Rattle.lines.specs.Text.{lineEnd, toFirst, before, after}
+use Rattle.writing.specs.Text.{lineEnd, toFirst, before, after}
 use Rattle.lines.specs.Parsing.{parsedLine}
 use Rattle.lines.specs.Input.{linesOf, kept}
-use Rattle.lines.specs.Cutting.{before-nil, after-nil, before-hit, after-hit, before-miss, after-miss}
+use Rattle.writing.specs.Cutting.{before-nil, after-nil, before-hit, after-hit, before-miss, after-miss}
 use Rattle.lines.specs.Taking.{endedLines, heldAfter, lastLine, linesTaken}
 
 -- a byte that ends a line, and one that does not

@@ -8,8 +8,8 @@ use lib.Dec.{leb}
 use Rattle.basics.specs.Search.{allOf}
 use Rattle.lines.specs.declared.Parsed.{Parsed}
 use Rattle.lines.specs.declared.Parsed.the-variants.{BadLine, Line}
-use Rattle.lines.specs.Text.{space, comma, before, after, segments}
-use Rattle.lines.specs.Decimal.{isDigit, digitValue, valueOf}
+use Rattle.writing.specs.Text.{space, comma, before, after, segments}
+use Rattle.writing.specs.Decimal.{isDigit, digitValue, valueOf}
 
 -- a ranking is 1 to 9 digits
 unfoldable pub isRankingText : List ℕ → Bool

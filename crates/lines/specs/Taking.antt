@@ -3,7 +3,7 @@ use mathlib.Core.Bool.{true, false}
 use mathlib.Core.List.{List, [], _∷_, _++_}
 use Prim.Native.Nat.{ℕ}
 use lib.Dec.{eqb}
-use Rattle.lines.specs.Text.{lineEnd}
+use Rattle.writing.specs.Text.{lineEnd}
 use Rattle.lines.specs.Input.{kept}
 
 -- the lines that end in a piece, where the first one's bytes so far are held

@@ -1,14 +1,14 @@
 // Taking the lines out of the input, which comes in pieces.
 use crate::Next;
-use crate::text::least;
-use crate::text::length_before;
-use crate::text::write_text;
+use writing::text::least;
+use writing::text::length_before;
+use writing::text::write_text;
 ghost use mathlib.Core.Path.{_≡_};
 ghost use mathlib.Core.List.{_++_};
 ghost use Prim.Native.Nat.{_≤_};
 ghost use lib.ListN.{length, take, drop};
-ghost use Rattle.lines.specs.Text.{lineEnd, before};
-ghost use Rattle.lines.specs.Buffers.{atFront};
+ghost use Rattle.writing.specs.Text.{lineEnd, before};
+ghost use Rattle.writing.specs.Buffers.{atFront};
 ghost use Rattle.lines.specs.Input.{kept, nextOf};
 
 // Takes a line's bytes from a piece of the input, from `from` to the line's end or the piece's. The line's bytes from earlier

@@ -1,16 +1,9 @@
-// The program's lines: parsing an input line, writing an answer's line, taking the lines out of the input.
-mod decimal;
+// The program's lines: parsing an input line, and taking the lines out of the input.
 mod input;
 mod parsing;
-mod text;
-mod writing;
 
 pub use input::next_line;
 pub use parsing::parse;
-pub use writing::write_answer;
-pub use writing::write_bad_line;
-pub use writing::write_closing;
-pub use writing::write_refused;
 
 // What parsing a line answers: that it is a bad line, or how many bytes of ranking and of word stand at the front of the
 // lent slices.

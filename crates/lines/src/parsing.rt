@@ -1,17 +1,17 @@
 // Parsing an input line.
 use crate::Parsed;
-use crate::decimal::are_digits;
-use crate::decimal::value;
-use crate::text::length_before;
+use writing::decimal::are_digits;
+use writing::decimal::value;
+use writing::text::length_before;
 ghost use mathlib.Core.Path.{_≡_};
 ghost use mathlib.Core.Bool.{true};
 ghost use mathlib.Core.List.{map};
 ghost use Prim.Native.Nat.{_≤_};
 ghost use lib.ListN.{length};
 ghost use Rattle.basics.specs.Search.{allOf};
-ghost use Rattle.lines.specs.Decimal.{isDigit, digitValue, valueOf};
+ghost use Rattle.writing.specs.Decimal.{isDigit, digitValue, valueOf};
 ghost use Rattle.lines.specs.Parsing.{isRankingText, isSymbolText, symbolsIn, isWordText, parsedLine, parsedAnswer, rankingOf, wordOf};
-ghost use Rattle.lines.specs.Buffers.{atFront};
+ghost use Rattle.writing.specs.Buffers.{atFront};
 
 fn is_ranking_text(text: &[u8]) -> bool
     ensures { λ r. ⌜ r ≡ isRankingText (now (text .entry)) ⌝ }

@@ -7,12 +7,12 @@ use native.Mathlib.Omega.{arith}
 use lib.ListN.{length, drop, take, length-take}
 use lib.Seq.{drop-drop, take-at}
 use Rattle.lines.specs.declared.Next.the-variants as next
-use Rattle.lines.specs.Text.{lineEnd, before, after}
+use Rattle.writing.specs.Text.{lineEnd, before, after}
 use Rattle.lines.specs.Input.{kept, nextOf}
-use Rattle.lines.specs.Buffers.{atFront}
+use Rattle.writing.specs.Buffers.{atFront}
 use Rattle.lines.specs.Taking.{endedLines, heldAfter}
 use Rattle.lines.specs.LinesOfPieces.{next-ended, next-open}
-use Rattle.lines.proofs.Cutting.{before-short, after-some}
+use Rattle.writing.proofs.Cutting.{before-short, after-some}
 
 module _ (line piece : List ℕ) (held from : ℕ) (few : held ≤ 201) where
   -- the line's bytes so far

@@ -7,17 +7,17 @@ use Prim.Native.Nat.{ℕ, suc, _+_, _-_, _≤_}
 use native.Mathlib.Nat.{suc-ne-zero}
 use native.Mathlib.Omega.{arith}
 use lib.Dec.{eqb}
-use lib.ListN.{length, take, drop, take-append-drop, length-append, length-drop}
-use lib.Seq.{drop-drop, take-at, drop-at, take-length, drop-length, drop-append-le}
+use lib.ListN.{length, take, drop, take-append-drop, length-append, length-take, length-drop}
+use lib.Seq.{drop-drop, take-at, drop-at, take-length, drop-length, drop-append-le, length-take-le}
 use borrow.Author.Tests.{ne-eqb}
 use Rattle.basics.proofs.Bools.{clash, either}
 use Rattle.lines.specs.Taking.{endedLines, heldAfter}
-use Rattle.lines.specs.Buffers.{atFront}
+use Rattle.writing.specs.Buffers.{atFront}
 use Rattle.lines.specs.LinesOfPieces.{ended-append}
-use Rattle.session.specs.declared.Tally.{Tally}
-use Rattle.session.specs.Printed.{Prints}
-use Rattle.session.specs.Tally.{isFull, pastText, lineTally, lineText, linesTally, linesText, closingText, Fits}
-use Rattle.session.specs.TallyLaws.{full-passed, tally-full, text-full, past-means, nothing-after, tally-append}
+use Rattle.tally.specs.declared.Tally.{Tally}
+use Rattle.lesson.specs.Printed.{Prints}
+use Rattle.lesson.specs.Tally.{isFull, pastText, lineTally, lineText, linesTally, linesText, closingText, Fits}
+use Rattle.lesson.specs.TallyLaws.{full-passed, tally-full, text-full, past-means, nothing-after, tally-append}
 use Rattle.session.specs.Output.{Answers, Reads, printedPieces}
 
 -- nothing is read yet
@@ -51,6 +51,12 @@ reads-more {card} {held} {line} {piece = piece} {n = n} {t = t} r p a written =
 -- a write that did not fail
 pub wrote : (w : Bool) → not w ≡ false → w ≡ true
 wrote w e = sym (Bool·not-not w) ∙ ap not e
+
+-- the line past the thousandth, or a write that failed
+pub past-written : (past written : Bool) → (past || not written) ≡ true → written ≡ true → past ≡ true
+past-written true written h e = refl
+past-written false true h e = h
+past-written false false h e = e
 
 module _ (card : List ℕ) where
   -- a tally that is past the thousandth line is full
@@ -101,6 +107,26 @@ module _ {card held line : List ℕ} {n : ℕ} {t u : Tally} {w : Bool} (r : Rea
       go : (b : Bool) → u .past ≡ b → printedPieces card u (take n line) [] ≡ printedPieces card u (heldAfter held (r .read)) []
       go true q = sym (end-past card u (take n line) q (reads-full q)) ∙ end-past card u (heldAfter held (r .read)) q (reads-full q)
       go false q = ap (λ (k : List ℕ). printedPieces card u k []) (r .answers .bytes e q)
+
+-- the front part of the last buffer, which a line's text is written to, and the room behind the text
+module _ (out : List ℕ) (long : length out ≡ 25748) where
+  pub front-lent : length (take 25628 out) ≡ 25628
+  front-lent = length-take-le 25628 out (omega (arith, long))
+
+  pub front-room : 25628 ≤ length (take 25628 out)
+  front-room = omega (arith, front-lent)
+
+  pub room-behind : {text new : List ℕ} {m : ℕ} → Prints text (take 25628 out) new m → length new ≡ length (take 25628 out)
+      → 120 ≤ length (take (length (new ++ drop 25628 out) - m) (drop m (new ++ drop 25628 out)))
+  room-behind {text} {new} {m} p same =
+      let whole = length-append new (drop 25628 out) in
+      simp (length-take, length-drop) (omega (arith, p .fits, same, long, front-lent, whole, length-drop 25628 out))
+
+pub room-before : {text old new : List ℕ} {m : ℕ} → Prints text old new m → (rest : List ℕ) → m ≤ length (new ++ rest)
+room-before {new = new} p rest = omega (arith, p .fits, length-append new rest)
+
+pub text-fits : {text old new : List ℕ} {m : ℕ} → Prints text old new m → length new ≡ length old → length text ≤ length old
+text-fits p same = omega (arith, p .size, p .fits, same)
 
 -- a text written to a front part of a slice
 pub front-part : (k : ℕ) (a old : List ℕ) {new : List ℕ} → new ≡ atFront a (take k old) → length a ≤ length (take k old) → new ++ drop k old ≡ atFront a old

@@ -9,10 +9,10 @@ use Rattle.basics.specs.Search.{joined, those, numbersBelow}
 use Rattle.candidate.specs.Candidates.{isSome}
 use Rattle.lines.specs.Input.{linesOf}
 use Rattle.lines.specs.Taking.{endedLines, heldAfter, lastLine}
-use Rattle.lines.specs.Writing.{refusedLine, closingLines}
-use Rattle.session.specs.declared.Tally.{Tally}
-use Rattle.session.specs.Printed.{printed}
-use Rattle.session.specs.Tally.{lineCounts, linesTally, linesText, shownMachines, closingText, Fits}
+use Rattle.writing.specs.Writing.{refusedLine, closingLines}
+use Rattle.tally.specs.declared.Tally.{Tally}
+use Rattle.lesson.specs.Printed.{printed}
+use Rattle.lesson.specs.Tally.{lineCounts, linesTally, linesText, shownMachines, closingText, Fits}
 
 -- a line is answered, or refused; a bad line is refused
 abbrev pub isAnswered : List ℕ → List ℕ → Bool

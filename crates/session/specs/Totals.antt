@@ -3,26 +3,23 @@ use mathlib.Core.Path.{_≡_, refl, ap, sym, _∙_}
 use mathlib.Core.Bool.{Bool, true, false, not}
 use mathlib.Core.List.{List, [], _∷_, _++_, map, append-assoc, append-nil}
 use mathlib.Core.Option.{Option, some, none}
-use Prim.Native.Nat.{ℕ, zero, suc, _+_, _<_, _≤_, zero-le}
+use Prim.Native.Nat.{ℕ, zero, suc, _+_, _<_, _≤_}
 use native.Mathlib.Nat.{add-zero}
 use native.Mathlib.Omega.{arith}
 use lib.ListN.{length, getD, take, drop, length-map, length-take}
 use lib.Seq.{ext-getD, getD-take}
 use Rattle.basics.specs.Search.{joined, those, numbersBelow}
 use Rattle.basics.proofs.Below.{length-numbers, number-at}
-use Rattle.card.specs.Layout.{machineCount}
-use Rattle.card.specs.Card.{cardRefusal}
 use Rattle.basics.proofs.Search.{map-at}
-use Rattle.card.specs.Accepted.{accepted}
 use Rattle.lines.specs.Parsing.{Request, parsedLine}
-use Rattle.lines.specs.Writing.{refusedLine, closingLines}
+use Rattle.writing.specs.Writing.{refusedLine, closingLines}
 use Rattle.lines.specs.Input.{linesOf, kept}
 use Rattle.lines.specs.Taking.{endedLines, heldAfter, linesTaken}
 use Rattle.lines.specs.LinesOfPieces.{lines-of-pieces, kept-parsed}
-use Rattle.session.specs.declared.Tally.{Tally}
-use Rattle.session.specs.Printed.{reply, printed}
-use Rattle.session.specs.Tally.{requestCounts, lineCounts, noLines, counted, isFull, pastText, lineTally, lineText, linesTally, linesText, shownMachines, closingText}
-use Rattle.session.specs.TallyLaws.{added-length, added-at, counted-past, counted-lines, full-at, open-at, tally-full, tally-open, text-full, text-open, passed-tally, passed-text, tally-append}
+use Rattle.tally.specs.declared.Tally.{Tally}
+use Rattle.lesson.specs.Printed.{reply, printed}
+use Rattle.lesson.specs.Tally.{requestCounts, lineCounts, noLines, counted, isFull, pastText, lineTally, lineText, linesTally, linesText, shownMachines, closingText}
+use Rattle.lesson.specs.TallyLaws.{added-length, added-at, counted-past, counted-lines, full-at, open-at, tally-full, tally-open, text-full, text-open, passed-tally, passed-text, tally-append, shown-few}
 use Rattle.session.specs.Output.{isAnswered, answeredAmong, refusedAmong, countIn, totalOf, totals, closing, pastLine, lessonOutput, output, printedPieces, Reads, Finishes}
 
 -- the lines of a lesson counted one after another, with no end
@@ -119,15 +116,6 @@ module _ (card : List ℕ) where
   unfolding totals
   total-count ls = length-map (numbersBelow (shownMachines card)) (λ machine. totalOf card machine (answeredAmong card ls)) ∙ length-numbers (shownMachines card)
 
-  -- at most six are shown
-  pub shown-few : shownMachines card ≤ 6
-  unfolding shownMachines
-  shown-few = go (cardRefusal card) refl
-    where
-      go : (n : ℕ) → cardRefusal card ≡ n → (elim n as (λ _. ℕ) [ zero ↦ machineCount card | suc n ↦ 0 ]) ≤ 6
-      go zero e = accepted card e .head .counts .machines
-      go (suc n) e = zero-le
-
   -- so the closing lines of the tally are those of the lesson
   zeros : (i : ℕ) → getD (noLines .totals) i 0 ≡ 0
   zeros zero = refl
@@ -142,12 +130,12 @@ module _ (card : List ℕ) where
   totals-shown ls =
       let k = counts-lines noLines ls in
       let T = tallied card noLines ls .totals in
-      let long : length (take (shownMachines card) T) ≡ shownMachines card = length-take (shownMachines card) T ∙ omega (arith, k .places, shown-few) in
+      let long : length (take (shownMachines card) T) ≡ shownMachines card = length-take (shownMachines card) T ∙ omega (arith, k .places, shown-few card) in
       ext-getD 0 (take (shownMachines card) T) (totals card ls) (long ∙ sym (total-count ls))
       (λ i h.
       let small : i < shownMachines card = omega (arith, long) in
       getD-take (shownMachines card) T i 0 small
-      ∙ k .sums i (omega (arith, shown-few))
+      ∙ k .sums i (omega (arith, shown-few card))
       ∙ omega (arith, zeros i, total-at ls i small))
 
   closing-told : (ls : List (List ℕ)) → closingText card (tallied card noLines ls) ≡ closing card ls

@@ -16,7 +16,7 @@ use Rattle.product.specs.Best.{Contender, best}
 use Rattle.product.specs.Optimizing.{inputRefusal}
 use Rattle.optimizer.specs.Telling.{profileTold}
 use Rattle.tableau.specs.Tableau.{countsOf, everyRow, soundTableau}
-use Rattle.tableau.specs.Reading.{Readable}
+use Rattle.rows.specs.Reading.{Readable}
 use Rattle.tableau.specs.Judging.{isForWord, sameCounts, countsAreProfile, hasProfileOf, verdictOf, verdictNumbers, refusedJudging, judgingRefusal, judging}
 use Rattle.tableau.specs.Laws.Accepted.{tableau-told}
 use Rattle.tableau.specs.Verdicts.{no-case-for-10}

@@ -1,5 +1,1 @@
-pub mod Spelling
-pub mod Rows
-pub mod Layouts
-pub mod Verdicts
 pub mod Answers

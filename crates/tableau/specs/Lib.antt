@@ -1,6 +1,5 @@
 -- definitions
 pub mod Tableau
-pub mod Reading
 pub mod Judging
 pub mod Judges
 -- lemmas

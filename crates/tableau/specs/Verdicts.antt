@@ -19,8 +19,8 @@ use Rattle.product.specs.Optimizing.{inputRefusal}
 use Rattle.product.specs.BestTheorem.{best-is-best-of-all}
 use Rattle.input.specs.AcceptedInput.{AcceptedInput, accepted-input}
 use Rattle.tableau.specs.declared.Judged.{Judged}
-use Rattle.tableau.specs.declared.Verdict.{Verdict}
-use Rattle.tableau.specs.declared.Verdict.the-variants.{Right, AnotherRow, NotInTable}
+use Rattle.rows.specs.declared.Verdict.{Verdict}
+use Rattle.rows.specs.declared.Verdict.the-variants.{Right, AnotherRow, NotInTable}
 use Rattle.tableau.specs.Tableau.{rowCount, claimedRow, rowOf, candidateOf, everyRow, soundTableau}
 use Rattle.tableau.specs.Laws.Winning.{NoneBetter}
 use Rattle.tableau.specs.Judging.{isForWord, countsAreProfile, verdictNumbers, refusedJudging, hasProfileOf, firstRow, verdictOf, judgingRefusal, judging}

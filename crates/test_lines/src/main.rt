@@ -11,7 +11,7 @@ ghost use lib.ListN.{length};
 
 fn print_bad_line() {
     let mut out = [0u8; 9];
-    let n = lines::write_bad_line(&mut out);
+    let n = writing::write_bad_line(&mut out);
     if n <= 9 {
         write(&out[..n]);
     }
@@ -118,7 +118,7 @@ fn show_answer(evaluation: Evaluation, machines: u8, answer: &[u8])
     requires { ⌜ length (now answer) ≤ 16 ⌝ }
 {
     let mut out = [0u8; 100];
-    let n = lines::write_answer(evaluation, machines, answer, &mut out);
+    let n = writing::write_answer(evaluation, machines, answer, &mut out);
     if n <= 100 {
         write(&out[..n]);
     }
@@ -152,7 +152,7 @@ fn show_closing(answered: u32, refused: u32, totals: &[u32])
     requires { ⌜ length (now totals) ≤ 6 ⌝ }
 {
     let mut out = [0u8; 120];
-    let n = lines::write_closing(answered, refused, totals, &mut out);
+    let n = writing::write_closing(answered, refused, totals, &mut out);
     if n <= 120 {
         write(&out[..n]);
     }

@@ -11,7 +11,7 @@ use Rattle.machine.specs.Accepted.{state-count, shape-facts}
 use Rattle.layout.specs.Layout.{partOf}
 use Rattle.join.specs.JoinedMachine.{joinedArcs, joinedMachine}
 use Rattle.join.specs.JoinedCard.{lower, other}
-use Rattle.join.specs.Laws.Sound.{joined-states}
+use Rattle.joined.specs.Laws.Crossed.{joined-states}
 use native.Mathlib.Nat.{mul-le-mul}
 use Rattle.join.proofs.Answers.{shape-in, joined-arcs}
 use Rattle.join.proofs.fits_part.Statement.{statement}

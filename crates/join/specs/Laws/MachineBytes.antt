@@ -6,7 +6,7 @@ use mathlib.Core.Option.{Option, some, none}
 use Prim.Native.Nat.{ℕ, zero, suc, _+_, _*_, _/_, _%_, _^_, _<_, _≤_}
 use native.Mathlib.Omega.{arith}
 use lib.Dec.{leb, lit<}
-use lib.ListN.{length, getD, take, drop, length-map, length-append}
+use lib.ListN.{length, getD, take, drop, length-map}
 use lib.Pow.{pow-mono}
 use lib.Seq.{getD-drop, drop-drop, take-at, drop-at}
 use borrow.Author.Tests.{leb-true, le-leb, eq-eqb}
@@ -19,6 +19,7 @@ use Rattle.machine.specs.Accepted.{sound-facts}
 use Rattle.layout.specs.Layout.{Bytes}
 use Rattle.card.specs.Laws.Bytes.{bytes-none, bytes-cons, bytes-append}
 use Rattle.join.specs.JoinedCard.{littleEndian, arcBytes, stateByte, machineBytes}
+use Rattle.joined.specs.Laws.Writing.{bytes-length}
 use Rattle.join.specs.Laws.Machines.{fewEndingMarks, soundMachine, SoundMachine, sound-machine}
 use Rattle.join.specs.Laws.Parts.{sound-part-accepted}
 
@@ -82,11 +83,6 @@ endings-back [] = refl
 endings-back (none ∷ os) = ap (λ (l : List (Option ℕ)). none ∷ l) (endings-back os)
 endings-back (some m ∷ os) = ap (λ (l : List (Option ℕ)). some m ∷ l) (endings-back os)
 
-arcs-length : (xs : List Arc) → length (joined arcBytes xs) ≡ 20 * length xs
-unfolding joined
-arcs-length [] = refl
-arcs-length (x ∷ xs) = omega (arith, arcs-length xs)
-
 states-are-bytes : (os : List (Option ℕ)) → allOf fewEndingMarks os ≡ true → Bytes (map stateByte os)
 unfolding allOf
 states-are-bytes [] t = bytes-none
@@ -139,18 +135,11 @@ module _ (m : Machine) where
 
   -- ---- the part is accepted, and its bytes are bytes
 
-  rest-length : length (map stateByte (m .endings) ++ joined arcBytes (m .arcs)) ≡ stateCountOf m + 20 * length (m .arcs)
-  rest-length = length-append (map stateByte (m .endings)) (joined arcBytes (m .arcs)) ∙ (omega (arith, length-map (m .endings) stateByte, arcs-length (m .arcs)))
-
-  pub bytes-length : length (machineBytes m) ≡ 2 + stateCountOf m + 20 * length (m .arcs)
-  unfolding machineBytes
-  bytes-length = omega (arith, rest-length)
-
   bytes-shaped : 1 ≤ stateCountOf m → stateCountOf m ≤ 32 → shaped (machineBytes m) ≡ true
   unfolding shaped machineBytes
   bytes-shaped h k =
       both (both (both (le-leb 2 (length (machineBytes m)) (omega arith)) (le-leb 1 (stateCountOf m) h)) (le-leb (stateCountOf m) 32 k))
-      (eq-eqb (length (machineBytes m)) (2 + stateCountOf m + 20 * length (m .arcs)) bytes-length)
+      (eq-eqb (length (machineBytes m)) (2 + stateCountOf m + 20 * length (m .arcs)) (bytes-length m))
 
   module _ (S : ℕ) (few : S < 64) (sound : soundMachine S m ≡ true) where
     facts : SoundMachine S m

@@ -24,7 +24,7 @@ use Rattle.product.specs.Laws.Listing.{map-member}
 use Rattle.join.specs.JoinedMachine.{joinedState, joinedKind, joinedArc, arcsWith, joinedArcs, bothMarks, crossed, joinedMachine, endsFree, markless}
 use Rattle.join.specs.Laws.Machines.{fewEndingMarks, soundMachine, SoundMachine, sound-machine}
 use Rattle.join.specs.Laws.Steps.{joined-takes, same-states}
-use Rattle.join.specs.Laws.Crossed.{crossed-length}
+use Rattle.joined.specs.Laws.Crossed.{joined-states}
 
 -- ---- the arcs of the joined machine
 
@@ -188,10 +188,6 @@ no-clash Q (a ∷ firsts) seconds from ha hb =
         (not-true (clash a (w .first)) (all-member (clashFree a) (left (allOf (clashFree a) firsts) (pairwise clashFree firsts) ha) (w .first-is))))))
 
 -- ---- so it is sound, with Qa × Qb states
-
-pub joined-states : (a b : Machine) → stateCountOf (joinedMachine a b) ≡ stateCountOf a * stateCountOf b
-unfolding joinedMachine
-joined-states a b = crossed-length bothMarks (a .endings) (b .endings)
 
 pub joined-sound : (S : ℕ) (a b : Machine) → soundMachine S a ≡ true → soundMachine S b ≡ true → (markless a ≡ true) ⊎ (markless b ≡ true) → soundMachine S (joinedMachine a b) ≡ true
 unfolding soundMachine joinedMachine markless

@@ -24,10 +24,10 @@ use Rattle.machine.specs.Steps.{step-taken, step-passed}
 use Rattle.candidate.specs.Candidates.{addMarks, marksFrom, marksOf}
 use Rattle.product.specs.Laws.JointStep.{marks-next, marks-stuck}
 use Rattle.join.specs.JoinedMachine.{joinedState, joinedArc, arcsWith, joinedArcs, joinedMachine, bothMarks}
-use Rattle.join.specs.CommonPairs.{kindsClash}
-use Rattle.join.specs.Laws.KindsInCommon.{no-common-kind, kinds-joined}
+use Rattle.joined.specs.CommonPairs.{kindsClash}
+use Rattle.joined.specs.Laws.KindsInCommon.{no-common-kind, kinds-joined}
 use Rattle.join.specs.Laws.Machines.{soundMachine, sound-machine}
-use Rattle.join.specs.Laws.Crossed.{crossed-at}
+use Rattle.joined.specs.Laws.Crossed.{crossed-at}
 
 -- ---- a joined arc takes what both take, from the state that stands for their states
 

@@ -9,11 +9,11 @@ use lib.Seq.{length-take-le, take-at}
 use Rattle.basics.proofs.Bools.{clash, left-fails}
 use Rattle.lines.specs.Taking.{endedLines, heldAfter}
 use Rattle.lines.proofs.Bounds.{next-bounds}
-use Rattle.session.specs.declared.Tally.{Tally}
-use Rattle.session.specs.Tally.{linesTally, Fits}
-use Rattle.session.specs.TallyLaws.{nothing-after, tally-cons, tally-none}
+use Rattle.tally.specs.declared.Tally.{Tally}
+use Rattle.lesson.specs.Tally.{linesTally, Fits}
+use Rattle.lesson.specs.TallyLaws.{nothing-after, tally-cons, tally-none}
 use Rattle.session.proofs.Pieces.{held-ended, held-open, first-ended, none-ended}
-use Rattle.session.proofs.Tallies.{past-written}
+use Rattle.session.proofs.Reading.{past-written}
 use lib.ListN
 use borrow.Author.Needs.{needs}
 use Rattle.session.proofs.answer_piece.Statement.{statement}

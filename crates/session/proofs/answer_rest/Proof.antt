@@ -3,7 +3,7 @@ use mathlib.Core.List.{[]}
 use Prim.Native.Nat.{zero-le}
 use native.Mathlib.Omega.{arith}
 use lib.Seq.{length-take-le}
-use Rattle.session.proofs.Replies.{front}
+use Rattle.lesson.proofs.Replies.{front}
 use Rattle.session.proofs.Reading.{wrote, reads-full, reads-text}
 use borrow.Author.Needs.{needs}
 use Rattle.session.proofs.answer_rest.Statement.{statement}

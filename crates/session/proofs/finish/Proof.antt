@@ -1,13 +1,11 @@
-use mathlib.Core.Path.{_≡_, ap, sym, _∙_}
+use lib.ListN.{drop}
+use mathlib.Core.Path.{ap, sym, _∙_}
 use mathlib.Core.List.{_++_}
-use native.Mathlib.Omega.{arith}
-use lib.ListN.{length, take, length-take, length-drop, length-append}
-use lib.Seq.{length-take-le}
 use Rattle.basics.proofs.Bools.{left-fails, right-fails}
-use Rattle.session.specs.declared.Tally.{Tally}
-use Rattle.session.specs.Tally.{lineText, closingText}
-use Rattle.session.proofs.Replies.{prints}
-use Rattle.session.proofs.Reading.{end-closing, end-line, front-part, prints-after}
+use Rattle.tally.specs.declared.Tally.{Tally}
+use Rattle.lesson.specs.Tally.{lineText, closingText}
+use Rattle.lesson.proofs.Replies.{prints}
+use Rattle.session.proofs.Reading.{end-closing, end-line, front-lent, front-room, room-before, room-behind, text-fits, front-part, prints-after}
 use borrow.Author.Needs.{needs}
 use Rattle.session.proofs.finish.Statement.{statement}
 use Rattle.session.proofs.finish.Tie as tie
@@ -20,26 +18,24 @@ returns c =
     (end-closing (s .args .card .now) (s .args .tally) (s .args .line .now) (s .pre .2) (c .before .before .before .before .if1 .taken))
     (k .ensures .size)
     (k .ensures .bytes)
-    (omega (arith, k .kept .1 .1 .0))
+    (k .kept .1 .1 .0)
 
 slice-aggregate-answer-next : tie.Need-slice-aggregate-answer-next
-slice-aggregate-answer-next c = sym (length-take-le 25628 (c .before .before .before .before .before .before .args .out .now) (omega (arith, c .before .before .before .before .before .before .pre .0)))
+slice-aggregate-answer-next c = let s = c .before .before .before .before .before .before in sym (front-lent (s .args .out .now) (s .pre .0))
 
 answer-next-requires : tie.Need-answer-next-requires
-answer-next-requires c κs = (simp length-take (omega arith), c .before .before .before .before .before .before .pre .1, left-fails _ _ (c .before .if1 .left))
+answer-next-requires c κs =
+    let s = c .before .before .before .before .before .before in (front-room (s .args .out .now) (s .pre .0), s .pre .1, left-fails _ _ (c .before .if1 .left))
 
 -- the line's text leaves room for the closing lines
-lent : (c : tie.After-answer-next) → length (take 25628 (c .before .before .before .before .before .before .before .args .out .now)) ≡ 25628
-lent c = length-take-le 25628 (c .before .before .before .before .before .before .before .args .out .now) (omega (arith, c .before .before .before .before .before .before .before .pre .0))
-
 sub-write-closing : tie.Need-sub-write-closing
-sub-write-closing c = let k = c .before .before .answer-next in simp (length-append, length-drop) (omega (arith, k .ensures .0 .fits, k .kept .1 .1 .1 .0, lent (c .before .before)))
-
-part-write-closing-start : tie.Need-part-write-closing-start
-part-write-closing-start c = sub-write-closing c
+sub-write-closing c = room-before (c .before .before .answer-next .ensures .0) (drop 25628 (c .before .before .before .before .before .before .before .before .before .args .out .now))
 
 write-closing-requires-2 : tie.Need-write-closing-requires-2
-write-closing-requires-2 c κs = let k = c .before .before .before .answer-next in simp (length-take, length-append, length-drop) (omega (arith, k .ensures .0 .fits, k .kept .1 .1 .1 .0, lent (c .before .before .before), c .before .before .before .before .before .before .before .before .before .before .pre .0))
+write-closing-requires-2 c κs =
+    let k = c .before .before .before .answer-next in
+    let s = c .before .before .before .before .before .before .before .before .before .before in
+    room-behind (s .args .out .now) (s .pre .0) (k .ensures .0) (k .kept .1 .1 .1 .0)
 
 returns-2 : tie.Need-returns-2
 returns-2 c =
@@ -50,7 +46,7 @@ returns-2 c =
     prints-after
     first
     (written .size)
-    (front-part 25628 first (s .out .now) (written .bytes) (omega (arith, written .size, written .fits, k .kept .1 .1 .1 .0)))
+    (front-part 25628 first (s .out .now) (written .bytes) (text-fits written (k .kept .1 .1 .1 .0)))
     (c .before .before .write-closing2 .ensures)
     (ap (λ (u : Tally). first ++ closingText (s .card .now) u) (k .ensures .1 .0)
     ∙ end-line (s .card .now) (s .tally) (s .line .now) (right-fails (s .tally .past) _ (c .before .before .before .before .before .before .before .before .if1 .left)))
@@ -66,7 +62,7 @@ finish-spec =
     slice-aggregate-answer-next
     answer-next-requires
     sub-write-closing
-    part-write-closing-start
+    sub-write-closing
     (λ c. search needs)
     write-closing-requires-2
     (λ c. search needs)

@@ -63,7 +63,7 @@ returns-3 c =
     let a = p .before .before .before .before .before .before .before .before .args in
     let o = best (a .card .now) (a .ranking .now) (a .word .now) in
     record {
-      result = c .answer .ensures
+      result = c .numbers .ensures
           ∙ ap verdictNumbers (c .before .verdict-of .ensures ∙ by-profile o (b .best-profile .result) (a .tableau .now) (b .best-profile .ensures .result))
           ∙ verdict-given (a .card .now) (a .ranking .now) (a .word .now) (length (a .work .now)) (a .tableau .now) (passed p) (told t);
       work-length = b .best-profile .ensures .work-length;

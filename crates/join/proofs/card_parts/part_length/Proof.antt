@@ -8,7 +8,7 @@ use Rattle.machine.specs.Accepted.{state-count}
 use Rattle.layout.specs.Layout.{partOf}
 use Rattle.card.specs.Layout.{machineCount, partsOf}
 use Rattle.join.specs.JoinedCard.{joinedPart, joinedParts, lower, other}
-use Rattle.join.proofs.Parts.{few-states, few-arcs, joined-length}
+use Rattle.joined.proofs.Parts.{few-states, few-arcs, joined-length}
 use Rattle.join.proofs.CardParts.{is-accepted, first-in, second-in, few-machines, shape-of, parts-join, new-here, new-other, other-length}
 use Rattle.join.proofs.card_parts.part_length.Statement.{statement}
 use Rattle.join.proofs.card_parts.part_length.Tie as tie

@@ -7,8 +7,8 @@ use lib.ListN.{length, getD, length-take, length-drop}
 use Rattle.card.specs.Layout.{machineCount, partsOf}
 use Rattle.join.specs.JoinedCard.{joinedParts, lower, other}
 use Rattle.join.specs.Writing.{placed, tableLength, joinedBytes}
-use Rattle.join.specs.Laws.Placed.{placed-mid}
-use Rattle.join.proofs.Rest.{Rest, rest-start, rest-room, rest-next, rest-end}
+use Rattle.joined.specs.Laws.Placed.{placed-mid}
+use Rattle.joined.proofs.Rest.{Rest, rest-start, rest-room, rest-next, rest-end}
 use Rattle.join.proofs.CardParts.{second-in, few-machines, new-count, card-length}
 use Rattle.join.proofs.card_parts.write_parts.Statement.{statement}
 use Rattle.join.proofs.card_parts.write_parts.Tie as tie

@@ -2,7 +2,7 @@ use mathlib.Core.Path.{sym}
 use native.Mathlib.Nat.{le-trans}
 use lib.Seq.{length-take-le}
 use borrow.Author.Needs.{needs}
-use Rattle.lines.proofs.Cutting.{part-rest}
+use Rattle.writing.proofs.Cutting.{part-rest}
 use Rattle.lines.proofs.Receiving.{taken-fits, kept-written, stays-open, ends-line}
 use Rattle.lines.proofs.input.next_line.Statement.{statement}
 use Rattle.lines.proofs.input.next_line.Tie as tie

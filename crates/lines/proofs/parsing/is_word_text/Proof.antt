@@ -7,10 +7,10 @@ use borrow.Author.Needs.{needs}
 use borrow.Author.Tests.{not-true, not-false}
 use Rattle.basics.specs.Search.{allOf}
 use Rattle.basics.proofs.Search.{all-none}
-use Rattle.lines.specs.Text.{comma, segments}
+use Rattle.writing.specs.Text.{comma, segments}
 use Rattle.lines.specs.Parsing.{isSymbolText, isWordText}
-use Rattle.lines.proofs.Lists.{all-next, all-fails, all-end}
-use Rattle.lines.proofs.Cutting.{segment-first, segment-last, segment-more}
+use Rattle.writing.proofs.Lists.{all-next, all-fails, all-end}
+use Rattle.writing.proofs.Cutting.{segment-first, segment-last, segment-more}
 use Rattle.lines.proofs.Forms.{symbols-none, symbols-some}
 use Rattle.lines.proofs.parsing.is_word_text.Statement.{statement}
 use Rattle.lines.proofs.parsing.is_word_text.Tie as tie

@@ -7,9 +7,9 @@ use lib.ListN.{length, drop, length-set, length-map, drop-of-length-le}
 use lib.Seq.{sets}
 use borrow.Author.Needs.{needs}
 use Rattle.basics.specs.Search.{allOf}
-use Rattle.lines.specs.Decimal.{isDigit, digitValue}
-use Rattle.lines.proofs.Lists.{rest-cons, all-first, all-rest, sets-next, sets-end, sets-front}
-use Rattle.lines.proofs.Decimals.{digit-facts}
+use Rattle.writing.specs.Decimal.{isDigit, digitValue}
+use Rattle.writing.proofs.Lists.{rest-cons, all-first, all-rest, sets-next, sets-end, sets-front}
+use Rattle.writing.proofs.Decimals.{digit-facts}
 use Rattle.lines.proofs.parsing.write_ranking.Statement.{statement}
 use Rattle.lines.proofs.parsing.write_ranking.Tie as tie
 

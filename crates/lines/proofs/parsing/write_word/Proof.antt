@@ -7,11 +7,11 @@ use lib.ListN.{length, take, length-take, length-drop, length-set, length-map}
 use lib.Seq.{length-take-le, sets}
 use borrow.Author.Needs.{needs}
 use Rattle.basics.specs.Search.{allOf}
-use Rattle.lines.specs.Text.{comma, after, segments}
-use Rattle.lines.specs.Decimal.{valueOf}
+use Rattle.writing.specs.Text.{comma, after, segments}
+use Rattle.writing.specs.Decimal.{valueOf}
 use Rattle.lines.specs.Parsing.{isSymbolText, symbolsIn}
-use Rattle.lines.proofs.Lists.{all-first, all-rest, sets-next, sets-front}
-use Rattle.lines.proofs.Cutting.{otherSegments, segment-first, segment-last, segment-more}
+use Rattle.writing.proofs.Lists.{all-first, all-rest, sets-next, sets-front}
+use Rattle.writing.proofs.Cutting.{otherSegments, segment-first, segment-last, segment-more}
 use Rattle.lines.proofs.Forms.{symbol-digits, symbol-small, symbols-none, symbols-some}
 use Rattle.lines.proofs.parsing.write_word.Statement.{statement}
 use Rattle.lines.proofs.parsing.write_word.Tie as tie

@@ -1,0 +1,5 @@
+pub mod JoinedMachine
+pub mod CommonPairs
+pub mod MachineBytes
+pub mod Writing
+pub mod Laws

@@ -1,0 +1,36 @@
+-- How the verdict is found: the claimed row first, then row by row. Assumes nothing.
+use mathlib.Core.Path.{_≡_, refl}
+use mathlib.Core.Bool.{Bool, true, false}
+use mathlib.Core.List.{List}
+use mathlib.Core.Option.{Option, none}
+use Prim.Native.Nat.{ℕ, _+_, _<_}
+use Rattle.basics.specs.Search.{firstThat, numbersBelow}
+use Rattle.ranking.proofs.FinderSteps.{count-on, count-found}
+use Rattle.rows.specs.declared.Verdict.the-variants.{Right, AnotherRow, NotInTable}
+use Rattle.rows.specs.Tableau.{rowCount, claimedRow, rowOf}
+use Rattle.rows.specs.Judging.{firstRow, verdictOf}
+
+-- the first of the rows before row n that wins
+abbrev pub firstBefore : (List ℕ → Bool) → List ℕ → ℕ → Option ℕ
+firstBefore wins tableau n = firstThat (λ i. wins (rowOf tableau i)) (numbersBelow n)
+
+module _ (wins : List ℕ → Bool) (tableau : List ℕ) where
+  pub none-start : firstBefore wins tableau 0 ≡ none
+  unfolding numbersBelow firstThat
+  none-start = refl
+
+  pub none-next : (n : ℕ) → firstBefore wins tableau n ≡ none → wins (rowOf tableau n) ≡ false → firstBefore wins tableau (n + 1) ≡ none
+  none-next n h f = count-on (λ i. wins (rowOf tableau i)) n h f
+
+  pub claim-wins : wins (rowOf tableau (claimedRow tableau)) ≡ true → verdictOf wins tableau ≡ Right
+  unfolding verdictOf
+  claim-wins t = rw t
+
+  module _ (f : wins (rowOf tableau (claimedRow tableau)) ≡ false) where
+    pub later-wins : (n : ℕ) → n < rowCount tableau → firstBefore wins tableau n ≡ none → wins (rowOf tableau n) ≡ true → verdictOf wins tableau ≡ AnotherRow n
+    unfolding verdictOf firstRow
+    later-wins n h z t = rw (f, count-found (λ i. wins (rowOf tableau i)) (rowCount tableau) n h z t)
+
+    pub no-row-wins : firstBefore wins tableau (rowCount tableau) ≡ none → verdictOf wins tableau ≡ NotInTable
+    unfolding verdictOf firstRow
+    no-row-wins z = rw (f, z)

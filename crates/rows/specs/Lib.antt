@@ -1,0 +1,4 @@
+pub mod Tableau
+pub mod Reading
+pub mod Judging
+pub mod Laws

@@ -1,0 +1,5 @@
+pub mod Lists
+pub mod Cutting
+pub mod Decimals
+pub mod Writes
+pub mod Texts

@@ -1,0 +1,34 @@
+use mathlib.Core.Path.{_≡_}
+use Prim.Native.Nat.{ℕ}
+use lib.ListN.{length}
+use borrow.Author.Needs.{length-unmapped, needs}
+use Rattle.writing.proofs.Lists.{six-numbers, six-below}
+use Rattle.writing.proofs.answers.wide_counts.Statement.{statement}
+use Rattle.writing.proofs.answers.wide_counts.Tie as tie
+
+six : (c : tie.Start) → length (c .args .profile .counts) ≡ 6
+six c = length-unmapped ℕ (c .args .profile .counts) 6 (search needs)
+
+returns : tie.Need-returns
+returns c = (
+  six-numbers (c .before .before .before .before .before .before .before .args .profile .counts) (six (c .before .before .before .before .before .before .before)) (c .before .before .before .before .before .wide .ensures .0) (c .before .before .before .before .wide2 .ensures .0) (c .before .before .before .wide3 .ensures .0) (c .before .before .wide4 .ensures .0) (c .before .wide5 .ensures .0) (c .wide6 .ensures .0),
+  six-below 65536 (c .before .before .before .before .before .wide .ensures .1) (c .before .before .before .before .wide2 .ensures .1) (c .before .before .before .wide3 .ensures .1) (c .before .before .wide4 .ensures .1) (c .before .wide5 .ensures .1) (c .wide6 .ensures .1),
+)
+
+pub wide-counts-spec : {M : Type 1} → statement M
+wide-counts-spec =
+    tie.close
+    (tie.spec
+    (λ c. search needs)
+    (λ c κs. search needs)
+    (λ c. search needs)
+    (λ c κs. search needs)
+    (λ c. search needs)
+    (λ c κs. search needs)
+    (λ c. search needs)
+    (λ c κs. search needs)
+    (λ c. search needs)
+    (λ c κs. search needs)
+    (λ c. search needs)
+    (λ c κs. search needs)
+    returns)

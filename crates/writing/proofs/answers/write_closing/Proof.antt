@@ -1,0 +1,74 @@
+use mathlib.Core.Path.{_≡_}
+use Prim.Native.Nat.{_+_, _≤_}
+use native.Mathlib.Omega.{arith}
+use native.Mathlib.Nat.{le-trans}
+use lib.ListN.{length}
+use borrow.Author.Needs.{needs}
+use Rattle.writing.specs.Writing.{answeredLine, totalLine, closingLines}
+use Rattle.writing.proofs.Writes.{written-append, written-length, front-place, front-bytes}
+use Rattle.writing.proofs.Texts.{answered-length, closing-length, closing-fits}
+use Rattle.writing.proofs.answers.write_closing.Statement.{statement}
+use Rattle.writing.proofs.answers.write_closing.Tie as tie
+
+-- the lines fit
+fits : (c : tie.After-shared-slice-known) → length (closingLines (c .before .args .answered) (c .before .args .refused) (c .before .args .totals .now)) ≤ length (c .before .args .out .now)
+fits c =
+    le-trans
+    (closing-fits _ _ _ (c .before .fits .answered .fits) (c .before .fits .refused .fits) (λ i. c .shared-slice-known .given i .fits) (c .before .pre .0))
+    (c .before .pre .1)
+
+-- how long they are, by their parts
+parts : (c : tie.After-shared-slice-known) → length (closingLines (c .before .args .answered) (c .before .args .refused) (c .before .args .totals .now))
+    ≡ length (answeredLine (c .before .args .answered) (c .before .args .refused)) + length (totalLine (c .before .args .totals .now))
+parts c = closing-length (c .before .args .answered) (c .before .args .refused) (c .before .args .totals .now)
+
+write-number-requires : tie.Need-write-number-requires
+write-number-requires c κs = let w = c .before .before .before .write-text .ensures in
+    omega (arith, fits (c .before .before .before .before .before .before .before), parts (c .before .before .before .before .before .before .before), answered-length (c .before .before .before .before .before .before .before .before .args .answered) (c .before .before .before .before .before .before .before .before .args .refused), w .place, written-length w)
+
+write-text-requires-2 : tie.Need-write-text-requires-2
+write-text-requires-2 c κs = let v = c .before .before .before .before .before .before .before .before .write-text .ensures in
+    let w = c .before .before .before .before .write-number .ensures in
+    omega (arith, fits (c .before .before .before .before .before .before .before .before .before .before .before .before), parts (c .before .before .before .before .before .before .before .before .before .before .before .before), answered-length (c .before .before .before .before .before .before .before .before .before .before .before .before .before .args .answered) (c .before .before .before .before .before .before .before .before .before .before .before .before .before .args .refused), v .place, written-length v, w .place, written-length w)
+
+write-number-requires-2 : tie.Need-write-number-requires-2
+write-number-requires-2 c κs = let u = c .before .before .before .before .before .before .before .before .before .before .before .before .write-text .ensures in
+    let v = c .before .before .before .before .before .before .before .before .write-number .ensures in
+    let w = c .before .before .before .write-text2 .ensures in
+    omega (arith, fits (c .before .before .before .before .before .before .before .before .before .before .before .before .before .before .before .before), parts (c .before .before .before .before .before .before .before .before .before .before .before .before .before .before .before .before), answered-length (c .before .before .before .before .before .before .before .before .before .before .before .before .before .before .before .before .before .args .answered) (c .before .before .before .before .before .before .before .before .before .before .before .before .before .before .before .before .before .args .refused), u .place, written-length u, v .place, written-length v, w .place, written-length w)
+
+write-byte-requires : tie.Need-write-byte-requires
+write-byte-requires c κs = let t = c .before .before .before .before .before .before .before .before .before .before .before .before .before .before .before .before .write-text .ensures in
+    let u = c .before .before .before .before .before .before .before .before .before .before .before .before .write-number .ensures in
+    let v = c .before .before .before .before .before .before .before .write-text2 .ensures in
+    let w = c .before .before .before .write-number2 .ensures in
+    omega (arith, fits (c .before .before .before .before .before .before .before .before .before .before .before .before .before .before .before .before .before .before .before .before), parts (c .before .before .before .before .before .before .before .before .before .before .before .before .before .before .before .before .before .before .before .before), answered-length (c .before .before .before .before .before .before .before .before .before .before .before .before .before .before .before .before .before .before .before .before .before .args .answered) (c .before .before .before .before .before .before .before .before .before .before .before .before .before .before .before .before .before .before .before .before .before .args .refused), t .place, written-length t, u .place, written-length u, v .place, written-length v, w .place, written-length w)
+
+write-total-requires : tie.Need-write-total-requires
+write-total-requires c κs = let s = c .before .before .before .before .before .before .before .before .before .before .before .before .before .before .before .before .before .before .before .before .write-text .ensures in
+    let t = c .before .before .before .before .before .before .before .before .before .before .before .before .before .before .before .before .write-number .ensures in
+    let u = c .before .before .before .before .before .before .before .before .before .before .before .write-text2 .ensures in
+    let v = c .before .before .before .before .before .before .before .write-number2 .ensures in
+    let w = c .before .before .before .write-byte .ensures in
+    omega (arith, fits (c .before .before .before .before .before .before .before .before .before .before .before .before .before .before .before .before .before .before .before .before .before .before .before .before), parts (c .before .before .before .before .before .before .before .before .before .before .before .before .before .before .before .before .before .before .before .before .before .before .before .before), answered-length (c .before .before .before .before .before .before .before .before .before .before .before .before .before .before .before .before .before .before .before .before .before .before .before .before .before .args .answered) (c .before .before .before .before .before .before .before .before .before .before .before .before .before .before .before .before .before .before .before .before .before .before .before .before .before .args .refused), s .place, written-length s, t .place, written-length t, u .place, written-length u, v .place, written-length v, w .place, written-length w)
+
+returns : tie.Need-returns
+unfolding closingLines answeredLine
+returns c =
+    let w = written-append (written-append (written-append (written-append (written-append (c .before .before .before .before .before .before .before .before .before .before .before .before .before .before .before .before .before .before .before .before .before .before .before .write-text .ensures) (c .before .before .before .before .before .before .before .before .before .before .before .before .before .before .before .before .before .before .before .write-number .ensures)) (c .before .before .before .before .before .before .before .before .before .before .before .before .before .before .write-text2 .ensures)) (c .before .before .before .before .before .before .before .before .before .before .write-number2 .ensures)) (c .before .before .before .before .before .before .write-byte .ensures)) (c .before .before .write-total .ensures) in
+    (front-place w, front-bytes w (fits (c .before .before .before .before .before .before .before .before .before .before .before .before .before .before .before .before .before .before .before .before .before .before .before .before .before .before .before)))
+
+pub write-closing-spec : {M : Type 1} → statement M
+write-closing-spec =
+    tie.close
+    (tie.spec
+    (λ c. search needs)
+    (λ c κs. search needs)
+    write-number-requires
+    (λ c. search needs)
+    write-text-requires-2
+    write-number-requires-2
+    write-byte-requires
+    write-total-requires
+    (λ c. search needs)
+    returns)

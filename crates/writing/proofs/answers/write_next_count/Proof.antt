@@ -1,0 +1,21 @@
+use native.Mathlib.Omega.{arith}
+use borrow.Author.Needs.{needs}
+use Rattle.writing.specs.Writing.{nextCount}
+use Rattle.writing.proofs.Writes.{written-append, written-length}
+use Rattle.writing.proofs.Texts.{next-count-length}
+use Rattle.writing.proofs.answers.write_next_count.Statement.{statement}
+use Rattle.writing.proofs.answers.write_next_count.Tie as tie
+
+write-byte-requires : tie.Need-write-byte-requires
+write-byte-requires c κs = omega (arith, next-count-length (c .before .before .args .count))
+
+write-number-requires : tie.Need-write-number-requires
+write-number-requires c κs = let w = c .before .before .before .write-byte .ensures in omega (arith, next-count-length (c .before .before .before .before .before .before .args .count), w .place, written-length w)
+
+returns : tie.Need-returns
+unfolding nextCount
+returns c = written-append (c .before .before .before .before .before .before .write-byte .ensures) (c .before .before .write-number .ensures)
+
+pub write-next-count-spec : {M : Type 1} → statement M
+write-next-count-spec =
+    tie.close (tie.spec write-byte-requires write-number-requires (λ c. search needs) returns)

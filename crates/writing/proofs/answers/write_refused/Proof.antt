@@ -1,0 +1,33 @@
+use native.Mathlib.Nat.{le-trans}
+use native.Mathlib.Omega.{arith}
+use borrow.Author.Needs.{needs}
+use Rattle.writing.specs.Writing.{refusedLine}
+use Rattle.writing.proofs.Writes.{written-append, written-length, front-place, front-bytes}
+use Rattle.writing.proofs.Texts.{byte-length, refused-fits}
+use Rattle.writing.proofs.answers.write_refused.Statement.{statement}
+use Rattle.writing.proofs.answers.write_refused.Tie as tie
+
+write-number-requires : tie.Need-write-number-requires
+write-number-requires c κs = let w = c .before .before .before .write-text .ensures in
+    omega (arith, byte-length (c .before .before .before .before .before .before .before .args .number) (c .before .before .before .before .before .before .before .fits .number .fits), w .place, written-length w)
+
+write-byte-requires : tie.Need-write-byte-requires
+write-byte-requires c κs = let v = c .before .before .before .before .before .before .before .write-text .ensures in
+    let w = c .before .before .before .write-number .ensures in
+    omega (arith, byte-length (c .before .before .before .before .before .before .before .before .before .before .before .args .number) (c .before .before .before .before .before .before .before .before .before .before .before .fits .number .fits), v .place, written-length v, w .place, written-length w)
+
+returns : tie.Need-returns
+unfolding refusedLine
+returns c = let w = written-append (written-append (c .before .before .before .before .before .before .before .before .before .before .write-text .ensures) (c .before .before .before .before .before .before .write-number .ensures)) (c .before .before .write-byte .ensures) in
+    (front-place w, front-bytes w (le-trans (refused-fits (c .before .before .before .before .before .before .before .before .before .before .before .before .before .before .args .number) (c .before .before .before .before .before .before .before .before .before .before .before .before .before .before .fits .number .fits)) (c .before .before .before .before .before .before .before .before .before .before .before .before .before .before .pre)))
+
+pub write-refused-spec : {M : Type 1} → statement M
+write-refused-spec =
+    tie.close
+    (tie.spec
+    (λ c. search needs)
+    (λ c κs. search needs)
+    write-number-requires
+    write-byte-requires
+    (λ c. search needs)
+    returns)

@@ -1,0 +1,6 @@
+pub mod Text
+pub mod Decimal
+pub mod Buffers
+pub mod Writing
+pub mod Cutting
+pub mod DecimalRead
