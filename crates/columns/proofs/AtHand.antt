@@ -22,7 +22,7 @@ use Rattle.card.specs.Layout.{machineCount, symbolCount, partOf}
 use Rattle.card.specs.Card.{machinesOf}
 use Rattle.card.specs.Accepted.{accepted}
 use Rattle.card.specs.Laws.Machines.{length-machines}
-use Rattle.steps.specs.StepTable.{stepCode, machineAt}
+use Rattle.tables.specs.StepTable.{stepCode, machineAt}
 use Rattle.cells.specs.Cells.{stepAt}
 use Rattle.cells.specs.Laws.Numbers.{column-in}
 use Rattle.columns.specs.Filling.{Small, EnterPre, Entered, FirstSet}

@@ -10,8 +10,8 @@ use Rattle.basics.specs.Sets.{member}
 use Rattle.machine.specs.declared.Arc.{Arc}
 use Rattle.machine.specs.Machine.{Machine, stateCountOf, takesFrom, stepOf}
 use Rattle.card.specs.Card.{machinesOf, cardRefusal}
-use Rattle.steps.specs.StepTable.{stepCode, machineAt}
-use Rattle.steps.specs.Filling.{AcceptedPart}
+use Rattle.tables.specs.StepTable.{stepCode, machineAt}
+use Rattle.tables.specs.Filling.{AcceptedPart}
 use Rattle.cells.specs.Cells.{stepAt}
 use Rattle.columns.specs.Filling.{Small}
 

@@ -16,7 +16,7 @@ ghost use Rattle.columns.specs.Outputs.{SameColumn, Told, Worth, Wide};
 use basics::index;
 use machine::Arc;
 use machine::sets;
-use steps::NO_STEP;
+use tables::NO_STEP;
 
 // The places of a column: one for each state of each machine.
 pub fn width_of(counts: &[u8]) -> usize

@@ -11,7 +11,7 @@ use lib.Dec.{eqb}
 use lib.ListN.{length, getD, set, length-set, length-map, List·getD-eq-default}
 use lib.Seq.{getD-set-same, getD-set-other}
 use Rattle.card.specs.Card.{machinesOf}
-use Rattle.labels.specs.Work.{stateOf}
+use Rattle.tables.specs.Work.{stateOf}
 use Rattle.paths.specs.Labels.{Closed}
 use Rattle.paths.specs.Costs.{Labels}
 use Rattle.paths.specs.Graph.{Graph}

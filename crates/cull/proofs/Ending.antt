@@ -15,7 +15,7 @@ use Rattle.card.specs.Card.{machinesOf}
 use Rattle.paths.specs.Ranked.{countAt, rankedCosts}
 use Rattle.paths.specs.Graph.{Graph}
 use Rattle.paths.specs.Positions.{Done, Entered}
-use Rattle.labels.specs.Marks.{marksCost}
+use Rattle.tables.specs.Marks.{marksCost}
 use Rattle.product.specs.ProductGraph.{pairs}
 use Rattle.product.specs.Nodes.{stateCounts, product, statesOf}
 use Rattle.product.specs.Codes.{codeEnding}

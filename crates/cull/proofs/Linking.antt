@@ -10,8 +10,8 @@ use Rattle.machine.specs.declared.Pair.{Pair}
 use Rattle.paths.specs.Bounds.{Sized}
 use Rattle.paths.specs.Ranked.{Ranked, letterCount, countAt, rankedCosts, countAt-add}
 use Rattle.paths.specs.Graph.{Edge, Graph, pathCost, Run, run→cost, cost→run}
-use Rattle.labels.specs.Marks.{marksCost}
-use Rattle.labels.specs.MarksLaws.{nibbles-letters}
+use Rattle.tables.specs.Marks.{marksCost}
+use Rattle.tables.specs.MarksLaws.{nibbles-letters}
 use Rattle.product.specs.ProductGraph.{pairs}
 use Rattle.tables.specs.Endings.{withoutPairs, endingCost}
 use Rattle.tables.specs.Laws.Edges.{edgeFrom}

@@ -4,7 +4,7 @@ use Prim.Native.Nat.{ℕ, _/_, _%_}
 use native.Mathlib.Omega.{arith}
 use native.Mathlib.Nat.{div-one}
 use Rattle.paths.specs.Ranked.{countAt}
-use Rattle.labels.specs.Marks.{nibbles, marksCost}
+use Rattle.tables.specs.Marks.{nibbles, marksCost}
 
 module _ (e : ℕ) {i : ℕ} where
   pub first-marks : i ≡ 0 → e / 1048576 ≡ countAt 6 i (marksCost e)

@@ -11,8 +11,8 @@ use Rattle.paths.specs.Bounds.{Sized}
 use Rattle.paths.specs.Ranked.{Ranked, letterCount, countAt, rankedCosts, countAt-add}
 use Rattle.paths.specs.Graph.{Graph, run→cost, cost→run}
 use Rattle.paths.specs.Labels.{Closed, Attained, run-lower-bound, held→run}
-use Rattle.labels.specs.Work.{stateOf, costAt, labelOf}
-use Rattle.labels.proofs.Work.{labelled, unlabelled}
+use Rattle.tables.specs.Work.{stateOf, costAt, labelOf}
+use Rattle.tables.proofs.Work.{labelled, unlabelled}
 use Rattle.product.specs.ProductGraph.{pairs}
 use Rattle.cull.specs.Cull.{left, FewestBelow, places, survivors, way-left}
 use Rattle.cull.specs.Left.{left-same, fewest-same}

@@ -21,7 +21,7 @@ use Rattle.paths.specs.Labels.{Attained}
 use Rattle.paths.specs.Bounds.{attained-size, attained-count-size}
 use Rattle.paths.specs.Settling.{Settling}
 use Rattle.paths.specs.Positions.{Done, Entering, Entered, position-done}
-use Rattle.labels.specs.Marks.{marksCost}
+use Rattle.tables.specs.Marks.{marksCost}
 use Rattle.product.specs.ProductGraph.{pairs, Move}
 use Rattle.product.specs.Codes.{codeStep}
 use Rattle.tables.specs.Places.{sixPlaces, markNumber}

@@ -12,7 +12,7 @@ use Rattle.paths.specs.Ranked.{Ranked, Less, countAt, rankedCosts, less-total}
 use Rattle.paths.specs.Graph.{Graph, pathCost, run→cost}
 use Rattle.paths.specs.Labels.{Attained, held→run}
 use Rattle.paths.specs.Improvement.{Falls, improves-falls}
-use Rattle.labels.specs.Marks.{marksCost}
+use Rattle.tables.specs.Marks.{marksCost}
 use Rattle.product.specs.ProductGraph.{pairs}
 use Rattle.cull.specs.StageLabels.{countOf, stageLabel, total}
 use Rattle.cull.specs.Relaxation.{Relaxes, Only, relaxes-gone, relaxes-unlabelled, relaxes-edge}

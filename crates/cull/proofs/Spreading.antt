@@ -14,7 +14,7 @@ use Rattle.paths.specs.Ranked.{Ranked, Less, countAt, rankedCosts, less-total}
 use Rattle.paths.specs.Graph.{Graph, run→cost}
 use Rattle.paths.specs.Labels.{Attained, held→run}
 use Rattle.paths.specs.Improvement.{Improves, Falls, improves-upto, improve-edge}
-use Rattle.labels.specs.Marks.{marksCost}
+use Rattle.tables.specs.Marks.{marksCost}
 use Rattle.product.specs.ProductGraph.{pairs}
 use Rattle.settling.specs.Insertions.{codeIn, marksIn, isListed}
 use Rattle.settling.specs.OpenCodes.{isOpen, OneMore, OneLess}

@@ -14,9 +14,9 @@ use borrow.Author.Tests.{eqb-true, eq-eqb, ne-eqb, ltb-true, ltb-false}
 use Rattle.paths.specs.Total.{Upto}
 use Rattle.paths.specs.Costs.{AtMost, Above, kept, lowered, above-none, above-some}
 use Rattle.paths.specs.Ranked.{Ranked, Less, countAt}
-use Rattle.labels.specs.Marks.{marksCost}
-use Rattle.labels.specs.MarksLaws.{nibbles-most}
-use Rattle.labels.specs.Work.{stateOf}
+use Rattle.tables.specs.Marks.{marksCost}
+use Rattle.tables.specs.MarksLaws.{nibbles-most}
+use Rattle.tables.specs.Work.{stateOf}
 use Rattle.cull.specs.Below.{Below, below-none}
 use Rattle.cull.specs.StageLabels.{countOf, pairCountOf, stageLabel}
 use Rattle.cull.specs.Relaxing.{Makes, countsOf, LeftTold, Compared, Written, Lowered, ArcPre, ArcTried}

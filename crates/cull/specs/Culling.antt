@@ -11,7 +11,7 @@ use Rattle.paths.specs.Graph.{Graph}
 use Rattle.paths.specs.Costs.{Labels}
 use Rattle.paths.specs.Positions.{Done, Entering, Entered}
 use Rattle.paths.specs.Ranked.{letterCount, countAt, rankedCosts}
-use Rattle.labels.specs.Work.{stateOf}
+use Rattle.tables.specs.Work.{stateOf}
 use Rattle.product.specs.Nodes.{stateCounts}
 use Rattle.product.specs.ProductGraph.{pairs}
 use Rattle.product.specs.Laws.Edges.{product-sized}

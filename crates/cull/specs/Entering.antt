@@ -12,7 +12,7 @@ use Rattle.card.specs.Card.{machinesOf}
 use Rattle.paths.specs.Ranked.{Ranked, countAt, rankedCosts}
 use Rattle.paths.specs.Graph.{Graph}
 use Rattle.paths.specs.Labels.{Attained}
-use Rattle.labels.specs.Marks.{marksCost}
+use Rattle.tables.specs.Marks.{marksCost}
 use Rattle.product.specs.ProductGraph.{pairs}
 use Rattle.tables.specs.Places.{sixPlaces, SixPlaces}
 use Rattle.tables.specs.JointNumbers.{jointFrom}

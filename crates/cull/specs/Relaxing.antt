@@ -11,8 +11,8 @@ use Rattle.paths.specs.Costs.{AtMost, Above}
 use Rattle.paths.specs.Ranked.{Ranked, Less, countAt, rankedCosts}
 use Rattle.paths.specs.Graph.{Edge, Graph, pathCost}
 use Rattle.paths.specs.Improvement.{Improves}
-use Rattle.labels.specs.Marks.{marksCost}
-use Rattle.labels.specs.Work.{HasNode}
+use Rattle.tables.specs.Marks.{marksCost}
+use Rattle.tables.specs.Work.{HasNode}
 use Rattle.product.specs.ProductGraph.{pairs}
 use Rattle.cull.specs.Below.{Below}
 use Rattle.cull.specs.StageLabels.{countOf, stageLabel, total}

@@ -12,8 +12,8 @@ use Rattle.paths.specs.Ranked.{Ranked, Less, countAt, rankedCosts}
 use Rattle.paths.specs.Graph.{Graph, pathCost}
 use Rattle.paths.specs.Labels.{Attained}
 use Rattle.paths.specs.Improvement.{Falls}
-use Rattle.labels.specs.Marks.{marksCost}
-use Rattle.labels.specs.Work.{stateOf, HasNode}
+use Rattle.tables.specs.Marks.{marksCost}
+use Rattle.tables.specs.Work.{stateOf, HasNode}
 use Rattle.product.specs.ProductGraph.{pairs}
 use Rattle.basics.specs.Sets.{member}
 use Rattle.settling.specs.Insertions.{codeIn, marksIn, isListed}

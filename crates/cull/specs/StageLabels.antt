@@ -7,7 +7,7 @@ use Prim.Native.Nat.{ℕ, zero, suc, _+_, _*_}
 use lib.Dec.{eqb}
 use lib.ListN.{getD}
 use Rattle.paths.specs.Ranked.{Ranked}
-use Rattle.labels.specs.Work.{stateOf}
+use Rattle.tables.specs.Work.{stateOf}
 use Rattle.cull.specs.OneConstraint.{stageMarks}
 
 abbrev pub countOf : List ℕ → ℕ → ℕ → ℕ

@@ -7,9 +7,9 @@ use native.Mathlib.Omega.{arith}
 use lib.ListN.{length, set, length-set}
 use lib.Seq.{getD-set-same, getD-set-other}
 use Rattle.paths.specs.Ranked.{Ranked}
-use Rattle.labels.specs.Work.{labelOf, AlikeAt, Stored}
-use Rattle.labels.specs.LabelCost.{AllShort}
-use Rattle.labels.proofs.Work.{labelled, unlabelled, label-alike, alike-numbers}
+use Rattle.tables.specs.Work.{labelOf, AlikeAt, Stored}
+use Rattle.tables.specs.LabelCost.{AllShort}
+use Rattle.tables.proofs.Work.{labelled, unlabelled, label-alike, alike-numbers}
 use Rattle.settling.specs.Packing.{packedPath}
 use Rattle.cells.specs.declared.Cell.{Cell}
 use Rattle.cells.specs.Cells.{nowhere}

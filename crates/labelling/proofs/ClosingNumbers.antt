@@ -14,8 +14,8 @@ use Rattle.cells.specs.Cells.{nowhere}
 use Rattle.cells.specs.Labels.{cellAt}
 use Rattle.cells.specs.Trying.{labelFrom}
 use Rattle.cells.specs.Laws.Trying.{label-there, label-none}
-use Rattle.sums.specs.Numbers as numbers
-use Rattle.sums.proofs.Numbers as sums
+use Rattle.tables.specs.SumLabels as numbers
+use Rattle.tables.proofs.SumLabels as sums
 use Rattle.labelling.specs.Closing.{numberOf, NumbersPre, NumbersClosed}
 use Rattle.labelling.proofs.Writing.{written-start, written-next}
 

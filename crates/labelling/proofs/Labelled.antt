@@ -14,9 +14,9 @@ use Rattle.paths.specs.Positions.{Done, done-start}
 use Rattle.product.specs.Setting.{placeOf, Setting}
 use Rattle.product.specs.Laws.Setting.{place-low, place-high}
 use Rattle.product.specs.Laws.Letters.{over-positioned, priced-over}
-use Rattle.labels.proofs.Work.{past-end}
-use Rattle.sums.specs.Numbers as numbers
-use Rattle.sums.proofs.Numbers.{label-none}
+use Rattle.tables.proofs.Work.{past-end}
+use Rattle.tables.specs.SumLabels as numbers
+use Rattle.tables.proofs.SumLabels.{label-none}
 use Rattle.settling.specs.Packing.{packedPath}
 use Rattle.cells.specs.Labels.{cellAt, nextCell}
 use Rattle.cells.specs.Trying.{labelFrom, cellPrice}

@@ -8,9 +8,9 @@ use Prim.Native.Nat.{ℕ, _+_, _*_, _/_, _%_, _^_, _<_, _≤_}
 use lib.Dec.{ltb}
 use lib.ListN.{length}
 use Rattle.paths.specs.Ranked.{Ranked}
-use Rattle.labels.specs.Work.{HasNodes, labelOf}
-use Rattle.labels.specs.LabelCost.{AllShort}
-use Rattle.sums.specs.Numbers as numbers
+use Rattle.tables.specs.Work.{HasNodes, labelOf}
+use Rattle.tables.specs.LabelCost.{AllShort}
+use Rattle.tables.specs.SumLabels as numbers
 use Rattle.settling.specs.Packing.{packedPath}
 use Rattle.cells.specs.declared.Cell.{Cell}
 use Rattle.cells.specs.Cells.{nowhere}

@@ -4,7 +4,7 @@ use mathlib.Core.Logic.{inl, inr}
 use Prim.Native.Nat.{ℕ, zero, suc, _+_, _*_}
 use native.Mathlib.Omega.{arith}
 use Rattle.paths.specs.Ranked.{Ranked, add, Less, rankedCosts}
-use Rattle.labels.specs.LabelCost.{AllShort}
+use Rattle.tables.specs.LabelCost.{AllShort}
 use Rattle.settling.specs.Packing.{Packing}
 
 abbrev pub firstCounts : Ranked 6 → ℕ

@@ -15,7 +15,7 @@ use Rattle.paths.specs.Labels.{Attained}
 use Rattle.paths.specs.Positions.{Done}
 use Rattle.product.specs.Nodes.{stateCounts}
 use Rattle.product.specs.Setting.{placeOf, Setting}
-use Rattle.labels.specs.Work.{labelOf}
+use Rattle.tables.specs.Work.{labelOf}
 use Rattle.tables.specs.Engine.{engineGraph}
 use Rattle.tables.specs.Places.{SixPlaces}
 use Rattle.settling.specs.Prices.{SixWeights, RankedIf, mostPrice}

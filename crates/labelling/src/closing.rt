@@ -1,7 +1,7 @@
 // Closing a position: its labels are written into a work slice, as ranked counts or as one number, and become those of the next position.
 ghost use mathlib.Core.Path.{_≡_};
 ghost use Prim.Native.Nat.{_^_, _<_};
-ghost use Rattle.labels.specs.Work.{HasNode};
+ghost use Rattle.tables.specs.Work.{HasNode};
 ghost use Rattle.cells.specs.Cells.{nowhere};
 ghost use Rattle.labelling.specs.Closing.{orNone, numberOf, CountsPre, CountsClosed, NumbersPre, NumbersClosed, CountsStored, PassPre, Passed, PassAllPre, AllPassed};
 use cells::Cell;
@@ -96,7 +96,7 @@ fn number_of(high: u64, low: u64) -> u64
     ensures { λ r. ⌜ r ≡ numberOf (record { high = high; low = low }) ⌝ }
 {
     if NOWHERE <= high {
-        return sums::NO_LABEL;
+        return tables::NO_SUM;
     }
     high / 256 * 4096 + low
 }

@@ -10,8 +10,8 @@ use Rattle.ranking.specs.Profiles.{zeroProfile}
 use Rattle.ranking.specs.Lemmas.Rankings.{Ranking, ranking-facts, place-of, place-unique}
 use Rattle.paths.specs.Ranked.{countAt}
 use Rattle.paths.specs.ByRanking.{ranked-count}
-use Rattle.labels.specs.declared.Label.{Label}
-use Rattle.labels.specs.LabelCost.{costOf}
+use Rattle.tables.specs.declared.labels.Label.{Label}
+use Rattle.tables.specs.LabelCost.{costOf}
 use Rattle.tables.specs.Places.{sixPlaces}
 use Rattle.tables.specs.Laws.Harmony.{any-default}
 use Rattle.optimizer.specs.Telling.{RankingOfSome, CardOrder}

@@ -17,8 +17,8 @@ use Rattle.product.specs.Sets.{singletons, bestOfSets}
 use Rattle.product.specs.SetsTheorem.{best-of-one-word}
 use Rattle.paths.specs.Ranked.{Ranked}
 use Rattle.paths.specs.Labels.{Closed, Attained}
-use Rattle.labels.specs.Work.{labelOf, costAt}
-use Rattle.labels.proofs.Work.{holds}
+use Rattle.tables.specs.Work.{labelOf, costAt}
+use Rattle.tables.proofs.Work.{holds}
 use Rattle.product.specs.ProductGraph.{cardStart}
 use Rattle.product.specs.Laws.Accepted.{accepted-machines}
 use Rattle.product.specs.Laws.BestCandidate.{profile-length}

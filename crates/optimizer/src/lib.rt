@@ -6,7 +6,7 @@ ghost use Rattle.product.specs.Best.{best};
 ghost use Rattle.product.specs.Sets.{bestOfSets};
 ghost use Rattle.candidate.specs.Candidates.{isSome};
 ghost use Rattle.product.specs.Optimizing.{inputRefusal};
-ghost use Rattle.labels.specs.LabelCost.{costOf};
+ghost use Rattle.tables.specs.LabelCost.{costOf};
 ghost use Rattle.grid.specs.Grids.{GridOf};
 ghost use Rattle.optimizer.specs.Optimizes.{Optimizes, OptimizesSets};
 ghost use Rattle.readout.specs.Searching.{SetsPre, SearchPre, Searched};
@@ -15,7 +15,7 @@ use basics::index;
 use candidate::Evaluation;
 use candidate::refused;
 use grid::Grid;
-use labels::Label;
+use tables::labels::Label;
 use ranking::Profile;
 use refusals::Checked;
 
@@ -82,7 +82,7 @@ fn label_sets(card: &[u8], grid: Grid, ranking: &[u8], sets: &[u64], work: &mut 
     ensures { λ r. ⌜ TellsBest (bestOfSets (now (card .entry)) (now (ranking .entry)) (now (sets .entry))) (now (work .entry)) (now (work .exit)) r ⌝ }
 {
     labelling::label(work, card, grid, ranking, sets);
-    let label = labels::load(work, readout::start_node(card, grid));
+    let label = tables::labels::load(work, readout::start_node(card, grid));
     profile_of(label, ranking)
 }
 

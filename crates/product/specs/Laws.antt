@@ -23,3 +23,6 @@ pub mod Best
 pub mod BestCandidate
 pub mod BestOfSets
 pub mod SymbolSets
+-- sums of weights
+pub mod Sums
+pub mod SoundWeights

@@ -12,6 +12,9 @@ pub mod Answering
 pub mod Optimizing
 pub mod OptimizingSets
 pub mod BestCandidate
+-- definitions of Harmonic Grammar: constraints have weights, and sums are compared
+pub mod Weights
+pub mod Dominance
 -- lemmas
 pub mod Laws
 -- theorems
@@ -22,3 +25,8 @@ pub mod Searches
 pub mod CountsFit
 pub mod OneSymbolEach
 pub mod LabelTheorem
+-- theorems by weights
+pub mod DominanceTheorem
+pub mod WeightedPaths
+pub mod WeightedGraph
+pub mod SmallLabels

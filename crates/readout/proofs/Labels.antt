@@ -11,8 +11,8 @@ use Rattle.refusals.proofs.Refusals.{passed}
 use Rattle.candidate.specs.Candidates.{isSome}
 use Rattle.paths.specs.Ranked.{Ranked, letterCount}
 use Rattle.product.specs.ProductGraph.{cardStart}
-use Rattle.labels.specs.Work.{labelOf, costAt}
-use Rattle.labels.proofs.Work.{holds}
+use Rattle.tables.specs.Work.{labelOf, costAt}
+use Rattle.tables.proofs.Work.{holds}
 use Rattle.readout.specs.Searching.{labelRefusal, StartFits}
 
 -- 10 is the first refusal

@@ -19,7 +19,7 @@ use Rattle.product.specs.Answering.{callRefusal, evaluationOf, filled}
 use Rattle.paths.specs.Ranked.{Ranked, letterCount}
 use Rattle.paths.specs.ByRanking.{ranked-letters}
 use Rattle.paths.specs.Labels.{Closed, Attained}
-use Rattle.labels.specs.Work.{HasNode, labelOf, costAt}
+use Rattle.tables.specs.Work.{HasNode, labelOf, costAt}
 use Rattle.product.specs.ProductGraph.{cardStart}
 use Rattle.product.specs.Prices.{ranking-agrees}
 use Rattle.product.specs.CountsFit.{best-of-sets-is-small}

@@ -13,7 +13,7 @@ use Rattle.paths.specs.Ranked.{rankedCosts}
 use Rattle.product.specs.Nodes.{product, stateCounts}
 use Rattle.product.specs.ProductGraph.{cardStart}
 use Rattle.product.specs.Setting.{Setting}
-use Rattle.labels.specs.Work.{costAt}
+use Rattle.tables.specs.Work.{costAt}
 use Rattle.tables.specs.Places.{sixPlaces}
 use Rattle.tables.proofs.Prefix.{front-is, front-length}
 use Rattle.cells.specs.Columns.{WeightsOf}

@@ -19,7 +19,7 @@ use Rattle.product.specs.Nodes.{product, stateCounts}
 use Rattle.product.specs.ProductGraph.{cardStart}
 use Rattle.product.specs.Setting.{Setting}
 use Rattle.product.specs.Laws.BestOfSets.{are64Bits}
-use Rattle.labels.specs.Work.{labelOf, costAt}
+use Rattle.tables.specs.Work.{labelOf, costAt}
 use Rattle.labelling.specs.Labelling.{PositionsDone}
 
 -- accepted sets, all of them 64-bit numbers, with just the room for the nodes in the work slice

@@ -4,9 +4,9 @@ ghost use Prim.Native.Nat.{_*_};
 ghost use lib.Dec.{leb};
 ghost use Rattle.refusals.specs.Refusals.{refuse, checkedNumber};
 ghost use Rattle.candidate.specs.Candidates.{isSome};
-ghost use Rattle.labels.specs.Work.{HasNode, labelOf};
+ghost use Rattle.tables.specs.Work.{HasNode, labelOf};
 ghost use Rattle.readout.specs.Searching.{labelRefusal};
-use labels::Label;
+use tables::labels::Label;
 use refusals::Checked;
 use refusals::Refusal;
 
@@ -15,7 +15,7 @@ fn check_found(work: &[u16], start: usize) -> Checked
     requires { ⌜ HasNode (now work) start ⌝ }
     ensures { λ r. ⌜ checkedNumber r ≡ refuse 10 (isSome (labelOf (now (work .entry)) start)) ⌝ }
 {
-    if !labels::reached(work, start) {
+    if !tables::labels::reached(work, start) {
         return Checked::Refused(Refusal::NoCandidate);
     }
     Checked::Passed
@@ -40,6 +40,6 @@ pub fn check_best(work: &[u16], start: usize, room: usize) -> Checked
     let Checked::Passed = answer else {
         return answer;
     };
-    let label = labels::load(work, start);
+    let label = tables::labels::load(work, start);
     check_answer(label, room)
 }

@@ -4,7 +4,7 @@ ghost use lib.ListN.{length};
 ghost use Rattle.card.specs.Card.{cardRefusal};
 ghost use Rattle.product.specs.Sets.{bestOfSets};
 ghost use Rattle.product.specs.ProductGraph.{cardStart};
-ghost use Rattle.labels.specs.Work.{costAt};
+ghost use Rattle.tables.specs.Work.{costAt};
 ghost use Rattle.labelling.specs.Labelling.{PositionsDone};
 ghost use Rattle.walk.specs.RankedBest.{RankedWalked};
 ghost use Rattle.grid.specs.Grids.{GridOf};

@@ -9,8 +9,8 @@ use Rattle.machine.specs.Machine.{Machine, noMachine, stepOf}
 use Rattle.product.specs.Nodes.{stateCountOf, stateCounts, product, statesOf}
 use Rattle.product.specs.Laws.Nodes.{Below, states-below}
 use Rattle.product.specs.Laws.JointStep.{Sound, AllSound, all-none, all-next, counts-positive}
-use Rattle.steps.specs.StepTable.{machineAt}
-use Rattle.steps.proofs.Codes.{SmallStep}
+use Rattle.tables.specs.StepTable.{machineAt}
+use Rattle.tables.proofs.Codes.{SmallStep}
 use Rattle.tables.specs.Tables.{CardMachines}
 
 pub sound-at : {S : ℕ} {ms : List Machine} → AllSound S ms → (m : ℕ) → m < length ms → Sound S (machineAt ms m)

@@ -2,7 +2,7 @@
 use mathlib.Core.Option.{Option, some, none}
 use Prim.Native.Nat.{ℕ, zero, suc}
 use Rattle.paths.specs.Ranked.{Ranked}
-use Rattle.labels.specs.Marks.{marksCost}
+use Rattle.tables.specs.Marks.{marksCost}
 
 -- a cost with no pair
 abbrev pub withoutPairs : (k : ℕ) → Ranked k → Ranked k

@@ -4,7 +4,7 @@ use mathlib.Core.List.{List, [], _∷_}
 use Prim.Native.Nat.{ℕ, _<_}
 use lib.ListN.{length, getD}
 use Rattle.paths.specs.ByRanking.{ranked}
-use Rattle.labels.specs.Marks.{fromNibbles}
+use Rattle.tables.specs.Marks.{fromNibbles}
 
 -- a ranking of at most six machines as six places, highest first; past the last machine the place 6, at which no profile has a count
 abbrev pub sixPlaces : List ℕ → List ℕ

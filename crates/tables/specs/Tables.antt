@@ -6,7 +6,7 @@ use lib.ListN.{length}
 use Rattle.machine.specs.Machine.{Machine}
 use Rattle.product.specs.Nodes.{stateCountOf, stateCounts, product}
 use Rattle.product.specs.Laws.JointStep.{AllSound}
-use Rattle.steps.specs.StepTable.{machineAt}
+use Rattle.tables.specs.StepTable.{machineAt}
 
 -- machines as an accepted card of S symbols has them: one to six, sound, each of at most 32 states, with at most 128 joint states
 pub record CardMachines (S : ℕ) (ms : List Machine) : Type 0 where

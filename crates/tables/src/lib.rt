@@ -1,4 +1,5 @@
-// The state counts of a card's machines, the number of joint states, the start node; a ranking as six places.
+// What the search writes down: steps and labels as numbers; the state counts of a card's machines, the number of joint states, the start node; a
+// ranking as six places.
 ghost use mathlib.Core.Path.{_≡_};
 ghost use mathlib.Core.List.{List};
 ghost use lib.ListN.{getD, take};
@@ -11,6 +12,14 @@ ghost use Rattle.tables.specs.Places.{sixPlaces};
 ghost use Rattle.tables.specs.Tables.{CountsOfSome};
 use basics::index;
 use machine::Position;
+
+pub mod labels; // labels.rt: labels of nodes in a lent slice
+
+// The number of a pair that no arc takes.
+pub const NO_STEP: u16 = 65535;
+
+// In the place of a node's label by sums: it has none.
+pub const NO_SUM: u64 = 18446744073709551615;
 
 // The state counts of an accepted card's machines; places from K on are 0.
 pub fn state_counts(card: &[u8]) -> [u8; 6]

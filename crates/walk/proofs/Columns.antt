@@ -19,7 +19,7 @@ use Rattle.product.specs.Codes.{coded, codeStep}
 use Rattle.product.specs.Laws.Nodes.{product-positive}
 use Rattle.product.specs.Laws.JointStep.{Sound, AllSound, all-none, all-next, counts-positive}
 use Rattle.product.specs.Laws.Codes.{withFirst}
-use Rattle.steps.specs.StepTable.{stepCode, machineAt}
+use Rattle.tables.specs.StepTable.{stepCode, machineAt}
 use Rattle.tables.specs.Tables.{CardMachines}
 use Rattle.tables.proofs.Machines.{counts-length}
 use Rattle.cells.specs.Cells.{nowhere, highCell, lowCell, scaleOf, highOf, lowOf, stepAt, highAt, lowAt}

@@ -13,7 +13,7 @@ use Rattle.card.specs.Layout.{machineCount}
 use Rattle.card.specs.Card.{machinesOf}
 use Rattle.card.specs.Laws.Machines.{length-machines}
 use Rattle.product.specs.JointStep.{andThose, ofEach, jointEnding}
-use Rattle.steps.specs.StepTable.{machineAt}
+use Rattle.tables.specs.StepTable.{machineAt}
 use Rattle.tables.specs.Laws.Cards.{card-machines}
 use Rattle.walk.specs.Walking.{EndsPre, EndingAdded}
 

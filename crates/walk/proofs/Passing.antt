@@ -27,7 +27,7 @@ use Rattle.product.specs.Codes.{coded, codeStep}
 use Rattle.product.specs.Laws.Codes.{pricedStep, insertion-edge, symbol-edge}
 use Rattle.product.specs.Laws.Sets.{member-within}
 use Rattle.product.specs.Laws.LeastPair.{Finding, finding-start, first-is-least, finding-next}
-use Rattle.steps.specs.StepTable.{stepCode, machineAt}
+use Rattle.tables.specs.StepTable.{stepCode, machineAt}
 use Rattle.tables.specs.Tables.{CardMachines}
 use Rattle.tables.specs.Laws.Cards.{card-machines}
 use Rattle.tables.proofs.Machines.{counts-length, count-at, code-states, below-at}

@@ -7,10 +7,10 @@ use mathlib.Core.List.{List}
 use Prim.Native.Nat.{ℕ, _+_, _*_, _/_, _%_, _<_}
 use lib.Dec.{eqb, ltb}
 use lib.ListN.{length, getD}
-use Rattle.labels.specs.Work.{HasNode, stateOf, costAt}
+use Rattle.tables.specs.Work.{HasNode, stateOf, costAt}
 use Rattle.cells.specs.declared.Cell.{Cell}
 use Rattle.cells.specs.Labels.{noLabel}
-use Rattle.sums.specs.Numbers.{noLabel as noSum}
+use Rattle.tables.specs.SumLabels.{noLabel as noSum}
 use Rattle.labelling.specs.CountsPacking.{firstCounts, lastCounts}
 
 -- the cell of no label

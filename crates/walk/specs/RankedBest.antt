@@ -24,8 +24,8 @@ use Rattle.paths.specs.Positions.{Done}
 use Rattle.product.specs.Nodes.{product, stateCounts}
 use Rattle.product.specs.ProductGraph.{pairs, cardStart}
 use Rattle.product.specs.Setting.{placeOf, Setting}
-use Rattle.labels.specs.LabelCost.{AllShort}
-use Rattle.labels.specs.Work.{stateOf, costAt, labelOf}
+use Rattle.tables.specs.LabelCost.{AllShort}
+use Rattle.tables.specs.Work.{stateOf, costAt, labelOf}
 use Rattle.tables.specs.Engine.{engineGraph}
 use Rattle.tables.specs.Places.{sixPlaces}
 use Rattle.tables.specs.Laws.Cards.{card-machines}

@@ -4,7 +4,7 @@ ghost use mathlib.Core.Bool.{true, false};
 ghost use Prim.Native.Nat.{_*_, _+_, _^_, _<_, _≤_};
 ghost use lib.ListN.{length};
 ghost use Rattle.columns.specs.Filling.{Small};
-ghost use Rattle.labels.specs.Work.{HasNode};
+ghost use Rattle.tables.specs.Work.{HasNode};
 ghost use Rattle.walk.specs.Labels.{countsCell, sumCell, cellOf, HasLabel};
 ghost use Rattle.walk.specs.Places.{PlacesPre, Placed, ColumnsPre, WeightsFit, JointAt, MarksPre, MarksAdded, MovedPre, Moved};
 ghost use Rattle.walk.specs.Keeping.{KeepsBy, KeepsPre, LeastPre, LeastOf};
@@ -12,8 +12,8 @@ use basics::index;
 use cells::Cell;
 use cells::NOWHERE;
 use machine::sets;
-use steps::NO_STEP;
-use sums::NO_LABEL as NO_SUM;
+use tables::NO_STEP;
+use tables::NO_SUM;
 
 // The high number of a code that has no label.
 const NO_LABEL: u64 = NOWHERE + 255;

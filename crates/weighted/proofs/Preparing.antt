@@ -30,9 +30,9 @@ use Rattle.insertions.specs.RankedWeights.{RankedWeights}
 use Rattle.entering.specs.Entering.{cellGraph}
 use Rattle.labelling.specs.Labelling.{OrderPre, SearchPre, AllLabelled}
 use Rattle.labelling.proofs.Sizes.{counts-are, counts-length, machines-few}
-use Rattle.sums.specs.Weights.{soundWeights}
-use Rattle.sums.specs.Numbers.{labelOf}
-use Rattle.sums.specs.Labelling.{AllDone}
+use Rattle.product.specs.Weights.{soundWeights}
+use Rattle.tables.specs.SumLabels.{labelOf}
+use Rattle.tables.specs.SumsDone.{AllDone}
 use Rattle.weighted.specs.WeighsBy.{WeighsBy}
 use Rattle.weighted.specs.Labelling.{LabelPre}
 use Rattle.weighted.specs.Laws.Sound.{Sound, sound-are}

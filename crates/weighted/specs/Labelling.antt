@@ -6,7 +6,7 @@ use Prim.Native.Nat.{ℕ, _+_, _*_}
 use lib.ListN.{length}
 use Rattle.card.specs.Layout.{machineCount}
 use Rattle.product.specs.Setting.{Setting}
-use Rattle.sums.specs.Weights.{soundWeights}
+use Rattle.product.specs.Weights.{soundWeights}
 
 -- what labelling needs
 pub record LabelPre (card weights sets work : List ℕ) (P : ℕ) : Type 0 where

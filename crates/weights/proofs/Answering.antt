@@ -19,9 +19,9 @@ use Rattle.product.specs.Laws.BestOfSets.{singletons-64}
 use Rattle.input.proofs.Words.{all-small, of-sets}
 use Rattle.readout.proofs.Words.{length-alike}
 use Rattle.optimizer.proofs.Answers as ranked
-use Rattle.sums.specs.Weights.{bySum, bestByWeights}
-use Rattle.sums.specs.WeightedPaths.{weights-agree}
-use Rattle.sums.specs.Labelling.{AllDone}
+use Rattle.product.specs.Weights.{bySum, bestByWeights}
+use Rattle.product.specs.WeightedPaths.{weights-agree}
+use Rattle.tables.specs.SumsDone.{AllDone}
 use Rattle.weights.specs.declared.Weighing.{Weighing}
 use Rattle.weights.specs.Weighing.{weightedRefusal, refusedWeighing, answeredSum}
 use Rattle.weights.specs.Accepting.{accepts}

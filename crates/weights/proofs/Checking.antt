@@ -17,7 +17,7 @@ use Rattle.grid.specs.declared.Grid.{Grid}
 use Rattle.grid.specs.Grids.{GridOf}
 use Rattle.input.specs.AcceptedInput.{short-word}
 use Rattle.input.proofs.Nodes.{few-nodes, few-sizes}
-use Rattle.sums.specs.Weights.{soundWeights}
+use Rattle.product.specs.Weights.{soundWeights}
 use Rattle.weights.specs.Accepting.{Accepts}
 
 -- ---- weights

@@ -35,11 +35,11 @@ use Rattle.product.specs.Laws.CardGraph.{start-within}
 use Rattle.product.specs.Laws.Setting.{few-nodes}
 use Rattle.cells.specs.Columns.{WeightsOf}
 use Rattle.readout.proofs.Searched.{search-refused, search-found}
-use Rattle.sums.specs.Weights.{weightedSum, bySum}
-use Rattle.sums.specs.WeightedPaths.{byWeights, weights-agree, weightedGraph}
-use Rattle.sums.specs.SmallLabels.{label-small}
-use Rattle.sums.specs.Numbers.{noLabel, costOf, labelFrom, labelOf}
-use Rattle.sums.proofs.Numbers.{label-at, label-some, label-none}
+use Rattle.product.specs.Weights.{weightedSum, bySum}
+use Rattle.product.specs.WeightedPaths.{byWeights, weights-agree, weightedGraph}
+use Rattle.product.specs.SmallLabels.{label-small}
+use Rattle.tables.specs.SumLabels.{noLabel, costOf, labelFrom, labelOf}
+use Rattle.tables.proofs.SumLabels.{label-at, label-some, label-none}
 use Rattle.weighted.specs.WeighsBy.{WeighsBy}
 use Rattle.weighted.specs.Labelling.{LabelPre}
 use Rattle.walk.specs.declared.Written.{Written}

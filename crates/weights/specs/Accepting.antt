@@ -12,7 +12,7 @@ use Rattle.card.specs.Card.{cardRefusal, machinesOf}
 use Rattle.product.specs.Nodes.{nodeCount}
 use Rattle.product.specs.Optimizing.{soundWord}
 use Rattle.input.specs.AcceptedInput.{passes}
-use Rattle.sums.specs.Weights.{soundWeights}
+use Rattle.product.specs.Weights.{soundWeights}
 use Rattle.weights.specs.Weighing.{weightedRefusal}
 
 pub record Accepts (card weights word : List ℕ) (room : ℕ) : Type 0 where

@@ -19,10 +19,10 @@ use Rattle.card.specs.Card.{cardRefusal}
 use Rattle.product.specs.Best.{Contender, best}
 use Rattle.product.specs.Prices.{ranking-agrees}
 use Rattle.product.specs.BestTheorem.{same-best}
-use Rattle.sums.specs.Weights.{bestByWeights}
-use Rattle.sums.specs.Dominance.{Outweighs}
-use Rattle.sums.specs.DominanceTheorem.{dominance}
-use Rattle.sums.specs.WeightedPaths.{weights-agree}
+use Rattle.product.specs.Weights.{bestByWeights}
+use Rattle.product.specs.Dominance.{Outweighs}
+use Rattle.product.specs.DominanceTheorem.{dominance}
+use Rattle.product.specs.WeightedPaths.{weights-agree}
 
 -- the largest of a profile's counts
 unfoldable pub largest : List ℕ → ℕ

@@ -16,8 +16,8 @@ use Rattle.product.specs.Sets.{singletons}
 use Rattle.product.specs.CountsFit.{unbeaten-fit}
 use Rattle.input.specs.AcceptedInput.{short-word}
 use Rattle.optimizer.specs.Demands.{Demands, demanded}
-use Rattle.sums.specs.Weights.{weightedSum, bySum, bestByWeights}
-use Rattle.sums.specs.WeightedPaths.{byWeights, weights-agree}
+use Rattle.product.specs.Weights.{weightedSum, bySum, bestByWeights}
+use Rattle.product.specs.WeightedPaths.{byWeights, weights-agree}
 use Rattle.weights.specs.declared.Weighing.{Weighing}
 use Rattle.weights.specs.Weighing.{weightedRefusal, answeredSum}
 use Rattle.weights.specs.Accepting.{Accepts, accepts}

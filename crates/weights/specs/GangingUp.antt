@@ -24,7 +24,7 @@ use Rattle.ranking.specs.ByteStrings.{smaller}
 use Rattle.ranking.specs.Lemmas.Arrangements.{numbers-distinct, ranking-permuted, permuted-arranged}
 use Rattle.candidate.specs.Candidates.{bytesOf, spelled, marksFrom, isComplete, profileOf}
 use Rattle.product.specs.Best.{Contender, winsTie, preferred, sameWord, pairsOver, listsBelow, contendersAmong, leastOf, bestBelow, bestOf, bestIn, best}
-use Rattle.sums.specs.Weights.{soundWeights, weightedSum, bestByWeights}
+use Rattle.product.specs.Weights.{soundWeights, weightedSum, bestByWeights}
 
 -- an arc from 1 to one out, and a machine of one final state: the marks where 1 is dropped, kept and weakened
 abbrev arc : ℕ → ℕ → List ℕ

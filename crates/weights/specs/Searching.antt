@@ -16,8 +16,8 @@ use Rattle.product.specs.Setting.{Setting}
 use Rattle.product.specs.Laws.BestOfSets.{are64Bits}
 use Rattle.readout.specs.Searching as ranked
 use Rattle.optimizer.specs.Optimizes.{Answers}
-use Rattle.sums.specs.Weights.{soundWeights, bestByWeights}
-use Rattle.sums.specs.Numbers.{noLabel}
+use Rattle.product.specs.Weights.{soundWeights, bestByWeights}
+use Rattle.tables.specs.SumLabels.{noLabel}
 use Rattle.weights.specs.declared.Weighing.{Weighing}
 use Rattle.weights.specs.Weighing.{weightedRefusal, answeredSum, weighed}
 

@@ -11,7 +11,7 @@ use Rattle.product.specs.Nodes.{nodeCount}
 use Rattle.product.specs.Answering.{answered, answeredSlice}
 use Rattle.product.specs.Optimizing.{soundWord}
 use Rattle.optimizer.specs.TwoCalls.{TwoCalls, both-calls, not-9}
-use Rattle.sums.specs.Weights.{soundWeights, bestByWeights}
+use Rattle.product.specs.Weights.{soundWeights, bestByWeights}
 use Rattle.weights.specs.declared.Weighing.{Weighing}
 use Rattle.weights.specs.Weighing.{weightedRefusal, refusedWeighing, answeredSum, answeredWeighing}
 use Rattle.weights.specs.Searching.{Optimizes, is-weighed}

@@ -22,9 +22,9 @@ use Rattle.input.specs.AcceptedInput.{AcceptedInput, accepted-input}
 use Rattle.optimizer.specs.Optimizes as ranked
 use Rattle.optimizer.specs.Demands.{AnswersBest, answered-accepts}
 use Rattle.optimizer.specs.Demand3 as ranked-demand
-use Rattle.sums.specs.Weights.{bestByWeights}
-use Rattle.sums.specs.Dominance.{Outweighs}
-use Rattle.sums.specs.Laws.SoundWeights.{weighs}
+use Rattle.product.specs.Weights.{bestByWeights}
+use Rattle.product.specs.Dominance.{Outweighs}
+use Rattle.product.specs.Laws.SoundWeights.{weighs}
 use Rattle.weights.specs.declared.Weighing.{Weighing}
 use Rattle.weights.specs.WeightedBest.{IsBestByWeights, weighted-best-is-best-of-all}
 use Rattle.weights.specs.Agreement.{largest, agreement}

@@ -11,7 +11,7 @@ use Rattle.product.specs.Nodes.{nodeCount}
 use Rattle.product.specs.Best.{Contender}
 use Rattle.product.specs.Answering.{beforeSearch, callRefusal, answered, answeredSlice}
 use Rattle.product.specs.Optimizing.{soundWord}
-use Rattle.sums.specs.Weights.{soundWeights, weightedSum, bestByWeights}
+use Rattle.product.specs.Weights.{soundWeights, weightedSum, bestByWeights}
 use Rattle.weights.specs.declared.Weighing.{Weighing}
 
 -- the checks before the search, 1 to 6, 26, 8, 9: 0 where card, weights, word and work slice are accepted

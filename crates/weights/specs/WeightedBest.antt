@@ -23,10 +23,10 @@ use Rattle.product.specs.BestCandidate.{IsBestBy, by-profile, by-pairs, by-byte
 use Rattle.product.specs.BestTheorem.{best-in-is-best-of-all}
 use Rattle.product.specs.CountsFit.{SmallBest, best-in-is-small}
 use Rattle.product.specs.Laws.BestCandidate.{best-of-by}
-use Rattle.sums.specs.Weights.{soundWeights, weightedSum, bySum, bestByWeights}
-use Rattle.sums.specs.Laws.Sums.{sum-bound}
-use Rattle.sums.specs.Laws.SoundWeights.{weighs}
-use Rattle.sums.specs.WeightedPaths.{weights-agree}
+use Rattle.product.specs.Weights.{soundWeights, weightedSum, bySum, bestByWeights}
+use Rattle.product.specs.Laws.Sums.{sum-bound}
+use Rattle.product.specs.Laws.SoundWeights.{weighs}
+use Rattle.product.specs.WeightedPaths.{weights-agree}
 
 -- c beats d: it has the smaller sum; or an equal sum and fewer pairs; or an equal sum, as many pairs and the smaller byte string
 pub data BeatsBySum (weights : List ℕ) (ms : List Machine) (c d : List Pair) : Type 0 where

@@ -24,11 +24,11 @@ use Rattle.cells.specs.Labels.{OwnCell}
 use Rattle.cells.specs.Trying.{labelFrom}
 use Rattle.cells.specs.Laws.Trying.{label-there, label-none}
 use Rattle.entering.specs.Entering.{cellGraph}
-use Rattle.sums.specs.Weights.{soundWeights}
-use Rattle.sums.specs.WeightedPaths.{weightedGraph}
-use Rattle.sums.specs.Numbers.{noLabel, costOf, labelOf}
-use Rattle.sums.specs.Numbers as numbers
-use Rattle.sums.proofs.Numbers as sums
+use Rattle.product.specs.Weights.{soundWeights}
+use Rattle.product.specs.WeightedPaths.{weightedGraph}
+use Rattle.tables.specs.SumLabels.{noLabel, costOf, labelOf}
+use Rattle.tables.specs.SumLabels as numbers
+use Rattle.tables.proofs.SumLabels as sums
 use Rattle.weighted.specs.WeighsBy.{WeighsBy}
 use Rattle.weighted.specs.Laws.Sound.{sound-are}
 use Rattle.weighted.specs.Laws.Room.{weighted-room}

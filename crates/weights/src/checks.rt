@@ -7,14 +7,14 @@ ghost use lib.ListN.{length};
 ghost use Rattle.refusals.specs.Refusals.{refuse, firstOf, checkedNumber};
 ghost use Rattle.product.specs.Optimizing.{soundWord};
 ghost use Rattle.input.specs.Readiness.{Readies, FewSizes};
-ghost use Rattle.sums.specs.Weights.{soundWeights};
+ghost use Rattle.product.specs.Weights.{soundWeights};
 ghost use Rattle.weights.specs.Weighing.{weightedRefusal};
 ghost use Rattle.weights.specs.Searching.{numberRefusal};
 use grid::Grid;
 use input::Ready;
 use refusals::Checked;
 use refusals::Refusal;
-use sums::NO_LABEL;
+use tables::NO_SUM;
 
 // The largest weight.
 const LIMIT: u32 = 4000000000;
@@ -72,7 +72,7 @@ pub fn check_input(card: &[u8], weights: &[u32], word: &[u8], room: usize) -> Re
 pub fn check_best(number: u64, room: usize) -> Checked
     ensures { λ r. ⌜ checkedNumber r ≡ numberRefusal number room ⌝ }
 {
-    if number >= NO_LABEL {
+    if number >= NO_SUM {
         return Checked::Refused(Refusal::NoCandidate);
     }
     if room / 2 < (number % 4096) as usize {

@@ -5,7 +5,7 @@ use lib.ListN.{length, getD}
 use Rattle.card.specs.Card.{machinesOf}
 use Rattle.card.specs.Laws.Machines.{machine-at}
 use Rattle.machine.specs.Machine.{noMachine}
-use Rattle.steps.specs.StepTable.{machineAt}
+use Rattle.tables.specs.StepTable.{machineAt}
 use Rattle.columns.specs.AtHand.{StateFilled}
 use Rattle.columns.proofs.AtHand.{AtHandTo, hand-start, machine-there, state-pre, hand-next, hand-end}
 use Rattle.columns.proofs.fill_at.Statement.{statement}

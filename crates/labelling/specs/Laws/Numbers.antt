@@ -16,8 +16,8 @@ use Rattle.paths.specs.Positions.{Done}
 use Rattle.product.specs.Nodes.{stateCounts}
 use Rattle.product.specs.ProductGraph.{pairs}
 use Rattle.product.specs.Setting.{placeOf, Setting}
-use Rattle.labels.specs.LabelCost.{AllShort}
-use Rattle.labels.specs.Work.{labelOf}
+use Rattle.tables.specs.LabelCost.{AllShort}
+use Rattle.tables.specs.Work.{labelOf}
 use Rattle.tables.specs.Engine.{engineGraph}
 use Rattle.tables.specs.Places.{sixPlaces}
 use Rattle.settling.specs.Packing.{Packing, packedEdge, packedPath, Packs}

@@ -25,8 +25,8 @@ use Rattle.product.specs.Setting.{placeOf, Setting}
 use Rattle.product.specs.Laws.Edges.{product-within, product-sized, product-counts}
 use Rattle.product.specs.Laws.Letters.{LetterAt, OverSets, priced-over}
 use Rattle.product.specs.Laws.Setting.{machines-sound, few-nodes, node-below, place-high}
-use Rattle.labels.specs.LabelCost.{AllShort}
-use Rattle.labels.specs.Work.{labelOf}
+use Rattle.tables.specs.LabelCost.{AllShort}
+use Rattle.tables.specs.Work.{labelOf}
 use Rattle.tables.specs.Engine.{engineGraph}
 use Rattle.tables.specs.Places.{sixPlaces}
 use Rattle.settling.specs.Packing.{packedPath}

@@ -1,6 +1,6 @@
 use native.Mathlib.Omega.{arith}
 use borrow.Author.Needs.{needs}
-use Rattle.labels.specs.LabelCost.{costOf}
+use Rattle.tables.specs.LabelCost.{costOf}
 use Rattle.readout.proofs.Stages.{start-there}
 use Rattle.optimizer.proofs.Telling.{some-ranking, best-told}
 use Rattle.optimizer.proofs.label_sets.Statement.{statement}

@@ -6,7 +6,7 @@ use lib.ListN.{length}
 use Rattle.refusals.specs.Refusals.{checkedNumber}
 use Rattle.refusals.proofs.Refusals.{refused-number}
 use Rattle.product.specs.ProductGraph.{cardStart}
-use Rattle.labels.specs.Work.{labelOf}
+use Rattle.tables.specs.Work.{labelOf}
 use Rattle.readout.specs.Searching.{labelRefusal}
 use Rattle.readout.proofs.Labels.{start-fits}
 use Rattle.readout.proofs.Stages.{start-there, at-start, refused-answered, walked-few, best-answered}

@@ -16,7 +16,7 @@ use Rattle.product.specs.ProductGraph.{cardStart}
 use Rattle.product.specs.Laws.Nodes.{code-below}
 use Rattle.product.specs.Laws.JointStep.{starts-below}
 use Rattle.product.specs.Laws.Accepted.{part-states, accepted-machines}
-use Rattle.steps.specs.StepTable.{noMachine, machineAt}
+use Rattle.tables.specs.StepTable.{noMachine, machineAt}
 use Rattle.card.specs.Laws.Machines.{length-machines, machine-at}
 use Rattle.tables.specs.Tables.{CardMachines, CountsOfSome}
 

@@ -11,7 +11,7 @@ use Rattle.machine.specs.Symbols.{emptySymbol, isPair}
 use Rattle.machine.specs.Machine.{Machine}
 use Rattle.paths.specs.Ranked.{Ranked}
 use Rattle.paths.specs.Graph.{Edge}
-use Rattle.labels.specs.Marks.{marksCost}
+use Rattle.tables.specs.Marks.{marksCost}
 use Rattle.product.specs.Nodes.{stateCounts, product, statesOf}
 use Rattle.product.specs.JointStep.{jointStep}
 use Rattle.product.specs.Prices.{byRanking}

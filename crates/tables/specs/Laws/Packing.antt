@@ -6,8 +6,8 @@ use native.Mathlib.Omega.{arith}
 use lib.ListN.{length, getD}
 use Rattle.paths.specs.Ranked.{countAt}
 use Rattle.paths.specs.ByRanking.{ranked, ranked-letters}
-use Rattle.labels.specs.Marks.{nibbles, fromNibbles, marksCost}
-use Rattle.labels.specs.MarksLaws.{from-nibbles-below, nibbles-back}
+use Rattle.tables.specs.Marks.{nibbles, fromNibbles, marksCost}
+use Rattle.tables.specs.MarksLaws.{from-nibbles-below, nibbles-back}
 use Rattle.tables.specs.Places.{sixPlaces, markNumber}
 
 module _ (marks : List ℕ) (few : (i : ℕ) → getD marks i 0 ≤ 15) where

@@ -6,9 +6,9 @@ use Prim.Native.Nat.{ℕ, _+_, _*_, _/_, _%_, _<_, _≤_}
 use native.Mathlib.Omega.{arith}
 use lib.ListN.{length, getD}
 use borrow.Author.Tests.{eq-eqb, ne-eqb, lt-ltb, le-ltb}
-use Rattle.labels.specs.Work.{stateOf, costAt}
+use Rattle.tables.specs.Work.{stateOf, costAt}
 use Rattle.cells.specs.declared.Cell.{Cell}
-use Rattle.sums.specs.Numbers.{noLabel as noSum}
+use Rattle.tables.specs.SumLabels.{noLabel as noSum}
 use Rattle.labelling.specs.CountsPacking.{firstCounts, lastCounts}
 use Rattle.walk.specs.Labels.{noCell, countsCell, sumCell, cellOf}
 

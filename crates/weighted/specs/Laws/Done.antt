@@ -16,7 +16,7 @@ use Rattle.settling.specs.Packing.{Packing, packedEdge, packedPath, Packs}
 use Rattle.settling.proofs.Packing.{unpacked-attained, unpacked-closed}
 use Rattle.cells.specs.Trying.{cellPrice}
 use Rattle.entering.specs.Entering.{cellGraph}
-use Rattle.sums.specs.WeightedPaths.{byWeights, weightedGraph}
+use Rattle.product.specs.WeightedPaths.{byWeights, weightedGraph}
 use Rattle.weighted.specs.WeighsBy.{WeighsBy}
 use Rattle.weighted.specs.Laws.Weighing.{weights-price}
 

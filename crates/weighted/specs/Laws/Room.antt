@@ -22,8 +22,8 @@ use Rattle.cells.specs.Columns.{WeightsOf}
 use Rattle.entering.specs.Entering.{cellGraph, mostOf}
 use Rattle.labelling.specs.Kinds.{sixHighs, noLows}
 use Rattle.labelling.specs.Laws.LabelRoom.{LabelRoom, label-room}
-use Rattle.sums.specs.WeightedPaths.{byWeights, weightedGraph}
-use Rattle.sums.specs.WeightedGraph.{weighted-sized}
+use Rattle.product.specs.WeightedPaths.{byWeights, weightedGraph}
+use Rattle.product.specs.WeightedGraph.{weighted-sized}
 use Rattle.weighted.specs.WeighsBy.{WeighsBy}
 use Rattle.weighted.specs.Laws.Sound.{Sound}
 use Rattle.weighted.specs.Laws.Weighing.{low-sum}

@@ -11,7 +11,7 @@ use borrow.Author.Tests.{eqb-true, leb-true}
 use Rattle.basics.specs.Search.{allOf}
 use Rattle.basics.proofs.Bools.{left, right}
 use Rattle.basics.proofs.Search.{all-at}
-use Rattle.sums.specs.Weights.{soundWeights}
+use Rattle.product.specs.Weights.{soundWeights}
 
 pub record Sound (K : ℕ) (weights : List ℕ) : Type 0 where
   pub count : length weights ≡ K

@@ -8,8 +8,8 @@ use lib.ListN.{length, getD}
 use Rattle.cells.specs.Cells.{highOf, lowOf}
 use Rattle.cells.specs.Columns.{weighed}
 use Rattle.cells.specs.Trying.{cellPrice}
-use Rattle.sums.specs.Weights.{weightedSum}
-use Rattle.sums.specs.WeightedPaths.{byWeights}
+use Rattle.product.specs.Weights.{weightedSum}
+use Rattle.product.specs.WeightedPaths.{byWeights}
 use Rattle.weighted.specs.WeighsBy.{WeighsBy}
 
 weighed-zero : (w : ℕ → ℕ) → ((m : ℕ) → w m ≡ 0) → (m : ℕ) (xs : List ℕ) → weighed w m xs ≡ 0

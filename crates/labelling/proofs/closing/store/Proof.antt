@@ -1,7 +1,7 @@
 -- `store` meets its contract: one store where there is no label, and else the eight that are `written`.
 use native.Mathlib.Omega.{arith}
 use lib.ListN.{length-set}
-use Rattle.labels.proofs.Work.{written, stored}
+use Rattle.tables.proofs.Work.{written, stored}
 use Rattle.labelling.proofs.ClosingCodes.{first-few, label-stored, none-stored}
 use borrow.Author.Needs.{needs}
 use Rattle.labelling.proofs.closing.store.Statement.{statement}

@@ -1,8 +1,8 @@
 use mathlib.Core.Path.{_≡_, refl, sym, ap, _∙_}
 use mathlib.Core.Option.{Option, some}
 use Rattle.paths.specs.Ranked.{Ranked}
-use Rattle.labels.specs.LabelCost.{costOf}
-use Rattle.labels.specs.Work.{labelOf}
+use Rattle.tables.specs.LabelCost.{costOf}
+use Rattle.tables.specs.Work.{labelOf}
 use Rattle.refusals.specs.Refusals.{checkedNumber}
 use Rattle.readout.specs.Searching.{labelRefusal}
 use Rattle.refusals.proofs.Refusals.{refused-number}

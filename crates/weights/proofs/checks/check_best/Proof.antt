@@ -6,7 +6,7 @@ use native.Mathlib.Omega.{arith}
 use lib.Dec.{leb}
 use borrow.Author.Tests.{lt-ltb, le-ltb, le-leb, lt-leb}
 use Rattle.refusals.specs.Refusals.{refuse, firstOf}
-use Rattle.sums.specs.Numbers.{noLabel}
+use Rattle.tables.specs.SumLabels.{noLabel}
 use Rattle.weights.proofs.checks.check_best.Statement.{statement}
 use Rattle.weights.proofs.checks.check_best.Tie as tie
 

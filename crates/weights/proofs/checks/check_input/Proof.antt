@@ -14,7 +14,7 @@ use Rattle.product.specs.Optimizing.{soundWord}
 use Rattle.grid.specs.declared.Grid.{Grid}
 use Rattle.grid.specs.Grids.{GridOf}
 use Rattle.input.proofs.Nodes.{few-sizes}
-use Rattle.sums.specs.Weights.{soundWeights}
+use Rattle.product.specs.Weights.{soundWeights}
 use Rattle.weights.specs.Weighing.{weightedRefusal}
 use Rattle.weights.proofs.checks.check_input.Statement.{statement}
 use Rattle.weights.proofs.checks.check_input.Tie as tie

@@ -10,7 +10,7 @@ use Rattle.refusals.specs.Refusals.{refuse}
 use Rattle.refusals.proofs.Refusals.{was-true, goes-up, last-one}
 use Rattle.product.specs.Optimizing.{soundWord}
 use Rattle.input.specs.AcceptedInput.{short-word}
-use Rattle.sums.specs.Weights.{soundWeights}
+use Rattle.product.specs.Weights.{soundWeights}
 use Rattle.weights.proofs.checks.check_word.Statement.{statement}
 use Rattle.weights.proofs.checks.check_word.Tie as tie
 

@@ -5,8 +5,8 @@ use Prim.Native.Nat.{ℕ}
 use lib.ListN.{length}
 use Rattle.paths.specs.Positions.{Done}
 use Rattle.product.specs.Setting.{placeOf}
-use Rattle.sums.specs.WeightedPaths.{weightedGraph}
-use Rattle.sums.specs.Numbers.{labelOf}
+use Rattle.product.specs.WeightedPaths.{weightedGraph}
+use Rattle.tables.specs.SumLabels.{labelOf}
 
 -- all positions are done
 pub record AllDone (card weights sets xs ys : List ℕ) : Type 0 where

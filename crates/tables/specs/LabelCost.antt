@@ -1,7 +1,7 @@
 -- The cost that a label has: six counts in ranked order, and the number of pairs.
 use Prim.Native.Nat.{ℕ, zero, suc, _<_}
 use Rattle.paths.specs.Ranked.{Ranked}
-use Rattle.labels.specs.declared.Label.{Label}
+use Rattle.tables.specs.declared.labels.Label.{Label}
 
 abbrev pub costOf : Label → Ranked 6
 costOf l = (l .first, (l .second, (l .third, (l .fourth, (l .fifth, (l .sixth, l .pairs))))))

@@ -1,8 +1,8 @@
 -- `reached` meets its contract.
 use borrow.Author.Needs.{needs}
-use Rattle.labels.proofs.Work.{reached-test}
-use Rattle.labels.proofs.reached.Statement.{statement}
-use Rattle.labels.proofs.reached.Tie as tie
+use Rattle.tables.proofs.Work.{reached-test}
+use Rattle.tables.proofs.labels.reached.Statement.{statement}
+use Rattle.tables.proofs.labels.reached.Tie as tie
 
 returns : tie.Need-returns
 returns c = reached-test _ _

@@ -6,8 +6,8 @@ use mathlib.Core.List.{List}
 use Prim.Native.Nat.{ℕ, _≤_, _<_}
 use lib.ListN.{length, getD}
 use borrow.Author.Tests.{lt-ltb, le-ltb}
 use Rattle.tables.specs.Laws.Harmony.{any-default}
-use Rattle.sums.specs.Numbers.{noLabel, costOf, labelFrom, labelOf}
+use Rattle.tables.specs.SumLabels.{noLabel, costOf, labelFrom, labelOf}
 
 -- ---- what a number says
 

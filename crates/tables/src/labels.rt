@@ -1,7 +1,7 @@
 // Labels of nodes in a lent slice.
 ghost use mathlib.Core.Path.{_≡_};
-ghost use Rattle.labels.specs.LabelCost.{costOf};
-ghost use Rattle.labels.specs.Work.{HasNode, costAt, Reached};
+ghost use Rattle.tables.specs.LabelCost.{costOf};
+ghost use Rattle.tables.specs.Work.{HasNode, costAt, Reached};
 
 // The cost of a path: six counts in ranked order, the highest ranked first, and the number of pairs.
 pub struct Label {

@@ -9,7 +9,7 @@ use Rattle.basics.specs.Sets.{member}
 use Rattle.machine.specs.declared.Arc.{Arc}
 use Rattle.machine.specs.Machine.{takesFrom}
 use Rattle.machine.specs.Part.{partRefusal}
-use Rattle.steps.specs.StepTable.{stepCode}
+use Rattle.tables.specs.StepTable.{stepCode}
 
 -- a part that is accepted on some card
 abbrev pub AcceptedPart : List ℕ → Type 0

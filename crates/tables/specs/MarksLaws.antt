@@ -4,7 +4,7 @@ use Prim.Native.Nat.{ℕ, zero, suc, _+_, _*_, _/_, _%_, _^_, _≤_, _<_}
 use native.Mathlib.Nat.{mod-lt, div-lt-iff-lt-mul, mul-le-mul-right, mul-add-div-right, mul-add-mod-self-right, div-eq-of-lt, mod-eq-of-lt, one-le-pow, pow-succ'}
 use native.Mathlib.Omega.{arith}
 use Rattle.paths.specs.Ranked.{Ranked, letterCount, countAt}
-use Rattle.labels.specs.Marks.{nibbles, fromNibbles}
+use Rattle.tables.specs.Marks.{nibbles, fromNibbles}
 
 base-pos : (k : ℕ) → 0 < 16 ^ k
 base-pos k = one-le-pow k 16 (omega arith)

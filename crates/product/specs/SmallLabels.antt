@@ -15,13 +15,13 @@ use Rattle.paths.specs.Ranked.{Ranked, rankedCosts}
 use Rattle.paths.specs.Graph.{Within}
 use Rattle.paths.specs.Labels.{Attained}
 use Rattle.paths.specs.Bounds.{attained-size, attained-count-size}
 use Rattle.product.specs.Setting.{Setting}
 use Rattle.product.specs.Laws.Edges.{product-within}
 use Rattle.product.specs.Laws.Setting.{machines-sound, few-nodes}
-use Rattle.sums.specs.Weights.{soundWeights}
-use Rattle.sums.specs.WeightedPaths.{byWeights, weightedGraph}
-use Rattle.sums.specs.WeightedGraph.{weighted-sized, weighted-sums}
-use Rattle.sums.specs.Laws.SoundWeights.{weighs}
+use Rattle.product.specs.Weights.{soundWeights}
+use Rattle.product.specs.WeightedPaths.{byWeights, weightedGraph}
+use Rattle.product.specs.WeightedGraph.{weighted-sized, weighted-sums}
+use Rattle.product.specs.Laws.SoundWeights.{weighs}
 
 -- fewer than 3,200 pairs, and a sum of at most six times 48,000 times 4,000,000,000
 pub record SmallLabel (c : Ranked 1) : Type 0 where

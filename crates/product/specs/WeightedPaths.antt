@@ -13,12 +13,12 @@ use Rattle.card.specs.Card.{machinesOf, cardRefusal}
 use Rattle.candidate.specs.Candidates.{profileOf, IsCandidate}
 use Rattle.paths.specs.Ranked.{rankedCosts, letter-positive}
 use Rattle.paths.specs.Graph.{Graph, pathCost}
 use Rattle.product.specs.Prices.{Price, Agrees}
 use Rattle.product.specs.ProductGraph.{pairs, pricedGraph, cardStart}
 use Rattle.product.specs.Sets.{singletons}
 use Rattle.product.specs.CandidatePaths.{CandidatesAt, candidates-at}
-use Rattle.sums.specs.Weights.{weightedSum, bySum}
-use Rattle.sums.specs.Laws.Sums.{sum-merge}
+use Rattle.product.specs.Weights.{weightedSum, bySum}
+use Rattle.product.specs.Laws.Sums.{sum-merge}
 
 abbrev pub byWeights : List ℕ → Price (rankedCosts 1)
 byWeights weights = record {

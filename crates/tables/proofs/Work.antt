@@ -12,7 +12,7 @@ use borrow.Author.Tests.{eq-eqb, ne-eqb, eqb-true, eqb-false, not-true, not-fals
 use lib.ListN.{length, getD, set, length-set, List·getD-eq-default}
 use lib.Seq.{getD-set-same, getD-set-other}
 use Rattle.paths.specs.Ranked.{Ranked}
-use Rattle.labels.specs.Work.{stateOf, costAt, labelOf, AlikeAt, Reached, Stored}
+use Rattle.tables.specs.Work.{stateOf, costAt, labelOf, AlikeAt, Reached, Stored}
 
 -- ---- what a label is
 

@@ -15,12 +15,12 @@ use Rattle.paths.specs.Ranked.{Ranked, letterCount, countAt}
 use Rattle.paths.specs.RankedGraph.{ranked-counts}
 use Rattle.paths.specs.Graph.{Edge}
 use Rattle.paths.specs.Bounds.{Sized, BoundedCount}
 use Rattle.product.specs.Nodes.{stateCounts, statesAt}
 use Rattle.product.specs.Laws.Edges.{edge-of, ending-of, moved, word-ended, priced-sized, step-marks-bound, ending-marks-bound}
 use Rattle.product.specs.Laws.Accepted.{accepted-machines}
-use Rattle.sums.specs.Weights.{weightedSum}
-use Rattle.sums.specs.Laws.Sums.{sum-bound}
-use Rattle.sums.specs.WeightedPaths.{byWeights, weightedGraph}
+use Rattle.product.specs.Weights.{weightedSum}
+use Rattle.product.specs.Laws.Sums.{sum-bound}
+use Rattle.product.specs.WeightedPaths.{byWeights, weightedGraph}
 
 -- weights of at most W and counts of at most 15 have a sum of at most 15 W a machine
 pub marks-weigh : (W : ℕ) (weights : List ℕ) → allOf (λ w. leb w W) weights ≡ true → (xs : List ℕ) → ((i : ℕ) → getD xs i 0 ≤ 15) → weightedSum weights xs ≤ W * 15 * length weights

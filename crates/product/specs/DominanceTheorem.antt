@@ -14,10 +14,10 @@ use Rattle.basics.proofs.Bools.{left, right}
 use Rattle.ranking.specs.Rankings.{isRanking}
 use Rattle.ranking.specs.Harmony.{isBetter}
 use Rattle.ranking.specs.Lemmas.Harmony.{Standing, fewer, same, more, standing, harmony-end, at-fewer, at-same, at-more}
 use Rattle.product.specs.Best.{harmonic}
-use Rattle.sums.specs.Weights.{bySum}
-use Rattle.sums.specs.Dominance.{sumOver, Outweighs}
-use Rattle.sums.specs.Laws.Sums.{sum-by-ranking}
+use Rattle.product.specs.Weights.{bySum}
+use Rattle.product.specs.Dominance.{sumOver, Outweighs}
+use Rattle.product.specs.Laws.Sums.{sum-by-ranking}
 
 -- no count above c, at any place
 counts-at : (c : ℕ) (v : List ℕ) → allOf (λ n. leb n c) v ≡ true → (m : ℕ) → getD v m 0 ≤ c

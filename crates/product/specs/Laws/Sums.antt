@@ -15,8 +15,8 @@ use Rattle.ranking.specs.Profiles.{merge}
 use Rattle.ranking.specs.Rankings.{isRanking}
 use Rattle.ranking.specs.Lemmas.Harmony.{Standing, fewer, same, more, standing}
 use Rattle.ranking.specs.Lemmas.Rankings.{ranking-facts}
-use Rattle.sums.specs.Weights.{weightedSum}
-use Rattle.sums.specs.Dominance.{sumOver}
+use Rattle.product.specs.Weights.{weightedSum}
+use Rattle.product.specs.Dominance.{sumOver}
 
 -- f 0 + f 1 + .. below n
 unfoldable pub sumBelow : (ℕ → ℕ) → ℕ → ℕ

@@ -3,7 +3,7 @@ use mathlib.Core.Path.{_≡_, refl}
 use mathlib.Core.Option.{Option, some, none}
 use Prim.Native.Nat.{ℕ, _+_, _*_, _/_, _%_, _<_, _≤_}
 use native.Mathlib.Omega.{arith}
-use Rattle.steps.specs.StepTable.{stepCode}
+use Rattle.tables.specs.StepTable.{stepCode}
 
 -- a step to one of at most 32 states, with at most 15 marks
 abbrev pub SmallStep : Option (ℕ × ℕ) → Type 0

@@ -1,4 +1,0 @@
-pub mod Marks
-pub mod LabelCost
-pub mod MarksLaws
-pub mod Work

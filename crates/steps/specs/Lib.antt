@@ -1,2 +1,0 @@
-pub mod StepTable
-pub mod Filling
