@@ -72,11 +72,6 @@ module _ (f : ℕ → Bool) where
       go true e r = let q = r e in (q .0, omega arith, q .2)
       go false e r = (n, omega arith, rw e at t)
 
-  pub none-below : (n : ℕ) → ((k : ℕ) → k < n → f k ≡ false) → someBelow f n ≡ false
-  unfolding someBelow
-  none-below zero h = refl
-  none-below (suc n) h = rw (none-below n (λ k q. h k (omega arith)), h n (omega arith))
-
 -- the numbers below n, in order
 pub length-numbers : (n : ℕ) → length (numbersBelow n) ≡ n
 unfolding numbersBelow

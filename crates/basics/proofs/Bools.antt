@@ -18,10 +18,6 @@ pub fails : (a : Bool) → (a ≡ true → ⊥) → a ≡ false
 fails true p = absurd (p refl)
 fails false p = refl
 
-pub passes : (a : Bool) → (a ≡ false → ⊥) → a ≡ true
-passes true p = refl
-passes false p = absurd (p refl)
-
 -- conjunctions
 pub both : {a b : Bool} → a ≡ true → b ≡ true → (a && b) ≡ true
 both p q = rw (p, q)

@@ -34,15 +34,6 @@ module _ (n : ℕ) where
       go true e r = rw (e, occurrences) (omega arith)
       go false e r = rw (e, occurrences) r
 
-  pub occurrences-most : (xs : List ℕ) → occurrences n xs ≤ length xs
-  unfolding occurrences
-  occurrences-most [] = omega arith
-  occurrences-most (x ∷ xs) = go (eqb x n) refl (occurrences-most xs)
-    where
-      go : (b : Bool) → eqb x n ≡ b → occurrences n xs ≤ length xs → occurrences n (x ∷ xs) ≤ suc (length xs)
-      go true e r = rw (e, occurrences) (omega arith)
-      go false e r = rw (e, occurrences) (omega arith)
-
   -- a number that occurs has a place, and what has a place occurs
   pub its-place : (xs : List ℕ) → 0 < occurrences n xs → (i : ℕ) × (i < length xs) × (getD xs i 0 ≡ n)
   unfolding occurrences

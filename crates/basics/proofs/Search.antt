@@ -1,7 +1,7 @@
 -- Laws of the searches over a list. Assumes nothing.
 use mathlib.Core.Path.{_≡_, refl}
 use mathlib.Core.Logic.{_⊎_, inl, inr}
-use mathlib.Core.Bool.{Bool, true, false, not, _&&_}
+use mathlib.Core.Bool.{Bool, true, false, _&&_}
 use mathlib.Core.List.{List, [], _∷_, _++_, map, List·Memᴰ, List·Memᴰ·head, List·Memᴰ·tail, List·Memᴰ·not-nil, List·Memᴰ·cases-cons, List·Memᴰ·append-cases, Memᴰ·append-left, Memᴰ·append-right}
 use mathlib.Core.Option.{some, none}
 use Prim.Native.Nat.{ℕ, zero, suc, _+_, _<_, _≤_}
@@ -10,7 +10,7 @@ use native.Mathlib.Omega.{arith}
 use lib.ListN.{length, getD, drop, drop-of-length-le}
 use lib.Seq.{drop-cons}
 use Rattle.basics.specs.Search.{allOf, pairwise, those, firstThat, joined}
-use Rattle.basics.proofs.Bools.{clash, both, left, right}
+use Rattle.basics.proofs.Bools.{both, left, right}
 
 -- how a loop over a list goes on: what is left of the list, at its end, and at an element and the rest
 
@@ -77,16 +77,6 @@ module _ {A : Type 0} (f : A → Bool) where
   each-member [] h = refl
   each-member (x ∷ xs) h = both (h x (List·Memᴰ·head refl)) (each-member xs (λ y m. h y (List·Memᴰ·tail m)))
 
-  -- one that fails
-  pub one-fails : (xs : List A) → allOf f xs ≡ false → (x : A) × List·Memᴰ x xs × (f x ≡ false)
-  unfolding allOf
-  one-fails [] t = absurd (clash refl t)
-  one-fails (x ∷ xs) t = go (f x) refl (one-fails xs)
-    where
-      go : (b : Bool) → f x ≡ b → (allOf f xs ≡ false → (y : A) × List·Memᴰ y xs × (f y ≡ false)) → (y : A) × List·Memᴰ y (x ∷ xs) × (f y ≡ false)
-      go true e r = let q = r (rw e at t) in (q .0, List·Memᴰ·tail (q .1), q .2)
-      go false e r = (x, List·Memᴰ·head refl, e)
-
   pub all-append : (xs ys : List A) → allOf f (xs ++ ys) ≡ (allOf f xs && allOf f ys)
   unfolding allOf
   all-append [] ys = refl
@@ -139,15 +129,6 @@ module _ {A : Type 0} (f : A → Bool) where
       go true t r = let q : some y ≡ none = rw (t, firstThat) at e in let z : _≡_ {A = ℕ} 0 1 = cc in absurd (omega arith)
       go false t r = r (rw (t, firstThat) at e)
 
-  pub first-after : (xs : List A) {x : A} (ys : List A) → allOf (λ y. not (f y)) xs ≡ true → f x ≡ true → firstThat f (xs ++ x ∷ ys) ≡ some x
-  unfolding allOf firstThat
-  first-after [] ys t p = rw (p, firstThat)
-  first-after (y ∷ xs) {x} ys t p = go (f y) refl (first-after xs ys)
-    where
-      go : (b : Bool) → f y ≡ b → (allOf (λ z. not (f z)) xs ≡ true → f x ≡ true → firstThat f (xs ++ x ∷ ys) ≡ some x) → firstThat f (y ∷ xs ++ x ∷ ys) ≡ some x
-      go true e r = let q : _≡_ {A = Bool} false true = rw e at t in absurd (clash q refl)
-      go false e r = rw (e, firstThat) (r (rw e at t) p)
-
   -- the elements that pass
   pub those-here : (x : A) (xs : List A) → f x ≡ true → those f (x ∷ xs) ≡ x ∷ those f xs
   unfolding those
@@ -178,15 +159,6 @@ module _ {A : Type 0} (f : A → Bool) where
       go : (b : Bool) → f y ≡ b → List·Memᴰ x (those f ys) → List·Memᴰ x (those f (y ∷ ys))
       go true e r = rw (e, those) (List·Memᴰ·tail r)
       go false e r = rw (e, those) r
-
-  pub length-those : (xs : List A) → length (those f xs) ≤ length xs
-  unfolding those
-  length-those [] = omega arith
-  length-those (x ∷ xs) = go (f x) refl (length-those xs)
-    where
-      go : (b : Bool) → f x ≡ b → length (those f xs) ≤ length xs → length (those f (x ∷ xs)) ≤ suc (length xs)
-      go true e r = rw (e, those) (omega arith)
-      go false e r = rw (e, those) (omega arith)
 
   -- what all pass, and every two with each other, those of them pass
   all-those : (g : A → Bool) (xs : List A) → allOf g xs ≡ true → allOf g (those f xs) ≡ true

@@ -38,19 +38,6 @@ its-member (suc n) w h p = go (eqb (w % 2) 1) refl (its-member n (w / 2))
         let q = r (omega (arith, e, h)) (omega (arith, f)) in
         (1 + q .0, omega arith, rw (← shr-shr w 1 (q .0)) (q .2))
 
--- two sets of numbers below n with the same members are one
-pub same-members : (n u v : ℕ) → u < 2 ^ n → v < 2 ^ n → ((i : ℕ) → i < n → member u i ≡ member v i) → u ≡ v
-same-members zero u v hu hv h = omega arith
-same-members (suc n) u v hu hv h =
-    let e : 2 ^ suc n ≡ 2 ^ n * 2 = pow-suc 2 n in
-    let low : eqb (u % 2) 1 ≡ eqb (v % 2) 1 = rw (div-one u, div-one v) at (h 0 (omega arith)) in
-    let half = same-members n (u / 2) (v / 2) (omega arith) (omega arith) (λ i q. rw (shr-shr u 1 i, shr-shr v 1 i) (h (1 + i) (omega arith))) in
-    go (eqb (u % 2) 1) refl low half
-  where
-    go : (b : Bool) → eqb (u % 2) 1 ≡ b → eqb (u % 2) 1 ≡ eqb (v % 2) 1 → u / 2 ≡ v / 2 → u ≡ v
-    go true t low half = omega (arith, eqb-true (u % 2) 1 t, eqb-true (v % 2) 1 (sym low ∙ t))
-    go false t low half = omega (arith, eqb-false (u % 2) 1 t, eqb-false (v % 2) 1 (sym low ∙ t))
-
 -- intersection and union
 bit-min : (x y : ℕ) → x < 2 → y < 2 → eqb (min x y) 1 ≡ (eqb x 1 && eqb y 1)
 bit-min x y hx hy =

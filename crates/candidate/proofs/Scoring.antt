@@ -1,9 +1,9 @@
 -- The machines of an accepted card by their numbers, and a profile by its places. Assumes nothing.
 use mathlib.Core.Path.{_≡_, refl, sym, ap, _∙_}
 use mathlib.Core.Bool.{Bool, true, false}
-use mathlib.Core.List.{List, [], _++_, map}
+use mathlib.Core.List.{List, [], _++_}
 use mathlib.Core.Option.{Option, some, none}
-use Prim.Native.Nat.{ℕ, zero, _+_, _-_, _<_, _≤_}
+use Prim.Native.Nat.{ℕ, _+_, _-_, _<_, _≤_}
 use native.Mathlib.Decide.{decLt, ℕ-discrete}
 use native.Mathlib.Omega.{arith}
 use lib.ListN.{length, getD, set, replicate, length-set, length-append, length-replicate, length-map, getD-replicate, List·getD-append, List·getD-eq-default}
@@ -17,7 +17,7 @@ use Rattle.machine.specs.Part.{machineOf}
 use Rattle.ranking.specs.declared.Profile.{Profile}
 use Rattle.card.specs.Layout.{machineCount, partOf}
 use Rattle.card.specs.Card.{machinesOf}
-use Rattle.basics.proofs.Search.{map-at}
+use Rattle.basics.proofs.Search.{map-at, all-at, each-at}
 use Rattle.card.specs.Laws.Machines.{length-machines, machine-at}
 use Rattle.candidate.specs.Candidates.{marksOf, isSome, countOf, isComplete, profileOf}
 use Rattle.candidate.specs.Evaluating.{profileWith}

@@ -7,7 +7,7 @@ use Prim.Native.Nat.{ℕ}
 use Rattle.basics.specs.Search.{allOf}
 use Rattle.basics.proofs.Bools.{left, right}
 use Rattle.machine.specs.declared.Pair.{Pair}
-use Rattle.machine.specs.Machine.{Machine, startState, stepOf, endingOf}
+use Rattle.machine.specs.Machine.{Machine, startState, endingOf}
 use Rattle.machine.specs.Part.{machineOf}
 use Rattle.machine.specs.OldArcs.{stepBySets, oldArc, oldArcs, same-steps}
 use Rattle.card.specs.Layout.{partsOf}

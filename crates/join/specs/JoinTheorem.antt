@@ -1,7 +1,7 @@
 -- The theorem on joined machines, over decoded machines: a candidate is complete with the two joined exactly when it was, and its profile is the
 -- old one with the two counts added; and the joined machines are sound, with as many joint states. Assumes nothing.
 use mathlib.Core.Path.{_≡_, refl, sym, ap, _∙_}
-use mathlib.Core.Logic.{_⊎_, _↔_}
+use mathlib.Core.Logic.{_↔_}
 use mathlib.Core.Bool.{true, _&&_}
 use mathlib.Core.List.{List}
 use mathlib.Core.Option.{Option, some, none}
@@ -9,7 +9,7 @@ use Prim.Native.Nat.{ℕ, _+_, _*_, _<_}
 use native.Mathlib.Omega.{arith}
 use lib.ListN.{length, length-map}
 use Rattle.basics.specs.Search.{allOf}
-use Rattle.basics.proofs.Bools.{both, clash}
+use Rattle.basics.proofs.Bools.{clash}
 use Rattle.basics.proofs.Search.{all-at}
 use Rattle.machine.specs.declared.Pair.{Pair}
 use Rattle.machine.specs.Symbols.{isPair}
@@ -19,12 +19,11 @@ use Rattle.product.specs.Nodes.{stateCountOf, stateCounts, product}
 use Rattle.product.specs.Best.{Contender, ProfileOrder}
 use Rattle.product.specs.Searches.{Searches}
 use Rattle.join.specs.Merged.{mergedCounts}
-use Rattle.join.specs.JoinedMachine.{machineAt, joinedMachine, joinedMachines, bothMarks, markless}
+use Rattle.join.specs.JoinedMachine.{machineAt, joinedMachine, joinedMachines, bothMarks}
 use Rattle.join.specs.Laws.Machines.{soundMachine}
 use Rattle.join.specs.Laws.Merged.{map-merged, all-merged, product-merged}
 use Rattle.join.specs.Laws.Steps.{joined-marks}
 use Rattle.joined.specs.Laws.Crossed.{joined-states}
-use Rattle.join.specs.Laws.Sound.{joined-sound}
 
 -- the machines i and j of a card of S symbols, i < j, all of them sound
 pub record Joins (S i j : ℕ) (ms : List Machine) : Type 0 where
@@ -89,10 +88,3 @@ module _ {S i j : ℕ} {ms : List Machine} (k : Joins S i j ms) where
         ap product (map-merged stateCountOf joinedMachine (λ m n. m * n) ms i j _ (k .order) (k .within) (joined-states (machineAt ms i) (machineAt ms j)))
         ∙ product-merged (stateCounts ms) i j (k .order) (omega (arith, k .within, length-map ms stateCountOf));
   }
-
-  -- the joined machines are sound, where one of the two has no marks
-  pub join-sound : (markless (machineAt ms i) ≡ true) ⊎ (markless (machineAt ms j) ≡ true) → allOf (soundMachine S) (joinedMachines i j ms) ≡ true
-  join-sound u =
-      all-merged (soundMachine S) joinedMachine ms i j _ (k .order) (k .within)
-      (joined-sound S (machineAt ms i) (machineAt ms j) first-sound second-sound u ∙ sym (both first-sound second-sound))
-      ∙ k .sound

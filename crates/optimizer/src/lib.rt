@@ -15,9 +15,9 @@ use basics::index;
 use candidate::Evaluation;
 use candidate::refused;
 use grid::Grid;
-use tables::labels::Label;
 use ranking::Profile;
 use refusals::Checked;
+use tables::labels::Label;
 
 // The search for accepted sets: labels the nodes, and reads the answer off.
 fn search_sets(

@@ -7,16 +7,14 @@ use mathlib.Core.Option.{Option, none, some, Option·none-ne-some}
 use mathlib.Core.List.{[], _∷_}
 use Prim.Native.Nat.{ℕ, zero, suc, _+_, _<_}
 use native.Mathlib.Omega.{arith}
-use native.Mathlib.Decide.{ℕ-discrete, decLt, decLe}
-use Rattle.paths.specs.Total.{Upto, ℕ-total, then-total, lex-total, lex-compare}
-use Rattle.paths.specs.Least.{least}
+use Rattle.paths.specs.Total.{Upto, ℕ-total}
 use Rattle.paths.specs.Costs.{AtMost, atmost-is}
-use Rattle.paths.specs.Ranked.{Ranked, Less, rankedCosts, letterCount, less-total}
+use Rattle.paths.specs.Ranked.{Ranked, Less, rankedCosts, letterCount}
 use Rattle.paths.specs.Graph.{Alphabet, Edge, Graph, nodes}
 use Rattle.paths.specs.RankedGraph.{one-letter-positive, ranked-sized}
 use Rattle.paths.specs.Labels.{Closed, Attained, Held}
 use Rattle.paths.specs.Bounds.{Sized}
-use Rattle.paths.specs.Best.{before-total, IsBest}
+use Rattle.paths.specs.Best.{IsBest}
 use Rattle.paths.specs.Walk.{Tight, LeastTight, done, next, tight-sum, no-edge-not-tight, sized-labels, walk-best}
 
 abbrev numbers : Alphabet
@@ -143,8 +141,3 @@ first-2 = record { tight = record { to = record { target = 1; cost = (0, 1) }; r
 best : IsBest small 0 (2 ∷ 1 ∷ [])
 unfolding first-0 first-2
 best = walk-best small labels (sized-labels small labels sized) closed attained 0 (0, 2) (2 ∷ 1 ∷ []) refl (next first-0 (next first-2 done))
-
--- the order computes: the best of three paths
-first-of : least (before-total (rankedCosts 1) numbers) (((1, 1), 1 ∷ []) ∷ ((0, 2), 2 ∷ 2 ∷ []) ∷ ((0, 2), 2 ∷ 1 ∷ []) ∷ []) ≡ some ((0, 2), 2 ∷ 1 ∷ [])
-unfolding least less-total ℕ-total then-total lex-total lex-compare ℕ-discrete decLt decLe
-first-of = refl

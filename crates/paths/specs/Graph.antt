@@ -48,6 +48,14 @@ module _ {costs : Costs} {alphabet : Alphabet} (G : Graph costs alphabet) where
   abbrev pub Within : ℕ → Type 0
   Within N = (u : ℕ) (p : Letter) (e : Edge Cost) → edge u p ≡ some e → e .target < N
 
+  -- some edge leads from u to v at the cost c
+  pub record EdgeTo (u v : ℕ) (c : Cost) : Type 0 where
+    pub letter : Letter
+    pub to : Edge Cost
+    pub edge-is : edge u letter ≡ some to
+    pub target-is : to .target ≡ v
+    pub cost-is : to .cost ≡ c
+
   abbrev pub nodesAfter : Option (Edge Cost) → (ℕ → List ℕ) → List ℕ
   nodesAfter none k = []
   nodesAfter (some e) k = k (e .target)
@@ -56,11 +64,6 @@ module _ {costs : Costs} {alphabet : Alphabet} (G : Graph costs alphabet) where
   unfoldable pub nodes : ℕ → List Letter → List ℕ
   nodes u [] = u ∷ []
   nodes u (p ∷ ps) = u ∷ nodesAfter (edge u p) (λ v. nodes v ps)
-
-  -- the letters lead from u to w
-  unfoldable pub LeadsTo : ℕ → List Letter → ℕ → Type 0
-  LeadsTo u [] w = u ≡ w
-  LeadsTo u (p ∷ ps) w = (e : Edge Cost) × (edge u p ≡ some e) × LeadsTo (e .target) ps w
 
   -- ---- a path as a derivation, for induction: from u the letters ps cost c
 

@@ -1,11 +1,11 @@
 -- Labels: when they are closed, so that no path beats them, and when they are attained, so that a path has their cost.
 use mathlib.Core.Path.{_≡_, refl, sym, _∙_}
 use mathlib.Core.Option.{Option, none, some, Option·none-ne-some}
-use mathlib.Core.List.{List, [], _∷_, _++_}
+use mathlib.Core.List.{List, [], _∷_}
 use Prim.Native.Nat.{ℕ}
 use Rattle.paths.specs.Costs.{Costs, Labels, AtMost, atmost-upto, atmost-none, shift-left-upto}
 use Rattle.paths.specs.Pigeonhole.{Distinct}
-use Rattle.paths.specs.Graph.{Alphabet, Edge, Graph, pathCost, nodes, LeadsTo, Run, run→cost, cost→run}
+use Rattle.paths.specs.Graph.{Alphabet, Edge, Graph, pathCost, nodes, Run, cost→run}
 
 module _ {costs : Costs} {alphabet : Alphabet} (G : Graph costs alphabet) where
   infixl 65 _⊕_
@@ -61,19 +61,6 @@ module _ {costs : Costs} {alphabet : Alphabet} (G : Graph costs alphabet) where
   pub held→run : {L : Labels costs} {u : ℕ} {ps : List Letter} {c : Cost} → Held L u ps c → Run G u ps c
   held→run (Held.halt h m) = Run.halt h
   held→run (Held.step e d h r q m) = Run.step e d h (held→run r) q
-
-  held-here : {L : Labels costs} {u : ℕ} {ps : List Letter} {c : Cost} → Held L u ps c → AtMost _≺_ (L u) c
-  held-here (Held.halt h m) = m
-  held-here (Held.step e d h r q m) = m
-
-  -- where qs leads to w, the letters rs that are left cost at least w's label
-  pub held-suffix : {L : Labels costs} {u : ℕ} {c : Cost} (qs rs : List Letter) → Held L u (qs ++ rs) c → (w : ℕ) → LeadsTo G u qs w → (d : Cost) → pathCost G w rs ≡ some d → AtMost _≺_ (L w) d
-  unfolding LeadsTo
-  held-suffix {L} {u} {c} [] rs h w l d k =
-      let r = run→cost G (held→run h) in
-      let q : c ≡ d = cc in
-      rw (l, q) at (held-here h)
-  held-suffix (p ∷ qs) rs (Held.step e f h r q m) w l d k = held-suffix qs rs r w (let z : e ≡ l .0 = cc (h, l .1) in rw z (l .2)) d k
 
   -- where it starts: labels that are all missing are attained
   pub attained-none : (L : Labels costs) → ((u : ℕ) → L u ≡ none) → Attained L

@@ -5,10 +5,9 @@
 -- 4. Cut, `cut` and `shortened`, and Best, `best-below→best` and `none-below→none`: the lists of fewer than N letters hold the best of all.
 -- 5. Walk, `walk-best`: taking the least letter that keeps to closed and attained labels gives the best path.
 -- 6. Best, `best-unique` and `answer-unique`: there is one best path at most, so all engines give the same answer.
--- Settling and Positions have the invariants by which Dijkstra's method makes labels closed and attained, position by position.
+-- Settling and Positions have what makes labels closed and attained, position by position.
 pub mod Total
 pub mod Strings
-pub mod Least
 pub mod Costs
 pub mod Ranked
 pub mod ByRanking
@@ -21,8 +20,6 @@ pub mod RankedGraph
 pub mod Cut
 pub mod Best
 pub mod Walk
-pub mod Cheapest
-pub mod Unsettled
 pub mod Settling
 pub mod Positions
 pub mod Numbering

@@ -7,10 +7,9 @@ use native.Mathlib.Omega.{arith}
 use native.Mathlib.Decide.{ℕ-discrete}
 use Rattle.paths.specs.Total.{Upto}
 use Rattle.paths.specs.Costs.{Costs, Labels, AtMost, atmost-upto, shift-right-upto}
-use Rattle.paths.specs.Graph.{Alphabet, Edge, Graph}
+use Rattle.paths.specs.Graph.{Alphabet, Edge, Graph, EdgeTo}
 use Rattle.paths.specs.Labels.{ClosedAt, Attained, attained-none}
 use Rattle.paths.specs.Improvement.{Improves, Falls, improves-upto, improves-falls, improve-edge, improve-end}
-use Rattle.paths.specs.Cheapest.{EdgeTo}
 use Rattle.paths.specs.Settling.{Settling, AllSettled, settling-end}
 
 -- an edge stays at its position or goes to the next one, n is the last position, and a path ends only there

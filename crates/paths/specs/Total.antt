@@ -32,10 +32,6 @@ module _ {A : Type 0} {R : A → A → Type 0} (T : Total R) where
   upto-less {a} {b} {c} (inl h) k = T .trans a b c h k
   upto-less (inr e) k = rw e k
 
-  pub less-upto : {a b c : A} → R a b → Upto R b c → R a c
-  less-upto {a} {b} {c} h (inl k) = T .trans a b c h k
-  less-upto h (inr e) = rw e at h
-
   pub upto-not-less : {a b : A} → Upto R a b → R b a → ⊥
   upto-not-less {a} h k = T .irrefl a (upto-less h k)
 

@@ -9,9 +9,9 @@ use lib.ListN.{length, length-append}
 use Rattle.paths.specs.Total.{Lex, Upto, upto-not-less}
 use Rattle.paths.specs.Costs.{Costs, Labels, AtMost, atmost-some}
 use Rattle.paths.specs.Graph.{Alphabet, Edge, Graph, pathCost, Run, run→cost, cost→run}
-use Rattle.paths.specs.Labels.{Closed, Attained, Held, held→run, run-lower-bound, unlabelled-none}
+use Rattle.paths.specs.Labels.{Closed, Attained, Held, held→run, run-lower-bound}
 use Rattle.paths.specs.Bounds.{Sized}
-use Rattle.paths.specs.Best.{Before, IsBest, Answers}
+use Rattle.paths.specs.Best.{Before, IsBest}
 
 module _ {costs : Costs} {alphabet : Alphabet} (G : Graph costs alphabet) (L : Labels costs) where
   infixl 65 _⊕_
@@ -70,9 +70,6 @@ module _ {costs : Costs} {alphabet : Alphabet} (G : Graph costs alphabet) (L : L
   pub no-edge-not-tight : {u : ℕ} {p : Letter} → edge u p ≡ none → ¬ (Tight u p)
   no-edge-not-tight h t = let z : _≡_ {A = ℕ} 0 1 = cc in omega arith
 
-  pub no-rest-not-tight : {u : ℕ} {p : Letter} {e : Edge Cost} → edge u p ≡ some e → L (e .target) ≡ none → ¬ (Tight u p)
-  no-rest-not-tight h k t = let z : _≡_ {A = ℕ} 0 1 = cc in omega arith
-
   -- along a path that costs what its node's label says, every edge keeps to the labels
   tight-rest : Closed G L → {u : ℕ} {p : Letter} {ps : List Letter} {c : Cost} (e : Edge Cost) (d : Cost) → L u ≡ some c → edge u p ≡ some e → Run G (e .target) ps d → c ≡ e .cost ⊕ d → L (e .target) ≡ some d
   tight-rest K {u} {p} {c = c} e d l h r q = go (m .upto)
@@ -91,10 +88,6 @@ module _ {costs : Costs} {alphabet : Alphabet} (G : Graph costs alphabet) (L : L
       go : {ps : List Letter} → Held G L u ps c → (ending u ≡ some c) ⊎ ((p : Letter) × Tight u p)
       go (Held.halt h m) = inl h
       go (Held.step {p = p} e d h r q m) = inr (p, make-tight h (tight-rest K e d l h (held→run G r) q) l q)
-
-  -- a node with no label has no path, and that is the answer
-  pub unlabelled-answers : Closed G L → (u : ℕ) → L u ≡ none → Answers G u none
-  unlabelled-answers K u l = record { best = λ qs e. let z : _≡_ {A = ℕ} 0 1 = cc in absurd (omega arith); no-path = λ e. unlabelled-none G L K u l }
 
   module _ {size : Cost → ℕ} (Z : SizedLabels size) where
     -- what is left after an edge that keeps to the labels is one letter shorter

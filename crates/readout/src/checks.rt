@@ -6,9 +6,9 @@ ghost use Rattle.refusals.specs.Refusals.{refuse, checkedNumber};
 ghost use Rattle.candidate.specs.Candidates.{isSome};
 ghost use Rattle.tables.specs.Work.{HasNode, labelOf};
 ghost use Rattle.readout.specs.Searching.{labelRefusal};
-use tables::labels::Label;
 use refusals::Checked;
 use refusals::Refusal;
+use tables::labels::Label;
 
 // Refusal 10: whether there is a candidate, and so a label at the start node.
 fn check_found(work: &[u16], start: usize) -> Checked

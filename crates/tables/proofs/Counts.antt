@@ -7,11 +7,11 @@ use native.Mathlib.Numerals.{add-one}
 use native.Mathlib.Omega.{arith}
 use lib.ListN.{length, getD, take, drop, set, drop-of-length-le}
 use lib.Seq.{drop-cons, take-suc, take-suc-set}
-use Rattle.product.specs.Nodes.{product, statesOf}
-use Rattle.product.specs.Laws.Nodes.{Positive, Below, product-positive}
+use Rattle.product.specs.Nodes.{product}
+use Rattle.product.specs.Laws.Nodes.{Positive, product-positive}
 use Rattle.product.specs.Laws.JointStep.{counts-positive}
 use Rattle.tables.specs.Tables.{CountsOfSome}
-use Rattle.tables.proofs.Machines.{count-at, counts-length, code-states}
+use Rattle.tables.proofs.Machines.{count-at, counts-length}
 
 -- ---- the product of the counts from m on
 
@@ -53,9 +53,6 @@ module _ {counts : List ℕ} (C : CountsOfSome counts) where
 
   pub count-few : (m : ℕ) → getD counts m 0 ≤ 32
   count-few m = omega (arith, C .card .states m, count-at (C .machines) m, ap (λ (l : List ℕ). getD l m 0) (C .are))
-
-  pub its-states : (code : ℕ) → code < product counts → Below counts (statesOf counts code)
-  its-states code h = rw (C .are) (code-states (C .card) code (rw (C .are) at h))
 
   -- ---- P, count by count
 

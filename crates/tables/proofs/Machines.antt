@@ -1,5 +1,5 @@
 -- Machines by their numbers: their counts, their states, their steps. Assumes nothing.
-use mathlib.Core.Path.{_≡_, refl, ap}
+use mathlib.Core.Path.{_≡_}
 use mathlib.Core.List.{List, [], _∷_}
 use Prim.Native.Nat.{ℕ, zero, suc, _<_}
 use native.Mathlib.Omega.{arith}
@@ -23,11 +23,6 @@ count-at ms m = List·getD-map stateCountOf ms m noMachine
 
 pub counts-length : (ms : List Machine) → length (stateCounts ms) ≡ length ms
 counts-length ms = length-map ms stateCountOf
-
--- one state for each count, below it
-pub below-length : (qs ss : List ℕ) → Below qs ss → length ss ≡ length qs
-below-length [] [] h = refl
-below-length (q ∷ qs) (s ∷ ss) h = ap suc (below-length qs ss (h .1))
 
 pub below-at : (qs ss : List ℕ) → Below qs ss → (m : ℕ) → m < length qs → getD ss m 0 < getD qs m 0
 below-at [] [] b m h = absurd (omega arith)

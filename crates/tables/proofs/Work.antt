@@ -52,9 +52,6 @@ pub label-alike : {xs ys : List ℕ} {w : ℕ} → AlikeAt xs ys w → labelOf y
 unfolding labelOf
 label-alike a = λ i. cond (eqb (a .state i) 0) none (some (a .cost i))
 
-pub alike-trans : {xs ys zs : List ℕ} {w : ℕ} → AlikeAt xs ys w → AlikeAt ys zs w → AlikeAt xs zs w
-alike-trans a b = record { state = b .state ∙ a .state; cost = b .cost ∙ a .cost }
-
 -- a node none of whose numbers was changed
 pub alike-numbers : (xs ys : List ℕ) (w : ℕ) → ((j : ℕ) → w * 8 ≤ j → j < w * 8 + 8 → getD ys j 0 ≡ getD xs j 0) → AlikeAt xs ys w
 alike-numbers xs ys w h =

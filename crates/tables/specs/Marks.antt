@@ -14,7 +14,3 @@ fromNibbles (suc k) c = c .0 * 16 ^ k + fromNibbles k (c .1)
 
 abbrev pub marksCost : ℕ → Ranked 6
 marksCost e = nibbles 6 e
-
--- the number of no pair
-abbrev pub noPair : ℕ
-noPair = 4294967295

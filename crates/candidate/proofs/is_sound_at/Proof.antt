@@ -1,7 +1,5 @@
-use mathlib.Core.Path.{_≡_, ap, ap₂, _∙_}
+use mathlib.Core.Path.{ap, ap₂, _∙_}
 use mathlib.Core.Bool.{Bool, _&&_}
-use Rattle.machine.specs.declared.Pair.{Pair}
-use Rattle.machine.specs.Symbols.{isPair, withinSymbols}
 use Rattle.candidate.specs.Evaluating.{soundPair}
 use borrow.Author.Needs.{needs}
 use Rattle.candidate.proofs.is_sound_at.Statement.{statement}

@@ -1,4 +1,3 @@
-use mathlib.Core.Path.{_≡_, ap}
 use borrow.Author.Needs.{needs}
 use Rattle.candidate.proofs.refused.Statement.{statement}
 use Rattle.candidate.proofs.refused.Tie as tie

@@ -15,8 +15,7 @@ use Rattle.machine.specs.Symbols.{emptySymbol, isPair, pairOf}
 use Rattle.machine.specs.Machine.{Machine}
 use Rattle.card.specs.Card.{machinesOf}
 use Rattle.paths.specs.Ranked.{Ranked}
-use Rattle.paths.specs.Graph.{Edge}
-use Rattle.paths.specs.Cheapest.{EdgeTo}
+use Rattle.paths.specs.Graph.{Edge, EdgeTo}
 use Rattle.product.specs.Nodes.{stateCounts, product, statesAt}
 use Rattle.product.specs.ProductGraph.{Move, move, pricedMove}
 use Rattle.product.specs.Codes.{movedBy}

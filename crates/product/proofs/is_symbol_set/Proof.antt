@@ -1,5 +1,5 @@
-use mathlib.Core.Path.{_≡_, refl}
-use mathlib.Core.Bool.{Bool, not, _&&_}
+use mathlib.Core.Path.{_≡_}
+use mathlib.Core.Bool.{not, _&&_}
 use Rattle.basics.specs.Sets.{member}
 use Rattle.machine.specs.Symbols.{emptySymbol}
 use Rattle.machine.specs.Part.{soundSet}

@@ -12,18 +12,15 @@ use Rattle.card.specs.Layout.{symbolCount}
 use Rattle.card.specs.Card.{machinesOf, cardRefusal}
 use Rattle.product.specs.Sets.{singletons}
 use Rattle.paths.specs.Costs.{Costs}
-use Rattle.paths.specs.Ranked.{letterCount, countAt}
 use Rattle.paths.specs.Graph.{Edge, Within}
-use Rattle.paths.specs.Bounds.{Sized, BoundedCount}
-use Rattle.paths.specs.Positions.{Positioned}
-use Rattle.product.specs.Nodes.{stateCounts, nodeCount, positionAt}
+use Rattle.product.specs.Nodes.{stateCounts, nodeCount}
 use Rattle.product.specs.Prices.{Price}
-use Rattle.product.specs.ProductGraph.{pricedGraph, setGraph, cardStart}
+use Rattle.product.specs.ProductGraph.{pricedGraph, cardStart}
 use Rattle.product.specs.Laws.Sets.{as-many}
 use Rattle.product.specs.Laws.Nodes.{node-below}
 use Rattle.product.specs.Laws.JointStep.{starts-below}
 use Rattle.product.specs.Laws.Candidates.{starts}
-use Rattle.product.specs.Laws.Edges.{edge-of, product-within, product-positioned, product-sized, product-counts, move-symbols}
+use Rattle.product.specs.Laws.Edges.{edge-of, product-within, move-symbols}
 use Rattle.product.specs.Laws.Accepted.{accepted-machines}
 
 pub some-machine : (card : List ℕ) → cardRefusal card ≡ 0 → 1 ≤ length (machinesOf card)
@@ -39,21 +36,10 @@ module _ (card sets : List ℕ) (ok : cardRefusal card ≡ 0) where
     pub priced-within : Within (pricedGraph price card sets) (nodeCount (machinesOf card) (length sets))
     priced-within = product-within price sets (machinesOf card) (accepted-machines card ok .sound)
 
-    pub priced-positioned : Positioned (pricedGraph price card sets) (positionAt (stateCounts (machinesOf card))) (length sets)
-    priced-positioned = product-positioned price sets (machinesOf card) (accepted-machines card ok .sound)
-
     pub priced-symbols : (u : ℕ) (p : Pair) (e : Edge (costs .Cost)) → pricedGraph price card sets .edge u p ≡ some e → withinSymbols (symbolCount card) p ≡ true
     priced-symbols u p e h =
         let k = edge-of price sets (machinesOf card) u p e h in
         move-symbols (accepted-machines card ok .sound) (some-machine card ok) sets u p (k .by) (k .is)
-
--- under a ranking the pair count of a path is the number of its pairs, and a count of it is at most 15 a pair, and 15 at the end
-module _ (card r sets : List ℕ) (ok : cardRefusal card ≡ 0) where
-  pub set-sized : Sized (setGraph card r sets) (letterCount (length r))
-  set-sized = product-sized r sets (machinesOf card)
-
-  pub set-counts : (i : ℕ) → BoundedCount (setGraph card r sets) (countAt (length r) i) 15 15
-  set-counts i = product-counts r sets (machinesOf card) (accepted-machines card ok .sound) i
 
 -- a word has as many symbols as it has sets
 pub word-within : (card word : List ℕ) → cardRefusal card ≡ 0 → {costs : Costs} (price : Price costs) → Within (pricedGraph price card (singletons word)) (nodeCount (machinesOf card) (length word))

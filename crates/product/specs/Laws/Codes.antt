@@ -50,10 +50,6 @@ module _ (sets : List ℕ) (ms : List Machine) where
   unfolding ending
   ending-at c h = rw (position-at (stateCounts ms) (length sets) c h, eq-eqb (length sets) (length sets) refl, ending, states-at (stateCounts ms) (length sets) c h)
 
-  pub ending-before : (i c : ℕ) → c < product (stateCounts ms) → (i ≡ length sets → ⊥) → ending sets ms (i * product (stateCounts ms) + c) ≡ none
-  unfolding ending
-  ending-before i c h n = rw (position-at (stateCounts ms) i c h, ne-eqb i (length sets) n, ending)
-
 -- ---- the same as edges and endings, at any price
 
 -- a step by codes as an edge to the nodes from a number on
@@ -76,9 +72,6 @@ module _ {costs : Costs} (price : Price costs) (sets : List ℕ) (ms : List Mach
   module _ (c : ℕ) (h : c < product (stateCounts ms)) where
     pub ending-edge : productGraph price sets ms .ending (length sets * product (stateCounts ms) + c) ≡ pricedEnding price sets ms (codeEnding ms c)
     ending-edge = ap (pricedEnding price sets ms) (ending-at sets ms c h)
-
-    pub no-ending : (i : ℕ) → (i ≡ length sets → ⊥) → productGraph price sets ms .ending (i * product (stateCounts ms) + c) ≡ none
-    no-ending i n = ap (pricedEnding price sets ms) (ending-before sets ms i c h n)
 
 -- ---- machine by machine, the first one's state being the quotient of the code by the product of the other counts
 

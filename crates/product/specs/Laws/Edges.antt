@@ -1,6 +1,5 @@
 -- Laws of the edges: where a move leads, what it costs, and what the theory of paths asks of the product.
 use mathlib.Core.Path.{_≡_, refl, _∙_, ap}
-use mathlib.Core.Logic.{_⊎_, inl, inr}
 use mathlib.Core.Bool.{Bool, true, false, cond}
 use mathlib.Core.List.{List, [], _∷_, map}
 use mathlib.Core.Option.{Option, some, none, Option·none-ne-some}
@@ -18,7 +17,6 @@ use Rattle.paths.specs.Ranked.{Ranked, rankedCosts, letterCount, countAt}
 use Rattle.paths.specs.ByRanking.{ranked, ranked-letters}
 use Rattle.paths.specs.Graph.{Edge, Within}
 use Rattle.paths.specs.Bounds.{Sized, BoundedCount}
-use Rattle.paths.specs.Positions.{Positioned}
 use Rattle.paths.specs.RankedGraph.{ranked-sized, ranked-counts}
 use Rattle.product.specs.Nodes.{product, stateCounts, nodeOf, positionAt, statesAt}
 use Rattle.product.specs.JointStep.{andThose, ofEach, jointStep, jointEnding}
@@ -139,28 +137,6 @@ module _ {costs : Costs} (price : Price costs) (sets : List ℕ) (ms : List Mach
 
     pub product-within : Within (productGraph price sets ms) ((length sets + 1) * product (stateCounts ms))
     product-within u p e h = let k = edge-of u p e h in rw (k .target-is) (move-within u p (k .by) (k .is))
-
-    -- a pair that is no insertion leads to the next position
-    pub symbol-moves-on : (u : ℕ) (p : Pair) (m : Move) → move sets ms u p ≡ some m → (p .input ≡ emptySymbol → ⊥) → positionAt (stateCounts ms) (m .target) ≡ positionAt (stateCounts ms) u + 1
-    symbol-moves-on u p m h z = let k = moved sets ms u p m h in move-position u p m k ∙ go (advanced sets (positionAt (stateCounts ms) u) p (k .position) (k .advances))
-      where
-        go : {j : ℕ} → Advanced sets (positionAt (stateCounts ms) u) p j → j ≡ positionAt (stateCounts ms) u + 1
-        go (stays e q h) = absurd (z e)
-        go (goes-on e q h k) = q
-
-    pub product-positioned : Positioned (productGraph price sets ms) (positionAt (stateCounts ms)) (length sets)
-    product-positioned = record { next = next; ends = λ u c h. let k = ending-of u c h in word-ended sets ms u (k .marks) (k .is) .at-end }
-      where
-        go : (u : ℕ) (p : Pair) (j : ℕ) → Advanced sets (positionAt (stateCounts ms) u) p j → (j ≡ positionAt (stateCounts ms) u) ⊎ (j ≡ suc (positionAt (stateCounts ms) u))
-        go u p j (stays e q h) = inl q
-        go u p j (goes-on e q h k) = inr (omega arith)
-
-        next : (u : ℕ) (p : Pair) (e : Edge (costs .Cost)) → productGraph price sets ms .edge u p ≡ some e
-            → (positionAt (stateCounts ms) (e .target) ≡ positionAt (stateCounts ms) u) ⊎ (positionAt (stateCounts ms) (e .target) ≡ suc (positionAt (stateCounts ms) u))
-        next u p e h =
-            let k = edge-of u p e h in
-            let l = moved sets ms u p (k .by) (k .is) in
-            rw (k .target-is, move-position u p (k .by) l) (go u p (l .position) (advanced sets (positionAt (stateCounts ms) u) p (l .position) (l .advances)))
 
 -- ---- a joint step, and so a move, is by a pair of the card's symbols
 

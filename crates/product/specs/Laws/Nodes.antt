@@ -2,7 +2,7 @@
 use mathlib.Core.Path.{_≡_, refl, _∙_, ap}
 use mathlib.Core.List.{List, [], _∷_}
 use Prim.Native.Nat.{ℕ, suc, _+_, _*_, _/_, _%_, _<_, _≤_}
-use native.Mathlib.Nat.{mul-le-mul-right, mul-add-div-right, mul-add-mod-self-right, div-eq-of-lt, mod-eq-of-lt, mod-lt, div-lt-iff-lt-mul, div-add-mod', suc-mul, mul-pos}
+use native.Mathlib.Nat.{mul-le-mul-right, mul-add-div-right, mul-add-mod-self-right, div-eq-of-lt, mod-eq-of-lt, mod-lt, div-lt-iff-lt-mul, suc-mul, mul-pos}
 use native.Mathlib.Omega.{arith}
 use Rattle.product.specs.Nodes.{product, codeOf, statesOf, nodeOf, positionAt, statesAt}
 
@@ -47,13 +47,6 @@ states-below [] p c h = tt
 states-below (q ∷ qs) p c h =
     let b = product-positive qs (p .1) in
     (div-lt-iff-lt-mul b .1 h, states-below qs (p .1) (c % product qs) (mod-lt c b))
-
-pub code-of-states : (qs : List ℕ) → Positive qs → (c : ℕ) → c < product qs → codeOf qs (statesOf qs c) ≡ c
-unfolding product codeOf statesOf
-code-of-states [] p c h = omega arith
-code-of-states (q ∷ qs) p c h =
-    let b = product-positive qs (p .1) in
-    rw (code-of-states qs (p .1) (c % product qs) (mod-lt c b)) (div-add-mod' c (product qs))
 
 -- a node's position and states, from its number, and from the place of its number in its position
 module _ (qs : List ℕ) where

@@ -54,11 +54,6 @@ accepted-sets S sets e =
     let b = none-first (refuse 25 w) [] (a .1) in
     record { short = leb-true (length sets) 24 (passed 8 n (lit< tt) (a .0)); symbols = passed 25 w (lit< tt) (b .0) }
 
--- they meet no refusal
-pub sets-pass : (S : ℕ) (sets : List ℕ) → AcceptedSets S sets → setsRefusal S sets ≡ 0
-unfolding setsRefusal
-sets-pass S sets a = rw (le-leb (length sets) 24 (a .short), a .symbols)
-
 module _ (S : ℕ) (sets : List ℕ) (t : allOf (symbolSet S) sets ≡ true) where
   -- what is read at a position is a symbol
   pub read-symbols : (i x : ℕ) → member (getD sets i 0) x ≡ true → (1 ≤ x) × (x ≤ S)

@@ -1,7 +1,7 @@
 use mathlib.Core.Path.{_≡_, sym, ap, ap₂, _∙_}
 use mathlib.Core.Bool.{true}
 use mathlib.Core.List.{List}
-use Prim.Native.Nat.{ℕ, _-_}
+use Prim.Native.Nat.{ℕ}
 use lib.Dec.{lit<}
 use Rattle.refusals.specs.Refusals.{refuse, checkedNumber}
 use Rattle.refusals.proofs.Refusals.{was-true, was-false}

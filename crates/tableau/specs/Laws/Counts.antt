@@ -8,8 +8,8 @@ use native.Mathlib.Omega.{arith}
 use lib.Dec.{eqb}
 use lib.ListN.{length, getD, replicate, List·getD-append}
 use lib.Seq.{ext-getD}
-use borrow.Author.Tests.{eqb-true, eq-eqb}
-use Rattle.basics.proofs.Below.{every-at, each-below}
+use borrow.Author.Tests.{eqb-true}
+use Rattle.basics.proofs.Below.{every-at}
 use Rattle.ranking.specs.declared.Order.the-variants.{Equal}
 use Rattle.ranking.specs.Rankings.{isRanking}
 use Rattle.ranking.specs.Harmony.{harmony}
@@ -21,10 +21,6 @@ module _ (v w : List ℕ) where
   pub same-at : sameCounts v w ≡ true → (m : ℕ) → m < 6 → getD v m 0 ≡ getD w m 0
   unfolding sameCounts
   same-at t m h = eqb-true (getD v m 0) (getD w m 0) (every-at (λ i. eqb (getD v i 0) (getD w i 0)) 6 t m h)
-
-  pub at-same : ((m : ℕ) → m < 6 → getD v m 0 ≡ getD w m 0) → sameCounts v w ≡ true
-  unfolding sameCounts
-  at-same e = each-below (λ i. eqb (getD v i 0) (getD w i 0)) 6 (λ m h. eq-eqb (getD v m 0) (getD w m 0) (e m h))
 
 -- a count of a profile, among six
 count-of : (p : List ℕ) (m : ℕ) → m < length p → getD (profileWith p .counts) m 0 ≡ getD p m 0

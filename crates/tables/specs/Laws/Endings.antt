@@ -1,8 +1,8 @@
 -- The joint ending by its number is the product's ending.
 use mathlib.Core.Path.{_≡_, refl, sym, _∙_, ap}
 use mathlib.Core.List.{List, [], _∷_}
-use mathlib.Core.Option.{Option, some, none, Option·none-ne-some}
-use Prim.Native.Nat.{ℕ, _^_, _<_, _≤_}
+use mathlib.Core.Option.{Option, some, none}
+use Prim.Native.Nat.{ℕ, _<_, _≤_}
 use lib.ListN.{length, getD}
 use Rattle.machine.specs.Machine.{Machine}
 use Rattle.paths.specs.Ranked.{Ranked}
@@ -15,10 +15,10 @@ use Rattle.product.specs.Laws.JointStep.{AllSound}
 use Rattle.product.specs.Laws.Edges.{ending-marks-bound}
 use Rattle.product.specs.Laws.Codes as codes
 use Rattle.tables.specs.Engine.{engineGraph}
-use Rattle.tables.specs.Places.{sixPlaces, markNumber}
+use Rattle.tables.specs.Places.{sixPlaces}
 use Rattle.tables.specs.JointNumbers.{endingNumber, endingFrom}
 use Rattle.tables.specs.Endings.{withoutPairs, endingCosts}
-use Rattle.tables.specs.Laws.Packing.{six-cost, six-below}
+use Rattle.tables.specs.Laws.Packing.{six-cost}
 use Rattle.tables.specs.Laws.Edges.{nodeAt}
 
 ranked-without : (places marks : List ℕ) (n : ℕ) → withoutPairs (length places) (ranked places marks n) ≡ ranked places marks 0
@@ -34,11 +34,3 @@ module _ (ranking sets : List ℕ) {S : ℕ} {ms : List Machine} (sound : AllSou
           → pricedEnding (byRanking (sixPlaces ranking)) sets ms o ≡ endingCosts (endingNumber (sixPlaces ranking) o)
       go none f = refl
       go (some xs) f = ap {B = Option (Ranked 6)} some (sym (ap (withoutPairs 6) (six-cost xs (f xs refl) ranking) ∙ ranked-without (sixPlaces ranking) xs 1))
-
--- the number of an ending stands for marks
-pub ending-below : (ranking : List ℕ) {S : ℕ} {ms : List Machine} → AllSound S ms → (a e : ℕ) → endingFrom (sixPlaces ranking) ms a ≡ some e → e < 16 ^ 6
-ending-below ranking {ms = ms} sound a e h = go (codeEnding ms a) (ending-marks-bound sound (statesOf (stateCounts ms) a)) h
-  where
-    go : (o : Option (List ℕ)) → ((xs : List ℕ) → o ≡ some xs → (i : ℕ) → getD xs i 0 ≤ 15) → endingNumber (sixPlaces ranking) o ≡ some e → e < 16 ^ 6
-    go none f q = absurd (Option·none-ne-some e q)
-    go (some xs) f q = let z : markNumber (sixPlaces ranking) xs ≡ e = cc in rw (← z) (six-below xs (f xs refl) ranking)

@@ -1,8 +1,8 @@
 use mathlib.Core.Path.{ap₂}
-use mathlib.Core.Bool.{_&&_}
 use borrow.Author.Needs.{needs}
 use Rattle.ranking.proofs.finder.blocks.Statement.{statement}
 use Rattle.ranking.proofs.finder.blocks.Tie as tie
+use mathlib.Core.Bool.{_&&_}
 
 returns : tie.Need-returns
 returns c = ap₂ _&&_ (c .before .disjoint .ensures) (c .has .ensures)

@@ -1,10 +1,10 @@
 use mathlib.Core.Path.{ap₂}
-use mathlib.Core.Bool.{_&&_}
 use borrow.Author.Needs.{needs}
 use Rattle.ranking.specs.Finder.{soundCondition}
 use Rattle.ranking.proofs.FinderSets.{below-shifted}
 use Rattle.ranking.proofs.finder.sound.Statement.{statement}
 use Rattle.ranking.proofs.finder.sound.Tie as tie
+use mathlib.Core.Bool.{_&&_}
 
 returns : tie.Need-returns
 unfolding soundCondition
