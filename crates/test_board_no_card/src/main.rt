@@ -1,4 +1,0 @@
-// The board's program without a card: a missing card file is the empty card.
-fn main() {
-    session::run();
-}
