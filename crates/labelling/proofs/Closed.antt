@@ -3,7 +3,7 @@ use mathlib.Core.Path.{_≡_, refl, sym, _∙_}
 use mathlib.Core.List.{List}
 use Prim.Native.Nat.{ℕ}
 use lib.ListN.{length}
-use Rattle.labelling.specs.Closing.{CountsClosed, NumbersClosed, AllPassed, ClosedAt}
+use Rattle.closing.specs.Closing.{CountsClosed, NumbersClosed, AllPassed, ClosedAt}
 
 module _ {ranked sums own own′ next next′ : List ℕ} {base P : ℕ} where
   pub counts-closed : length sums ≡ 0 → {ranked′ : List ℕ} → CountsClosed ranked ranked′ own base P → AllPassed own own′ next next′ P → ClosedAt ranked ranked′ sums sums own own′ next next′ base P

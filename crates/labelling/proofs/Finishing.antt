@@ -23,7 +23,7 @@ use Rattle.columns.specs.Prepared.{Prepared}
 use Rattle.insertions.specs.Listed.{Listed}
 use Rattle.entering.specs.Entering.{cellGraph, Blank, Position, NextRoom}
 use Rattle.labelling.specs.Kinds.{inCounts, listsBy}
-use Rattle.labelling.specs.Closing.{ClosePre, ClosedAt}
+use Rattle.closing.specs.Closing.{ClosePre, ClosedAt}
 use Rattle.labelling.specs.Labelling.{KeptShort, OrderPre, Room, Labelled, FinishPre, Finished}
 use Rattle.labelling.specs.Laws.Settled.{numberGraph, settled-last, settled-position}
 use Rattle.labelling.specs.Laws.Tied.{tied, settle-ready, settle-fits}

@@ -22,8 +22,8 @@ use Rattle.cells.specs.Labels.{cellAt, nextCell}
 use Rattle.cells.specs.Trying.{labelFrom, cellPrice}
 use Rattle.cells.specs.Laws.Position.{placed, placed-in, placed-after}
 use Rattle.entering.specs.Entering.{cellGraph}
-use Rattle.labelling.specs.CountsPacking.{countsPacking}
-use Rattle.labelling.specs.Closing.{Held, ClosedAt}
+use Rattle.closing.specs.CountsPacking.{countsPacking}
+use Rattle.closing.specs.Closing.{Held, ClosedAt}
 use Rattle.labelling.specs.Labelling.{Room, Labelled}
 
 -- what entering the position before i reads has the labels of the position i

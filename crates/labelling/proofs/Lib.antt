@@ -1,10 +1,5 @@
 pub mod Sizes
-pub mod Passing
 pub mod Weighing
-pub mod Writing
-pub mod ClosingCodes
-pub mod ClosingNumbers
-pub mod ClosingExample
 pub mod Closed
 pub mod Labelled
 pub mod Finishing

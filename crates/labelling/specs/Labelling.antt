@@ -29,7 +29,7 @@ use Rattle.insertions.specs.RankedWeights.{RankedWeights}
 use Rattle.insertions.specs.Listed.{Listed}
 use Rattle.entering.specs.Entering.{cellGraph, mostOf}
 use Rattle.labelling.specs.Kinds.{inCounts, highsBy, lowsBy, listsBy}
-use Rattle.labelling.specs.Closing.{Held, ClosePre, ClosedAt}
+use Rattle.closing.specs.Closing.{Held, ClosePre, ClosedAt}
 use Rattle.labelling.specs.Laws.LabelRoom.{LabelRoom}
 use Rattle.labelling.specs.Laws.Tied.{SamePrices}
 

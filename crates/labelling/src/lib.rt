@@ -11,7 +11,6 @@ use grid::Grid;
 use machine::Pair;
 
 pub mod weights; // weights.rt: what states and marks count, in ranked order
-pub mod closing; // closing.rt: a settled position is stored, and is the next one's
 
 // Settles a position that was entered, by insertions in lists, and closes it.
 fn finish(

@@ -11,7 +11,7 @@ use Rattle.tables.specs.Work.{HasNode, stateOf, costAt}
 use Rattle.cells.specs.declared.Cell.{Cell}
 use Rattle.cells.specs.Labels.{noLabel}
 use Rattle.tables.specs.SumLabels.{noLabel as noSum}
-use Rattle.labelling.specs.CountsPacking.{firstCounts, lastCounts}
+use Rattle.closing.specs.CountsPacking.{firstCounts, lastCounts}
 
 -- the cell of no label
 abbrev pub noCell : Cell

@@ -41,7 +41,7 @@ use Rattle.cells.specs.Trying.{labelFrom}
 use Rattle.cells.specs.Laws.Trying.{label-there, label-none}
 use Rattle.insertions.specs.RankedWeights.{weightBy, RankedWeights}
 use Rattle.entering.specs.Entering.{cellGraph}
-use Rattle.labelling.specs.CountsPacking.{firstCounts, lastCounts, bothCounts, countsPacking}
+use Rattle.closing.specs.CountsPacking.{firstCounts, lastCounts, bothCounts, countsPacking}
 use Rattle.labelling.specs.Laws.Packed.{ranked-packs}
 use Rattle.labelling.specs.Laws.Ranked.{distinct-cost-short}
 use Rattle.labelling.specs.Laws.Numbers.{packed-run, numberLabels, labels-short, numbers-done}

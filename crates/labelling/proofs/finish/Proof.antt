@@ -9,7 +9,7 @@ use lib.ListN.{length}
 use Rattle.settling.specs.Insertions.{listsOf}
 use Rattle.settling.specs.Settling.{SettlePre, Settled}
 use Rattle.labelling.specs.Kinds.{inCounts, sixHighs, noLows, listsBy}
-use Rattle.labelling.specs.Closing.{CountsPre, CountsClosed, NumbersPre, NumbersClosed, PassAllPre, AllPassed}
+use Rattle.closing.specs.Closing.{CountsPre, CountsClosed, NumbersPre, NumbersClosed, PassAllPre, AllPassed}
 use Rattle.labelling.specs.Labelling.{FinishPre, Finished}
 use Rattle.labelling.proofs.Closed.{counts-closed, numbers-closed}
 use Rattle.labelling.proofs.finish.Statement.{statement}

@@ -24,7 +24,7 @@ use Rattle.settling.specs.Packing.{Packing, packedEdge, packedPath, Packs}
 use Rattle.cells.specs.Columns.{WeightsOf}
 use Rattle.insertions.specs.RankedWeights.{RankedWeights}
 use Rattle.entering.specs.Entering.{cellGraph}
-use Rattle.labelling.specs.CountsPacking.{countsPacking}
+use Rattle.closing.specs.CountsPacking.{countsPacking}
 use Rattle.labelling.specs.Laws.Packed.{ranked-packs}
 use Rattle.labelling.specs.Laws.Ranked.{distinct-cost-short, ending-short, step-short}
 

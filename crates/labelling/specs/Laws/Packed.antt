@@ -24,7 +24,7 @@ use Rattle.cells.specs.Laws.Weighed.{weighed-whole}
 use Rattle.insertions.specs.RankedWeights.{RankedWeights}
 use Rattle.insertions.specs.Laws.Ranked.{ranked-high, ranked-low}
 use Rattle.entering.specs.Entering.{cellGraph}
-use Rattle.labelling.specs.CountsPacking.{firstCounts, lastCounts, countsPacking}
+use Rattle.closing.specs.CountsPacking.{firstCounts, lastCounts, countsPacking}
 
 module _ (ranking : List ℕ) {ws : List ℕ} (R : RankedWeights (sixPlaces ranking) ws) (whole : (m : ℕ) → highOf ws m % 256 ≡ 0) where
   -- the ranked price of marks and a number of pairs, packed, is the price of cells

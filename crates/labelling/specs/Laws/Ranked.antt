@@ -34,7 +34,7 @@ use Rattle.settling.proofs.Packing.{unpacked-attained, unpacked-closed}
 use Rattle.cells.specs.Columns.{WeightsOf}
 use Rattle.insertions.specs.RankedWeights.{RankedWeights}
 use Rattle.entering.specs.Entering.{cellGraph}
-use Rattle.labelling.specs.CountsPacking.{countsPacking}
+use Rattle.closing.specs.CountsPacking.{countsPacking}
 use Rattle.labelling.specs.Laws.Packed.{ranked-packs}
 
 -- ---- a path begins at one of the (n + 1) * P nodes

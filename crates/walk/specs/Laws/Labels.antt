@@ -9,7 +9,7 @@ use borrow.Author.Tests.{eq-eqb, ne-eqb, lt-ltb, le-ltb}
 use Rattle.tables.specs.Work.{stateOf, costAt}
 use Rattle.cells.specs.declared.Cell.{Cell}
 use Rattle.tables.specs.SumLabels.{noLabel as noSum}
-use Rattle.labelling.specs.CountsPacking.{firstCounts, lastCounts}
+use Rattle.closing.specs.CountsPacking.{firstCounts, lastCounts}
 use Rattle.walk.specs.Labels.{noCell, countsCell, sumCell, cellOf}
 
 -- ---- by counts

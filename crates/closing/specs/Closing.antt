@@ -17,7 +17,7 @@ use Rattle.cells.specs.Cells.{nowhere}
 use Rattle.cells.specs.Labels.{noLabel, cellAt, OwnCell, nextCell, NextFits}
 use Rattle.cells.specs.Trying.{labelFrom}
 use Rattle.entering.specs.Entering.{Blank}
-use Rattle.labelling.specs.CountsPacking.{countsPacking}
+use Rattle.closing.specs.CountsPacking.{countsPacking}
 
 -- ---- the label of a node in a work slice
 

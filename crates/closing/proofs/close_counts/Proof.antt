@@ -3,10 +3,10 @@ use borrow.Author.Needs.{needs}
 use mathlib.Core.Path.{_≡_, subst}
 use Prim.Native.Nat.{_-_, _≤_}
 use native.Mathlib.Omega.{arith}
-use Rattle.labelling.specs.Closing.{CountsClosed}
-use Rattle.labelling.proofs.ClosingCodes.{stored-start, has-node, stored-next}
-use Rattle.labelling.proofs.closing.close_counts.Statement.{statement}
-use Rattle.labelling.proofs.closing.close_counts.Tie as tie
+use Rattle.closing.specs.Closing.{CountsClosed}
+use Rattle.closing.proofs.ClosingCodes.{stored-start, has-node, stored-next}
+use Rattle.closing.proofs.close_counts.Statement.{statement}
+use Rattle.closing.proofs.close_counts.Tie as tie
 
 abbrev Inv-loop : tie.InvT-loop
 Inv-loop work₀ base size own next code₀ work code = (code ≤ size) × CountsClosed work₀ work own base code

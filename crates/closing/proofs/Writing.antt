@@ -9,7 +9,7 @@ use native.Mathlib.Omega.{arith}
 use Rattle.paths.specs.Ranked.{Ranked}
 use Rattle.cells.specs.Labels.{cellAt}
 use Rattle.cells.specs.Trying.{labelFrom}
-use Rattle.labelling.specs.Closing.{Written}
+use Rattle.closing.specs.Closing.{Written}
 
 pub written-start : {Had : ℕ → Option (Ranked 1) → Type 0} {own : List ℕ} {base : ℕ} → Written Had Had own base 0
 written-start = record { held = λ c h. absurd (omega arith); others = λ w o h k. k }

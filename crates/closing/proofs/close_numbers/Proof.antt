@@ -3,10 +3,10 @@ use borrow.Author.Needs.{needs}
 use mathlib.Core.Path.{_≡_, subst}
 use Prim.Native.Nat.{_-_, _≤_}
 use native.Mathlib.Omega.{arith}
-use Rattle.labelling.specs.Closing.{NumbersClosed}
-use Rattle.labelling.proofs.ClosingNumbers.{numbers-start, numbers-next}
-use Rattle.labelling.proofs.closing.close_numbers.Statement.{statement}
-use Rattle.labelling.proofs.closing.close_numbers.Tie as tie
+use Rattle.closing.specs.Closing.{NumbersClosed}
+use Rattle.closing.proofs.ClosingNumbers.{numbers-start, numbers-next}
+use Rattle.closing.proofs.close_numbers.Statement.{statement}
+use Rattle.closing.proofs.close_numbers.Tie as tie
 
 abbrev Inv-loop : tie.InvT-loop
 Inv-loop work₀ base size own next code₀ work code = (code ≤ size) × NumbersClosed work₀ work own base code

@@ -1,9 +1,9 @@
 -- `pass_on` meets its contract: a label's last byte is 255, so the code can be taken off.
 use native.Mathlib.Omega.{arith}
-use Rattle.labelling.proofs.Passing.{at-least, passed}
+use Rattle.closing.proofs.Passing.{at-least, passed}
 use borrow.Author.Needs.{needs}
-use Rattle.labelling.proofs.closing.pass_on.Statement.{statement}
-use Rattle.labelling.proofs.closing.pass_on.Tie as tie
+use Rattle.closing.proofs.pass_on.Statement.{statement}
+use Rattle.closing.proofs.pass_on.Tie as tie
 
 sub-next : tie.Need-sub-next
 sub-next c = omega (arith, at-least _ _ _ (c .before .before .before .before .pre) _ (c .before .or-none .ensures))

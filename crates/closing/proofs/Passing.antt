@@ -13,7 +13,7 @@ use Rattle.cells.specs.Labels.{noLabel, cellAt, OwnCell, nextCell, NextFits}
 use Rattle.cells.specs.Trying.{labelFrom}
 use Rattle.cells.specs.Laws.Labels.{written, written-here, written-other}
 use Rattle.cells.specs.Laws.Trying.{label-there, label-none}
-use Rattle.labelling.specs.Closing.{orNone, PassPre, Passed, PassAllPre, AllPassed}
+use Rattle.closing.specs.Closing.{orNone, PassPre, Passed, PassAllPre, AllPassed}
 
 -- ---- a label, or none
 

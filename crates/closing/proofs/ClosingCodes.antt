@@ -16,9 +16,9 @@ use Rattle.cells.specs.Cells.{nowhere}
 use Rattle.cells.specs.Labels.{cellAt}
 use Rattle.cells.specs.Laws.Labels.{written}
 use Rattle.cells.specs.Laws.Trying.{label-there, label-none}
-use Rattle.labelling.specs.CountsPacking.{firstCounts, lastCounts, countsPacking}
-use Rattle.labelling.specs.Closing.{CountsHeld, CountsStored, CountsPre, CountsClosed}
-use Rattle.labelling.proofs.Writing.{written-start, written-next}
+use Rattle.closing.specs.CountsPacking.{firstCounts, lastCounts, countsPacking}
+use Rattle.closing.specs.Closing.{CountsHeld, CountsStored, CountsPre, CountsClosed}
+use Rattle.closing.proofs.Writing.{written-start, written-next}
 
 -- a node whose numbers stay keeps its label
 still-held : {xs ys : List ℕ} {w : ℕ} {o : Option (Ranked 1)} → AlikeAt xs ys w → CountsHeld xs w o → CountsHeld ys w o

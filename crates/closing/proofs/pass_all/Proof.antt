@@ -3,9 +3,9 @@ use borrow.Author.Needs.{needs}
 use mathlib.Core.Path.{_≡_, subst}
 use Prim.Native.Nat.{_-_, _≤_}
 use native.Mathlib.Omega.{arith}
-use Rattle.labelling.proofs.Passing.{PassedBelow, passed-start, pass-pre, passed-next, passed-end}
-use Rattle.labelling.proofs.closing.pass_all.Statement.{statement}
-use Rattle.labelling.proofs.closing.pass_all.Tie as tie
+use Rattle.closing.proofs.Passing.{PassedBelow, passed-start, pass-pre, passed-next, passed-end}
+use Rattle.closing.proofs.pass_all.Statement.{statement}
+use Rattle.closing.proofs.pass_all.Tie as tie
 
 abbrev Inv-loop : tie.InvT-loop
 Inv-loop own₀ next₀ size code₀ own next code = (code ≤ size) × PassedBelow own₀ own next₀ next code

@@ -1,8 +1,8 @@
 -- `or_none` meets its contract, by cases.
 use mathlib.Core.Path.{sym}
-use Rattle.labelling.proofs.Passing.{or-there, or-gone}
-use Rattle.labelling.proofs.closing.or_none.Statement.{statement}
-use Rattle.labelling.proofs.closing.or_none.Tie as tie
+use Rattle.closing.proofs.Passing.{or-there, or-gone}
+use Rattle.closing.proofs.or_none.Statement.{statement}
+use Rattle.closing.proofs.or_none.Tie as tie
 
 returns : tie.Need-returns
 returns c = sym (or-there _ (c .if1 .taken))

@@ -1,8 +1,8 @@
 use mathlib.Core.Path.{sym}
 use native.Mathlib.Omega.{arith}
-use Rattle.labelling.proofs.ClosingNumbers.{number-there, number-none}
-use Rattle.labelling.proofs.closing.number_of.Statement.{statement}
-use Rattle.labelling.proofs.closing.number_of.Tie as tie
+use Rattle.closing.proofs.ClosingNumbers.{number-there, number-none}
+use Rattle.closing.proofs.number_of.Statement.{statement}
+use Rattle.closing.proofs.number_of.Tie as tie
 
 returns : tie.Need-returns
 returns c = sym (number-none (record { high = c .before .args .high; low = c .before .args .low }) (c .if1 .taken))

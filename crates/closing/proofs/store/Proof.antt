@@ -2,10 +2,10 @@
 use native.Mathlib.Omega.{arith}
 use lib.ListN.{length-set}
 use Rattle.tables.proofs.Work.{written, stored}
-use Rattle.labelling.proofs.ClosingCodes.{first-few, label-stored, none-stored}
+use Rattle.closing.proofs.ClosingCodes.{first-few, label-stored, none-stored}
 use borrow.Author.Needs.{needs}
-use Rattle.labelling.proofs.closing.store.Statement.{statement}
-use Rattle.labelling.proofs.closing.store.Tie as tie
+use Rattle.closing.proofs.store.Statement.{statement}
+use Rattle.closing.proofs.store.Tie as tie
 
 returns : tie.Need-returns
 returns c = none-stored _ _ _ _ (c .before .pre .0) (c .if1 .taken)

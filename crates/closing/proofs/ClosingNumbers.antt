@@ -16,8 +16,8 @@ use Rattle.cells.specs.Trying.{labelFrom}
 use Rattle.cells.specs.Laws.Trying.{label-there, label-none}
 use Rattle.tables.specs.SumLabels as numbers
 use Rattle.tables.proofs.SumLabels as sums
-use Rattle.labelling.specs.Closing.{numberOf, NumbersPre, NumbersClosed}
-use Rattle.labelling.proofs.Writing.{written-start, written-next}
+use Rattle.closing.specs.Closing.{numberOf, NumbersPre, NumbersClosed}
+use Rattle.closing.proofs.Writing.{written-start, written-next}
 
 -- ---- a number
 

@@ -6,7 +6,7 @@ use native.Mathlib.Omega.{arith}
 use lib.ListN.{replicate, length-replicate}
 use Rattle.cells.specs.Cells.{nowhere}
 use Rattle.cells.specs.Labels.{cellAt}
-use Rattle.labelling.specs.Closing.{ClosePre}
+use Rattle.closing.specs.Closing.{ClosePre}
 
 abbrev labels : List ℕ
 labels = 511 ∷ 7 ∷ nowhere ∷ replicate 253 0

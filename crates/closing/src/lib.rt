@@ -3,7 +3,7 @@ ghost use mathlib.Core.Path.{_≡_};
 ghost use Prim.Native.Nat.{_^_, _<_};
 ghost use Rattle.tables.specs.Work.{HasNode};
 ghost use Rattle.cells.specs.Cells.{nowhere};
-ghost use Rattle.labelling.specs.Closing.{orNone, numberOf, CountsPre, CountsClosed, NumbersPre, NumbersClosed, CountsStored, PassPre, Passed, PassAllPre, AllPassed};
+ghost use Rattle.closing.specs.Closing.{orNone, numberOf, CountsPre, CountsClosed, NumbersPre, NumbersClosed, CountsStored, PassPre, Passed, PassAllPre, AllPassed};
 use cells::Cell;
 use cells::NOWHERE;
 

@@ -1,0 +1,2 @@
+pub mod CountsPacking
+pub mod Closing
