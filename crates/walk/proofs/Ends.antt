@@ -33,9 +33,9 @@ use Rattle.cells.specs.Labels.{OwnCell}
 use Rattle.cells.specs.Trying.{labelFrom, cellPrice}
 use Rattle.entering.specs.Entering.{cellGraph}
 use Rattle.walk.specs.declared.Written.{Written}
-use Rattle.walk.specs.Labels.{cellOf}
+use Rattle.tight.specs.Labels.{cellOf}
 use Rattle.walk.specs.WalkLabels.{pairCount}
-use Rattle.walk.specs.Walking.{EndsPre, EndingAdded}
+use Rattle.tight.specs.Going.{EndsPre, EndingAdded}
 use Rattle.walk.specs.Walked.{Walked}
 use Rattle.walk.proofs.Sizes.{pairs-sized}
 use Rattle.walk.proofs.Nodes.{At, Ground, Reached, pairs-written}

@@ -1,6 +1,3 @@
-pub mod Placing
-pub mod Joining
-pub mod Tests
 pub mod Sizes
 pub mod Columns
 pub mod Tightness
@@ -8,5 +5,4 @@ pub mod Marks
 pub mod Nodes
 pub mod Passing
 pub mod Ends
-pub mod Ending
 pub mod Walking

@@ -37,12 +37,12 @@ use Rattle.cells.specs.Columns.{JointCell}
 use Rattle.cells.specs.Labels.{OwnCell}
 use Rattle.cells.specs.Trying.{labelFrom, cellPrice}
 use Rattle.entering.specs.Entering.{cellGraph}
-use Rattle.walk.specs.declared.tight.Least.{Least}
-use Rattle.walk.specs.Labels.{cellOf, HasLabel}
-use Rattle.walk.specs.Places.{highBy, lowBy}
-use Rattle.walk.specs.Keeping.{Fits, KeepsAt, LeastPre, LeastOf}
+use Rattle.tight.specs.declared.Least.{Least}
+use Rattle.tight.specs.Labels.{cellOf, HasLabel}
+use Rattle.tight.specs.Places.{highBy, lowBy}
+use Rattle.tight.specs.Keeping.{Fits, KeepsAt, LeastPre, LeastOf}
 use Rattle.walk.specs.WalkLabels.{pairCount, Labelled}
-use Rattle.walk.specs.Walking.{GoPre, GoesOn}
+use Rattle.tight.specs.Going.{GoPre, GoesOn}
 use Rattle.walk.proofs.Sizes.{pairs-few, pairs-sized}
 use Rattle.walk.proofs.Columns.{Told, HoldsAt, coded-by, marks-held, states-held, steps-few, weights-fit, joint-held}
 use Rattle.walk.proofs.Tightness.{label-is, TightTo, keeps-tight, tight-keeps}

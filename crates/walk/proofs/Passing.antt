@@ -38,13 +38,13 @@ use Rattle.columns.specs.AtHand.{AtHandPre, Stuck, FilledAtHand}
 use Rattle.columns.specs.Prepared.{NoSteps, Covered, Prepared}
 use Rattle.columns.specs.Laws.Places.{places-before, places-few}
 use Rattle.entering.specs.Entering.{cellGraph}
-use Rattle.walk.specs.declared.tight.Least.{Least}
-use Rattle.walk.specs.Labels.{HasLabel}
-use Rattle.walk.specs.Places.{placesFrom, PlacesPre, Placed}
-use Rattle.walk.specs.Keeping.{LeastPre, LeastOf}
-use Rattle.walk.specs.Walking.{GoPre, GoesOn}
+use Rattle.tight.specs.declared.Least.{Least}
+use Rattle.tight.specs.Labels.{HasLabel}
+use Rattle.tight.specs.Places.{placesFrom, PlacesPre, Placed}
+use Rattle.tight.specs.Keeping.{LeastPre, LeastOf}
+use Rattle.tight.specs.Going.{GoPre, GoesOn}
 use Rattle.walk.specs.WalkLabels.{pairCount}
-use Rattle.walk.proofs.Placing.{places-length, place-at}
+use Rattle.tight.proofs.Placing.{places-length, place-at}
 use Rattle.walk.proofs.Sizes.{pairs-sized}
 use Rattle.walk.proofs.Columns.{Told, HoldsAt, states-length}
 use Rattle.walk.proofs.Tightness.{label-is}

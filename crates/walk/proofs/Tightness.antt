@@ -18,7 +18,7 @@ use Rattle.cells.specs.Columns.{weighed, JointCell}
 use Rattle.cells.specs.Trying.{labelFrom, OwnCell, cellPrice, stepCost}
 use Rattle.cells.specs.Laws.Weighed.{weighed-whole}
 use Rattle.cells.specs.Laws.Trying.{label-there, label-none}
-use Rattle.walk.specs.Keeping.{KeepsBy}
+use Rattle.tight.specs.Keeping.{KeepsBy}
 
 -- the label of a cell
 pub record LabelIs (x : Cell) (c : Ranked 1) : Type 0 where

@@ -20,7 +20,7 @@ use Rattle.tables.proofs.Machines.{counts-length}
 use Rattle.cells.specs.declared.Cell.{Cell}
 use Rattle.cells.specs.Cells.{places}
 use Rattle.columns.specs.Filling.{FillPre}
-use Rattle.walk.specs.Labels.{cellOf, HasLabel}
+use Rattle.tight.specs.Labels.{cellOf, HasLabel}
 use Rattle.walk.specs.WalkLabels.{WalkLabels, WalkPre}
 use Rattle.walk.proofs.Nodes.{Ground, Reached}
 use Rattle.walk.proofs.Ends.{starts-reached}

@@ -47,8 +47,8 @@ use Rattle.labelling.specs.Laws.Ranked.{distinct-cost-short}
 use Rattle.labelling.specs.Laws.Numbers.{packed-run, numberLabels, labels-short, numbers-done}
 use Rattle.labelling.specs.Laws.LabelRoom.{ranked-room}
 use Rattle.walk.specs.declared.Written.{Written}
-use Rattle.walk.specs.Labels.{noCell, cellOf}
-use Rattle.walk.specs.Keeping.{Fits}
+use Rattle.tight.specs.Labels.{noCell, cellOf}
+use Rattle.tight.specs.Keeping.{Fits}
 use Rattle.walk.specs.WalkLabels.{Labelled, WalkLabels, WalkPre}
 use Rattle.walk.specs.Walked.{Walked}
 

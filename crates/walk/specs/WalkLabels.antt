@@ -16,8 +16,8 @@ use Rattle.cells.specs.Columns.{WeightsOf}
 use Rattle.cells.specs.Labels.{OwnCell}
 use Rattle.cells.specs.Trying.{labelFrom}
 use Rattle.entering.specs.Entering.{cellGraph}
-use Rattle.walk.specs.Labels.{cellOf, HasLabel}
-use Rattle.walk.specs.Keeping.{Fits}
+use Rattle.tight.specs.Labels.{cellOf, HasLabel}
+use Rattle.tight.specs.Keeping.{Fits}
 
 -- the last 16 bits of a low number count the pairs
 abbrev pub pairCount : Ranked 1 → ℕ

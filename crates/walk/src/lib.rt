@@ -2,28 +2,21 @@
 // are for every order.
 ghost use mathlib.Core.Path.{_≡_};
 ghost use mathlib.Core.Bool.{true, _||_};
-ghost use mathlib.Core.Option.{some};
 ghost use Prim.Native.Nat.{ℕ, _*_, _<_, _≤_};
 ghost use lib.Dec.{eqb};
 ghost use lib.ListN.{length, getD};
 ghost use Rattle.basics.specs.Sets.{member};
 ghost use Rattle.machine.specs.Symbols.{emptySymbol};
-ghost use Rattle.machine.specs.Machine.{endingOf};
-ghost use Rattle.machine.specs.Part.{shaped, machineOf};
 ghost use Rattle.paths.specs.Costs.{Labels};
 ghost use Rattle.paths.specs.Ranked.{rankedCosts};
 ghost use Rattle.cells.specs.Cells.{places};
 ghost use Rattle.walk.specs.WalkLabels.{WalkLabels, WalkPre};
-ghost use Rattle.walk.specs.Walking.{GoPre, GoesOn, EndsPre, EndingAdded};
 ghost use Rattle.walk.specs.Walked.{Walked};
 use cells::Cell;
-use machine::Ending;
 use machine::Pair;
 use machine::Position;
 use machine::sets;
 use ranking::Profile;
-
-pub mod tight;
 
 // What is written: the number of pairs, and their profile.
 pub struct Written {
@@ -39,53 +32,6 @@ fn inputs_at(sets: &[u64], position: usize) -> u64
         return machine::sets::EMPTY | sets[position];
     }
     machine::sets::EMPTY
-}
-
-// Goes on by the pair of an input and an output, whose steps stand at these places: the states and the marks passed change in place, and the pair is
-// written after `written` pairs.
-fn go_on(
-    states: &mut [u8],
-    marks: &mut [u16],
-    steps: &[u16],
-    width: usize,
-    places: &[u8],
-    input: u8,
-    output: usize,
-    written: usize,
-    answer: &mut [u8],
-)
-    requires { ⌜ GoPre (now states) (now marks) (now steps) (now places) (now answer) width output written ⌝ }
-    ensures { λ _. ⌜ GoesOn (now (marks .entry)) (now (steps .entry)) (now (places .entry)) (now (answer .entry)) (now (states .exit)) (now (marks .exit)) (now (answer .exit)) width input output written ⌝ }
-{
-    tight::pass(states, marks, steps, width, places, output);
-    answer[2 * written] = input;
-    answer[2 * written + 1] = output as u8;
-}
-
-// The marks of ending in a state, 0 where it is not final.
-fn ending_marks(part: &[u8], state: u8) -> u16
-    requires { ⌜ shaped (now part) ≡ true ⌝ }
-    ensures { λ r. ⌜ ((n : ℕ) → endingOf (machineOf (now (part .entry))) state ≡ some n → r ≡ n) × (r < 256) ⌝ }
-{
-    let Ending::Marks(marks) = Position { state }.ending(part) else {
-        return 0;
-    };
-    marks as u16
-}
-
-// The profile with the marks of the machines' endings in these states.
-fn with_ending(profile: Profile, card: &[u8], states: &[u8]) -> Profile
-    requires { ⌜ EndsPre (now card) (now states) profile ⌝ }
-    ensures { λ r. ⌜ EndingAdded (now (card .entry)) (now (states .entry)) profile r ⌝ }
-{
-    let mut sums = profile.counts;
-    let mut m = 0;
-    while m < states.len() {
-        let marks = ending_marks(card::part(card, m), states[m]);
-        sums[m] = sums[m] + marks;
-        m += 1;
-    }
-    Profile { counts: sums }
 }
 
 // Walks with a slice for the columns of the insertions, whose length is just enough: it is cleared first. At each node the least pair that keeps to the
@@ -141,7 +87,7 @@ fn walk_by(
                     weights,
                 );
                 if least.output < 64 {
-                    go_on(
+                    tight::go_on(
                         &mut states,
                         &mut marks,
                         insertions,
@@ -173,7 +119,7 @@ fn walk_by(
                     weights,
                 );
                 if least.output < 64 {
-                    go_on(
+                    tight::go_on(
                         &mut states,
                         &mut marks,
                         &steps,
@@ -195,7 +141,7 @@ fn walk_by(
         };
     };
     let passed = Profile { counts: marks };
-    let profile = with_ending(passed, card, &states[..machines]);
+    let profile = tight::with_ending(passed, card, &states[..machines]);
     Written { pairs, profile }
 }
 

@@ -34,8 +34,8 @@ use Rattle.weighted.specs.Laws.Sound.{sound-are}
 use Rattle.weighted.specs.Laws.Room.{weighted-room}
 use Rattle.weighted.specs.Laws.Done.{cells-done, weighted-cost, weighted-best}
 use Rattle.walk.specs.declared.Written.{Written}
-use Rattle.walk.specs.Labels.{noCell, sumCell, cellOf, HasLabel}
-use Rattle.walk.specs.Keeping.{Fits}
+use Rattle.tight.specs.Labels.{noCell, sumCell, cellOf, HasLabel}
+use Rattle.tight.specs.Keeping.{Fits}
 use Rattle.walk.specs.WalkLabels.{WalkLabels, WalkPre}
 use Rattle.walk.specs.Walked.{Walked}
 

@@ -1,0 +1,4 @@
+pub mod Placing
+pub mod Joining
+pub mod Tests
+pub mod Ending
