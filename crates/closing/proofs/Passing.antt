@@ -1,6 +1,5 @@
 -- Labels passed on to the next position: a label or none, one code, and the loop over the codes. Assumes nothing.
 use mathlib.Core.Path.{_≡_, refl, sym, _∙_, ap, subst}
-use mathlib.Core.Logic.{_≢_}
 use mathlib.Core.List.{List}
 use Prim.Native.Nat.{ℕ, _+_, _-_, _*_, _%_, _^_, _<_, _≤_}
 use native.Mathlib.Decide.{decLt, ℕ-discrete}
@@ -12,7 +11,7 @@ use Rattle.cells.specs.Cells.{nowhere}
 use Rattle.cells.specs.Labels.{noLabel, cellAt, OwnCell, nextCell, NextFits}
 use Rattle.cells.specs.Trying.{labelFrom}
 use Rattle.cells.specs.Laws.Labels.{written, written-here, written-other}
-use Rattle.cells.specs.Laws.Trying.{label-there, label-none}
+use Rattle.cells.specs.Laws.Trying.{label-none}
 use Rattle.closing.specs.Closing.{orNone, PassPre, Passed, PassAllPre, AllPassed}
 
 -- ---- a label, or none

@@ -4,9 +4,9 @@ use mathlib.Core.Logic.{_⊎_, inl, inr, _≢_}
 use mathlib.Core.Bool.{Bool, true, false}
 use mathlib.Core.Option.{Option, none, some, Option·none-ne-some}
 use mathlib.Core.List.{List}
-use Prim.Native.Nat.{ℕ, zero, suc, _+_, _-_, _*_, _/_, _%_, _^_, _≤_, _<_}
-use native.Mathlib.Nat.{mod-lt, div-lt-iff-lt-mul, div-add-mod'}
-use native.Mathlib.Decide.{ℕ-discrete, decLt}
+use Prim.Native.Nat.{ℕ, zero, suc, _+_, _-_, _*_, _/_, _%_, _≤_, _<_}
+use native.Mathlib.Nat.{mod-lt, div-lt-iff-lt-mul}
+use native.Mathlib.Decide.{decLt}
 use native.Mathlib.Omega.{arith}
 use lib.ListN.{length, getD}
 use borrow.Author.Tests.{lt-ltb, le-ltb}
@@ -33,24 +33,22 @@ use Rattle.tables.specs.Laws.Cards.{card-machines}
 use Rattle.tables.specs.Laws.Edges.{code-step-few}
 use Rattle.tables.specs.Laws.Packing.{six-number}
 use Rattle.cells.specs.declared.Groups.{Groups}
-use Rattle.cells.specs.Cells.{nowhere, places}
-use Rattle.cells.specs.Columns.{HoldsColumns, WeightsOf, JointCell}
+use Rattle.cells.specs.Cells.{nowhere}
+use Rattle.cells.specs.Columns.{WeightsOf, JointCell}
 use Rattle.cells.specs.Groups.{GroupsOf, FourJoined}
 use Rattle.cells.specs.Groups as joining
 use Rattle.cells.specs.Laws.Groups.{all-codes}
 use Rattle.cells.specs.Laws.Meeting.{four-pre}
 use Rattle.cells.specs.Laws.Tried.{lanePair, laneSum, code-step-is}
-use Rattle.columns.specs.Filling.{FillPre}
 use Rattle.columns.specs.Prepared.{NoSteps, Covered, Prepared}
 use Rattle.insertions.specs.Laws.Ranked.{ranked-high, ranked-low}
-use Rattle.insertions.specs.Tables.{LanesPre}
 use Rattle.insertions.proofs.Steps.{marks-length, target-of, marks-are}
 use Rattle.cull.specs.declared.Site.{Site}
 use Rattle.cull.specs.StageLabels.{countOf, stageLabel}
-use Rattle.cull.specs.Relaxation.{Relaxes, relaxes-nothing, relaxes-then, relaxes-some}
-use Rattle.cull.specs.Relaxing.{Fits, ArcPre, ArcTried, StepTried, nothing, arc, LinkedEntry}
+use Rattle.cull.specs.Relaxation.{Relaxes, relaxes-nothing, relaxes-then}
+use Rattle.cull.specs.Relaxing.{ArcPre, ArcTried, nothing, arc, LinkedEntry}
 use Rattle.cull.specs.Tables.{ListPre}
-use Rattle.cull.specs.Entering.{marksBy, laneStep, laneAt, TargetsPre, LanePre, CodePre, codesAt, NodesPre, FourPre, InputPre, LaneTried, LanesOf, LanesTried, FoursOf, CodesTried, InOrder, SymbolLinked, Among, InputTried}
+use Rattle.cull.specs.Entering.{marksBy, laneStep, TargetsPre, LanePre, CodePre, codesAt, NodesPre, FourPre, LaneTried, LanesOf, LanesTried, FoursOf, CodesTried, InOrder, SymbolLinked, Among, InputTried}
 use Rattle.cull.proofs.Relaxing.{StepFacts, step-facts, step-relaxes, entry-kept}
 
 -- ---- a lane

@@ -21,7 +21,6 @@ use Rattle.insertions.specs.RankedWeights.{RankedWeights}
 use Rattle.insertions.specs.Listing.{InsertionColumns, ListedBy}
 use Rattle.insertions.specs.Listing as listing
 use Rattle.cull.specs.Tables.{TablesPre, ListPre, ListsOf}
-use Rattle.cull.specs.Entering.{InOrder}
 use Rattle.cull.specs.Culling.{CullPre, LentTables}
 
 module _ {card counts ws steps : List ℕ} {g : Groups} (Q : ListPre card counts ws steps g) where

@@ -2,10 +2,10 @@
 use mathlib.Core.Path.{_≡_, refl, sym, _∙_, ap, subst}
 use mathlib.Core.Logic.{_⊎_, inl, inr, _≢_}
 use mathlib.Core.Bool.{Bool, true, false, cond}
-use mathlib.Core.Option.{Option, none, some, Option·none-ne-some}
+use mathlib.Core.Option.{some, Option·none-ne-some}
 use mathlib.Core.List.{List}
 use Prim.Native.Nat.{ℕ, zero, suc, _+_, _*_, _≤_, _<_}
-use native.Mathlib.Decide.{ℕ-discrete, decLt}
+use native.Mathlib.Decide.{ℕ-discrete}
 use native.Mathlib.Omega.{arith}
 use lib.ListN.{length, getD}
 use Rattle.basics.proofs.Bools.{clash, fails}
@@ -13,15 +13,15 @@ use Rattle.paths.specs.Costs.{AtMost, Lowers, kept, lowered}
 use Rattle.paths.specs.Ranked.{Ranked, Less, countAt, rankedCosts, less-total}
 use Rattle.paths.specs.Graph.{Graph, run→cost}
 use Rattle.paths.specs.Labels.{Attained, held→run}
-use Rattle.paths.specs.Improvement.{Improves, Falls, improves-upto, improve-edge}
+use Rattle.paths.specs.Improvement.{Falls, improves-upto, improve-edge}
 use Rattle.tables.specs.Marks.{marksCost}
 use Rattle.product.specs.ProductGraph.{pairs}
-use Rattle.settling.specs.Insertions.{codeIn, marksIn, isListed}
+use Rattle.settling.specs.Insertions.{codeIn, isListed}
 use Rattle.settling.specs.OpenCodes.{isOpen, OneMore, OneLess}
 use Rattle.settling.proofs.Insertions.{listed-low, listed-high}
 use Rattle.settling.proofs.OpenCodes.{one-in, chosen-front, chosen-back}
-use Rattle.cull.specs.StageLabels.{countOf, stageLabel, total}
-use Rattle.cull.specs.Relaxing.{ArcPre, ArcTried, unlabelled, dropped, lowered as lowered-arc}
+use Rattle.cull.specs.StageLabels.{countOf, stageLabel}
+use Rattle.cull.specs.Relaxing.{ArcTried, unlabelled, dropped, lowered as lowered-arc}
 use Rattle.cull.specs.Settling.{Kept, wayBy, marksOf, fromOf, ArcsOf, SettlePre, EntryPre, EntryTried, OpenIn, SomeIn, openCount, turns, Fell, RelaxedAt, Spread, SettledBy}
 use Rattle.cull.proofs.Relaxing.{StepFacts, arc-facts, arc-falls}
 

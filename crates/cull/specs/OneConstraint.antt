@@ -1,7 +1,7 @@
 -- A ranked graph as the stage of one constraint sees it: of each cost the marks of the constraint k and the number of letters, and no more.
 use mathlib.Core.Path.{_≡_, refl, sym, _∙_, ap}
 use mathlib.Core.Logic.{inl, inr}
-use mathlib.Core.Option.{Option, none, some, Option·map, map-eq-some-iff}
+use mathlib.Core.Option.{Option, some, Option·map, map-eq-some-iff}
 use mathlib.Core.List.{List}
 use Prim.Native.Nat.{ℕ, suc, _≤_, _<_}
 use native.Mathlib.Omega.{arith}

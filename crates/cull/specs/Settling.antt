@@ -1,6 +1,6 @@
 -- Settling a position in a stage: its labels fall by insertions, in lists by the code that they lead to, until none falls.
 use mathlib.Core.Path.{_≡_}
-use mathlib.Core.Logic.{_⊎_, _≢_}
+use mathlib.Core.Logic.{_⊎_}
 use mathlib.Core.Bool.{Bool, true, false, cond}
 use mathlib.Core.List.{List}
 use mathlib.Core.Option.{some}
@@ -13,7 +13,7 @@ use Rattle.paths.specs.Graph.{Graph, pathCost}
 use Rattle.paths.specs.Labels.{Attained}
 use Rattle.paths.specs.Improvement.{Falls}
 use Rattle.tables.specs.Marks.{marksCost}
-use Rattle.tables.specs.Work.{stateOf, HasNode}
+use Rattle.tables.specs.Work.{HasNode}
 use Rattle.product.specs.ProductGraph.{pairs}
 use Rattle.basics.specs.Sets.{member}
 use Rattle.settling.specs.Insertions.{codeIn, marksIn, isListed}

@@ -1,12 +1,9 @@
 -- Entering a position: by the symbols of its set, or, at the last one, by the endings.
 use mathlib.Core.Path.{_≡_}
-use mathlib.Core.Bool.{true}
 use mathlib.Core.List.{List}
 use mathlib.Core.Option.{none}
 use Prim.Native.Nat.{ℕ, suc, _+_, _*_, _<_, _≤_}
 use lib.ListN.{length, getD, replicate}
-use Rattle.basics.specs.Sets.{member}
-use Rattle.card.specs.Layout.{symbolCount}
 use Rattle.card.specs.Card.{machinesOf, cardRefusal}
 use Rattle.paths.specs.Costs.{Labels}
 use Rattle.paths.specs.Ranked.{rankedCosts}
@@ -15,7 +12,6 @@ use Rattle.paths.specs.Positions.{Done, Entered}
 use Rattle.product.specs.Nodes.{stateCounts, product}
 use Rattle.product.specs.ProductGraph.{pairs, pricedGraph}
 use Rattle.product.specs.Setting.{placeOf, Setting}
-use Rattle.cells.specs.declared.Cell.{Cell}
 use Rattle.cells.specs.declared.Groups.{Groups}
 use Rattle.cells.specs.Cells.{nowhere, highOf, places}
 use Rattle.cells.specs.Columns.{weighed, WeightsOf}

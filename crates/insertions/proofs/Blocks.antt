@@ -1,32 +1,28 @@
 -- Four outputs at a time: what their tables ask and give.
-use mathlib.Core.Path.{_≡_, refl, sym, _∙_, ap, subst}
+use mathlib.Core.Path.{_≡_, sym, _∙_, ap, subst}
 use mathlib.Core.List.{List}
 use Prim.Native.Nat.{ℕ, zero, suc, _+_, _*_, _/_, _%_, _^_, _<_, _≤_}
 use native.Mathlib.Nat.{mul-comm, mod-lt, div-lt-iff-lt-mul, div-add-mod'}
 use native.Mathlib.Omega.{arith}
 use lib.ListN.{length, getD}
 use Rattle.basics.specs.Products.{product}
-use Rattle.machine.specs.Machine.{Machine}
-use Rattle.machine.specs.Symbols.{emptySymbol}
 use Rattle.product.specs.Nodes.{stateCounts}
 use Rattle.product.specs.Laws.Nodes.{product-positive}
 use Rattle.product.specs.Laws.JointStep.{counts-positive}
-use Rattle.tables.specs.Tables.{CardMachines}
 use Rattle.cells.specs.declared.Groups.{Groups}
 use Rattle.cells.specs.Cells.{highAt, lowAt, cellSum}
-use Rattle.cells.specs.Columns.{HoldsColumns, WeightsOf}
+use Rattle.cells.specs.Columns.{WeightsOf}
 use Rattle.cells.specs.Groups.{GroupsOf, sumAt, FourPre, FourJoined}
 use Rattle.cells.specs.Fours.{nextFour}
 use Rattle.cells.specs.Laws.Fours.{four-most}
 use Rattle.cells.specs.Laws.Joint.{joint-cell}
 use Rattle.cells.specs.Laws.Groups.{all-codes, joint-sum}
 use Rattle.cells.specs.Laws.Meeting.{four-pre}
-use Rattle.insertions.specs.Lanes.{Lane, listOf}
-use Rattle.insertions.specs.Tables.{fourLane, afterFours, outputAt, stepLane, keptLane, TablePre}
+use Rattle.insertions.specs.Lanes.{listOf}
+use Rattle.insertions.specs.Tables.{fourLane, afterFours, outputAt, keptLane, TablePre}
 use Rattle.insertions.specs.Listing.{ListPre}
 use Rattle.insertions.proofs.Lanes.{Equal}
 use Rattle.insertions.proofs.Totals.{lane-is, moveTo, all-few}
-use Rattle.basics.specs.Sets.{member}
 
 positive : (m n : ℕ) → 0 < m * n → 0 < m
 positive zero n h = absurd (omega arith)

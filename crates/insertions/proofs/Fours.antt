@@ -1,21 +1,21 @@
 -- The kept outputs four by four: which are there, and how many.
 use mathlib.Core.Path.{_≡_, refl, sym, _∙_, ap}
 use mathlib.Core.Logic.{_⊎_, inl, inr, _≢_}
-use mathlib.Core.Bool.{Bool, true, false, cond}
+use mathlib.Core.Bool.{true, false, cond}
 use Prim.Native.Nat.{ℕ, zero, suc, _+_, _^_, _<_, _≤_}
 use native.Mathlib.Decide.{ℕ-discrete, decLt}
 use native.Mathlib.Numerals.{add-one}
 use native.Mathlib.Omega.{arith}
 use lib.Dec.{eqb}
 use lib.ListN.{getD}
-use borrow.Author.Tests.{eq-eqb, ne-eqb}
+use borrow.Author.Tests.{ne-eqb}
 use Rattle.basics.specs.Sets.{member}
 use Rattle.basics.proofs.Bools.{clash}
 use Rattle.basics.proofs.Sets.{no-member, has-member}
 use Rattle.machine.specs.SymbolSets.{leastSymbol}
 use Rattle.machine.proofs.SymbolSets.{least-at}
 use Rattle.cells.specs.Fours.{afterLeast, nextFour, withoutFour}
-use Rattle.cells.specs.Laws.Fours.{least-most, least-member, was-member, after-small, least-rises, without-small, four-member, left-member, four-or-left}
+use Rattle.cells.specs.Laws.Fours.{least-member, was-member, after-small, least-rises, without-small, four-member, left-member, four-or-left}
 use Rattle.insertions.specs.Tables.{afterFours, FoursOf}
 
 pub fours-next : (q kept : ℕ) → afterFours (q + 1) kept ≡ withoutFour (afterFours q kept)

@@ -1,7 +1,7 @@
 -- The loops over the kept outputs, four at a time: the fours so far are counted, or written.
-use mathlib.Core.Path.{_≡_, refl, sym, _∙_, ap, subst}
+use mathlib.Core.Path.{_≡_, sym, _∙_, ap, subst}
 use mathlib.Core.List.{List, []}
-use Prim.Native.Nat.{ℕ, zero, suc, _+_, _-_, _*_, _/_, _%_, _^_, _<_, _≤_}
+use Prim.Native.Nat.{ℕ, zero, suc, _+_, _-_, _*_, _/_, _^_, _<_, _≤_}
 use native.Mathlib.Decide.{ℕ-discrete, decLt}
 use native.Mathlib.Nat.{mod-lt, suc-mul, mul-le-mul-right}
 use native.Mathlib.Numerals.{add-one}
@@ -17,7 +17,7 @@ use Rattle.insertions.specs.Listing.{sumTo, AddPre, AddedUp, FilledOn, L
 use Rattle.insertions.proofs.Lanes.{bumped-none, bumped-size, bumped-at, bumped-before, bumped-on, placed-none, placed-on, equal-alike, entry-next}
 use Rattle.insertions.proofs.Adding.{sum-none, sum-next, sum-mono, all-added}
 use Rattle.insertions.proofs.Sorting.{Starts, start-next, start-order}
-use Rattle.insertions.proofs.Fours.{fours-next, fours-none, fours-same}
+use Rattle.insertions.proofs.Fours.{fours-next, fours-none}
 use Rattle.insertions.proofs.Totals.{start-most, bumped-moved, count-none}
 use Rattle.insertions.proofs.Blocks.{codes-few, codes-some, codes-are, list-below, four-lanes, few-listed}
 

@@ -1,14 +1,11 @@
 -- The lanes of a front code, and of one code.
-use mathlib.Core.Path.{_≡_, refl, sym, _∙_, ap}
+use mathlib.Core.Path.{_≡_, _∙_, ap}
 use mathlib.Core.List.{List}
-use Prim.Native.Nat.{ℕ, zero, suc, _+_, _*_, _/_, _%_, _^_, _<_, _≤_}
+use Prim.Native.Nat.{ℕ, suc, _+_, _*_, _/_, _%_, _<_, _≤_}
 use native.Mathlib.Nat.{add-mul, suc-mul, mul-le-mul-left, mul-le-mul-right, mul-add-mod-self-right, mod-eq-of-lt}
 use native.Mathlib.Omega.{arith}
-use lib.ListN.{length, getD}
 use Rattle.paths.specs.Numbering.{position-is}
-use Rattle.cells.specs.Groups.{sumAt}
-use Rattle.insertions.specs.Lanes.{Lane}
-use Rattle.insertions.specs.Tables.{codeLane, fourLane, lanesFrom, LanesPre, TablePre}
+use Rattle.insertions.specs.Tables.{codeLane, lanesFrom, LanesPre, TablePre}
 
 -- the lanes from the code a * back on are those of the code a * back + b, four on from b * 4
 pub code-lanes : (high low : List ℕ) (front back a b : ℕ) → b < back → (j : ℕ) → j < 4 → lanesFrom high low front back (a * back) (b * 4 + j) ≡ codeLane high low (a * back + b) (a * 4) ((front + b) * 4) j

@@ -1,17 +1,17 @@
 -- The lanes of the columns are the insertions: their lists, their entries.
 use mathlib.Core.Path.{_≡_, refl, sym, _∙_, ap}
 use mathlib.Core.Logic.{_≢_}
-use mathlib.Core.Bool.{Bool, true, false, not, _&&_}
+use mathlib.Core.Bool.{Bool, true, false, not}
 use mathlib.Core.List.{List, [], _∷_}
 use mathlib.Core.Option.{Option, some, none, Option·none-ne-some}
-use Prim.Native.Nat.{ℕ, zero, suc, _+_, _*_, _/_, _%_, _<_, _≤_, min}
+use Prim.Native.Nat.{ℕ, suc, _+_, _*_, _/_, _%_, _<_, _≤_, min}
 use native.Mathlib.Omega.{arith}
 use lib.Dec.{eqb, leb, ltb}
 use lib.ListN.{length, getD}
-use borrow.Author.Tests.{leb-true, ltb-true, ltb-false, lt-ltb, eqb-true, eqb-false, eq-eqb, ne-eqb, not-true}
-use Rattle.basics.proofs.Bools.{clash, both, left as left-of, right as right-of}
+use borrow.Author.Tests.{leb-true, ltb-true, lt-ltb, eqb-false, ne-eqb, not-true}
+use Rattle.basics.proofs.Bools.{both, left as left-of, right as right-of}
 use Rattle.machine.specs.declared.Pair.{Pair}
-use Rattle.machine.specs.Symbols.{emptySymbol, withinSymbols}
+use Rattle.machine.specs.Symbols.{emptySymbol}
 use Rattle.machine.specs.Machine.{Machine, stepOf}
 use Rattle.product.specs.Nodes.{stateCounts, product}
 use Rattle.product.specs.ProductGraph.{Move}
@@ -22,7 +22,7 @@ use Rattle.tables.specs.Places.{SixPlaces, markNumber}
 use Rattle.tables.specs.Tables.{CardMachines}
 use Rattle.tables.specs.Laws.Packing.{six-number}
 use Rattle.tables.specs.Laws.Edges.{code-step-few}
-use Rattle.cells.specs.Cells.{nowhere, highOf, lowOf}
+use Rattle.cells.specs.Cells.{nowhere}
 use Rattle.cells.specs.Columns.{HoldsColumns, WeightsOf, JointCell}
 use Rattle.cells.specs.Laws.Joint.{joint-cell}
 use Rattle.insertions.specs.RankedWeights.{RankedWeights}

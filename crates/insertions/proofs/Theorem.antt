@@ -1,11 +1,11 @@
 -- The lanes in their places are the insertions in their lists.
-use mathlib.Core.Path.{_≡_, refl, sym, _∙_, ap, subst}
+use mathlib.Core.Path.{_≡_, sym, _∙_, ap, subst}
 use mathlib.Core.Logic.{_≢_}
-use mathlib.Core.Bool.{Bool, true, false}
+use mathlib.Core.Bool.{true}
 use mathlib.Core.List.{List}
-use mathlib.Core.Option.{Option, some}
-use Prim.Native.Nat.{ℕ, zero, suc, _+_, _-_, _*_, _/_, _%_, _^_, _<_, _≤_, min}
-use native.Mathlib.Decide.{ℕ-discrete, decLt}
+use mathlib.Core.Option.{some}
+use Prim.Native.Nat.{ℕ, _+_, _*_, _/_, _%_, _^_, _<_, _≤_, min}
+use native.Mathlib.Decide.{decLt}
 use native.Mathlib.Nat.{mod-lt, suc-mul, mul-le-mul-right}
 use native.Mathlib.Omega.{arith}
 use lib.ListN.{length, getD}
@@ -20,18 +20,17 @@ use Rattle.product.specs.Laws.JointStep.{counts-positive}
 use Rattle.tables.specs.Places.{SixPlaces, markNumber}
 use Rattle.tables.specs.Tables.{CardMachines}
 use Rattle.cells.specs.Columns.{HoldsColumns, WeightsOf}
-use Rattle.cells.specs.Fours.{nextFour}
 use Rattle.cells.specs.Laws.Fours.{four-most}
 use Rattle.settling.specs.Insertions.{codeIn, marksIn, isListed}
 use Rattle.insertions.specs.RankedWeights.{RankedWeights}
-use Rattle.insertions.specs.Lanes.{Lane, isMove, listOf, entryOf, bumped, placed, countTo, startOf}
+use Rattle.insertions.specs.Lanes.{Lane, isMove, listOf, entryOf, bumped, placed}
 use Rattle.insertions.specs.Tables.{afterFours, outputAt, stepLane, keptLane, FoursOf}
-use Rattle.insertions.specs.Listing.{InsertionColumns, Counted, ListedBy}
+use Rattle.insertions.specs.Listing.{Counted, ListedBy}
 use Rattle.insertions.specs.Listed.{insertionStep, Inserts, Place, Listed}
 use Rattle.insertions.proofs.Lanes.{placed-size}
-use Rattle.insertions.proofs.Sorting.{moves, listAt, Found, InList, placeOf, Starts, start-order, start-next, place-room, entry-at, list-start, listed-few, listed-in, lane-at, lane-place, listed-at}
+use Rattle.insertions.proofs.Sorting.{moves, listAt, InList, placeOf, Starts, start-order, start-next, place-room, entry-at, list-start, listed-few, listed-in, lane-at, lane-place, listed-at}
 use Rattle.insertions.proofs.Steps.{Insertion, none-moves, step-moves, insertion}
-use Rattle.insertions.proofs.Fours.{Output, lane-kept, kept-lane}
+use Rattle.insertions.proofs.Fours.{lane-kept, kept-lane}
 use Rattle.insertions.proofs.Totals.{lane-is}
 use Rattle.insertions.proofs.Loops.{starts-of}
 

@@ -1,10 +1,10 @@
 -- How many lanes are listed, in all.
-use mathlib.Core.Path.{_≡_, refl, sym, _∙_, ap}
+use mathlib.Core.Path.{_≡_, refl, _∙_, ap}
 use mathlib.Core.Bool.{Bool, true, false, cond}
 use mathlib.Core.List.{List}
 use Prim.Native.Nat.{ℕ, zero, suc, _+_, _*_, _/_, _%_, _^_, _<_, _≤_}
 use native.Mathlib.Decide.{ℕ-discrete}
-use native.Mathlib.Nat.{suc-mul, mul-add, mul-le-mul-left, mul-comm, mul-add-mod-self-right, mod-eq-of-lt}
+use native.Mathlib.Nat.{suc-mul, mul-add, mul-le-mul-left, mul-add-mod-self-right, mod-eq-of-lt}
 use native.Mathlib.Omega.{arith}
 use lib.ListN.{length, getD}
 use Rattle.basics.specs.Sets.{member}
@@ -21,7 +21,7 @@ use Rattle.insertions.specs.Lanes.{Lane, isMove, listOf, bump, bumped, h
 use Rattle.insertions.specs.Tables.{afterFours, stepLane, keptLane}
 use Rattle.insertions.proofs.Lanes.{bump-stays, bump-most, bumped-size, hit-here, hit-other, hit-stays}
 use Rattle.insertions.proofs.Steps.{none-moves}
-use Rattle.insertions.proofs.Fours.{fours-small, uses, uses-none, uses-one, sumOf, usesOf, four-uses, least-some}
+use Rattle.insertions.proofs.Fours.{fours-small, uses, uses-one, sumOf, usesOf, four-uses, least-some}
 
 -- a lane that is listed is one
 unfoldable pub moved : Lane → ℕ

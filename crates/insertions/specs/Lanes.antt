@@ -1,5 +1,5 @@
 -- Joint steps one after the other, each with the code that it leads from, a lane each: which are listed, in which list, as which entry.
-use mathlib.Core.Bool.{Bool, true, false, cond, not, _&&_}
+use mathlib.Core.Bool.{Bool, cond, not, _&&_}
 use mathlib.Core.List.{List, []}
 use Prim.Native.Nat.{ℕ, zero, suc, _+_, _*_, _/_, _%_, min}
 use lib.Dec.{eqb, ltb}

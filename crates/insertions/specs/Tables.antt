@@ -7,7 +7,7 @@ use Rattle.basics.specs.Products.{product}
 use Rattle.cells.specs.Cells.{highAt, lowAt, cellSum}
 use Rattle.cells.specs.Groups.{sumAt}
 use Rattle.cells.specs.Fours.{nextFour, withoutFour}
-use Rattle.insertions.specs.Lanes.{Lane, isMove, listOf, countTo}
+use Rattle.insertions.specs.Lanes.{Lane, countTo}
 
 -- the lane j of a code, whose steps are the sums of those at a place of either group
 abbrev pub codeLane : (high low : List ℕ) (code a b : ℕ) → ℕ → Lane

@@ -1,7 +1,7 @@
 -- Sets of symbols: the set of one symbol, sets with no bit over S. Assumes nothing.
 use mathlib.Core.Path.{_≡_, refl, sym, _∙_, ap}
 use mathlib.Core.Bool.{Bool, true, false, not, _&&_}
-use Prim.Native.Nat.{ℕ, zero, suc, _+_, _-_, _*_, _/_, _%_, _^_, _<_, _≤_}
+use Prim.Native.Nat.{ℕ, zero, suc, _+_, _-_, _*_, _/_, _%_, _^_, _<_}
 use native.Mathlib.Nat.{div-one, pow-suc}
 use native.Mathlib.Numerals.{add-one}
 use native.Mathlib.Omega.{arith}
@@ -9,7 +9,7 @@ use lib.Dec.{eqb, ltb}
 use lib.Bits.{bitAnd, and-le-l}
 use lib.Count.{trailingZeros, under}
 use lib.Pow.{shr-shr}
-use borrow.Author.Tests.{ltb-true, ltb-false, lt-ltb, eqb-true, eqb-false, eq-eqb, ne-eqb, not-true}
+use borrow.Author.Tests.{ltb-true, lt-ltb, eqb-true, eqb-false, eq-eqb, ne-eqb, not-true}
 use Rattle.basics.specs.Sets.{member}
 use Rattle.basics.proofs.Bools.{same, clash, both, left, right}
 use Rattle.basics.proofs.Sets.{has-member, its-member, member-one, member-and}

@@ -1,7 +1,7 @@
 // The walk from the start along the labels, which writes the pairs of the best candidate and adds up their marks. Labels are two numbers, as they
 // are for every order.
 ghost use mathlib.Core.Path.{_≡_};
-ghost use mathlib.Core.Bool.{true, _||_};
+ghost use mathlib.Core.Bool.{_||_};
 ghost use Prim.Native.Nat.{ℕ, _*_, _<_, _≤_};
 ghost use lib.Dec.{eqb};
 ghost use lib.ListN.{length, getD};

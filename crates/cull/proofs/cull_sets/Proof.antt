@@ -8,7 +8,7 @@ use Rattle.refusals.specs.Refusals.{checkedNumber}
 use Rattle.refusals.proofs.Refusals.{refused-number}
 use Rattle.grid.specs.Grids.{GridOf}
 use Rattle.optimizer.proofs.Answers.{call-refused, call-searched, sets-best-small, front-room, same-room}
-use Rattle.readout.proofs.SetsCalls.{accepts, sets-few, sets-fit, sets-given}
+use Rattle.readout.proofs.SetsCalls.{sets-few, sets-fit, sets-given}
 use Rattle.cull.proofs.cull_sets.Statement.{statement}
 use Rattle.cull.proofs.cull_sets.Tie as tie
 

@@ -1,10 +1,9 @@
 -- `label` meets its contract.
 use borrow.Author.Needs.{needs}
-use mathlib.Core.Path.{_≡_, sym, _∙_, ap, subst}
-use Prim.Native.Nat.{ℕ, _+_, _*_, _≤_}
+use mathlib.Core.Path.{sym, _∙_, ap, subst}
+use Prim.Native.Nat.{ℕ, _+_, _*_}
 use native.Mathlib.Omega.{arith}
 use lib.ListN.{length, take}
-use Rattle.product.specs.Nodes.{product}
 use Rattle.product.specs.Setting.{Setting}
 use Rattle.tables.specs.Places.{sixPlaces}
 use Rattle.cells.specs.Columns.{WeightsOf}

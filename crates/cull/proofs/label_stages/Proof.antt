@@ -4,7 +4,6 @@ use mathlib.Core.List.{List}
 use Prim.Native.Nat.{ℕ, _-_, _≤_}
 use native.Mathlib.Omega.{arith}
 use lib.ListN.{length}
-use borrow.Author.Needs.{needs}
 use Rattle.product.specs.Laws.Setting.{few-nodes}
 use Rattle.cull.proofs.Culling.{StagesGone, lent-kept, counts-few, stage-given, stages-start, stages-next, stages-idle, stages-end}
 use Rattle.cull.proofs.label_stages.Statement.{statement}

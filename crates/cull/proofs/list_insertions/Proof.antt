@@ -3,7 +3,6 @@ use mathlib.Core.Path.{_∙_}
 use native.Mathlib.Omega.{arith}
 use Rattle.tables.specs.Laws.Cards.{card-counts}
 use Rattle.cull.proofs.Listing.{count-ready, codes-few, listed-of}
-use borrow.Author.Needs.{needs}
 use Rattle.cull.proofs.list_insertions.Statement.{statement}
 use Rattle.cull.proofs.list_insertions.Tie as tie
 

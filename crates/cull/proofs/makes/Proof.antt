@@ -1,7 +1,6 @@
 use Prim.Native.Nat.{_+_}
 use lib.Dec.{eqb}
-use mathlib.Core.Path.{sym, _∙_, ap}
-use Prim.Native.Nat.{ℕ, _+_}
+use Prim.Native.Nat.{_+_}
 use lib.Dec.{eqb}
 use borrow.Author.Needs.{needs}
 use Rattle.cull.proofs.makes.Statement.{statement}

@@ -3,7 +3,6 @@ use Prim.Native.Nat.{_-_, _≤_}
 use native.Mathlib.Omega.{arith}
 use Rattle.cull.specs.Entering.{LanesTried}
 use Rattle.cull.proofs.Lanes.{lanes-start, lanes-next, lanes-end, lane-ready}
-use borrow.Author.Needs.{needs}
 use Rattle.cull.proofs.try_code.Statement.{statement}
 use Rattle.cull.proofs.try_code.Tie as tie
 

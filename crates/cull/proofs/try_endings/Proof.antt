@@ -3,7 +3,6 @@ use Prim.Native.Nat.{_-_, _≤_}
 use native.Mathlib.Omega.{arith}
 use Rattle.cull.specs.Culling.{CodesEnded}
 use Rattle.cull.proofs.Ending.{ending-places, ended-start, ended-next, ended-end}
-use borrow.Author.Needs.{needs}
 use Rattle.cull.proofs.try_endings.Statement.{statement}
 use Rattle.cull.proofs.try_endings.Tie as tie
 

@@ -3,7 +3,6 @@ use Prim.Native.Nat.{_+_, _-_, _≤_}
 use native.Mathlib.Omega.{arith}
 use Rattle.cull.specs.Entering.{CodesTried}
 use Rattle.cull.proofs.Lanes.{codes-start, codes-next, codes-end, code-places, code-ready}
-use borrow.Author.Needs.{needs}
 use Rattle.cull.proofs.try_four.Statement.{statement}
 use Rattle.cull.proofs.try_four.Tie as tie
 

@@ -1,5 +1,4 @@
 use mathlib.Core.Path.{_≡_, _∙_, ap}
-use mathlib.Core.List.{List}
 use Prim.Native.Nat.{_≤_}
 use lib.ListN.{length, take}
 use Rattle.card.specs.Card.{machinesOf}

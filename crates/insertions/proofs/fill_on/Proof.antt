@@ -1,6 +1,5 @@
 use borrow.Author.Needs.{needs}
 use Prim.Native.Nat.{_-_}
-use native.Mathlib.Omega.{arith}
 use Rattle.insertions.proofs.Adding.{FillTo, fill-start, fill-next, fill-end}
 use Rattle.insertions.proofs.fill_on.Statement.{statement}
 use Rattle.insertions.proofs.fill_on.Tie as tie

@@ -1,8 +1,8 @@
-use mathlib.Core.Path.{_≡_, refl, sym, _∙_, ap}
+use mathlib.Core.Path.{sym, _∙_, ap}
 use Prim.Native.Nat.{ℕ, _+_, _<_}
 use native.Mathlib.Omega.{arith}
 use lib.ListN.{length, getD, set, length-set}
-use Rattle.insertions.specs.Lanes.{Lane, laneOf, isMove, listOf, entryOf}
+use Rattle.insertions.specs.Lanes.{laneOf}
 use Rattle.insertions.proofs.Lanes.{bump-moves, bump-stays, put-moves, put-stays, lane-room}
 use borrow.Author.Needs.{needs}
 use Rattle.insertions.proofs.list_lane.Statement.{statement}

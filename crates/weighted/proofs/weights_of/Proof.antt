@@ -1,9 +1,9 @@
 use borrow.Author.Needs.{needs}
-use mathlib.Core.Path.{_≡_, refl, _∙_}
+use mathlib.Core.Path.{_∙_}
 use native.Mathlib.Omega.{arith}
 use lib.ListN.{length}
 use Rattle.tables.proofs.Counts.{few-counts}
-use Rattle.weighted.specs.Laws.Sound.{Sound, sound-are}
+use Rattle.weighted.specs.Laws.Sound.{sound-are}
 use Rattle.weighted.proofs.Numbers.{numbers-of, numbers-by}
 use Rattle.weighted.proofs.weights_of.Statement.{statement}
 use Rattle.weighted.proofs.weights_of.Tie as tie

@@ -1,8 +1,7 @@
 use borrow.Author.Needs.{needs}
-use mathlib.Core.Path.{_≡_}
-use Prim.Native.Nat.{suc, _-_}
+use Prim.Native.Nat.{_-_}
 use native.Mathlib.Omega.{arith}
-use Rattle.cells.proofs.Scaling.{Scaling, scaling-start, place-within, scale-few, next-few, scaling-next, scaling-end}
+use Rattle.cells.proofs.Scaling.{Scaling, scaling-start, place-within, next-few, scaling-next, scaling-end}
 use Rattle.cells.proofs.scales.write_scales.Statement.{statement}
 use Rattle.cells.proofs.scales.write_scales.Tie as tie
 
