@@ -35,12 +35,13 @@ use Rattle.cull.specs.OneConstraint.{stageMarks, LeastPrices}
 use Rattle.cull.specs.Idle.{unmarked, idle-stage}
 use Rattle.cull.specs.Stages.{cull-start}
 use Rattle.cull.specs.StageLabels.{countOf, pairCountOf, stageLabel, fewestIn}
-use Rattle.cull.specs.Entering.{NodesPre, InputPre, InputTried}
+use Rattle.cull.specs.Entering.{NodesPre, AheadOf, InputPre, InputTried}
 use Rattle.cull.specs.Settling.{SettlePre, SettledBy}
 use Rattle.cull.specs.Culling.{pairsCounted, stageGraph, leftBy, Culled, StageAt, CullPre, LentTables, PositionPre, PositionEntered, PositionDone, EndPre, EndsTried, StagePre, StageDone, Blanked, PlaceCleared}
 use Rattle.cull.specs.Survivors.{counts-fewest}
 use Rattle.cull.proofs.StageWork.{stage-labelled, stage-unlabelled, stage-alike, spaced}
 use Rattle.cull.proofs.Positions.{culled-kept, stage-over, symbol-nodes, insertion-ready, symbol-entering, position-settled}
+use Rattle.cull.proofs.Front.{ahead-kept}
 use Rattle.cull.proofs.Ending.{ends-entered}
 use Rattle.cull.proofs.Unused.{ways-unmarked}
 use Rattle.cull.proofs.NextStage.{stage-count-told, fewest-told, least-told, last-closed, last-attained}
@@ -94,15 +95,20 @@ module _ {card ranking sets cs entries ends xs : List ℕ} {P i k : ℕ} (Q : Po
   begun : Entering (stageGraph card ranking sets (Q .later .fewest) k) (placeOf card) (stageLabel xs k) (stageLabel ys k) i (λ _. ⊥) (NotLeft left)
   begun = T .enters (Q .later .fewest) (Q .later .culled) (stageLabel xs k) (symbols-begun (Q .given .setting) (stage-over (Q .given .setting) ranking (Q .later .fewest) k (Q .later .culled)) (Q .later .done))
 
+  pub nodes-there : i < length sets → NodesPre ys (i * P) P k
+  nodes-there h = symbol-nodes (Q .given .setting) ranking (Q .later .fewest) k (Q .given .stage) (T .size ∙ Q .given .room) (culled-kept (T .counts) (Q .later .culled)) i h (begun .attained)
+
   module _ {x : ℕ} (m : member left x ≡ true) where
     pub symbol-reads : 1 ≤ x
     symbol-reads = Q .given .setting .symbols i x (T .inside x m) .0
 
-    pub input-pre : {counts ws steps high low : List ℕ} {g : Groups} → LentTables card ranking counts ws steps high low g P → i < length sets → InputPre ys card counts ws steps high low (record { groups = g; base = i * P; stage = k }) x
-    input-pre {g = g} L h = record {
-      given = subst (λ (n : ℕ). NodesPre ys (i * P) n k) (L .codes)
-          (symbol-nodes (Q .given .setting) ranking (Q .later .fewest) k (Q .given .stage) (T .size ∙ Q .given .room) (culled-kept (T .counts) (Q .later .culled)) i h (begun .attained));
+    pub input-pre : {ahead counts ws steps high low : List ℕ} {g : Groups} → LentTables card ranking counts ws steps high low g P → i < length sets → AheadOf ys k (i * P + P) P ahead → InputPre ys ahead card counts ws steps high low (record { groups = g; base = i * P; stage = k }) x
+    input-pre {ahead} L h A = record {
+      given = subst (λ (n : ℕ). NodesPre ys (i * P) n k) (L .codes) (nodes-there h);
+      ahead-is = subst (λ (n : ℕ). AheadOf ys k (i * P + n) n ahead) (L .codes) A;
       tables = L .tables;
+      ranking = ranking;
+      order = L .order;
       input = omega (arith, symbols-few (Q .given .setting), Q .given .setting .symbols i x (T .inside x m));
       high-size = L .high-size;
       low-size = L .low-size;
@@ -117,6 +123,9 @@ module _ {card ranking sets cs entries ends xs : List ℕ} {P i k : ℕ} (Q : Po
       enters = λ g C K E. symbol-entering (Q .given .setting) ranking g k (Q .given .stage) (T .size ∙ Q .given .room) (culled-kept (T .counts) C) i left after x (T .inside x m) (L .order) f
           (subst (λ (n : ℕ). InputTried card ws ys zs x (i * P) n k) (sym (L .codes)) R) (T .enters g C K E);
     }
+
+  pub ahead-stays : {zs ahead ws : List ℕ} {x n : ℕ} → P ≡ n → InputTried card ws ys zs x (i * P) n k → AheadOf ys k (i * P + P) P ahead → AheadOf zs k (i * P + P) P ahead
+  ahead-stays e R A = ahead-kept (R .counts) (λ w l. R .others w (inr (omega (arith, e)))) A
 
   pub entered-symbols : i < length sets → left ≤ 0 → PositionEntered card ranking sets xs ys i k
   entered-symbols h z =

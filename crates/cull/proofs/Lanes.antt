@@ -4,8 +4,8 @@ use mathlib.Core.Logic.{_⊎_, inl, inr, _≢_}
 use mathlib.Core.Bool.{Bool, true, false}
 use mathlib.Core.Option.{Option, none, some, Option·none-ne-some}
 use mathlib.Core.List.{List}
-use Prim.Native.Nat.{ℕ, zero, suc, _+_, _-_, _*_, _/_, _%_, _≤_, _<_}
-use native.Mathlib.Nat.{mod-lt, div-lt-iff-lt-mul}
+use Prim.Native.Nat.{ℕ, zero, suc, _+_, _-_, _*_, _/_, _%_, _^_, _≤_, _<_}
+use native.Mathlib.Nat.{mod-lt, mul-add-div-right, mul-add-mod-self-right, div-eq-of-lt, mod-eq-of-lt, suc-mul, div-lt-iff-lt-mul}
 use native.Mathlib.Decide.{decLt}
 use native.Mathlib.Omega.{arith}
 use lib.ListN.{length, getD}
@@ -33,7 +33,7 @@ use Rattle.tables.specs.Laws.Cards.{card-machines}
 use Rattle.tables.specs.Laws.Edges.{code-step-few}
 use Rattle.tables.specs.Laws.Packing.{six-number}
 use Rattle.cells.specs.declared.Groups.{Groups}
-use Rattle.cells.specs.Cells.{nowhere}
+use Rattle.cells.specs.Cells.{nowhere, places}
 use Rattle.cells.specs.Columns.{WeightsOf, JointCell}
 use Rattle.cells.specs.Groups.{GroupsOf, FourJoined}
 use Rattle.cells.specs.Groups as joining
@@ -48,8 +48,9 @@ use Rattle.cull.specs.StageLabels.{countOf, stageLabel}
 use Rattle.cull.specs.Relaxation.{Relaxes, relaxes-nothing, relaxes-then}
 use Rattle.cull.specs.Relaxing.{ArcPre, ArcTried, nothing, arc, LinkedEntry}
 use Rattle.cull.specs.Tables.{ListPre}
-use Rattle.cull.specs.Entering.{marksBy, laneStep, TargetsPre, LanePre, CodePre, codesAt, NodesPre, FourPre, LaneTried, LanesOf, LanesTried, FoursOf, CodesTried, InOrder, SymbolLinked, Among, InputTried}
-use Rattle.cull.proofs.Relaxing.{StepFacts, step-facts, step-relaxes, entry-kept}
+use Rattle.cull.specs.Entering.{marksBy, FrontCounts, AheadOf, BehindFront, FrontMarks, laneStep, TargetsPre, LanePre, CodePre, codesAt, NodesPre, FourPre, LaneTried, LanesOf, LanesTried, FoursOf, CodesTried, InOrder, SymbolLinked, Among, InputTried}
+use Rattle.cull.proofs.Relaxing.{StepFacts, step-facts, step-falls, step-relaxes, entry-kept}
+use Rattle.cull.proofs.Front.{front-of, ahead-kept, lane-dearer}
 
 -- ---- a lane
 
@@ -64,8 +65,8 @@ lane-some h l k = rw (lt-ltb h nowhere k)
 pub marks-small : (h l : ℕ) → marksBy h l < 16777216
 marks-small h l = omega arith
 
-pub lane-arc : {xs : List ℕ} {step u t k m : ℕ} → LanePre xs step u t k → m < 16777216 → ArcPre xs u (t + step % 128) m k
-lane-arc {xs} {step} {u} {t} {k} Q h = record {
+pub lane-arc : {xs ahead : List ℕ} {step rest goal u t k m : ℕ} → LanePre xs ahead step rest goal u t k → m < 16777216 → ArcPre xs u (t + step % 128) m k
+lane-arc {step = step} {t = t} Q h = record {
   node = omega (arith, Q .given .apart, Q .given .targets);
   target = omega (arith, Q .leads, Q .given .targets);
   marks = omega arith;
@@ -76,19 +77,24 @@ lane-arc {xs} {step} {u} {t} {k} Q h = record {
 pub lane-nothing : {xs : List ℕ} {step rest u t k : ℕ} → nowhere ≤ step → LaneTried xs xs step rest u t k
 lane-nothing {step = step} {rest = rest} h = record { lower = false; tried = nothing (lane-none step rest h) refl refl }
 
+-- by the first look
+pub lane-passed : {xs ahead : List ℕ} {step rest goal u t k s : ℕ} → LanePre xs ahead step rest goal u t k → step < nowhere → BehindFront k s → goal < step / 2 ^ s + getD ahead (step % 128) 0 → LaneTried xs xs step rest u t k
+lane-passed {step = step} {rest = rest} Q h B g = record { lower = false; tried = arc (step % 128) (marksBy step rest) (lane-some step rest h) (lane-dearer Q (marks-small step rest) h B g) }
+
 pub lane-tried : {xs ys : List ℕ} {step rest u t k m : ℕ} {r : Bool} → step < nowhere → m ≡ marksBy step rest → ArcTried xs ys u (t + step % 128) m k r → LaneTried xs ys step rest u t k
 lane-tried {step = step} {rest = rest} {m = m} {r = r} h e T = record { lower = r; tried = arc (step % 128) m (lane-some step rest h ∙ (λ i. some (step % 128, sym e i))) T }
 
 -- ---- four lanes of a code
 
 pub lanes-start : {xs high low : List ℕ} {a b u t k : ℕ} → LanesTried xs xs high low a b u t k 0
-lanes-start {u = u} = record { size = refl; counts = λ i w h. refl; others = λ w n. refl; relaxes = λ S p E A. relaxes-nothing S A (LanesOf p u 0) (λ w q z. omega (arith, z .1 .1)) }
+lanes-start {u = u} = record { size = refl; counts = λ i w h. refl; others = λ w n. refl; falls = λ w c m. m; relaxes = λ S p E A. relaxes-nothing S A (LanesOf p u 0) (λ w q z. omega (arith, z .1 .1)) }
 
 pub lanes-next : {xs ys zs high low : List ℕ} {a b u t k n : ℕ} → LanesTried xs ys high low a b u t k n → LaneTried ys zs (getD high (a + n) 0 + getD high (b + n) 0) (getD low (a + n) 0 + getD low (b + n) 0) u t k → LanesTried xs zs high low a b u t k (n + 1)
 lanes-next {xs} {ys} {zs} {high} {low} {a} {b} {u} {t} {k} {n} L T = record {
   size = F .size ∙ L .size;
   counts = λ i w h. F .counts i w h ∙ L .counts i w h;
   others = λ w d. F .others w d ∙ L .others w d;
+  falls = λ w c m. step-falls (T .tried) w c (L .falls w c m);
   relaxes = λ S p E A.
       let R = L .relaxes S p (λ j h. E j (omega arith)) A in
       relaxes-then S R (step-relaxes S (entry-kept (L .counts) (E n (omega arith))) (R .attained) (T .tried)) (LanesOf p u (n + 1)) (λ w q z. pick p w q z (decLt (z .1 .0) n));
@@ -107,8 +113,21 @@ lanes-end {xs} {ys} {high} {low} {a} {b} {u} {t} {k} L q = subst (λ (j : ℕ). 
 pub targets-kept : {xs ys : List ℕ} {u t P k : ℕ} → length ys ≡ length xs → ((w : ℕ) → w ≢ u → stageLabel ys k w ≡ stageLabel xs k w) → TargetsPre xs u t P k → TargetsPre ys u t P k
 targets-kept e f Q = record { apart = Q .apart; targets = omega (arith, e, Q .targets); few = Q .few; stage = Q .stage; fits = λ v d a b l. Q .fits v d a b (sym (f v (omega (arith, Q .apart))) ∙ l) }
 
-pub lane-ready : {xs ys high low : List ℕ} {a b u t k j : ℕ} → CodePre xs high low a b u t k → LanesTried xs ys high low a b u t k j → j < 4 → LanePre ys (getD high (a + j) 0 + getD high (b + j) 0) u t k
-lane-ready {j = j} Q L h = record { codes = Q .codes; given = targets-kept (L .size) (L .others) (Q .given); some-code = Q .some-code; leads = Q .leads j h }
+pub lane-ready : {xs ys ahead high low : List ℕ} {a b u t k j goal : ℕ} → CodePre xs ahead high low a b u t k → FrontCounts xs k u goal → LanesTried xs ys high low a b u t k j → j < 4
+    → LanePre ys ahead (getD high (a + j) 0 + getD high (b + j) 0) (getD low (a + j) 0 + getD low (b + j) 0) goal u t k
+lane-ready {xs} {j = j} Q G L h = record {
+  codes = Q .codes;
+  given = targets-kept (L .size) (L .others) (Q .given);
+  some-code = Q .some-code;
+  leads = Q .leads j h;
+  marks = Q .marks j h;
+  start = xs;
+  goal-is = G;
+  ahead-is = Q .ahead-is;
+  counts = L .counts;
+  others = L .others;
+  falls = L .falls;
+}
 
 -- ---- the codes of a position
 
@@ -145,12 +164,12 @@ pub record CodePlaces (code front back : ℕ) : Type 0 where
   pub front-is : code / back < front
   pub back-is : code % back < back
 
-pub code-places : {xs high low : List ℕ} {at : Site} → FourPre xs high low at → (code : ℕ) → code < codesAt at → CodePlaces code (at .groups .front) (at .groups .back)
+pub code-places : {xs ahead high low : List ℕ} {at : Site} → FourPre xs ahead high low at → (code : ℕ) → code < codesAt at → CodePlaces code (at .groups .front) (at .groups .back)
 code-places Q code h = record { front-is = div-lt-iff-lt-mul (Q .some-back) .1 h; back-is = mod-lt code (Q .some-back) }
 
-pub code-ready : {xs ys high low : List ℕ} {at : Site} {n : ℕ} → FourPre xs high low at → CodesTried xs ys high low (at .groups .front) (at .groups .back) (at .stage) (at .base) (at .base + codesAt at) n → n < codesAt at
-    → CodePre ys high low (n / at .groups .back * 4) ((at .groups .front + n % at .groups .back) * 4) (at .base + n) (at .base + codesAt at) (at .stage)
-code-ready {xs} {ys} {high} {low} {at} {n} Q C h = record {
+pub code-ready : {xs ys ahead high low : List ℕ} {at : Site} {n : ℕ} → FourPre xs ahead high low at → CodesTried xs ys high low (at .groups .front) (at .groups .back) (at .stage) (at .base) (at .base + codesAt at) n → n < codesAt at
+    → CodePre ys ahead high low (n / at .groups .back * 4) ((at .groups .front + n % at .groups .back) * 4) (at .base + n) (at .base + codesAt at) (at .stage)
+code-ready {xs} {ys} {ahead} {high} {low} {at} {n} Q C h = record {
   codes = codesAt at;
   given = record {
     apart = omega arith;
@@ -161,12 +180,46 @@ code-ready {xs} {ys} {high} {low} {at} {n} Q C h = record {
   };
   some-code = omega arith;
   leads = λ j k. Q .leads n j h k;
+  marks = λ j k. Q .marks n j h k;
+  ahead-is = ahead-kept (C .counts) (λ w l. C .others w (inr (omega arith))) (Q .ahead-is);
   highs = record { few = omega (arith, Q .small, r .front-is, r .back-is); room = omega (arith, Q .high-room, r .front-is, r .back-is); sums = λ j k. Q .high-sums n j h k };
   lows = record { few = omega (arith, Q .small, r .front-is, r .back-is); room = omega (arith, Q .low-room, r .front-is, r .back-is); sums = λ j k. Q .low-sums n j h k };
 }
   where
     r : CodePlaces n (at .groups .front) (at .groups .back)
     r = code-places Q n h
+
+-- the places of a code in either group, counted up
+pub record AtPlaces (code back a b : ℕ) : Type 0 where
+  pub is : code ≡ a * back + b
+  pub within : b < back
+
+module _ {code back a b : ℕ} (A : AtPlaces code back a b) where
+  pub at-front : code / back ≡ a
+  at-front = let some : 0 < back = omega (arith, A .within) in ap (λ (n : ℕ). n / back) (A .is) ∙ mul-add-div-right some a b ∙ ap (λ (n : ℕ). a + n) (div-eq-of-lt (A .within)) ∙ omega arith
+
+  pub at-back : code % back ≡ b
+  at-back = ap (λ (n : ℕ). n % back) (A .is) ∙ mul-add-mod-self-right a back b ∙ mod-eq-of-lt (A .within)
+
+pub code-at : (front : ℕ) {ys ahead high low : List ℕ} {code back a b u t k : ℕ} → AtPlaces code back a b → CodePre ys ahead high low (code / back * 4) ((front + code % back) * 4) u t k → CodePre ys ahead high low (a * 4) ((front + b) * 4) u t k
+code-at front {ys} {ahead} {high} {low} {code} {back} {a} {b} {u} {t} {k} A Q =
+    subst (λ (n : ℕ). CodePre ys ahead high low (a * 4) ((front + n) * 4) u t k) (at-back A) (subst (λ (n : ℕ). CodePre ys ahead high low (n * 4) ((front + code % back) * 4) u t k) (at-front A) Q)
+
+pub lanes-at : (front : ℕ) {ys zs high low : List ℕ} {code back a b u t k : ℕ} → AtPlaces code back a b → LanesTried ys zs high low (a * 4) ((front + b) * 4) u t k 4 → LanesTried ys zs high low (code / back * 4) ((front + code % back) * 4) u t k 4
+lanes-at front {ys} {zs} {high} {low} {code} {back} {a} {b} {u} {t} {k} A L =
+    subst (λ (n : ℕ). LanesTried ys zs high low (n * 4) ((front + code % back) * 4) u t k 4) (sym (at-front A)) (subst (λ (n : ℕ). LanesTried ys zs high low (a * 4) ((front + n) * 4) u t k 4) (sym (at-back A)) L)
+
+pub front-is : {code back front a b : ℕ} → AtPlaces code back a b → code < front * back → a < front
+front-is {code} {back} {front} A h = let q : code / back < front = div-lt-iff-lt-mul {k = back} {x = code} {y = front} (omega (arith, A .within)) .1 h in omega (arith, q, at-front A)
+
+pub places-start : {back : ℕ} → 0 < back → AtPlaces 0 back 0 0
+places-start h = record { is = omega arith; within = h }
+
+pub places-row : {code back a b : ℕ} → AtPlaces code back a b → b + 1 ≡ back → AtPlaces (code + 1) back (a + 1) 0
+places-row {back = back} {a = a} A e = record { is = omega (arith, A .is, e, suc-mul a back); within = omega arith }
+
+pub places-next : {code back a b : ℕ} → AtPlaces code back a b → b + 1 ≢ back → AtPlaces (code + 1) back a (b + 1)
+places-next A n = record { is = omega (arith, A .is); within = omega (arith, A .within) }
 
 -- ---- the numbers of a joint step
 
@@ -187,6 +240,21 @@ module _ {S : ℕ} {ms : List Machine} {ranking ws : List ℕ} (M : CardMachines
           let a = target-of (v .target) (m 0) (m 1) (m 2) (m 3) (m 4) (m 5) h l (few 0) (few 1) (few 2) (few 3) (few 4) (few 5) tt high low in
           let b = marks-are (v .target) (m 0) (m 1) (m 2) (m 3) (m 4) (m 5) h l (few 0) (few 1) (few 2) (few 3) (few 4) (few 5) tt high low ∙ sym number in
           lane-some h l (J .there v e) ∙ (λ i. some (a i, b i)) ∙ ap (numbered (sixPlaces ranking)) (sym e)
+
+  -- the marks of the first three constraints
+  pub lane-marks : (c : ℕ) (p : Pair) {h l : ℕ} → JointCell ws (product (stateCounts ms)) (codeStep ms c p) h l → h < nowhere → FrontMarks h l
+  lane-marks c p {h} {l} J below = go (codeStep ms c p) refl
+    where
+      go : (o : Option Move) → codeStep ms c p ≡ o → FrontMarks h l
+      go none e = absurd (omega (arith, J .nothing e, below))
+      go (some v) e =
+          let m : ℕ → ℕ = (λ i. getD (v .marks) (getD (sixPlaces ranking) i 0) 0) in
+          let few : (i : ℕ) → m i ≤ 15 = (λ i. code-step-few (M .sound) c p v e (getD (sixPlaces ranking) i 0)) in
+          let size : length (v .marks) ≤ 6 = omega (arith, marks-length ms c p v e, M .machines) in
+          let tt : v .target < 128 = omega (arith, J .target v e, J .code, M .joint-states) in
+          let high = J .high v e ∙ ap (λ (n : ℕ). v .target + n) (ranked-high (O .ranked) (O .six .size) (v .marks) size) in
+          let low = J .low v e ∙ ranked-low (O .ranked) (O .six .size) (v .marks) size in
+          front-of (v .target) (m 0) (m 1) (m 2) (m 3) (m 4) (m 5) h l (few 0) (few 1) (few 2) (few 3) (few 4) (few 5) tt high low
 
 -- ---- what the calls ask
 
@@ -221,8 +289,9 @@ module _ {card counts ws steps : List ℕ} {g : Groups} (T : ListPre card counts
       cells-are : (c j : ℕ) → c < g .front * g .back → j < 4 → JointCell ws (product (stateCounts (machinesOf card))) (codeStep (machinesOf card) c (lanePair x four j)) (laneSum high g c j) (laneSum low g c j)
       cells-are c j h k = code-step-is machines (X .columns) weights-are groups-are back-some (subst (λ (l : List ℕ). FourJoined steps′ four l ws high low W g) (T .counts-are) J) outputs c j (omega (arith, codes-are)) k
 
-      pub four-ready : {ys : List ℕ} (b k : ℕ) → NodesPre ys b (g .front * g .back) k → FourPre ys high low (record { groups = g; base = b; stage = k })
-      four-ready b k N = record {
+      pub four-ready : {ys ahead ranking : List ℕ} (b k : ℕ) → InOrder ranking ws → NodesPre ys b (g .front * g .back) k → AheadOf ys k (b + g .front * g .back) (g .front * g .back) ahead
+          → FourPre ys ahead high low (record { groups = g; base = b; stage = k })
+      four-ready b k O N A = record {
         given = N;
         few = omega (arith, codes-are, machines .joint-states);
         small = T .few;
@@ -232,6 +301,8 @@ module _ {card counts ws steps : List ℕ} {g : Groups} (T : ListPre card counts
         high-sums = λ c j h l. omega (arith, cells-are c j h l .high-most);
         low-sums = λ c j h l. omega (arith, cells-are c j h l .low-most);
         leads = λ c j h l. omega (arith, cells-are c j h l .code, codes-are, machines .joint-states);
+        marks = λ c j h l. lane-marks machines O c (lanePair x four j) (cells-are c j h l);
+        ahead-is = A;
       }
 
       pub lanes-linked : {S : Graph (rankedCosts 1) pairs} {xs ranking : List ℕ} {k b t : ℕ} → InOrder ranking ws → SymbolLinked S xs card ranking k x b t (g .front * g .back)

@@ -4,6 +4,7 @@ pub mod Totals
 pub mod StageWork
 pub mod Relaxing
 pub mod Unused
+pub mod Front
 pub mod Lanes
 pub mod Spreading
 pub mod Linking

@@ -9,7 +9,8 @@ use lib.Dec.{ltb}
 use lib.ListN.{length, getD}
 use Rattle.machine.specs.declared.Pair.{Pair}
 use Rattle.card.specs.Card.{machinesOf}
-use Rattle.paths.specs.Ranked.{Ranked, countAt, rankedCosts}
+use Rattle.paths.specs.Ranked.{Ranked, Less, countAt, rankedCosts}
+use Rattle.paths.specs.Improvement.{Falls}
 use Rattle.paths.specs.Graph.{Graph}
 use Rattle.paths.specs.Labels.{Attained}
 use Rattle.tables.specs.Marks.{marksCost}
@@ -40,6 +41,38 @@ laneStep high low = cond (ltb high nowhere) (some (high % 128, marksBy high low)
 abbrev pub laneAt : (high low : List ℕ) (a b j : ℕ) → Option (ℕ × ℕ)
 laneAt high low a b j = laneStep (getD high (a + j) 0 + getD high (b + j) 0) (getD low (a + j) 0 + getD low (b + j) 0)
 
+-- ---- a first look at an arc: counts of the first constraints as one number
+
+-- the marks of a label, 65535 where there is none
+abbrev pub topOf : Option (Ranked 1) → ℕ
+topOf none = 65535
+topOf (some c) = c .0
+
+-- n is the counts of the node u of the first three constraints, or of those up to the stage k
+pub record FrontCounts (xs : List ℕ) (k u n : ℕ) : Type 0 where
+  pub first : k ≡ 0 → n ≡ topOf (stageLabel xs k u)
+  pub second : k ≡ 1 → n ≡ countOf xs 0 u * 65536 + topOf (stageLabel xs k u)
+  pub third : k ≡ 2 → n ≡ (countOf xs 0 u * 65536 + countOf xs 1 u) * 65536 + topOf (stageLabel xs k u)
+  pub later : 3 ≤ k → n ≡ (countOf xs 0 u * 65536 + countOf xs 1 u) * 65536 + countOf xs 2 u
+  pub few : n < 2 ^ 48
+
+-- those of the P nodes from t on
+pub record AheadOf (xs : List ℕ) (k t P : ℕ) (ahead : List ℕ) : Type 0 where
+  pub each : (c : ℕ) → c < P → FrontCounts xs k (t + c) (getD ahead c 0)
+
+-- behind the marks of those constraints a joint step has s bits
+pub record BehindFront (k s : ℕ) : Type 0 where
+  pub first : k ≡ 0 → s ≡ 40
+  pub second : k ≡ 1 → s ≡ 24
+  pub third : 2 ≤ k → s ≡ 8
+  pub few : s < 64
+
+-- the marks of the first three constraints stand in front in the first number of a joint step
+pub record FrontMarks (high low : ℕ) : Type 0 where
+  pub first : high / 2 ^ 40 ≡ countAt 6 0 (marksCost (marksBy high low))
+  pub second : high / 2 ^ 24 ≡ countAt 6 0 (marksCost (marksBy high low)) * 65536 + countAt 6 1 (marksCost (marksBy high low))
+  pub third : high / 2 ^ 8 ≡ (countAt 6 0 (marksCost (marksBy high low)) * 65536 + countAt 6 1 (marksCost (marksBy high low))) * 65536 + countAt 6 2 (marksCost (marksBy high low))
+
 -- ---- what is asked
 
 -- the node u, and P targets from t on, behind it
@@ -50,18 +83,27 @@ pub record TargetsPre (xs : List ℕ) (u t P k : ℕ) : Type 0 where
   pub stage : k < 6
   pub fits : (v : ℕ) (d : Ranked 1) → t ≤ v → v < t + P → stageLabel xs k v ≡ some d → Fits d
 
--- a step that leads to one of them
-pub record LanePre (xs : List ℕ) (step u t k : ℕ) : Type 0 where
+-- a step that leads to one of them; the front counts are those of some slice from which labels have fallen
+pub record LanePre (xs ahead : List ℕ) (step rest goal u t k : ℕ) : Type 0 where
   pub codes : ℕ
   pub given : TargetsPre xs u t codes k
   pub some-code : 0 < codes
   pub leads : step % 128 < codes
+  pub marks : step < nowhere → FrontMarks step rest
+  pub start : List ℕ
+  pub goal-is : FrontCounts start k u goal
+  pub ahead-is : AheadOf start k t codes ahead
+  pub counts : (i w : ℕ) → i < k → countOf xs i w ≡ countOf start i w
+  pub others : (w : ℕ) → w ≢ u → stageLabel xs k w ≡ stageLabel start k w
+  pub falls : Falls (Less 1) (stageLabel start k) (stageLabel xs k)
 
-pub record CodePre (xs high low : List ℕ) (a b u t k : ℕ) : Type 0 where
+pub record CodePre (xs ahead high low : List ℕ) (a b u t k : ℕ) : Type 0 where
   pub codes : ℕ
   pub given : TargetsPre xs u t codes k
   pub some-code : 0 < codes
   pub leads : (j : ℕ) → j < 4 → (getD high (a + j) 0 + getD high (b + j) 0) % 128 < codes
+  pub marks : (j : ℕ) → j < 4 → getD high (a + j) 0 + getD high (b + j) 0 < nowhere → FrontMarks (getD high (a + j) 0 + getD high (b + j) 0) (getD low (a + j) 0 + getD low (b + j) 0)
+  pub ahead-is : AheadOf xs k t codes ahead
   pub highs : LanesPre high a b
   pub lows : LanesPre low a b
 
@@ -76,7 +118,7 @@ pub record NodesPre (xs : List ℕ) (b P k : ℕ) : Type 0 where
   pub stage : k < 6
   pub fits : (v : ℕ) (d : Ranked 1) → b + P ≤ v → v < b + P + P → stageLabel xs k v ≡ some d → Fits d
 
-pub record FourPre (xs high low : List ℕ) (at : Site) : Type 0 where
+pub record FourPre (xs ahead high low : List ℕ) (at : Site) : Type 0 where
   pub given : NodesPre xs (at .base) (codesAt at) (at .stage)
   pub few : codesAt at ≤ 128
   pub small : at .groups .front + at .groups .back ≤ 66
@@ -86,10 +128,20 @@ pub record FourPre (xs high low : List ℕ) (at : Site) : Type 0 where
   pub high-sums : (c j : ℕ) → c < codesAt at → j < 4 → laneSum high (at .groups) c j < 2 ^ 64
   pub low-sums : (c j : ℕ) → c < codesAt at → j < 4 → laneSum low (at .groups) c j < 2 ^ 64
   pub leads : (c j : ℕ) → c < codesAt at → j < 4 → laneSum high (at .groups) c j % 128 < codesAt at
+  pub marks : (c j : ℕ) → c < codesAt at → j < 4 → laneSum high (at .groups) c j < nowhere → FrontMarks (laneSum high (at .groups) c j) (laneSum low (at .groups) c j)
+  pub ahead-is : AheadOf xs (at .stage) (at .base + codesAt at) (codesAt at) ahead
 
-pub record InputPre (xs card counts ws steps high low : List ℕ) (at : Site) (x : ℕ) : Type 0 where
+-- the weights are those of a ranking
+pub record InOrder (ranking ws : List ℕ) : Type 0 where
+  pub ranked : RankedWeights (sixPlaces ranking) ws
+  pub six : SixPlaces (sixPlaces ranking)
+
+pub record InputPre (xs ahead card counts ws steps high low : List ℕ) (at : Site) (x : ℕ) : Type 0 where
   pub given : NodesPre xs (at .base) (codesAt at) (at .stage)
+  pub ahead-is : AheadOf xs (at .stage) (at .base + codesAt at) (codesAt at) ahead
   pub tables : ListPre card counts ws steps (at .groups)
+  pub ranking : List ℕ
+  pub order : InOrder ranking ws
   pub input : x < 64
   pub high-size : length high ≡ 264
   pub low-size : length low ≡ 264
@@ -109,6 +161,7 @@ pub record LanesTried (xs ys high low : List ℕ) (a b u t k n : ℕ) : Type 0 w
   pub size : length ys ≡ length xs
   pub counts : (i w : ℕ) → i < k → countOf ys i w ≡ countOf xs i w
   pub others : (w : ℕ) → w ≢ u → stageLabel ys k w ≡ stageLabel xs k w
+  pub falls : Falls (Less 1) (stageLabel xs k) (stageLabel ys k)
   pub relaxes : (S : Graph (rankedCosts 1) pairs) (p : ℕ → Pair) → ((j : ℕ) → j < n → LinkedEntry S xs k u (p j) t (laneAt high low a b j)) → Attained S (stageLabel xs k)
       → Relaxes S (stageLabel xs k) (stageLabel ys k) (LanesOf p u n)
 
@@ -138,11 +191,6 @@ pub data EndingTried (xs ys : List ℕ) (o : Option ℕ) (u k : ℕ) : Type 0 wh
 -- the first of the four numbers of a code, in the table of either group
 abbrev pub endSum : List ℕ → (front back c : ℕ) → ℕ
 endSum table front back c = getD table (c / back * 4) 0 + getD table ((front + c % back) * 4) 0
-
--- the weights are those of a ranking
-pub record InOrder (ranking ws : List ℕ) : Type 0 where
-  pub ranked : RankedWeights (sixPlaces ranking) ws
-  pub six : SixPlaces (sixPlaces ranking)
 
 -- the joint steps with the input x from the P nodes from b on, to those from t on, are edges of S
 pub record SymbolLinked (S : Graph (rankedCosts 1) pairs) (xs card ranking : List ℕ) (k x b t P : ℕ) : Type 0 where

@@ -23,8 +23,8 @@ ghost use Rattle.readout.specs.Searching.{SetsPre, SearchPre, Searched};
 ghost use Rattle.grid.specs.Grids.{GridOf};
 ghost use Rattle.cull.specs.Relaxing.{countsOf, noCounts, LeftTold, NodePre, Compared, Written, Lowered, ArcPre, ArcTried};
 ghost use Rattle.cull.specs.Tables.{TablesPre, ListPre, ListsOf};
-ghost use Rattle.cull.specs.StageLabels.{countOf};
-ghost use Rattle.cull.specs.Entering.{marksBy, LanePre, LaneTried, CodePre, LanesTried, codesAt, FourPre, CodesTried, InputPre, InputTried, laneEnding, EndingTried, EndingsPre};
+ghost use Rattle.cull.specs.StageLabels.{countOf, stageLabel};
+ghost use Rattle.cull.specs.Entering.{marksBy, topOf, FrontCounts, BehindFront, AheadOf, LanePre, LaneTried, CodePre, LanesTried, codesAt, FourPre, CodesTried, InputPre, InputTried, laneEnding, EndingTried, EndingsPre};
 ghost use Rattle.cull.specs.Settling.{OpenIn, SomeIn, EntryPre, EntryTried, SettlePre, Spread, SettledBy};
 ghost use Rattle.cull.specs.Culling.{LentTables, CullPre, PositionPre, PositionEntered, PositionDone, EndPre, EndsTried, CodesEnded, StagePre, StageDone, Blanked, PlaceCleared};
 use candidate::Evaluation;
@@ -182,6 +182,67 @@ fn try_arc(work: &mut [u16], node: usize, target: usize, marks: u32, stage: usiz
     lower(work, node, stage, count, pairs)
 }
 
+// ---- a first look at an arc
+
+// A count that others stand behind.
+fn long(x: u16) -> u64
+    ensures { λ r. ⌜ (r ≡ x) × (r < 65536) ⌝ }
+{
+    x as u64
+}
+
+// A node's count of the constraint at a place.
+fn count_at(work: &[u16], node: usize, place: usize) -> u64
+    requires { ⌜ NodePre (now work) node place ⌝ }
+    ensures { λ r. ⌜ (r ≡ countOf (now (work .entry)) place node) × (r < 65536) ⌝ }
+{
+    long(work[node * 8 + 1 + place])
+}
+
+// A node's marks in this stage, 65535 where it has no label.
+fn own_count(work: &[u16], node: usize, stage: usize) -> u64
+    requires { ⌜ NodePre (now work) node stage ⌝ }
+    ensures { λ r. ⌜ (r ≡ topOf (stageLabel (now (work .entry)) stage node)) × (r < 65536) ⌝ }
+{
+    if work[node * 8] == 0 {
+        return 65535;
+    }
+    count_at(work, node, stage)
+}
+
+// A node's counts of the first three constraints, or of those up to the stage, as one number.
+fn front_counts(work: &[u16], node: usize, stage: usize) -> u64
+    requires { ⌜ NodePre (now work) node stage ⌝ }
+    ensures { λ r. ⌜ FrontCounts (now (work .entry)) stage node r ⌝ }
+{
+    let own = own_count(work, node, stage);
+    if stage == 0 {
+        return own;
+    }
+    let first = count_at(work, node, 0) * 65536;
+    if stage == 1 {
+        return first + own;
+    }
+    let second = (first + count_at(work, node, 1)) * 65536;
+    if stage == 2 {
+        return second + own;
+    }
+    second + count_at(work, node, 2)
+}
+
+// What stands behind the marks of those constraints in the first number of a joint step, in bits.
+fn behind_front(stage: usize) -> u64
+    ensures { λ r. ⌜ BehindFront stage r ⌝ }
+{
+    if stage == 0 {
+        return 40;
+    }
+    if stage == 1 {
+        return 24;
+    }
+    8
+}
+
 // ---- the joint steps of a symbol
 
 // Three counts below 16 from 16 bits each to four bits each.
@@ -199,21 +260,36 @@ fn marks_of(step: u64, rest: u64) -> u32
     (narrow(step / 256) * 4096 + narrow(rest / 65536)) as u32
 }
 
-// Tries the node by a joint step, if it is one, to the nodes from `targets` on.
-fn try_lane(work: &mut [u16], step: u64, rest: u64, node: usize, targets: usize, stage: usize)
-    requires { ⌜ LanePre (now work) step node targets stage ⌝ }
+// Tries the node by a joint step, if it is one, to the nodes from `targets` on, whose front counts are `ahead`. The node's were `goal`: an arc that
+// leads to more was dropped by a stage before, or gives no less.
+fn try_lane(
+    work: &mut [u16],
+    ahead: &[u64; 128],
+    step: u64,
+    rest: u64,
+    goal: u64,
+    node: usize,
+    targets: usize,
+    stage: usize,
+)
+    requires { ⌜ LanePre (now work) (now ahead) step rest goal node targets stage ⌝ }
     ensures { λ _. ⌜ LaneTried (now (work .entry)) (now (work .exit)) step rest node targets stage ⌝ }
 {
     if step >= NOWHERE {
         return;
     }
     let to = (step % 128) as usize;
+    let front = (step >> behind_front(stage)) + ahead[to];
+    if front > goal {
+        return;
+    }
     try_arc(work, node, targets + to, marks_of(step, rest), stage);
 }
 
 // Tries the node by four joint steps. They are the sums of the numbers at a place of either group.
 fn try_code(
     work: &mut [u16],
+    ahead: &[u64; 128],
     high: &[u64],
     low: &[u64],
     a: usize,
@@ -222,15 +298,18 @@ fn try_code(
     targets: usize,
     stage: usize,
 )
-    requires { ⌜ CodePre (now work) (now high) (now low) a b node targets stage ⌝ }
+    requires { ⌜ CodePre (now work) (now ahead) (now high) (now low) a b node targets stage ⌝ }
     ensures { λ _. ⌜ LanesTried (now (work .entry)) (now (work .exit)) (now (high .entry)) (now (low .entry)) a b node targets stage 4 ⌝ }
 {
+    let goal = front_counts(work, node, stage);
     let mut j = 0;
     while j < 4 {
         try_lane(
             work,
+            ahead,
             high[a + j] + high[b + j],
             low[a + j] + low[b + j],
+            goal,
             node,
             targets,
             stage,
@@ -247,8 +326,8 @@ struct Site {
 }
 
 // Tries the nodes of a position by four outputs.
-fn try_four(work: &mut [u16], high: &[u64], low: &[u64], at: Site)
-    requires { ⌜ FourPre (now work) (now high) (now low) at ⌝ }
+fn try_four(work: &mut [u16], ahead: &[u64; 128], high: &[u64], low: &[u64], at: Site)
+    requires { ⌜ FourPre (now work) (now ahead) (now high) (now low) at ⌝ }
     ensures { λ _. ⌜ CodesTried (now (work .entry)) (now (work .exit)) (now (high .entry)) (now (low .entry)) (at .groups .front) (at .groups .back) (at .stage) (at .base) (at .base + codesAt at) (codesAt at) ⌝ }
 {
     let g = at.groups;
@@ -257,18 +336,38 @@ fn try_four(work: &mut [u16], high: &[u64], low: &[u64], at: Site)
     let base = at.base;
     let stage = at.stage;
     let size = front * back;
+    let mut a = 0;
+    let mut b = 0;
     let mut code = 0;
     while code < size {
         try_code(
             work,
+            ahead,
             high,
             low,
-            code / back * 4,
-            (front + code % back) * 4,
+            a * 4,
+            (front + b) * 4,
             base + code,
             base + size,
             stage,
         );
+        code += 1;
+        b += 1;
+        if b == back {
+            b = 0;
+            a += 1;
+        }
+    }
+}
+
+// Writes the front counts of the nodes from `targets` on.
+fn look_ahead(work: &[u16], ahead: &mut [u64; 128], targets: usize, size: usize, stage: usize)
+    requires { ⌜ HasNodes (now work) (targets + size) × (targets + size ≤ 3200) × (size ≤ 128) × (stage < 6) × (length (now ahead) ≡ 128) ⌝ }
+    ensures { λ _. ⌜ AheadOf (now (work .entry)) stage targets size (now (ahead .exit)) ⌝ }
+{
+    let mut code = 0;
+    while code < size {
+        ahead[code] = front_counts(work, targets + code, stage);
         code += 1;
     }
 }
@@ -276,6 +375,7 @@ fn try_four(work: &mut [u16], high: &[u64], low: &[u64], at: Site)
 // Tries the nodes of a position by the pairs with one input: the outputs worth trying, four at a time. `steps`, `high` and `low` are lent.
 fn enter_input(
     work: &mut [u16],
+    ahead: &[u64; 128],
     steps: &mut [u16],
     card: &[u8],
     counts: &[u8],
@@ -285,7 +385,7 @@ fn enter_input(
     high: &mut [u64],
     low: &mut [u64],
 )
-    requires { ⌜ InputPre (now work) (now card) (now counts) (now weights) (now steps) (now high) (now low) at input × (1 ≤ input) ⌝ }
+    requires { ⌜ InputPre (now work) (now ahead) (now card) (now counts) (now weights) (now steps) (now high) (now low) at input × (1 ≤ input) ⌝ }
     ensures { λ _. ⌜ InputTried (now (card .entry)) (now (weights .entry)) (now (work .entry)) (now (work .exit)) input (at .base) (codesAt at) (at .stage) ⌝ }
 {
     let g = at.groups;
@@ -294,7 +394,7 @@ fn enter_input(
     while outputs > 0 {
         let four = cells::fours::next_four(outputs);
         cells::join_four(steps, width, &four, counts, weights, g, high, low);
-        try_four(work, high, low, at);
+        try_four(work, ahead, high, low, at);
         outputs = cells::fours::without_four(outputs);
     }
 }
@@ -498,15 +598,29 @@ fn enter_symbol(
     requires { ⌜ PositionPre (now card) (now ranking) (now sets) (now counts) (now entries) (now ends) (now work) size position stage × LentTables (now card) (now ranking) (now counts) (now weights) (now steps) (now high) (now low) g size × (position < length (now sets)) ⌝ }
     ensures { λ _. ⌜ PositionEntered (now (card .entry)) (now (ranking .entry)) (now (sets .entry)) (now (work .entry)) (now (work .exit)) position stage ⌝ }
 {
+    let base = position * size;
+    let mut ahead = [0u64; 128];
+    look_ahead(work, &mut ahead, base + size, size, stage);
     let mut left = sets[position];
     while left > 0 {
         let symbol = machine::sets::least(left) as u8;
         let at = Site {
             groups: g,
-            base: position * size,
+            base,
             stage,
         };
-        enter_input(work, steps, card, counts, weights, at, symbol, high, low);
+        enter_input(
+            work,
+            &ahead,
+            steps,
+            card,
+            counts,
+            weights,
+            at,
+            symbol,
+            high,
+            low,
+        );
         left = machine::sets::without_least(left);
     }
 }

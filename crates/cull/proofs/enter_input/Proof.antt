@@ -1,5 +1,6 @@
 -- `enter_input` meets its contract.
 use mathlib.Core.Path.{_≡_, sym, _∙_}
+use mathlib.Core.Logic.{inr}
 use Prim.Native.Nat.{_^_, _<_}
 use native.Mathlib.Omega.{arith}
 use lib.ListN.{length}
@@ -7,17 +8,18 @@ use Rattle.tables.specs.Laws.Cards.{card-counts}
 use Rattle.cells.specs.Laws.Fours.{without-less}
 use Rattle.entering.proofs.Fours.{four-few, four-or-after}
 use Rattle.cull.specs.Entering.{codesAt}
+use Rattle.cull.proofs.Front.{ahead-kept}
 use Rattle.cull.proofs.Lanes.{FoursTried, fours-start, fours-next, fours-end, join-ready, four-ready, nodes-kept, codes-are}
 use borrow.Author.Needs.{needs}
 use Rattle.cull.proofs.enter_input.Statement.{statement}
 use Rattle.cull.proofs.enter_input.Tie as tie
 
 abbrev Inv-loop : tie.InvT-loop
-Inv-loop work₀ steps card counts weights at input high₀ low₀ g width outputs₀ work high low outputs =
+Inv-loop work₀ ahead steps card counts weights at input high₀ low₀ g width outputs₀ work high low outputs =
     FoursTried card weights work₀ work input (at .base) (codesAt at) (at .stage) outputs₀ outputs × (outputs < 2 ^ 64) × (length high ≡ 264) × (length low ≡ 264)
 
 abbrev μ-loop : tie.MeasureT-loop
-μ-loop work₀ steps card counts weights at input high₀ low₀ g width outputs₀ work high low outputs = outputs
+μ-loop work₀ ahead steps card counts weights at input high₀ low₀ g width outputs₀ work high low outputs = outputs
 
 width-of-requires : tie.Need-width-of-requires Inv-loop μ-loop
 width-of-requires c κs = card-counts _ (c .before .before .before .before .before .before .before .before .pre .0 .tables .accepted) (c .before .before .before .before .before .before .before .before .pre .0 .tables .counts-are)
@@ -41,7 +43,7 @@ try-four-requires c κs =
     let Q = c .before .before .before .before .before .before .before .before .before .before .before .before .before .before .before .before .before .before .before .before .before .before .before .before .before .before .before .before .pre .0 in
     let l = c .before .before .before .before .before .before .before .before .before .before .before .before .before .before .loop in
     let j = c .before .before .before .before .before .before .before .join-four in
-    four-ready (Q .tables) (c .before .before .before .before .before .before .before .before .before .before .before .before .before .before .before .before .before .prepare .ensures) (four-few (l .outputs) (c .before .before .before .before .before .before .before .before .before .before .before .before .next-four .ensures)) (j .kept .1 .1 .1 .1 .1 .1 .0 ∙ l .inv .2) (j .kept .1 .1 .1 .1 .1 .1 .1 .0 ∙ l .inv .3) (j .ensures) _ _ (nodes-kept (l .inv .0 .size) (l .inv .0 .others) (Q .given))
+    four-ready (Q .tables) (c .before .before .before .before .before .before .before .before .before .before .before .before .before .before .before .before .before .prepare .ensures) (four-few (l .outputs) (c .before .before .before .before .before .before .before .before .before .before .before .before .next-four .ensures)) (j .kept .1 .1 .1 .1 .1 .1 .0 ∙ l .inv .2) (j .kept .1 .1 .1 .1 .1 .1 .1 .0 ∙ l .inv .3) (j .ensures) _ _ (Q .order) (nodes-kept (l .inv .0 .size) (l .inv .0 .others) (Q .given)) (ahead-kept (l .inv .0 .counts) (λ w h. l .inv .0 .others w (inr h)) (Q .ahead-is))
 
 loop-less : tie.Need-loop-less Inv-loop μ-loop
 loop-less c = let l = c .before .before .before .before .before .before .before .before .before .before .before .before .before .before .before .before .before .before .loop in omega (arith, c .without-four .ensures, without-less (l .outputs) (l .inv .1) (omega (arith, c .before .before .before .before .before .before .before .before .before .before .before .before .before .before .before .before .before .loop-test .taken)))

@@ -7,59 +7,62 @@ use Rattle.cull.proofs.try_code.Statement.{statement}
 use Rattle.cull.proofs.try_code.Tie as tie
 
 abbrev Inv-loop : tie.InvT-loop
-Inv-loop work₀ high low a b node targets stage j₀ work j =
+Inv-loop work₀ ahead high low a b node targets stage goal j₀ work j =
     (j ≤ 4) × LanesTried work₀ work high low a b node targets stage j
 
 abbrev μ-loop : tie.MeasureT-loop
-μ-loop work₀ high low a b node targets stage j₀ work j = 4 - j
+μ-loop work₀ ahead high low a b node targets stage goal j₀ work j = 4 - j
+
+front-counts-requires : tie.Need-front-counts-requires Inv-loop μ-loop
+front-counts-requires c κs = let Q = c .before .before .before .before .pre .given in record { node = omega (arith, Q .apart, Q .targets); stage = Q .stage }
 
 loop-holds : tie.Need-loop-holds Inv-loop μ-loop
 loop-holds c = (omega arith, lanes-start)
 
 add-try-lane : tie.Need-add-try-lane Inv-loop μ-loop
-add-try-lane c = omega (arith, c .before .loop-test .taken, c .before .before .before .before .before .before .pre .highs .few .0)
+add-try-lane c = omega (arith, c .before .loop-test .taken, c .before .before .before .before .before .before .before .before .pre .highs .few .0)
 
 mul-try-lane : tie.Need-mul-try-lane Inv-loop μ-loop
-mul-try-lane c = omega (arith, c .before .loop-test .taken, c .before .before .before .before .before .before .pre .highs .few .0)
+mul-try-lane c = omega (arith, c .before .loop-test .taken, c .before .before .before .before .before .before .before .before .pre .highs .few .0)
 
 shared-slice-read-try-lane : tie.Need-shared-slice-read-try-lane Inv-loop μ-loop
-shared-slice-read-try-lane c = omega (arith, c .before .before .loop-test .taken, c .before .before .before .before .before .before .before .pre .highs .room .0)
+shared-slice-read-try-lane c = omega (arith, c .before .before .loop-test .taken, c .before .before .before .before .before .before .before .before .before .pre .highs .room .0)
 
 add-try-lane-2 : tie.Need-add-try-lane-2 Inv-loop μ-loop
-add-try-lane-2 c = omega (arith, c .before .before .loop-test .taken, c .before .before .before .before .before .before .before .pre .highs .few .1)
+add-try-lane-2 c = omega (arith, c .before .before .loop-test .taken, c .before .before .before .before .before .before .before .before .before .pre .highs .few .1)
 
 mul-try-lane-2 : tie.Need-mul-try-lane-2 Inv-loop μ-loop
-mul-try-lane-2 c = omega (arith, c .before .before .loop-test .taken, c .before .before .before .before .before .before .before .pre .highs .few .1)
+mul-try-lane-2 c = omega (arith, c .before .before .loop-test .taken, c .before .before .before .before .before .before .before .before .before .pre .highs .few .1)
 
 shared-slice-read-try-lane-2 : tie.Need-shared-slice-read-try-lane-2 Inv-loop μ-loop
-shared-slice-read-try-lane-2 c = omega (arith, c .before .before .before .loop-test .taken, c .before .before .before .before .before .before .before .before .pre .highs .room .1)
+shared-slice-read-try-lane-2 c = omega (arith, c .before .before .before .loop-test .taken, c .before .before .before .before .before .before .before .before .before .before .pre .highs .room .1)
 
 add-try-lane-3 : tie.Need-add-try-lane-3 Inv-loop μ-loop
-add-try-lane-3 c = omega (arith, c .before .before .before .before .before .before .before .before .pre .highs .sums (c .before .before .before .before .loop .j) (omega (arith, c .before .before .before .loop-test .taken)))
+add-try-lane-3 c = omega (arith, c .before .before .before .before .before .before .before .before .before .before .pre .highs .sums (c .before .before .before .before .loop .j) (omega (arith, c .before .before .before .loop-test .taken)))
 
 add-try-lane-4 : tie.Need-add-try-lane-4 Inv-loop μ-loop
-add-try-lane-4 c = omega (arith, c .before .before .before .loop-test .taken, c .before .before .before .before .before .before .before .before .pre .lows .few .0)
+add-try-lane-4 c = omega (arith, c .before .before .before .loop-test .taken, c .before .before .before .before .before .before .before .before .before .before .pre .lows .few .0)
 
 mul-try-lane-3 : tie.Need-mul-try-lane-3 Inv-loop μ-loop
-mul-try-lane-3 c = omega (arith, c .before .before .before .loop-test .taken, c .before .before .before .before .before .before .before .before .pre .lows .few .0)
+mul-try-lane-3 c = omega (arith, c .before .before .before .loop-test .taken, c .before .before .before .before .before .before .before .before .before .before .pre .lows .few .0)
 
 shared-slice-read-try-lane-3 : tie.Need-shared-slice-read-try-lane-3 Inv-loop μ-loop
-shared-slice-read-try-lane-3 c = omega (arith, c .before .before .before .before .loop-test .taken, c .before .before .before .before .before .before .before .before .before .pre .lows .room .0)
+shared-slice-read-try-lane-3 c = omega (arith, c .before .before .before .before .loop-test .taken, c .before .before .before .before .before .before .before .before .before .before .before .pre .lows .room .0)
 
 add-try-lane-5 : tie.Need-add-try-lane-5 Inv-loop μ-loop
-add-try-lane-5 c = omega (arith, c .before .before .before .before .loop-test .taken, c .before .before .before .before .before .before .before .before .before .pre .lows .few .1)
+add-try-lane-5 c = omega (arith, c .before .before .before .before .loop-test .taken, c .before .before .before .before .before .before .before .before .before .before .before .pre .lows .few .1)
 
 mul-try-lane-4 : tie.Need-mul-try-lane-4 Inv-loop μ-loop
-mul-try-lane-4 c = omega (arith, c .before .before .before .before .loop-test .taken, c .before .before .before .before .before .before .before .before .before .pre .lows .few .1)
+mul-try-lane-4 c = omega (arith, c .before .before .before .before .loop-test .taken, c .before .before .before .before .before .before .before .before .before .before .before .pre .lows .few .1)
 
 shared-slice-read-try-lane-4 : tie.Need-shared-slice-read-try-lane-4 Inv-loop μ-loop
-shared-slice-read-try-lane-4 c = omega (arith, c .before .before .before .before .before .loop-test .taken, c .before .before .before .before .before .before .before .before .before .before .pre .lows .room .1)
+shared-slice-read-try-lane-4 c = omega (arith, c .before .before .before .before .before .loop-test .taken, c .before .before .before .before .before .before .before .before .before .before .before .before .pre .lows .room .1)
 
 add-try-lane-6 : tie.Need-add-try-lane-6 Inv-loop μ-loop
-add-try-lane-6 c = omega (arith, c .before .before .before .before .before .before .before .before .before .before .pre .lows .sums (c .before .before .before .before .before .before .loop .j) (omega (arith, c .before .before .before .before .before .loop-test .taken)))
+add-try-lane-6 c = omega (arith, c .before .before .before .before .before .before .before .before .before .before .before .before .pre .lows .sums (c .before .before .before .before .before .before .loop .j) (omega (arith, c .before .before .before .before .before .loop-test .taken)))
 
 try-lane-requires : tie.Need-try-lane-requires Inv-loop μ-loop
-try-lane-requires c κs = lane-ready (c .before .before .before .before .before .before .before .before .before .before .pre) (c .before .before .before .before .before .before .loop .inv .1) (omega (arith, c .before .before .before .before .before .loop-test .taken))
+try-lane-requires c κs = lane-ready (c .before .before .before .before .before .before .before .before .before .before .before .before .pre) (c .before .before .before .before .before .before .before .front-counts .ensures) (c .before .before .before .before .before .before .loop .inv .1) (omega (arith, c .before .before .before .before .before .loop-test .taken))
 
 add-j : tie.Need-add-j Inv-loop μ-loop
 add-j c = omega (arith, c .before .before .before .before .before .before .before .before .loop-test .taken)
@@ -82,6 +85,7 @@ try-code-spec =
     (tie.spec
     Inv-loop
     μ-loop
+    front-counts-requires
     loop-holds
     add-try-lane
     mul-try-lane

@@ -2,37 +2,30 @@
 use Prim.Native.Nat.{_+_, _-_, _≤_}
 use native.Mathlib.Omega.{arith}
 use Rattle.cull.specs.Entering.{CodesTried}
-use Rattle.cull.proofs.Lanes.{codes-start, codes-next, codes-end, code-places, code-ready}
+use Rattle.cull.proofs.Lanes.{codes-start, codes-next, codes-end, code-ready, AtPlaces, code-at, lanes-at, front-is, places-start, places-row, places-next}
 use Rattle.cull.proofs.try_four.Statement.{statement}
 use Rattle.cull.proofs.try_four.Tie as tie
 
 abbrev Inv-loop : tie.InvT-loop
-Inv-loop work₀ high low front back base stage size code₀ work code =
-    (code ≤ size) × CodesTried work₀ work high low front back stage base (base + size) code
+Inv-loop work₀ ahead high low front back base stage size a₀ b₀ code₀ work a b code = (code ≤ size) × CodesTried work₀ work high low front back stage base (base + size) code × AtPlaces code back a b
 
 abbrev μ-loop : tie.MeasureT-loop
-μ-loop work₀ high low front back base stage size code₀ work code = size - code
+μ-loop work₀ ahead high low front back base stage size a₀ b₀ code₀ work a b code = size - code
 
 mul-size : tie.Need-mul-size Inv-loop μ-loop
 mul-size c = omega (arith, c .before .before .before .before .pre .few)
 
 loop-holds : tie.Need-loop-holds Inv-loop μ-loop
-loop-holds c = (omega arith, codes-start)
-
-div-try-code : tie.Need-div-try-code Inv-loop μ-loop
-div-try-code c = omega (arith, c .before .before .before .before .before .before .before .pre .some-back)
+loop-holds c = (omega arith, codes-start, places-start (c .before .before .before .before .pre .some-back))
 
 mul-try-code : tie.Need-mul-try-code Inv-loop μ-loop
-mul-try-code c = let r = code-places (c .before .before .before .before .before .before .before .pre) (c .before .before .loop .code) (c .before .loop-test .taken) in omega (arith, r .front-is, r .back-is, c .before .before .before .before .before .before .before .pre .small)
-
-rem-try-code : tie.Need-rem-try-code Inv-loop μ-loop
-rem-try-code c = omega (arith, c .before .before .before .before .before .before .before .pre .some-back)
+mul-try-code c = omega (arith, front-is (c .before .before .loop .inv .2) (c .before .loop-test .taken), c .before .before .before .before .before .before .before .pre .small)
 
 add-try-code : tie.Need-add-try-code Inv-loop μ-loop
-add-try-code c = let r = code-places (c .before .before .before .before .before .before .before .pre) (c .before .before .loop .code) (c .before .loop-test .taken) in omega (arith, r .front-is, r .back-is, c .before .before .before .before .before .before .before .pre .small)
+add-try-code c = omega (arith, c .before .before .loop .inv .2 .within, c .before .before .before .before .before .before .before .pre .small)
 
 mul-try-code-2 : tie.Need-mul-try-code-2 Inv-loop μ-loop
-mul-try-code-2 c = let r = code-places (c .before .before .before .before .before .before .before .pre) (c .before .before .loop .code) (c .before .loop-test .taken) in omega (arith, r .front-is, r .back-is, c .before .before .before .before .before .before .before .pre .small)
+mul-try-code-2 c = omega (arith, c .before .before .loop .inv .2 .within, c .before .before .before .before .before .before .before .pre .small)
 
 add-try-code-2 : tie.Need-add-try-code-2 Inv-loop μ-loop
 add-try-code-2 c = omega (arith, c .before .loop-test .taken, c .before .before .before .before .before .before .before .pre .given .few)
@@ -41,16 +34,28 @@ add-try-code-3 : tie.Need-add-try-code-3 Inv-loop μ-loop
 add-try-code-3 c = omega (arith, c .before .before .before .before .before .before .before .pre .given .few)
 
 try-code-requires : tie.Need-try-code-requires Inv-loop μ-loop
-try-code-requires c κs = code-ready (c .before .before .before .before .before .before .before .pre) (c .before .before .loop .inv .1) (c .before .loop-test .taken)
+try-code-requires c κs = code-at _ (c .before .before .loop .inv .2) (code-ready (c .before .before .before .before .before .before .before .pre) (c .before .before .loop .inv .1) (c .before .loop-test .taken))
 
 add-code : tie.Need-add-code Inv-loop μ-loop
 add-code c = omega (arith, c .before .before .before .before .loop-test .taken, c .before .before .before .before .before .before .before .before .before .before .pre .few)
 
+add-b : tie.Need-add-b Inv-loop μ-loop
+add-b c = omega (arith, c .before .before .before .before .before .loop .inv .2 .within, c .before .before .before .before .before .before .before .before .before .before .pre .small)
+
+add-a : tie.Need-add-a Inv-loop μ-loop
+add-a c = omega (arith, front-is (c .before .before .before .before .before .before .loop .inv .2) (c .before .before .before .before .before .loop-test .taken), c .before .before .before .before .before .before .before .before .before .before .before .pre .small)
+
 loop-less : tie.Need-loop-less Inv-loop μ-loop
-loop-less c = omega (arith, c .before .before .before .before .loop-test .taken)
+loop-less c = omega (arith, c .before .before .before .before .before .loop-test .taken)
 
 loop-again : tie.Need-loop-again Inv-loop μ-loop
-loop-again c = (omega (arith, c .before .before .before .before .loop-test .taken), codes-next (c .before .before .before .before .before .loop .inv .1) (c .before .before .try-code .ensures))
+loop-again c = (omega (arith, c .before .before .before .before .before .loop-test .taken), codes-next (c .before .before .before .before .before .before .loop .inv .1) (lanes-at _ (c .before .before .before .before .before .before .loop .inv .2) (c .before .before .before .try-code .ensures)), places-row (c .before .before .before .before .before .before .loop .inv .2) (omega (arith, c .if1 .taken)))
+
+loop-less-2 : tie.Need-loop-less-2 Inv-loop μ-loop
+loop-less-2 c = omega (arith, c .before .before .before .before .before .loop-test .taken)
+
+loop-again-2 : tie.Need-loop-again-2 Inv-loop μ-loop
+loop-again-2 c = (omega (arith, c .before .before .before .before .before .loop-test .taken), codes-next (c .before .before .before .before .before .before .loop .inv .1) (lanes-at _ (c .before .before .before .before .before .before .loop .inv .2) (c .before .before .before .try-code .ensures)), places-next (c .before .before .before .before .before .before .loop .inv .2) (c .if1 .left))
 
 same-length : tie.Need-same-length Inv-loop μ-loop
 same-length c = c .before .loop .inv .1 .size
@@ -66,16 +71,18 @@ try-four-spec =
     μ-loop
     mul-size
     loop-holds
-    div-try-code
     mul-try-code
-    rem-try-code
     add-try-code
     mul-try-code-2
     add-try-code-2
     add-try-code-3
     try-code-requires
     add-code
+    add-b
+    add-a
     loop-less
     loop-again
+    loop-less-2
+    loop-again-2
     same-length
     returns)
