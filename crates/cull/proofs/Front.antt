@@ -12,8 +12,8 @@ use lib.ListN.{length, getD, set}
 use lib.Seq.{getD-set-same, getD-set-other}
 use Rattle.paths.specs.Costs.{AtMost}
 use Rattle.paths.specs.Ranked.{Ranked, Less, countAt}
-use Rattle.labels.specs.Marks.{marksCost}
-use Rattle.labels.specs.MarksLaws.{nibbles-most}
+use Rattle.tables.specs.Marks.{marksCost}
+use Rattle.tables.specs.MarksLaws.{nibbles-most}
 use Rattle.cells.specs.Cells.{nowhere}
 use Rattle.insertions.proofs.Steps.{marks-are}
 use Rattle.cull.specs.Below.{Below, below-none, below-next}

@@ -33,7 +33,7 @@ use Rattle.tables.specs.Laws.Cards.{card-machines}
 use Rattle.tables.specs.Laws.Edges.{code-step-few}
 use Rattle.tables.specs.Laws.Packing.{six-number}
 use Rattle.cells.specs.declared.Groups.{Groups}
-use Rattle.cells.specs.Cells.{nowhere, places}
+use Rattle.cells.specs.Cells.{nowhere}
 use Rattle.cells.specs.Columns.{WeightsOf, JointCell}
 use Rattle.cells.specs.Groups.{GroupsOf, FourJoined}
 use Rattle.cells.specs.Groups as joining
