@@ -34,12 +34,13 @@ use Rattle.cull.specs.Left.{left-same, fewest-same}
 use Rattle.cull.specs.OneConstraint.{stageMarks, LeastPrices}
 use Rattle.cull.specs.Idle.{unmarked, idle-stage}
 use Rattle.cull.specs.Stages.{cull-start}
-use Rattle.cull.specs.StageLabels.{countOf, pairCountOf, stageLabel, fewestIn}
+use Rattle.stage.specs.StageLabels.{countOf, pairCountOf, stageLabel}
+use Rattle.cull.specs.FewestTold.{fewestIn}
 use Rattle.cull.specs.Entering.{NodesPre, AheadOf, InputPre, InputTried}
 use Rattle.cull.specs.Settling.{SettlePre, SettledBy}
 use Rattle.cull.specs.Culling.{pairsCounted, stageGraph, leftBy, Culled, StageAt, CullPre, LentTables, PositionPre, PositionEntered, PositionDone, EndPre, EndsTried, StagePre, StageDone, Blanked, PlaceCleared}
 use Rattle.cull.specs.Survivors.{counts-fewest}
-use Rattle.cull.proofs.StageWork.{stage-labelled, stage-unlabelled, stage-alike, spaced}
+use Rattle.stage.proofs.StageWork.{stage-labelled, stage-unlabelled, stage-alike, spaced}
 use Rattle.cull.proofs.Positions.{culled-kept, stage-over, symbol-nodes, insertion-ready, symbol-entering, position-settled}
 use Rattle.cull.proofs.Front.{ahead-kept}
 use Rattle.cull.proofs.Ending.{ends-entered}

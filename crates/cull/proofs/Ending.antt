@@ -48,10 +48,10 @@ use Rattle.product.specs.Laws.Setting.{machines-sound, few-nodes}
 use Rattle.product.specs.Laws.Entering.{no-ending-tried, ending-tried, endings-begun, endings-entered}
 use Rattle.tables.specs.Engine.{engineGraph}
 use Rattle.cull.specs.Stages.{stage-no-ending}
-use Rattle.cull.specs.StageLabels.{countOf, stageLabel}
+use Rattle.stage.specs.StageLabels.{countOf, stageLabel}
 use Rattle.cull.specs.Entering.{marksBy, codesAt, laneEnding, EndingTried, not-final, dropped-ending, lowered-ending, endSum, InOrder, EndingsPre}
 use Rattle.cull.specs.declared.Site.{Site}
-use Rattle.cull.specs.Relaxing.{noCounts, LeftTold, Lowered}
+use Rattle.stage.specs.Relaxing.{noCounts, LeftTold, Lowered}
 use Rattle.cull.specs.Culling.{pairsCounted, stageGraph, Culled, EndPre, EndsTried, CodesEnded}
 use Rattle.cull.proofs.Linking.{ending-kept, ending-dropped}
 use Rattle.cull.proofs.Positions.{culled-kept, stage-over, position-there}

@@ -16,12 +16,12 @@ use Rattle.tables.specs.Marks.{marksCost}
 use Rattle.tables.specs.MarksLaws.{nibbles-most}
 use Rattle.cells.specs.Cells.{nowhere}
 use Rattle.insertions.proofs.Steps.{marks-are}
-use Rattle.cull.specs.Below.{Below, below-none, below-next}
-use Rattle.cull.specs.StageLabels.{countOf, stageLabel}
-use Rattle.cull.specs.Relaxing.{Makes, countsOf, Fits, ArcTried, unlabelled, dropped, lowered}
+use Rattle.stage.specs.Below.{Below, below-none, below-next}
+use Rattle.stage.specs.StageLabels.{countOf, stageLabel}
+use Rattle.stage.specs.Relaxing.{Makes, countsOf, Fits, ArcTried, unlabelled, dropped, lowered}
 use Rattle.cull.specs.Entering.{marksBy, topOf, FrontCounts, AheadOf, BehindFront, FrontMarks, LanePre}
-use Rattle.cull.proofs.Marks.{first-marks, second-marks, third-marks}
-use Rattle.cull.proofs.StageWork.{lowered-kept}
+use Rattle.stage.proofs.Marks.{first-marks, second-marks, third-marks}
+use Rattle.stage.proofs.StageWork.{lowered-kept}
 
 -- ---- the counts stay while the labels and the counts below k do
 

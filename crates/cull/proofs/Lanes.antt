@@ -44,9 +44,9 @@ use Rattle.columns.specs.Prepared.{NoSteps, Covered, Prepared}
 use Rattle.insertions.specs.Laws.Ranked.{ranked-high, ranked-low}
 use Rattle.insertions.proofs.Steps.{marks-length, target-of, marks-are}
 use Rattle.cull.specs.declared.Site.{Site}
-use Rattle.cull.specs.StageLabels.{countOf, stageLabel}
+use Rattle.stage.specs.StageLabels.{countOf, stageLabel}
 use Rattle.cull.specs.Relaxation.{Relaxes, relaxes-nothing, relaxes-then}
-use Rattle.cull.specs.Relaxing.{ArcPre, ArcTried, nothing, arc, LinkedEntry}
+use Rattle.stage.specs.Relaxing.{ArcPre, ArcTried, nothing, arc, LinkedEntry}
 use Rattle.cull.specs.Tables.{ListPre}
 use Rattle.cull.specs.Entering.{marksBy, FrontCounts, AheadOf, BehindFront, FrontMarks, laneStep, TargetsPre, LanePre, CodePre, codesAt, NodesPre, FourPre, LaneTried, LanesOf, LanesTried, FoursOf, CodesTried, InOrder, SymbolLinked, Among, InputTried}
 use Rattle.cull.proofs.Relaxing.{StepFacts, step-facts, step-falls, step-relaxes, entry-kept}

@@ -1,7 +1,4 @@
 pub mod Columns
-pub mod Marks
-pub mod Totals
-pub mod StageWork
 pub mod Relaxing
 pub mod Unused
 pub mod Front

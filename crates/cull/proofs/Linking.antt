@@ -15,13 +15,13 @@ use Rattle.tables.specs.MarksLaws.{nibbles-letters}
 use Rattle.product.specs.ProductGraph.{pairs}
 use Rattle.tables.specs.Endings.{withoutPairs, endingCost}
 use Rattle.tables.specs.Laws.Edges.{edgeFrom}
-use Rattle.cull.specs.Below.{Below}
+use Rattle.stage.specs.Below.{Below}
 use Rattle.cull.specs.Cull.{exact, exact-is, keepsEdge, left, FewestBelow, survivors, way-left}
 use Rattle.cull.specs.Left.{left-edge, left-ending}
 use Rattle.cull.specs.OneConstraint.{price, pricedEdge, seen-run}
 use Rattle.cull.specs.Stages.{left-sized, stage, stage-edge, stage-edge-gone, stage-no-edge, stage-ending, stage-ending-gone}
-use Rattle.cull.specs.StageLabels.{countOf}
-use Rattle.cull.specs.Relaxing.{Makes, countsOf, noCounts, LinkedEntry}
+use Rattle.stage.specs.StageLabels.{countOf}
+use Rattle.stage.specs.Relaxing.{Makes, countsOf, noCounts, LinkedEntry}
 
 -- ---- an ending has marks and no pair
 

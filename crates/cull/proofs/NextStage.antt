@@ -19,8 +19,9 @@ use Rattle.cull.specs.Left.{left-same, fewest-same}
 use Rattle.cull.specs.OneConstraint.{price, stageMarks, LeastPrices, labels-least, run-seen}
 use Rattle.cull.specs.Stages.{left-sized, stage}
 use Rattle.cull.specs.CullLabels.{PutTogether, cull-closed, cull-attained}
-use Rattle.cull.specs.StageLabels.{countOf, pairCountOf, stageLabel, fewestIn}
-use Rattle.cull.proofs.StageWork.{stage-labelled, stage-unlabelled}
+use Rattle.stage.specs.StageLabels.{countOf, pairCountOf, stageLabel}
+use Rattle.cull.specs.FewestTold.{fewestIn}
+use Rattle.stage.proofs.StageWork.{stage-labelled, stage-unlabelled}
 use Rattle.cull.proofs.Linking.{has-count, whole-way}
 
 -- ---- what a label of a stage says of the slice

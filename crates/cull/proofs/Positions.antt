@@ -40,11 +40,11 @@ use Rattle.tables.specs.Laws.Edges.{edgeFrom, insertion-edge}
 use Rattle.columns.specs.Prepared.{NoSteps, Covered}
 use Rattle.settling.specs.Insertions.{codeIn, isListed}
 use Rattle.cull.proofs.Edges.{over, within, symbol-at}
-use Rattle.cull.specs.Below.{Below}
+use Rattle.stage.specs.Below.{Below}
 use Rattle.cull.specs.Stages.{stage-alike-edges, stage-within, stage-sized, stage-count}
-use Rattle.cull.specs.StageLabels.{countOf, stageLabel}
+use Rattle.stage.specs.StageLabels.{countOf, stageLabel}
 use Rattle.cull.specs.Relaxation.{Relaxes}
-use Rattle.cull.specs.Relaxing.{Makes, countsOf, Fits}
+use Rattle.stage.specs.Relaxing.{Makes, countsOf, Fits}
 use Rattle.cull.specs.Tables.{ListsOf}
 use Rattle.cull.specs.Entering.{NodesPre, InOrder, SymbolLinked, Among, InputTried}
 use Rattle.cull.specs.Settling.{Kept, wayBy, marksOf, fromOf, ArcsOf, SettlePre, SettledBy}

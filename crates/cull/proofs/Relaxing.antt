@@ -14,9 +14,9 @@ use Rattle.paths.specs.Labels.{Attained, held→run}
 use Rattle.paths.specs.Improvement.{Falls, improves-falls}
 use Rattle.tables.specs.Marks.{marksCost}
 use Rattle.product.specs.ProductGraph.{pairs}
-use Rattle.cull.specs.StageLabels.{countOf, stageLabel, total}
+use Rattle.stage.specs.StageLabels.{countOf, stageLabel, total}
 use Rattle.cull.specs.Relaxation.{Relaxes, Only, relaxes-gone, relaxes-unlabelled, relaxes-edge}
-use Rattle.cull.specs.Relaxing.{ArcTried, unlabelled, dropped, lowered, StepTried, nothing, arc, LinkedEntry}
+use Rattle.stage.specs.Relaxing.{ArcTried, unlabelled, dropped, lowered, StepTried, nothing, arc, LinkedEntry}
 
 -- ---- one step
 

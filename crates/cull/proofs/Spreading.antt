@@ -20,8 +20,8 @@ use Rattle.settling.specs.Insertions.{codeIn, isListed}
 use Rattle.settling.specs.OpenCodes.{isOpen, OneMore, OneLess}
 use Rattle.settling.proofs.Insertions.{listed-low, listed-high}
 use Rattle.settling.proofs.OpenCodes.{one-in, chosen-front, chosen-back}
-use Rattle.cull.specs.StageLabels.{countOf, stageLabel}
-use Rattle.cull.specs.Relaxing.{ArcTried, unlabelled, dropped, lowered as lowered-arc}
+use Rattle.stage.specs.StageLabels.{countOf, stageLabel}
+use Rattle.stage.specs.Relaxing.{ArcTried, unlabelled, dropped, lowered as lowered-arc}
 use Rattle.cull.specs.Settling.{Kept, wayBy, marksOf, fromOf, ArcsOf, SettlePre, EntryPre, EntryTried, OpenIn, SomeIn, openCount, turns, Fell, RelaxedAt, Spread, SettledBy}
 use Rattle.cull.proofs.Relaxing.{StepFacts, arc-facts, arc-falls}
 

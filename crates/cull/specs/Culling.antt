@@ -26,7 +26,8 @@ use Rattle.cull.specs.Entering.{InOrder, laneEnding, endSum}
 use Rattle.cull.specs.Cull.{left, FewestBelow}
 use Rattle.cull.specs.OneConstraint.{LeastPrices}
 use Rattle.cull.specs.Stages.{stage}
-use Rattle.cull.specs.StageLabels.{countOf, pairCountOf, stageLabel, fewestIn}
+use Rattle.stage.specs.StageLabels.{countOf, pairCountOf, stageLabel}
+use Rattle.cull.specs.FewestTold.{fewestIn}
 
 abbrev pub pairsCounted : (card ranking sets : List ℕ) → Sized (engineGraph (machinesOf card) ranking sets) (letterCount 6)
 pairsCounted card ranking sets = product-sized (sixPlaces ranking) sets (machinesOf card)

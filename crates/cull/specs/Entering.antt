@@ -24,9 +24,9 @@ use Rattle.insertions.specs.RankedWeights.{RankedWeights}
 use Rattle.insertions.specs.Lanes.{narrowed}
 use Rattle.insertions.specs.Tables.{LanesPre}
 use Rattle.cull.specs.declared.Site.{Site}
-use Rattle.cull.specs.StageLabels.{countOf, stageLabel}
+use Rattle.stage.specs.StageLabels.{countOf, stageLabel}
 use Rattle.cull.specs.Relaxation.{Relaxes}
-use Rattle.cull.specs.Relaxing.{noCounts, LeftTold, Lowered, Fits, StepTried, LinkedEntry}
+use Rattle.stage.specs.Relaxing.{noCounts, LeftTold, Lowered, Fits, StepTried, LinkedEntry}
 use Rattle.cull.specs.Tables.{ListPre}
 
 -- the marks of a joint step by its two numbers, four bits a place of the ranking

@@ -7,7 +7,7 @@ use Prim.Native.Nat.{ℕ, zero, suc, _<_}
 use native.Mathlib.Omega.{arith}
 use Rattle.paths.specs.Costs.{Costs}
 use Rattle.paths.specs.Graph.{Alphabet, Edge, Graph}
-use Rattle.cull.specs.Below.{Below, below-none, below-next}
+use Rattle.stage.specs.Below.{Below, below-none, below-next}
 use Rattle.cull.specs.Cull.{keep, keep-is, keepsEdge, keepsEnding, cull, Fewest, left, FewestBelow}
 use Rattle.cull.specs.Subgraph.{Subgraph}
 

@@ -5,7 +5,6 @@
 -- 4. CullLabels, `cull-closed` and `cull-attained`: the labels of the stages put together are labels for the whole cost.
 -- 5. Survivors, `counts-fewest`, `ways-left` and `candidates-left`: the work slice after a stage, by the promise of the function that runs it.
 -- 6. TwoEngines, `two-engines`: the two engines give the same result and the same answer slice.
-pub mod Below
 pub mod Subgraph
 pub mod LeastLabels
 pub mod Harmony
@@ -15,9 +14,8 @@ pub mod OneConstraint
 pub mod Stages
 pub mod Idle
 pub mod CullLabels
-pub mod StageLabels
+pub mod FewestTold
 pub mod Relaxation
-pub mod Relaxing
 pub mod Tables
 pub mod Entering
 pub mod Settling

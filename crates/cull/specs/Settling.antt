@@ -18,9 +18,9 @@ use Rattle.product.specs.ProductGraph.{pairs}
 use Rattle.basics.specs.Sets.{member}
 use Rattle.settling.specs.Insertions.{codeIn, marksIn, isListed}
 use Rattle.settling.specs.OpenCodes.{isOpen, OneMore}
-use Rattle.cull.specs.Below.{Below}
-use Rattle.cull.specs.StageLabels.{countOf, stageLabel, total}
-use Rattle.cull.specs.Relaxing.{Makes, countsOf, Fits, ArcPre, ArcTried}
+use Rattle.stage.specs.Below.{Below}
+use Rattle.stage.specs.StageLabels.{countOf, stageLabel, total}
+use Rattle.stage.specs.Relaxing.{Makes, countsOf, Fits, ArcPre, ArcTried}
 
 -- the stages before k kept the arc from u to v with the marks m, as the counts tell
 abbrev pub Kept : List ℕ → (k u v m : ℕ) → Type 0

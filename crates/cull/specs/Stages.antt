@@ -9,7 +9,7 @@ use Rattle.paths.specs.Ranked.{Ranked, letterCount, countAt, rankedCosts}
 use Rattle.paths.specs.Graph.{Alphabet, Edge, Graph, Within}
 use Rattle.paths.specs.Bounds.{Sized, BoundedCount}
 use Rattle.paths.specs.Positions.{Positioned}
-use Rattle.cull.specs.Below.{Below, below-none, below-next}
+use Rattle.stage.specs.Below.{Below, below-none, below-next}
 use Rattle.cull.specs.Cull.{keepsEdge, keepsEnding, Fewest, left, FewestBelow}
 use Rattle.cull.specs.Subgraph.{sub-within, sub-positioned, sub-sized, sub-count}
 use Rattle.cull.specs.Left.{left-edge, left-ending, edge-gone, ending-gone, no-edge-left, no-ending-left, left-alike-edges, left-sub}

@@ -25,7 +25,7 @@ use Rattle.tables.specs.Engine.{engineGraph}
 use Rattle.cull.specs.Harmony.{Beats}
 use Rattle.cull.specs.Cull.{FewestBelow, Unbeaten, survivors}
 use Rattle.cull.specs.Stages.{cull-next}
-use Rattle.cull.specs.StageLabels.{fewestIn}
+use Rattle.cull.specs.FewestTold.{fewestIn}
 use Rattle.cull.specs.Culling.{leftBy, StageDone}
 
 module _ {card ranking sets xs ys : List ℕ} {k : ℕ} (D : StageDone card ranking sets xs ys k) where

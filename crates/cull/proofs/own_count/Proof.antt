@@ -2,7 +2,7 @@
 use mathlib.Core.Path.{sym, _∙_, ap}
 use native.Mathlib.Omega.{arith}
 use Rattle.cull.specs.Entering.{topOf}
-use Rattle.cull.proofs.StageWork.{stage-labelled, stage-unlabelled}
+use Rattle.stage.proofs.StageWork.{stage-labelled, stage-unlabelled}
 use borrow.Author.Needs.{needs}
 use Rattle.cull.proofs.own_count.Statement.{statement}
 use Rattle.cull.proofs.own_count.Tie as tie

@@ -14,8 +14,8 @@ use Rattle.paths.specs.Improvement.{Improves}
 use Rattle.tables.specs.Marks.{marksCost}
 use Rattle.tables.specs.Work.{HasNode}
 use Rattle.product.specs.ProductGraph.{pairs}
-use Rattle.cull.specs.Below.{Below}
-use Rattle.cull.specs.StageLabels.{countOf, stageLabel, total}
+use Rattle.stage.specs.Below.{Below}
+use Rattle.stage.specs.StageLabels.{countOf, stageLabel, total}
 
 -- ---- what the stages before kept
 

@@ -1,10 +1,10 @@
 use native.Mathlib.Omega.{arith}
 use Prim.Native.Nat.{_-_, _≤_}
-use Rattle.cull.specs.Relaxing.{noCounts}
-use Rattle.cull.proofs.StageWork.{KeptBelow, left-start, left-next, left-told, left-broken}
+use Rattle.stage.specs.Relaxing.{noCounts}
+use Rattle.stage.proofs.StageWork.{KeptBelow, left-start, left-next, left-told, left-broken}
 use borrow.Author.Needs.{needs}
-use Rattle.cull.proofs.ending_left.Statement.{statement}
-use Rattle.cull.proofs.ending_left.Tie as tie
+use Rattle.stage.proofs.ending_left.Statement.{statement}
+use Rattle.stage.proofs.ending_left.Tie as tie
 
 abbrev Inv-loop : tie.InvT-loop
 Inv-loop work node marks stage i₀ i = (i ≤ stage) × KeptBelow work node marks noCounts i

@@ -17,10 +17,10 @@ use Rattle.paths.specs.Ranked.{Ranked, Less, countAt}
 use Rattle.tables.specs.Marks.{marksCost}
 use Rattle.tables.specs.MarksLaws.{nibbles-most}
 use Rattle.tables.specs.Work.{stateOf}
-use Rattle.cull.specs.Below.{Below, below-none}
-use Rattle.cull.specs.StageLabels.{countOf, pairCountOf, stageLabel}
-use Rattle.cull.specs.Relaxing.{Makes, countsOf, LeftTold, Compared, Written, Lowered, ArcPre, ArcTried}
-use Rattle.cull.proofs.Totals.{weight-less, total-less}
+use Rattle.stage.specs.Below.{Below, below-none}
+use Rattle.stage.specs.StageLabels.{countOf, pairCountOf, stageLabel}
+use Rattle.stage.specs.Relaxing.{Makes, countsOf, LeftTold, Compared, Written, Lowered, ArcPre, ArcTried}
+use Rattle.stage.proofs.Totals.{weight-less, total-less}
 
 -- ---- what a label is
 

@@ -8,7 +8,6 @@ use lib.Dec.{eqb}
 use lib.ListN.{getD}
 use Rattle.paths.specs.Ranked.{Ranked}
 use Rattle.tables.specs.Work.{stateOf}
-use Rattle.cull.specs.OneConstraint.{stageMarks}
 
 abbrev pub countOf : List ℕ → ℕ → ℕ → ℕ
 countOf xs i u = getD xs (u * 8 + 1 + i) 0
@@ -19,10 +18,6 @@ pairCountOf xs u = getD xs (u * 8 + 7) 0
 -- the marks of the constraint k and the number of pairs
 unfoldable pub stageLabel : List ℕ → ℕ → ℕ → Option (Ranked 1)
 stageLabel xs k u = cond (eqb (stateOf xs u) 0) none (some (countOf xs k u, pairCountOf xs u))
-
--- the fewest marks of the constraint i that the slice tells of u: none where u has no label
-abbrev pub fewestIn : List ℕ → ℕ → ℕ → Option ℕ
-fewestIn xs i u = stageMarks (stageLabel xs i u)
 
 -- a number that falls when the label does
 abbrev pub weight : Option (Ranked 1) → ℕ

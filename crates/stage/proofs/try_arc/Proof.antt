@@ -1,11 +1,11 @@
 use mathlib.Core.Path.{refl}
 use native.Mathlib.Omega.{arith}
 use borrow.Author.Tests.{not-true, not-false}
-use Rattle.cull.specs.Relaxing.{unlabelled, dropped}
-use Rattle.cull.proofs.StageWork.{stage-labelled, stage-unlabelled, arc-pairs, arc-count, arc-lowered}
+use Rattle.stage.specs.Relaxing.{unlabelled, dropped}
+use Rattle.stage.proofs.StageWork.{stage-labelled, stage-unlabelled, arc-pairs, arc-count, arc-lowered}
 use borrow.Author.Needs.{needs}
-use Rattle.cull.proofs.try_arc.Statement.{statement}
-use Rattle.cull.proofs.try_arc.Tie as tie
+use Rattle.stage.proofs.try_arc.Statement.{statement}
+use Rattle.stage.proofs.try_arc.Tie as tie
 
 mul-if1 : tie.Need-mul-if1
 mul-if1 c = search needs

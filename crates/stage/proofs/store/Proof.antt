@@ -1,9 +1,9 @@
 use native.Mathlib.Omega.{arith}
 use lib.ListN.{length-set}
-use Rattle.cull.proofs.StageWork.{written}
+use Rattle.stage.proofs.StageWork.{written}
 use borrow.Author.Needs.{needs}
-use Rattle.cull.proofs.store.Statement.{statement}
-use Rattle.cull.proofs.store.Tie as tie
+use Rattle.stage.proofs.store.Statement.{statement}
+use Rattle.stage.proofs.store.Tie as tie
 
 mul-work : tie.Need-mul-work
 mul-work c = search needs

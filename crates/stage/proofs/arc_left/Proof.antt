@@ -1,13 +1,13 @@
 use native.Mathlib.Omega.{arith}
 use borrow.Author.Tests.{not-true, not-false}
-use Rattle.cull.proofs.Marks.{place-0, place-1, place-2, place-3, place-4}
-use Rattle.cull.proofs.StageWork.{left-start, makes-next, left-told, makes-broken}
+use Rattle.stage.proofs.Marks.{place-0, place-1, place-2, place-3, place-4}
+use Rattle.stage.proofs.StageWork.{left-start, makes-next, left-told, makes-broken}
 use borrow.Author.Needs.{needs}
-use Rattle.cull.proofs.arc_left.Statement.{statement}
-use Rattle.cull.proofs.arc_left.Tie as tie
-use Rattle.cull.proofs.arc_left.Reads as reads
-use Rattle.cull.proofs.arc_left.Lts as lts
-use Rattle.cull.proofs.makes.Reads as makes-reads
+use Rattle.stage.proofs.arc_left.Statement.{statement}
+use Rattle.stage.proofs.arc_left.Tie as tie
+use Rattle.stage.proofs.arc_left.Reads as reads
+use Rattle.stage.proofs.arc_left.Lts as lts
+use Rattle.stage.proofs.makes.Reads as makes-reads
 
 -- src/lib.rt:91:9
 returns : tie.Need-returns

@@ -1,8 +1,8 @@
 use native.Mathlib.Omega.{arith}
-use Rattle.cull.proofs.StageWork.{compared-none, compared-count, compared-pairs}
+use Rattle.stage.proofs.StageWork.{compared-none, compared-count, compared-pairs}
 use borrow.Author.Needs.{needs}
-use Rattle.cull.proofs.improves.Statement.{statement}
-use Rattle.cull.proofs.improves.Tie as tie
+use Rattle.stage.proofs.improves.Statement.{statement}
+use Rattle.stage.proofs.improves.Tie as tie
 
 mul-if1 : tie.Need-mul-if1
 mul-if1 c = search needs

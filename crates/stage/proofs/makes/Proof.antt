@@ -3,11 +3,11 @@ use lib.Dec.{eqb}
 use Prim.Native.Nat.{_+_}
 use lib.Dec.{eqb}
 use borrow.Author.Needs.{needs}
-use Rattle.cull.proofs.makes.Statement.{statement}
-use Rattle.cull.proofs.makes.Tie as tie
-use Rattle.cull.proofs.makes.Reads as reads
-use Rattle.cull.proofs.makes.Lts as lts
-use Rattle.cull.proofs.wide.Reads as wide-reads
+use Rattle.stage.proofs.makes.Statement.{statement}
+use Rattle.stage.proofs.makes.Tie as tie
+use Rattle.stage.proofs.makes.Reads as reads
+use Rattle.stage.proofs.makes.Lts as lts
+use Rattle.stage.proofs.wide.Reads as wide-reads
 
 -- src/lib.rt:82:15
 mul-wide : tie.Need-mul-wide

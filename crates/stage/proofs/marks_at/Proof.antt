@@ -1,9 +1,9 @@
 use mathlib.Core.Path.{_≡_}
 use native.Mathlib.Omega.{arith}
-use Rattle.cull.proofs.Marks.{first-marks, second-marks, third-marks, fourth-marks, fifth-marks, sixth-marks}
+use Rattle.stage.proofs.Marks.{first-marks, second-marks, third-marks, fourth-marks, fifth-marks, sixth-marks}
 use borrow.Author.Needs.{needs}
-use Rattle.cull.proofs.marks_at.Statement.{statement}
-use Rattle.cull.proofs.marks_at.Tie as tie
+use Rattle.stage.proofs.marks_at.Statement.{statement}
+use Rattle.stage.proofs.marks_at.Tie as tie
 
 cast-result : tie.Need-cast-result
 cast-result c = search needs

@@ -7,7 +7,7 @@ use native.Mathlib.Omega.{arith}
 use native.Mathlib.Decide.{ℕ-discrete}
 use Rattle.paths.specs.Costs.{Above}
 use Rattle.paths.specs.Ranked.{Ranked, Less}
-use Rattle.cull.specs.StageLabels.{weight, total}
+use Rattle.stage.specs.StageLabels.{weight, total}
 
 pub weight-less : (o : Option (Ranked 1)) (c : Ranked 1) → Above (Less 1) o c → c .0 < 65536 → c .1 < 65536 → weight (some c) < weight o
 weight-less none c a h k = omega arith

@@ -1,7 +1,7 @@
-use Rattle.cull.proofs.StageWork.{lowered-kept, lowered-written}
+use Rattle.stage.proofs.StageWork.{lowered-kept, lowered-written}
 use borrow.Author.Needs.{needs}
-use Rattle.cull.proofs.lower.Statement.{statement}
-use Rattle.cull.proofs.lower.Tie as tie
+use Rattle.stage.proofs.lower.Statement.{statement}
+use Rattle.stage.proofs.lower.Tie as tie
 
 improves-requires : tie.Need-improves-requires
 improves-requires c κs = search needs
