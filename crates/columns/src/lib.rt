@@ -245,7 +245,7 @@ fn is_known(steps: &[u16], width: usize, kept: u64, output: usize, last: &mut [u
     false
 }
 
-// Of some outputs those worth trying: without those whose column is that of a smaller one.
+// Of some outputs those worth trying: without those whose column is found to be that of a smaller one.
 pub fn worth(steps: &[u16], width: usize, outputs: u64) -> u64
     requires { ⌜ Wide (now steps) width ⌝ }
     ensures { λ r. ⌜ Worth (now (steps .entry)) width outputs r ⌝ }

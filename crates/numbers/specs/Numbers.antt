@@ -1,4 +1,4 @@
--- How the answers of checks, comparisons and the finder stand as numbers for C.
+-- How evaluations and the answers of calls that have no engine behind them stand as numbers for C.
 use mathlib.Core.List.{List, [], _∷_, _++_}
 use mathlib.Core.Option.{Option, some, none}
 use Prim.Native.Nat.{ℕ}

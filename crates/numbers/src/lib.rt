@@ -1,5 +1,5 @@
-// How the static library writes an answer of a check, a comparison or the finder as numbers into the caller's array: each `give_` function answers the
-// number of its call.
+// How the static library writes evaluations and the answers of calls that have no engine behind them as numbers into the caller's array: each `give_`
+// function answers the number of its call.
 ghost use mathlib.Core.Path.{_≡_};
 ghost use mathlib.Core.List.{[], _∷_};
 ghost use Rattle.ranking.specs.Harmony.{compared};

@@ -1,4 +1,4 @@
--- How the answers of the calls stand as numbers for C.
+-- How the answers of the other calls stand as numbers for C.
 use mathlib.Core.Bool.{Bool, true, false}
 use mathlib.Core.List.{List, [], _∷_, _++_}
 use Prim.Native.Nat.{ℕ}

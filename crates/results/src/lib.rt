@@ -1,5 +1,5 @@
-// How the static library writes an answer as numbers into the caller's array, and reads a caller's numbers: each `give_` function answers the number
-// of its call.
+// How the static library writes the answers of the other calls as numbers into the caller's array, and reads a caller's row: each `give_` function
+// answers the number of its call.
 ghost use mathlib.Core.Path.{_≡_};
 ghost use mathlib.Core.List.{[], _∷_};
 ghost use Rattle.results.specs.Results.{weighingNumbers, judgedNumbers, asRow, flagNumber, leadNumbers};

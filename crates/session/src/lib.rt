@@ -1,5 +1,5 @@
 // The board's work from its first byte to its last: the card from `card.bin`, lines from standard input, and for each a line on
-// standard output, then the lesson's totals. What a line says and how lines are taken from pieces is proved in the crate lines, how a line
+// standard output, then the lesson's totals. What a line says and how lines are taken from pieces are proved in the crate lines, how a line
 // is counted in tally, what is printed for it in lesson; what is kept between two pieces and what is printed at the end, here. No
 // contract can speak of what is read and written.
 use libc::STDIN_FILENO;

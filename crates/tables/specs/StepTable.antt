@@ -1,4 +1,4 @@
--- A table of steps: for one input symbol, where each machine goes from each state with each output, and its marks.
+-- A machine's step as one number: where it goes, and its marks.
 use mathlib.Core.List.{List, []}
 use mathlib.Core.Option.{Option, some, none}
 use Prim.Native.Nat.{ℕ, _+_, _*_}

@@ -1,4 +1,4 @@
-// What the crate lines makes of lines: parsing, the lines that are printed, lines that come in pieces.
+// What the crates lines and writing make of lines: parsing, the lines that are printed, lines that come in pieces.
 use candidate::Evaluation;
 use lines::Next;
 use lines::Parsed;

@@ -1,4 +1,4 @@
--- The joint step by numbers is an edge of the product, and the table of the cheapest insertions has its cheapest edges within a position.
+-- The joint step by numbers is an edge of the product.
 use mathlib.Core.Path.{_≡_, refl, sym, _∙_}
 use mathlib.Core.Bool.{true}
 use mathlib.Core.List.{List, map}
