@@ -33,12 +33,15 @@ use Rattle.cells.specs.Cells.{nowhere, places}
 use Rattle.cells.specs.Columns.{WeightsOf}
 use Rattle.cells.specs.Fours.{nextFour, withoutFour}
 use Rattle.cells.specs.Groups.{GroupsOf, FourPre, FourJoined}
-use Rattle.cells.specs.Labels.{nextCell, wayBy, TryPre, TriedIn, SkipPre}
+use Rattle.cells.specs.Labels.{nextCell}
 use Rattle.cells.specs.Trying.{labelFrom, cellPrice}
 use Rattle.cells.specs.Laws.Fours.{four-most, four-or-left}
-use Rattle.cells.specs.Laws.Meeting.{four-pre, try-pre, skip-pre}
-use Rattle.cells.specs.Laws.Position.{DidTo}
-use Rattle.cells.specs.Laws.Tried.{lanePair, laneSum, code-step-is, position-tried, position-own}
+use Rattle.cells.specs.Laws.Meeting.{four-pre}
+use Rattle.cells.specs.Laws.Tried.{lanePair, laneSum, code-step-is}
+use Rattle.lanes.specs.Trying.{wayBy, TryPre, TriedIn, SkipPre}
+use Rattle.lanes.specs.Laws.Meeting.{try-pre, skip-pre}
+use Rattle.lanes.specs.Laws.Position.{DidTo}
+use Rattle.lanes.specs.Laws.Tried.{position-tried, position-own}
 use Rattle.columns.specs.Filling.{FillPre}
 use Rattle.columns.specs.Prepared.{NoSteps, Covered, Prepared}
 use Rattle.entering.specs.Entering.{cellGraph, NextRoom, Ready, Position}

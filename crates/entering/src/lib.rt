@@ -36,7 +36,7 @@ fn enter_input(
     while outputs > 0 {
         let four = cells::fours::next_four(outputs);
         cells::join_four(steps, width, &four, counts, weights, g, high, low);
-        cells::try_four(own, next, g.front, g.back, high, low);
+        lanes::try_four(own, next, g.front, g.back, high, low);
         outputs = cells::fours::without_four(outputs);
     }
 }

@@ -18,7 +18,8 @@ use Rattle.tables.proofs.Machines.{counts-length}
 use Rattle.tables.specs.Tables.{CardMachines}
 use Rattle.cells.specs.Cells.{nowhere, highOf}
 use Rattle.cells.specs.Columns.{weighed, JointCell}
-use Rattle.cells.specs.Labels.{nextCell, wayBy}
+use Rattle.cells.specs.Labels.{nextCell}
+use Rattle.lanes.specs.Trying.{wayBy}
 use Rattle.entering.specs.Entering.{mostOf, NextRoom}
 
 most-from : (w : ℕ → ℕ) (m : ℕ) (xs : List ℕ) (K : ℕ) → ((i : ℕ) → getD xs i 0 ≤ 15) → length xs ≤ K → weighed w m xs ≤ weighed w m (replicate K 15)
