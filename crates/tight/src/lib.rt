@@ -123,8 +123,8 @@ fn joint_at(steps: &[u16], width: usize, output: usize, places: &[u8], weights: 
             };
         }
         let at = 3 * m;
-        high += cells::high_cell(step, weights[at], weights[at + 1]);
-        low += cells::low_cell(step, weights[at + 2]);
+        high += adding::high_cell(step, weights[at], weights[at + 1]);
+        low += adding::low_cell(step, weights[at + 2]);
         m += 1;
     }
     Cell { high, low }

@@ -1,0 +1,3 @@
+-- Laws of cells and their sums.
+pub mod Numbers
+pub mod Sums
