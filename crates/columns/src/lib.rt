@@ -1,9 +1,7 @@
 // The columns of an input: the steps of all states of all machines with one output, a number each; the outputs worth trying; the endings.
 ghost use mathlib.Core.Path.{_≡_};
-ghost use mathlib.Core.Bool.{true, false};
 ghost use Prim.Native.Nat.{ℕ, _+_, _*_, _^_, _<_, _≤_};
 ghost use lib.ListN.{length, replicate};
-ghost use Rattle.basics.specs.Sets.{member};
 ghost use Rattle.machine.specs.Part.{machineOf};
 ghost use Rattle.card.specs.Card.{machinesOf};
 ghost use Rattle.tables.specs.Tables.{CountsOfSome};
@@ -12,10 +10,10 @@ ghost use Rattle.columns.specs.Filling.{FirstSet, EnterPre, Entered, Arc
 ghost use Rattle.columns.specs.AtHand.{AtHandPre, FilledAtHand, FromPre, FromEntered, StatePre, StateFilled};
 ghost use Rattle.columns.specs.Prepared.{Prepared};
 ghost use Rattle.columns.specs.Endings.{EndingNumber, PartEndingsPre, PartEndings, EndingsPre, EndingsFilled};
-ghost use Rattle.columns.specs.Outputs.{SameColumn, Told, Worth, Wide};
 use basics::index;
 use machine::Arc;
 use machine::sets;
+use outputs::worth;
 use tables::NO_STEP;
 
 // The places of a column: one for each state of each machine.
@@ -197,71 +195,6 @@ pub fn fill_at(steps: &mut [u16], card: &[u8], states: &[u8], input: u8) -> u64
         m += 1;
     }
     taken
-}
-
-// Whether two outputs have the same column.
-fn is_same(steps: &[u16], width: usize, a: usize, b: usize) -> bool
-    requires { ⌜ Wide (now steps) width × (a < 64) × (b < 64) ⌝ }
-    ensures { λ r. ⌜ (r ≡ true → SameColumn (now (steps .entry)) width a b) ⌝ }
-{
-    let mut place = 0;
-    while place < width {
-        if steps[a * width + place] != steps[b * width + place] {
-            return false;
-        }
-        place += 1;
-    }
-    true
-}
-
-// The key of an output's column: outputs with the same column have the same key.
-fn key_of(steps: &[u16], width: usize, output: usize) -> usize
-    requires { ⌜ Wide (now steps) width × (output < 64) ⌝ }
-    ensures { λ r. ⌜ r < 256 ⌝ }
-{
-    let mut sum = 0;
-    let mut place = 0;
-    while place < width {
-        sum += steps[output * width + place] as usize * (2 * place + 1);
-        place += 1;
-    }
-    sum % 256
-}
-
-// Whether an output has the column of one that is kept, none of which is behind it. `last` has at each key the last output that was kept with it: with
-// that one alone the output is compared, so of outputs with the same column two may be kept.
-fn is_known(steps: &[u16], width: usize, kept: u64, output: usize, last: &mut [u8]) -> bool
-    requires { ⌜ Wide (now steps) width × (output < 64) × ((k : ℕ) → member kept k ≡ true → k ≤ output) × (length (now last) ≡ 256) ⌝ }
-    ensures { λ r. ⌜ (r ≡ true → Told (now (steps .entry)) width kept output) ⌝ }
-{
-    let key = key_of(steps, width, output);
-    let other = last[key] % 64;
-    if sets::holds(kept, sets::set_of(other)) {
-        if is_same(steps, width, index(other), output) {
-            return true;
-        }
-    }
-    last[key] = output as u8;
-    false
-}
-
-// Of some outputs those worth trying: without those whose column is found to be that of a smaller one.
-pub fn worth(steps: &[u16], width: usize, outputs: u64) -> u64
-    requires { ⌜ Wide (now steps) width ⌝ }
-    ensures { λ r. ⌜ Worth (now (steps .entry)) width outputs r ⌝ }
-{
-    let mut last = [63u8; 256];
-    let mut kept: u64 = 0;
-    let mut left = outputs;
-    while left > 0 {
-        let output = sets::least(left);
-        let rest = sets::without_least(left);
-        if !is_known(steps, width, kept, output, &mut last) {
-            kept = kept | sets::set_of(output as u8);
-        }
-        left = rest;
-    }
-    kept
 }
 
 // Fills the columns of an accepted card's machines for one input. The outputs worth trying.

@@ -3,9 +3,9 @@ use Prim.Native.Nat.{ℕ, _+_, _*_, _<_, _≤_, _-_}
 use native.Mathlib.Nat.{mul-le-mul, mod-lt}
 use native.Mathlib.Omega.{arith}
 use lib.ListN.{getD}
-use Rattle.cells.specs.Laws.Numbers.{column-few, column-in}
-use Rattle.columns.proofs.key_of.Statement.{statement}
-use Rattle.columns.proofs.key_of.Tie as tie
+use Rattle.adding.specs.Laws.Numbers.{column-few, column-in}
+use Rattle.outputs.proofs.key_of.Statement.{statement}
+use Rattle.outputs.proofs.key_of.Tie as tie
 
 -- what a place adds
 place-few : (e place : ℕ) → e < 65536 → place < 40 → e * (2 * place + 1) ≤ 5177265

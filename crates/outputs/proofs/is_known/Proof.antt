@@ -4,8 +4,8 @@ use mathlib.Core.Bool.{true}
 use Prim.Native.Nat.{ℕ, _^_}
 use Rattle.basics.specs.Sets.{member}
 use Rattle.basics.proofs.Bools.{clash}
-use Rattle.columns.proofs.is_known.Statement.{statement}
-use Rattle.columns.proofs.is_known.Tie as tie
+use Rattle.outputs.proofs.is_known.Statement.{statement}
+use Rattle.outputs.proofs.is_known.Tie as tie
 
 returns : tie.Need-returns
 returns c = let s = c .before .before .before .before .before .before .before .before .before .before in
