@@ -1,6 +1,6 @@
 -- What the program prints for an input.
 use mathlib.Core.Path.{_≡_}
-use mathlib.Core.Bool.{Bool, true, false, not}
+use mathlib.Core.Bool.{Bool, not}
 use mathlib.Core.List.{List, [], _∷_, _++_, map}
 use mathlib.Core.Option.{Option, some, none}
 use Prim.Native.Nat.{ℕ, _+_, _<_, _≤_}
@@ -8,11 +8,12 @@ use lib.ListN.{length, getD, take, drop}
 use Rattle.basics.specs.Search.{joined, those, numbersBelow}
 use Rattle.candidate.specs.Candidates.{isSome}
 use Rattle.lines.specs.Input.{linesOf}
-use Rattle.lines.specs.Taking.{endedLines, heldAfter, lastLine}
+use Rattle.lines.specs.Taking.{endedLines, heldAfter}
 use Rattle.writing.specs.Writing.{refusedLine, closingLines}
 use Rattle.tally.specs.declared.Tally.{Tally}
 use Rattle.lesson.specs.Printed.{printed}
-use Rattle.lesson.specs.Tally.{lineCounts, linesTally, linesText, shownMachines, closingText, Fits}
+use Rattle.lesson.specs.Tally.{lineCounts, linesTally, shownMachines}
+use Rattle.pieces.specs.Pieces.{Answers, printedPieces}
 
 -- a line is answered, or refused; a bad line is refused
 abbrev pub isAnswered : List ℕ → List ℕ → Bool
@@ -53,21 +54,6 @@ lessonOutput card lines = joined (printed card) (take 1000 lines) ++ pastLine (d
 
 abbrev pub output : List ℕ → List ℕ → List ℕ
 output card input = lessonOutput card (linesOf input)
-
--- what bytes of the input leave that are read: the tally after the lines that end in them, and in the line's buffer, where the input
--- goes on, what is held of the line that goes on
-pub record Answers (card held read : List ℕ) (tally : Tally) (line : List ℕ) (n : ℕ) (after : Tally) (written : Bool) : Type 0 where
-  pub few : n ≤ 201
-  pub fits : Fits after
-  pub lines-counted : written ≡ true → after ≡ linesTally card tally (endedLines held read)
-  pub bytes : written ≡ true → after .past ≡ false → take n line ≡ heldAfter held read
-
--- what is printed for pieces in turn: for each line that ends in a piece, from what is held of it; after the last piece for the
--- line that is held, if there is one, and then the closing lines
-unfoldable pub printedPieces : List ℕ → Tally → List ℕ → List (List ℕ) → List ℕ
-printedPieces card t held [] = linesText card t (lastLine held) ++ closingText card (linesTally card t (lastLine held))
-printedPieces card t held (piece ∷ pieces) =
-    linesText card t (endedLines held piece) ++ printedPieces card (linesTally card t (endedLines held piece)) (heldAfter held piece) pieces
 
 -- what reading to the end leaves, from any tally and any bytes held. No contract can say which bytes are read, so it says that there
 -- are bytes that leave this

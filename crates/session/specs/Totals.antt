@@ -20,7 +20,8 @@ use Rattle.tally.specs.declared.Tally.{Tally}
 use Rattle.lesson.specs.Printed.{reply, printed}
 use Rattle.lesson.specs.Tally.{requestCounts, lineCounts, noLines, counted, isFull, pastText, lineTally, lineText, linesTally, linesText, shownMachines, closingText}
 use Rattle.lesson.specs.TallyLaws.{added-length, added-at, counted-past, counted-lines, full-at, open-at, tally-full, tally-open, text-full, text-open, passed-tally, passed-text, tally-append, shown-few}
-use Rattle.session.specs.Output.{isAnswered, answeredAmong, refusedAmong, countIn, totalOf, totals, closing, pastLine, lessonOutput, output, printedPieces, Reads, Finishes}
+use Rattle.pieces.specs.Pieces.{printedPieces}
+use Rattle.session.specs.Output.{isAnswered, answeredAmong, refusedAmong, countIn, totalOf, totals, closing, pastLine, lessonOutput, output, Reads, Finishes}
 
 -- the lines of a lesson counted one after another, with no end
 unfoldable pub tallied : List ℕ → Tally → List (List ℕ) → Tally

@@ -1,27 +1,21 @@
 // The board's work from its first byte to its last: the card from `card.bin`, lines from standard input, and for each a line on
 // standard output, then the lesson's totals. What a line says and how lines are taken from pieces are proved in the crate lines, how a line
-// is counted in tally, what is printed for it in lesson; what is kept between two pieces and what is printed at the end, here. No
-// contract can speak of what is read and written.
+// is counted in tally, what is printed for it in lesson, for a piece and after the last one in pieces; what is kept between two pieces, here.
+// No contract can speak of what is read and written.
 use libc::STDIN_FILENO;
 use libc::STDOUT_FILENO;
-use lines::Next;
+use pieces::Progress;
 use tally::Tally;
 ghost use mathlib.Core.Path.{_≡_};
-ghost use mathlib.Core.Bool.{true, false};
-ghost use mathlib.Core.List.{[]};
+ghost use mathlib.Core.Bool.{false};
 ghost use Prim.Native.Nat.{_≤_};
 ghost use lib.ListN.{length, take};
 ghost use Rattle.io.specs.Counts.{Counts};
-ghost use Rattle.writing.specs.Buffers.{atFront};
-ghost use Rattle.lesson.specs.Printed.{Prints};
-ghost use Rattle.lesson.specs.Tally.{isFull, lineTally, lineText, Fits};
-ghost use Rattle.session.specs.Output.{Answers, Reads, Finishes, printedPieces};
+ghost use Rattle.lesson.specs.Tally.{Fits};
+ghost use Rattle.session.specs.Output.{Reads, Finishes};
 
 // More bytes than any accepted card has: of a longer file the first ones are used.
 const CARD_BYTES: usize = 30831;
-
-// Room for the longest line: six counts and the pairs of all answer bytes.
-const OUT_BYTES: usize = 25628;
 
 // What is kept of a line: one byte more than it may have.
 const LINE_BYTES: usize = 201;
@@ -31,81 +25,6 @@ const LAST_BYTES: usize = 25748;
 
 // The input is read in pieces of at most so many bytes.
 const PIECE_BYTES: usize = 4096;
-
-// What printing the answer to a line leads to: the tally after it, and whether everything was written.
-struct Printed {
-    tally: Tally,
-    written: bool,
-}
-
-// Prints the answer to the next line: its text, which is left at the front of `out`.
-fn print_answer(card: &[u8], line: &[u8], tally: Tally, out: &mut [u8]) -> Printed
-    requires { ⌜ (25628 ≤ length (now out)) × Fits tally × (tally .past ≡ false) ⌝ }
-    ensures tally { λ r. ⌜ (r .tally ≡ lineTally (now (card .entry)) tally (now (line .entry))) × Fits (r .tally) ⌝ }
-    ensures text { λ _. ⌜ now (out .exit) ≡ atFront (lineText (now (card .entry)) tally (now (line .entry))) (now (out .entry)) ⌝ }
-{
-    let turn = lesson::answer_next(card, line, tally, out);
-    let size = turn.size;
-    let written = io::write_all(STDOUT_FILENO, &out[..size]);
-    let tally = turn.tally;
-    Printed { tally, written }
-}
-
-// How far the input is answered: how many bytes are held of the line that goes on, the tally, and whether everything was written.
-// After a write that failed nothing more is read or written.
-struct Progress {
-    held: usize,
-    tally: Tally,
-    written: bool,
-}
-
-// Prints the answers to the lines that end in a piece of the input, up to the first past the thousandth. The first one's bytes so
-// far stand at the front of `line`, `held` of them.
-fn answer_piece(
-    card: &[u8],
-    piece: &[u8],
-    line: &mut [u8],
-    held: usize,
-    tally: Tally,
-    out: &mut [u8],
-) -> Progress
-    requires { ⌜ (held ≤ 201) × (length (now line) ≡ 201) × Fits tally × (tally .past ≡ false) × (25628 ≤ length (now out)) ⌝ }
-    ensures { λ r. ⌜ Answers (now (card .entry)) (take held (now (line .entry))) (now (piece .entry)) tally (now (line .exit)) (r .held) (r .tally) (r .written) ⌝ }
-{
-    let mut at = 0;
-    let mut length = held;
-    let mut so_far = tally;
-    loop {
-        let next = lines::next_line(piece, at, line, length);
-        match next {
-            Next::Line {
-                length: whole,
-                at: after,
-            } => {
-                let printed = print_answer(card, &line[..whole], so_far, out);
-                let written = printed.written;
-                let tally = printed.tally;
-                if tally.past | !written {
-                    return Progress {
-                        held: 0,
-                        tally,
-                        written,
-                    };
-                }
-                so_far = tally;
-                length = 0;
-                at = after;
-            }
-            Next::Open { length: bytes } => {
-                return Progress {
-                    held: bytes,
-                    tally: so_far,
-                    written: true,
-                };
-            }
-        }
-    }
-}
 
 // Reads a piece of the input, and answers its length: 0 where the input ends or fails.
 fn read_piece(piece: &mut [u8]) -> usize
@@ -138,7 +57,7 @@ fn answer_pieces(
         if n == 0 {
             break;
         }
-        let progress = answer_piece(card, &piece[..n], line, bytes, so_far, out);
+        let progress = pieces::answer_piece(card, &piece[..n], line, bytes, so_far, out);
         let after = progress.tally;
         if after.past | !progress.written {
             return progress;
@@ -154,22 +73,6 @@ fn answer_pieces(
     }
 }
 
-// Writes what is printed after the last piece to the front of a slice, and answers its length: the answer to the line that is held,
-// if there is one, and the closing lines.
-fn finish(card: &[u8], line: &[u8], tally: Tally, out: &mut [u8]) -> usize
-    requires { ⌜ (length (now out) ≡ 25748) × Fits tally × (tally .past ≡ true → isFull tally ≡ true) ⌝ }
-    ensures { λ r. ⌜ Prints (printedPieces (now (card .entry)) tally (now (line .entry)) []) (now (out .entry)) (now (out .exit)) r ⌝ }
-{
-    if tally.past | (line.len() == 0) {
-        return lesson::write_closing(card, tally, out);
-    }
-    let room = OUT_BYTES;
-    let turn = lesson::answer_next(card, line, tally, &mut out[..room]);
-    let size = turn.size;
-    let n = lesson::write_closing(card, turn.tally, &mut out[size..]);
-    size + n
-}
-
 // Prints the answers to the lines of the rest of the input that end, writes what is printed after them to the front of `out`, and
 // answers its length: 0 where a write failed.
 fn answer_rest(card: &[u8], line: &mut [u8], held: usize, tally: Tally, out: &mut [u8]) -> usize
@@ -181,7 +84,7 @@ fn answer_rest(card: &[u8], line: &mut [u8], held: usize, tally: Tally, out: &mu
         return 0;
     }
     let bytes = progress.held;
-    finish(card, &line[..bytes], progress.tally, out)
+    pieces::finish(card, &line[..bytes], progress.tally, out)
 }
 
 // Prints the answers to the lines of the input, the last of which may lack its line end, and the closing lines.

@@ -2,7 +2,7 @@
 use mathlib.Core.Path.{_≡_, sym, _∙_, ap}
 use mathlib.Core.List.{List}
 use Prim.Native.Nat.{ℕ, suc, _+_, _*_, _^_, _<_, _≤_}
-use native.Mathlib.Nat.{suc-mul, mul-le-mul-right}
+use native.Mathlib.Nat.{suc-mul}
 use native.Mathlib.Omega.{arith}
 use lib.ListN.{length, getD, drop}
 use lib.Seq.{drop-cons}
@@ -10,7 +10,8 @@ use Rattle.basics.proofs.Search.{left-none}
 use Rattle.cells.specs.Cells.{nowhere, highCell, lowCell, scaleOf, highOf, lowOf, highAt, lowAt}
 use Rattle.cells.specs.Laws.Joint.{cell-of-none}
 use Rattle.cells.specs.Laws.Numbers.{marks-low, high-small}
-use Rattle.tight.specs.Places.{placeSum, ColumnsPre, WeightsFit, JointAt}
+use Rattle.passing.specs.Places.{ColumnsPre}
+use Rattle.tight.specs.Joint.{placeSum, WeightsFit, JointAt}
 
 -- the first place, and the rest
 sum-next : (cell : ℕ → ℕ → ℕ) (k : ℕ) (ps : List ℕ) (m : ℕ) → m < length ps → placeSum cell k (drop m ps) ≡ cell k (getD ps m 0) + placeSum cell (suc k) (drop (suc m) ps)
@@ -43,19 +44,9 @@ module _ (cell : ℕ → ℕ → ℕ) (ps : List ℕ) (most : ℕ) where
   pub sum-over : {m s : ℕ} → SumTo cell ps most m s → m < length ps → cell m (getD ps m 0) ≤ placeSum cell 0 ps
   sum-over {m} I h = omega (arith, I .sum, sum-next cell m ps m h)
 
--- ---- the places of a column
+-- ---- the cells of a column
 
 module _ {steps ps : List ℕ} {W : ℕ} (pre : ColumnsPre steps ps W) where
-  module _ (y : ℕ) (few : y ≤ 64) where
-    row : y * W ≤ 64 * W
-    row = mul-le-mul-right W few
-
-    pub column-few : y * W ≤ 2560
-    column-few = omega (arith, row, pre .width)
-
-    pub column-in : (m : ℕ) → m < length ps → (at : ℕ) → at ≡ getD ps m 0 → y * W + at < length steps
-    column-in m h at is = omega (arith, row, pre .there m h, pre .room)
-
   module _ {ws : List ℕ} (Z : WeightsFit ws (length ps)) (y : ℕ) (small : (i : ℕ) → getD steps i 0 ≤ 65535) where
     abbrev pub Highs : (m s : ℕ) → Type 0
     Highs = SumTo (highAt steps ws W y) ps nowhere

@@ -1,4 +1,2 @@
-pub mod Placing
 pub mod Joining
 pub mod Tests
-pub mod Ending

@@ -15,7 +15,7 @@ use Rattle.machine.proofs.SetLoops.{with-true}
 use Rattle.cells.specs.declared.Cell.{Cell}
 use Rattle.cells.specs.Cells.{nowhere}
 use Rattle.tight.specs.Labels.{cellOf}
-use Rattle.tight.specs.Places.{JointAt}
+use Rattle.tight.specs.Joint.{JointAt}
 use Rattle.tight.specs.Keeping.{KeepsBy, LeadsOn, KeepsPre, KeepsAt, LeastPre, LeastOf}
 
 -- ---- the test

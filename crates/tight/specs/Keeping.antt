@@ -11,7 +11,8 @@ use Rattle.cells.specs.Labels.{noLabel}
 use Rattle.columns.specs.Filling.{Small}
 use Rattle.tight.specs.declared.Least.{Least}
 use Rattle.tight.specs.Labels.{cellOf, HasLabel}
-use Rattle.tight.specs.Places.{ColumnsPre, WeightsFit, highBy, lowBy}
+use Rattle.passing.specs.Places.{ColumnsPre}
+use Rattle.tight.specs.Joint.{WeightsFit, highBy, lowBy}
 
 -- the label x is what the step h l counts, a pair, and the label y of the code that the step leads to, which is its last byte
 pub record KeepsBy (x y : Cell) (h l : ℕ) : Type 0 where

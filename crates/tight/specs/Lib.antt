@@ -1,6 +1,5 @@
--- labels as two numbers, steps at places, keeping to the labels, going on and ending
+-- labels as two numbers, joint steps at places, keeping to the labels
 pub mod Labels
-pub mod Places
+pub mod Joint
 pub mod Keeping
-pub mod Going
 pub mod Laws

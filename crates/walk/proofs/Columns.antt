@@ -28,7 +28,8 @@ use Rattle.cells.specs.Laws.Joint.{JointPart, part-start, part-none, part-some,
 use Rattle.cells.specs.Laws.Numbers.{marks-low, high-small}
 use Rattle.cells.specs.Laws.Sums.{product-drop}
 use Rattle.columns.specs.Filling.{Small}
-use Rattle.tight.specs.Places.{placeSum, marksAt, statesAt, ColumnsPre, WeightsFit, highBy, lowBy}
+use Rattle.passing.specs.Places.{marksAt, statesAt, ColumnsPre}
+use Rattle.tight.specs.Joint.{placeSum, WeightsFit, highBy, lowBy}
 
 -- a kept output, y or a smaller one, has the joint step of y from the code c
 pub record Told (ms : List Machine) (c x kept y : ℕ) : Type 0 where

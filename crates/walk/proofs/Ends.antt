@@ -35,7 +35,7 @@ use Rattle.entering.specs.Entering.{cellGraph}
 use Rattle.walk.specs.declared.Written.{Written}
 use Rattle.tight.specs.Labels.{cellOf}
 use Rattle.walk.specs.WalkLabels.{pairCount}
-use Rattle.tight.specs.Going.{EndsPre, EndingAdded}
+use Rattle.passing.specs.Going.{EndsPre, EndingAdded}
 use Rattle.walk.specs.Walked.{Walked}
 use Rattle.walk.proofs.Sizes.{pairs-sized}
 use Rattle.walk.proofs.Nodes.{At, Ground, Reached, pairs-written}

@@ -39,10 +39,10 @@ use Rattle.cells.specs.Trying.{labelFrom, cellPrice}
 use Rattle.entering.specs.Entering.{cellGraph}
 use Rattle.tight.specs.declared.Least.{Least}
 use Rattle.tight.specs.Labels.{cellOf, HasLabel}
-use Rattle.tight.specs.Places.{highBy, lowBy}
+use Rattle.tight.specs.Joint.{highBy, lowBy}
 use Rattle.tight.specs.Keeping.{Fits, KeepsAt, LeastPre, LeastOf}
 use Rattle.walk.specs.WalkLabels.{pairCount, Labelled}
-use Rattle.tight.specs.Going.{GoPre, GoesOn}
+use Rattle.passing.specs.Going.{GoPre, GoesOn}
 use Rattle.walk.proofs.Sizes.{pairs-few, pairs-sized}
 use Rattle.walk.proofs.Columns.{Told, HoldsAt, coded-by, marks-held, states-held, steps-few, weights-fit, joint-held}
 use Rattle.walk.proofs.Tightness.{label-is, TightTo, keeps-tight, tight-keeps}

@@ -40,11 +40,11 @@ use Rattle.columns.specs.Laws.Places.{places-before, places-few}
 use Rattle.entering.specs.Entering.{cellGraph}
 use Rattle.tight.specs.declared.Least.{Least}
 use Rattle.tight.specs.Labels.{HasLabel}
-use Rattle.tight.specs.Places.{placesFrom, PlacesPre, Placed}
+use Rattle.passing.specs.Places.{placesFrom, PlacesPre, Placed}
 use Rattle.tight.specs.Keeping.{LeastPre, LeastOf}
-use Rattle.tight.specs.Going.{GoPre, GoesOn}
+use Rattle.passing.specs.Going.{GoPre, GoesOn}
 use Rattle.walk.specs.WalkLabels.{pairCount}
-use Rattle.tight.proofs.Placing.{places-length, place-at}
+use Rattle.passing.proofs.Placing.{places-length, place-at}
 use Rattle.walk.proofs.Sizes.{pairs-sized}
 use Rattle.walk.proofs.Columns.{Told, HoldsAt, states-length}
 use Rattle.walk.proofs.Tightness.{label-is}

@@ -70,7 +70,7 @@ fn walk_by(
             break written;
         }
         let mut places = [0u8; 6];
-        tight::places_of(&mut places, &states, counts);
+        passing::places_of(&mut places, &states, counts);
         let mut left = inputs_at(sets, position);
         position = 'least: loop {
             let input = sets::least(left) as u8;
@@ -87,7 +87,7 @@ fn walk_by(
                     weights,
                 );
                 if least.output < 64 {
-                    tight::go_on(
+                    passing::go_on(
                         &mut states,
                         &mut marks,
                         insertions,
@@ -119,7 +119,7 @@ fn walk_by(
                     weights,
                 );
                 if least.output < 64 {
-                    tight::go_on(
+                    passing::go_on(
                         &mut states,
                         &mut marks,
                         &steps,
@@ -141,7 +141,7 @@ fn walk_by(
         };
     };
     let passed = Profile { counts: marks };
-    let profile = tight::with_ending(passed, card, &states[..machines]);
+    let profile = passing::with_ending(passed, card, &states[..machines]);
     Written { pairs, profile }
 }
 

@@ -3,7 +3,8 @@ use native.Mathlib.Omega.{arith}
 use Prim.Native.Nat.{_*_, _-_, _^_}
 use lib.ListN.{length}
 use Rattle.cells.specs.Cells.{nowhere, highAt, lowAt}
-use Rattle.tight.proofs.Joining.{SumTo, sum-start, column-few, column-in, joint-none, joint-whole, highs-next, lows-next, highs-fit, lows-fit}
+use Rattle.passing.proofs.Placing.{column-few, column-in}
+use Rattle.tight.proofs.Joining.{SumTo, sum-start, joint-none, joint-whole, highs-next, lows-next, highs-fit, lows-fit}
 use Rattle.tight.proofs.joint_at.Statement.{statement}
 use Rattle.tight.proofs.joint_at.Tie as tie
 
