@@ -2,9 +2,9 @@ use borrow.Author.Needs.{needs}
 use mathlib.Core.Logic.{⊎-elim}
 use Prim.Native.Nat.{_-_}
 use native.Mathlib.Omega.{arith}
-use Rattle.labelling.proofs.Weighing.{SumTo, sum-start, sum-taken, sum-passed, sum-end}
-use Rattle.labelling.proofs.weights.weight.Statement.{statement}
-use Rattle.labelling.proofs.weights.weight.Tie as tie
+use Rattle.machine_weights.proofs.Weighing.{SumTo, sum-start, sum-taken, sum-passed, sum-end}
+use Rattle.machine_weights.proofs.weight.Statement.{statement}
+use Rattle.machine_weights.proofs.weight.Tie as tie
 
 abbrev Inv-loop : tie.InvT-loop
 Inv-loop places numbers machine sum₀ i₀ sum i = SumTo places numbers machine i sum

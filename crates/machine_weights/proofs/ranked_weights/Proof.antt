@@ -7,9 +7,9 @@ use lib.ListN.{length}
 use Rattle.tables.specs.Places.{sixPlaces}
 use Rattle.settling.specs.Prices.{rankedHighs, rankedLows}
 use Rattle.insertions.specs.RankedWeights.{weightBy}
-use Rattle.labelling.proofs.Weighing.{highs-six, lows-six, WeightsFrom, weights-start, machine-few, machine-at, scale-few, weights-next, weights-are, weights-ranked}
-use Rattle.labelling.proofs.weights.ranked_weights.Statement.{statement}
-use Rattle.labelling.proofs.weights.ranked_weights.Tie as tie
+use Rattle.machine_weights.proofs.Weighing.{highs-six, lows-six, WeightsFrom, weights-start, machine-few, machine-at, scale-few, weights-next, weights-are, weights-ranked}
+use Rattle.machine_weights.proofs.ranked_weights.Statement.{statement}
+use Rattle.machine_weights.proofs.ranked_weights.Tie as tie
 
 abbrev Inv-loop : tie.InvT-loop
 Inv-loop counts ranking places highs lows weights₀ scale₀ m₀ weights scale m = WeightsFrom counts (sixPlaces ranking) weights m scale

@@ -10,7 +10,7 @@ ghost use Rattle.cells.specs.Cells.{highOf};
 ghost use Rattle.cells.specs.Columns.{WeightsOf};
 ghost use Rattle.settling.specs.Prices.{SixWeights};
 ghost use Rattle.insertions.specs.RankedWeights.{weightBy, RankedWeights};
-ghost use Rattle.labelling.specs.Kinds.{sixHighs};
+ghost use Rattle.machine_weights.specs.Highs.{sixHighs};
 use basics::index;
 
 // What a mark counts in a high number, by the place of its machine in the ranking: 16 bits for each of the first three, above the 8 of a code.

@@ -1,6 +1,6 @@
 use borrow.Author.Needs.{needs}
-use Rattle.labelling.proofs.weights.six_highs.Statement.{statement}
-use Rattle.labelling.proofs.weights.six_highs.Tie as tie
+use Rattle.machine_weights.proofs.six_highs.Statement.{statement}
+use Rattle.machine_weights.proofs.six_highs.Tie as tie
 
 -- src/lib.rt:62:9
 high-at-requires : tie.Need-high-at-requires

@@ -1,8 +1,8 @@
 use borrow.Author.Needs.{needs}
 use mathlib.Core.Path.{sym}
 use lib.ListN.{List·getD-eq-default}
-use Rattle.labelling.proofs.weights.high_at.Statement.{statement}
-use Rattle.labelling.proofs.weights.high_at.Tie as tie
+use Rattle.machine_weights.proofs.high_at.Statement.{statement}
+use Rattle.machine_weights.proofs.high_at.Tie as tie
 
 returns-2 : tie.Need-returns-2
 returns-2 c = sym (List·getD-eq-default (c .before .args .numbers .now) 0 (c .if1 .left))
