@@ -812,7 +812,7 @@ fn label(work: &mut [u16], card: &[u8], grid: Grid, ranking: &[u8], sets: &[u64]
     let all = grid.counts;
     let machines = grid.machines;
     let counts = &all[..machines];
-    let numbers = labelling::weights::ranked_weights(counts, ranking);
+    let numbers = machine_weights::ranked_weights(counts, ranking);
     let columns = grid.states * 65;
     let g = cells::grouped(counts, grid.size);
     let mut steps = [65535u16; 2600];

@@ -13,7 +13,7 @@ use Rattle.card.specs.Card.{cardRefusal, partsRefusal, machinesOf}
 use Rattle.ranking.specs.Rankings.{isRanking, arrangements}
 use Rattle.ranking.specs.Harmony.{harmony}
 use Rattle.ranking.specs.Conditions.{derivedFrom, highest, fits}
-use Rattle.ranking.specs.Finder.{conditionsOf, disjoint, soundCondition, soundList, smallest, finding}
+use Rattle.finder.specs.Finder.{conditionsOf, disjoint, soundCondition, soundList, smallest, finding}
 use Rattle.candidate.specs.declared.Evaluation.{Evaluation}
 use Rattle.candidate.specs.Candidates.{pairsOf, bytesOf, spelled, marksFrom, isComplete, profileOf}
 use Rattle.candidate.specs.Evaluating.{refused, soundCandidate, evaluating}

@@ -1,5 +1,4 @@
 pub mod Sizes
-pub mod Weighing
 pub mod Closed
 pub mod Labelled
 pub mod Finishing

@@ -6,16 +6,13 @@ use lib.Dec.{eqb}
 use lib.ListN.{length}
 use Rattle.settling.specs.Prices.{rankedHighs, rankedLows}
 use Rattle.settling.specs.Insertions.{Lists, listsOf}
-use Rattle.cells.specs.Cells.{highOf}
+pub use Rattle.machine_weights.specs.Highs.{sixHighs}
 
 -- the labels are ranked counts
 abbrev pub inCounts : List ℕ → Bool
 inCounts sums = eqb (length sums) 0
 
--- what a mark counts in high and in low by weights, for six machines in card order
-abbrev pub sixHighs : List ℕ → List ℕ
-sixHighs ws = highOf ws 0 ∷ highOf ws 1 ∷ highOf ws 2 ∷ highOf ws 3 ∷ highOf ws 4 ∷ highOf ws 5 ∷ []
-
+-- what a mark counts in low by weights, for six machines; in high it is sixHighs
 abbrev pub noLows : List ℕ
 noLows = 0 ∷ 0 ∷ 0 ∷ 0 ∷ 0 ∷ 0 ∷ []
 

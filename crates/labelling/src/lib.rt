@@ -10,8 +10,6 @@ use cells::Groups;
 use grid::Grid;
 use machine::Pair;
 
-pub mod weights; // weights.rt: what states and marks count, in ranked order
-
 // Settles a position that was entered, by insertions in lists, and closes it.
 fn finish(
     ranked: &mut [u16],
@@ -28,12 +26,12 @@ fn finish(
     ensures { λ _. ⌜ Finished (now (ranked .entry)) (now (ranked .exit)) (now (sums .entry)) (now (sums .exit)) (now (numbers .entry)) (now (own .entry)) (now (own .exit)) (now (next .entry)) (now (next .exit)) (now (entries .entry)) (now (ends .entry)) base size ⌝ }
 {
     if sums.len() == 0 {
-        let highs = weights::HIGHS;
-        let lows = weights::LOWS;
+        let highs = machine_weights::HIGHS;
+        let lows = machine_weights::LOWS;
         settling::settle(own, entries, ends, &highs, &lows, true, size);
         closing::close_counts(ranked, base, size, own, next);
     } else {
-        let highs = weights::six_highs(numbers);
+        let highs = machine_weights::six_highs(numbers);
         let lows = [0u64; 6];
         settling::settle(own, entries, ends, &highs, &lows, false, size);
         closing::close_numbers(sums, base, size, own, next);
@@ -263,7 +261,7 @@ pub fn label(work: &mut [u16], card: &[u8], grid: Grid, ranking: &[u8], sets: &[
 {
     let all = grid.counts;
     let machines = grid.machines;
-    let numbers = weights::ranked_weights(&all[..machines], ranking);
+    let numbers = machine_weights::ranked_weights(&all[..machines], ranking);
     let used = &numbers[..3 * machines];
     label_all(work, &mut [], card, grid, used, used, sets);
 }

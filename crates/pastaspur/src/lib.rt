@@ -4,7 +4,7 @@ ghost use mathlib.Core.List.{[], _∷_};
 ghost use lib.ListN.{length};
 ghost use Rattle.ranking.specs.Harmony.{comparing};
 ghost use Rattle.ranking.specs.Conditions.{derivedFrom};
-ghost use Rattle.ranking.specs.Finder.{finding};
+ghost use Rattle.finder.specs.Finder.{finding};
 ghost use Rattle.card.specs.Reading.{reading};
 ghost use Rattle.card.specs.Packing.{packing, packedTarget};
 ghost use Rattle.candidate.specs.Evaluating.{evaluating};
@@ -236,7 +236,7 @@ pub extern "C" fn pastaspur_find_ranking(
     ensures { λ r. ⌜ r ≡ finding machines (now (conditions .entry)) .number ⌝ }
     ensures { λ _. ⌜ now (result .exit) ≡ finding machines (now (conditions .entry)) .ranking ⌝ }
 {
-    give_finding(ranking::finder::find(machines, conditions), result)
+    give_finding(finder::find(machines, conditions), result)
 }
 
 // Adds a row to a live tableau, and answers the new row count: 1, 7, 23, 24.

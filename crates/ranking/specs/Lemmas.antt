@@ -4,5 +4,4 @@ pub mod Harmony
 pub mod Conditions
 pub mod Searches
 pub mod Arrangements
-pub mod Order
 pub mod Profiles

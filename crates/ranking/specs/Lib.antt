@@ -3,12 +3,9 @@ pub mod Rankings
 pub mod Harmony
 pub mod Conditions
 pub mod ByteStrings
-pub mod Finder
-pub mod FinderSteps
 pub mod Lemmas
 pub mod HarmonicInequality
 pub mod DecidingMachine
 pub mod Violations
 pub mod ViolationSemiring
 pub mod ConditionMeaning
-pub mod FinderTheorems

@@ -1,6 +1,5 @@
 // Violation profiles, rankings, harmonic comparison and ranking conditions.
 pub mod conditions;
-pub mod finder;
 pub mod harmony;
 pub mod rankings;
 

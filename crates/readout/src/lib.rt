@@ -41,7 +41,7 @@ fn walk_ranked(
     let all = grid.counts;
     let machines = grid.machines;
     let counts = &all[..machines];
-    let numbers = labelling::weights::ranked_weights(counts, ranking);
+    let numbers = machine_weights::ranked_weights(counts, ranking);
     let no_sums = [0u64; 0];
     walk::walk(
         work,

@@ -5,7 +5,7 @@ use mathlib.Core.List.{List}
 use mathlib.Core.Option.{Option, none}
 use Prim.Native.Nat.{ℕ, _+_, _<_}
 use Rattle.basics.specs.Search.{firstThat, numbersBelow}
-use Rattle.ranking.proofs.FinderSteps.{count-on, count-found}
+use Rattle.ranking.specs.Lemmas.Searches.{count-on, count-found}
 use Rattle.rows.specs.declared.Verdict.the-variants.{Right, AnotherRow, NotInTable}
 use Rattle.rows.specs.Tableau.{rowCount, claimedRow, rowOf}
 use Rattle.rows.specs.Judging.{firstRow, verdictOf}

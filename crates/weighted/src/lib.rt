@@ -51,7 +51,7 @@ pub fn label(work: &mut [u64], card: &[u8], grid: Grid, weights: &[u32], sets: &
     let counts = &all[..machines];
     let numbers = weights_of(counts, weights);
     let order = [0u8, 1, 2, 3, 4, 5];
-    let marks = labelling::weights::ranked_weights(counts, &order[..machines]);
+    let marks = machine_weights::ranked_weights(counts, &order[..machines]);
     labelling::label_all(
         &mut [],
         work,

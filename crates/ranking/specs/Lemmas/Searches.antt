@@ -4,11 +4,12 @@ use mathlib.Core.Logic.{⊎-elim}
 use mathlib.Core.Bool.{Bool, true, false, not, _&&_, _||_, and-false}
 use mathlib.Core.List.{List, [], _∷_, _++_, map, List·Memᴰ, List·Memᴰ·head, List·Memᴰ·tail, List·Memᴰ·not-nil, List·Memᴰ·cases-cons}
 use mathlib.Core.Option.{some, none, Option·map}
-use Prim.Native.Nat.{ℕ}
+use Prim.Native.Nat.{ℕ, zero, suc, _+_, _<_}
+use native.Mathlib.Numerals.{add-one}
 use native.Mathlib.Omega.{arith}
 use lib.Dec.{eqb}
 use borrow.Author.Tests.{eqb-true, eqb-false}
-use Rattle.basics.specs.Search.{allOf, those, firstThat}
+use Rattle.basics.specs.Search.{allOf, those, firstThat, numbersBelow}
 use Rattle.basics.proofs.Bools.{both}
 use Rattle.basics.proofs.Search.{first-found, first-next, first-misses}
 
@@ -135,3 +136,20 @@ module _ {A B : Type 0} where
   pub map-mem : (h : A → B) {xs : List A} {x : A} → List·Memᴰ x xs → List·Memᴰ (h x) (map h xs)
   map-mem h (List·Memᴰ·head e) = List·Memᴰ·head (ap h e)
   map-mem h (List·Memᴰ·tail m) = List·Memᴰ·tail (map-mem h m)
+
+-- a search that counts up
+module _ (f : ℕ → Bool) where
+  pub count-on : (n : ℕ) → firstThat f (numbersBelow n) ≡ none → f n ≡ false → firstThat f (numbersBelow (n + 1)) ≡ none
+  unfolding numbersBelow firstThat
+  count-on n h t = rw add-one (first-append f (numbersBelow n) (n ∷ []) h ∙ first-on f [] t)
+
+  pub count-found : (K n : ℕ) → n < K → firstThat f (numbersBelow n) ≡ none → f n ≡ true → firstThat f (numbersBelow K) ≡ some n
+  unfolding numbersBelow
+  count-found zero n l h t = absurd (omega arith)
+  count-found (suc K) n l h t =
+      equal-or-not n K
+      (λ e.
+      first-append f (numbersBelow K) (K ∷ []) (ap (λ (i : ℕ). firstThat f (numbersBelow i)) (sym e) ∙ h)
+      ∙ first-here f [] (ap f (sym e) ∙ t)
+      ∙ ap some (sym e))
+      (λ e. first-before f (numbersBelow K) (K ∷ []) (count-found K n (omega arith) h t))

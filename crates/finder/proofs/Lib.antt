@@ -1,0 +1,4 @@
+pub mod Sets
+pub mod Demotion
+pub mod Pairs
+pub mod Steps

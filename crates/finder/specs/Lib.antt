@@ -1,0 +1,4 @@
+pub mod Finder
+pub mod Steps
+pub mod Order
+pub mod FinderTheorems

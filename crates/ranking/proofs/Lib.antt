@@ -1,4 +1,0 @@
-pub mod FinderSets
-pub mod FinderDemotion
-pub mod FinderPairs
-pub mod FinderSteps

@@ -1,9 +1,0 @@
-use Rattle.ranking.proofs.FinderSets.{disjoint-and}
-use Rattle.ranking.proofs.finder.disjoint.Statement.{statement}
-use Rattle.ranking.proofs.finder.disjoint.Tie as tie
-
-returns : tie.Need-returns
-returns c = disjoint-and (c .args .a) (c .args .b) (c .fits .a .fits) (c .fits .b .fits)
-
-pub disjoint-spec : {M : Type 1} → statement M
-disjoint-spec = tie.close (tie.spec returns)
