@@ -7,9 +7,9 @@ use lib.ListN.{length}
 use Rattle.tables.specs.Laws.Cards.{card-counts}
 use Rattle.cells.specs.Laws.Fours.{without-less}
 use Rattle.entering.proofs.Fours.{four-few, four-or-after}
-use Rattle.cull.specs.Entering.{codesAt}
-use Rattle.cull.proofs.Front.{ahead-kept}
-use Rattle.cull.proofs.Lanes.{FoursTried, fours-start, fours-next, fours-end, join-ready, four-ready, nodes-kept, codes-are}
+use Rattle.stage_entering.specs.Entering.{codesAt}
+use Rattle.stage_entering.proofs.Front.{ahead-kept}
+use Rattle.cull.proofs.Fours.{FoursTried, fours-start, fours-next, fours-end, join-ready, four-ready, nodes-kept, codes-are}
 use borrow.Author.Needs.{needs}
 use Rattle.cull.proofs.enter_input.Statement.{statement}
 use Rattle.cull.proofs.enter_input.Tie as tie
