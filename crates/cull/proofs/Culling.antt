@@ -37,7 +37,7 @@ use Rattle.cull.specs.Stages.{cull-start}
 use Rattle.stage.specs.StageLabels.{countOf, pairCountOf, stageLabel}
 use Rattle.cull.specs.FewestTold.{fewestIn}
 use Rattle.stage_entering.specs.Entering.{NodesPre, AheadOf}
-use Rattle.cull.specs.Entering.{InputPre, InputTried}
+use Rattle.stage_pairs.specs.Inputs.{InputPre, InputTried}
 use Rattle.stage_settling.specs.Settling.{SettlePre, SettledBy}
 use Rattle.cull.specs.Culling.{pairsCounted, stageGraph, leftBy, Culled, StageAt, CullPre, LentTables, PositionPre, PositionEntered, PositionDone, EndPre, EndsTried, StagePre, StageDone, Blanked, PlaceCleared}
 use Rattle.cull.specs.Survivors.{counts-fewest}

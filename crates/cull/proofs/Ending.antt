@@ -49,7 +49,8 @@ use Rattle.tables.specs.Engine.{engineGraph}
 use Rattle.cull.specs.Stages.{stage-no-ending}
 use Rattle.stage.specs.StageLabels.{countOf, stageLabel}
 use Rattle.stage_entering.specs.Entering.{codesAt, laneEnding, EndingTried, not-final, dropped-ending, lowered-ending}
-use Rattle.cull.specs.Entering.{endSum, InOrder, EndingsPre}
+use Rattle.cull.specs.Entering.{endSum, EndingsPre}
+use Rattle.stage_pairs.specs.Inputs.{InOrder}
 use Rattle.stage_entering.specs.declared.Site.{Site}
 use Rattle.stage.specs.Relaxing.{noCounts, LeftTold, Lowered}
 use Rattle.cull.specs.Culling.{pairsCounted, stageGraph, Culled, EndPre, EndsTried, CodesEnded}

@@ -1,6 +1,5 @@
 pub mod Columns
 pub mod Unused
-pub mod Fours
 pub mod Linking
 pub mod Edges
 pub mod Positions

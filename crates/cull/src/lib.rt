@@ -1,11 +1,10 @@
 // Ellison's cull as an engine: constraint by constraint, the fewest marks from each node to an end are found, and the arcs and the endings that
 // cost more are dropped.
 ghost use mathlib.Core.Path.{_≡_};
-ghost use mathlib.Core.List.{List};
-ghost use Prim.Native.Nat.{ℕ, _+_, _*_, _≤_, _<_};
+ghost use Prim.Native.Nat.{_+_, _*_, _<_};
 ghost use lib.ListN.{length};
 ghost use Rattle.tables.specs.Work.{HasNodes};
-ghost use Rattle.tables.specs.Places.{sixPlaces, SixPlaces};
+ghost use Rattle.tables.specs.Places.{sixPlaces};
 ghost use Rattle.insertions.specs.RankedWeights.{RankedWeights};
 ghost use mathlib.Core.Bool.{true};
 ghost use Rattle.ranking.specs.Rankings.{isRanking};
@@ -16,9 +15,9 @@ ghost use Rattle.product.specs.Best.{best};
 ghost use Rattle.product.specs.Sets.{bestOfSets};
 ghost use Rattle.readout.specs.Searching.{SetsPre, SearchPre, Searched};
 ghost use Rattle.grid.specs.Grids.{GridOf};
-ghost use Rattle.cull.specs.Tables.{TablesPre, ListPre, ListsOf};
+ghost use Rattle.cull.specs.Tables.{TablesPre};
 ghost use Rattle.stage_entering.specs.Entering.{codesAt};
-ghost use Rattle.cull.specs.Entering.{InputPre, InputTried, EndingsPre};
+ghost use Rattle.cull.specs.Entering.{EndingsPre};
 ghost use Rattle.cull.specs.Culling.{LentTables, CullPre, PositionPre, PositionEntered, PositionDone, EndPre, EndsTried, CodesEnded, StagePre, StageDone, Blanked, PlaceCleared};
 use candidate::Evaluation;
 use candidate::refused;
@@ -28,37 +27,11 @@ use refusals::Checked;
 use stage_entering::Site;
 use stage_entering::look_ahead;
 use stage_entering::try_ending;
-use stage_entering::try_four;
+use stage_pairs::enter_input;
+use stage_pairs::list_insertions;
 use stage_settling::settle;
 
 // ---- the positions of a stage
-
-// Tries the nodes of a position by the pairs with one input: the outputs worth trying, four at a time. `steps`, `high` and `low` are lent.
-fn enter_input(
-    work: &mut [u16],
-    ahead: &[u64; 128],
-    steps: &mut [u16],
-    card: &[u8],
-    counts: &[u8],
-    weights: &[u64],
-    at: Site,
-    input: u8,
-    high: &mut [u64],
-    low: &mut [u64],
-)
-    requires { ⌜ InputPre (now work) (now ahead) (now card) (now counts) (now weights) (now steps) (now high) (now low) at input × (1 ≤ input) ⌝ }
-    ensures { λ _. ⌜ InputTried (now (card .entry)) (now (weights .entry)) (now (work .entry)) (now (work .exit)) input (at .base) (codesAt at) (at .stage) ⌝ }
-{
-    let g = at.groups;
-    let width = columns::width_of(counts);
-    let mut outputs = columns::prepare(steps, card, counts, width, input);
-    while outputs > 0 {
-        let four = cells::fours::next_four(outputs);
-        cells::join_four(steps, width, &four, counts, weights, g, high, low);
-        try_four(work, ahead, high, low, at);
-        outputs = cells::fours::without_four(outputs);
-    }
-}
 
 // Takes the labels of the stage before from the first count nodes. Their counts stay.
 fn blank(work: &mut [u16], count: usize)
@@ -366,38 +339,6 @@ fn label_stages(
         clear_place(work, (sets.len() + 1) * size, stage);
         stage += 1;
     }
-}
-
-// Writes the insertions of a card in lists. `steps` is lent for its columns, `high` and `low` for joint steps.
-fn list_insertions(
-    entries: &mut [u32],
-    ends: &mut [u16; 514],
-    steps: &mut [u16],
-    card: &[u8],
-    counts: &[u8],
-    weights: &[u64],
-    g: Groups,
-    high: &mut [u64],
-    low: &mut [u64],
-)
-    requires { ⌜ ListPre (now card) (now counts) (now weights) (now steps) g × (length (now ends) ≡ 514) × (8064 ≤ length (now entries)) × (length (now high) ≡ 264) × (length (now low) ≡ 264) ⌝ }
-    ensures { λ _. ⌜ ((ranking : List ℕ) → RankedWeights (sixPlaces ranking) (now (weights .entry)) → SixPlaces (sixPlaces ranking) → ListsOf (now (card .entry)) ranking (now (entries .exit)) (now (ends .exit))) ⌝ }
-{
-    let width = columns::width_of(counts);
-    let kept = columns::prepare(steps, card, counts, width, machine::Pair::EMPTY);
-    insertions::count(ends, steps, kept, width, counts, weights, g, high, low);
-    insertions::list(
-        entries,
-        ends,
-        steps,
-        kept,
-        width,
-        counts,
-        weights,
-        g,
-        high,
-        low,
-    );
 }
 
 // Labels all nodes, by the weights of the machines in the order of the ranking.

@@ -2,9 +2,9 @@
 use mathlib.Core.Path.{_∙_}
 use native.Mathlib.Omega.{arith}
 use Rattle.tables.specs.Laws.Cards.{card-counts}
-use Rattle.cull.proofs.Listing.{count-ready, codes-few, listed-of}
-use Rattle.cull.proofs.list_insertions.Statement.{statement}
-use Rattle.cull.proofs.list_insertions.Tie as tie
+use Rattle.stage_pairs.proofs.Listing.{count-ready, codes-few, listed-of}
+use Rattle.stage_pairs.proofs.list_insertions.Statement.{statement}
+use Rattle.stage_pairs.proofs.list_insertions.Tie as tie
 
 width-of-requires : tie.Need-width-of-requires
 width-of-requires c κs = let Q = c .before .before .before .before .before .before .before .pre .0 in card-counts _ (Q .accepted) (Q .counts-are)

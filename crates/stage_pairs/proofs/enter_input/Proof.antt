@@ -9,10 +9,10 @@ use Rattle.cells.specs.Laws.Fours.{without-less}
 use Rattle.entering.proofs.Fours.{four-few, four-or-after}
 use Rattle.stage_entering.specs.Entering.{codesAt}
 use Rattle.stage_entering.proofs.Front.{ahead-kept}
-use Rattle.cull.proofs.Fours.{FoursTried, fours-start, fours-next, fours-end, join-ready, four-ready, nodes-kept, codes-are}
+use Rattle.stage_pairs.proofs.Fours.{FoursTried, fours-start, fours-next, fours-end, join-ready, four-ready, nodes-kept, codes-are}
 use borrow.Author.Needs.{needs}
-use Rattle.cull.proofs.enter_input.Statement.{statement}
-use Rattle.cull.proofs.enter_input.Tie as tie
+use Rattle.stage_pairs.proofs.enter_input.Statement.{statement}
+use Rattle.stage_pairs.proofs.enter_input.Tie as tie
 
 abbrev Inv-loop : tie.InvT-loop
 Inv-loop work₀ ahead steps card counts weights at input high₀ low₀ g width outputs₀ work high low outputs =

@@ -43,9 +43,9 @@ use Rattle.insertions.proofs.Steps.{marks-length, target-of, marks-are}
 use Rattle.stage.specs.StageLabels.{countOf, stageLabel}
 use Rattle.stage_entering.specs.Relaxation.{Relaxes, relaxes-nothing, relaxes-then}
 use Rattle.stage.specs.Relaxing.{LinkedEntry}
-use Rattle.cull.specs.Tables.{ListPre}
+use Rattle.stage_pairs.specs.Tables.{ListPre}
 use Rattle.stage_entering.specs.Entering.{AheadOf, FrontMarks, laneStep, NodesPre, FourPre, FoursOf, CodesTried}
-use Rattle.cull.specs.Entering.{InOrder, SymbolLinked, Among, InputTried}
+use Rattle.stage_pairs.specs.Inputs.{InOrder, SymbolLinked, Among, InputTried}
 use Rattle.stage_entering.proofs.Relaxing.{entry-kept}
 use Rattle.stage_entering.proofs.Front.{front-of}
 use Rattle.stage_entering.proofs.Lanes.{lane-none, lane-some}
