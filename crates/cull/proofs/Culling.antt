@@ -36,13 +36,14 @@ use Rattle.cull.specs.Idle.{unmarked, idle-stage}
 use Rattle.cull.specs.Stages.{cull-start}
 use Rattle.stage.specs.StageLabels.{countOf, pairCountOf, stageLabel}
 use Rattle.cull.specs.FewestTold.{fewestIn}
-use Rattle.cull.specs.Entering.{NodesPre, AheadOf, InputPre, InputTried}
-use Rattle.cull.specs.Settling.{SettlePre, SettledBy}
+use Rattle.stage_entering.specs.Entering.{NodesPre, AheadOf}
+use Rattle.stage_pairs.specs.Inputs.{InputPre, InputTried}
+use Rattle.stage_settling.specs.Settling.{SettlePre, SettledBy}
 use Rattle.cull.specs.Culling.{pairsCounted, stageGraph, leftBy, Culled, StageAt, CullPre, LentTables, PositionPre, PositionEntered, PositionDone, EndPre, EndsTried, StagePre, StageDone, Blanked, PlaceCleared}
 use Rattle.cull.specs.Survivors.{counts-fewest}
 use Rattle.stage.proofs.StageWork.{stage-labelled, stage-unlabelled, stage-alike, spaced}
 use Rattle.cull.proofs.Positions.{culled-kept, stage-over, symbol-nodes, insertion-ready, symbol-entering, position-settled}
-use Rattle.cull.proofs.Front.{ahead-kept}
+use Rattle.stage_entering.proofs.Front.{ahead-kept}
 use Rattle.cull.proofs.Ending.{ends-entered}
 use Rattle.cull.proofs.Unused.{ways-unmarked}
 use Rattle.cull.proofs.NextStage.{stage-count-told, fewest-told, least-told, last-closed, last-attained}

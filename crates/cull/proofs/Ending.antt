@@ -8,7 +8,6 @@ use native.Mathlib.Nat.{mod-lt, div-lt-iff-lt-mul, div-add-mod', mul-le-mul-righ
 use native.Mathlib.Decide.{decLt}
 use native.Mathlib.Omega.{arith}
 use lib.ListN.{length, getD, replicate, length-replicate, getD-replicate, List·getD-eq-default}
-use borrow.Author.Tests.{lt-ltb, le-ltb}
 use Rattle.machine.specs.Machine.{Machine, endingOf}
 use Rattle.card.specs.Layout.{symbolCount}
 use Rattle.card.specs.Card.{machinesOf}
@@ -49,14 +48,16 @@ use Rattle.product.specs.Laws.Entering.{no-ending-tried, ending-tried, endings-
 use Rattle.tables.specs.Engine.{engineGraph}
 use Rattle.cull.specs.Stages.{stage-no-ending}
 use Rattle.stage.specs.StageLabels.{countOf, stageLabel}
-use Rattle.cull.specs.Entering.{marksBy, codesAt, laneEnding, EndingTried, not-final, dropped-ending, lowered-ending, endSum, InOrder, EndingsPre}
-use Rattle.cull.specs.declared.Site.{Site}
+use Rattle.stage_entering.specs.Entering.{codesAt, laneEnding, EndingTried, not-final, dropped-ending, lowered-ending}
+use Rattle.cull.specs.Entering.{endSum, EndingsPre}
+use Rattle.stage_pairs.specs.Inputs.{InOrder}
+use Rattle.stage_entering.specs.declared.Site.{Site}
 use Rattle.stage.specs.Relaxing.{noCounts, LeftTold, Lowered}
 use Rattle.cull.specs.Culling.{pairsCounted, stageGraph, Culled, EndPre, EndsTried, CodesEnded}
 use Rattle.cull.proofs.Linking.{ending-kept, ending-dropped}
 use Rattle.cull.proofs.Positions.{culled-kept, stage-over, position-there}
 use Rattle.cull.proofs.Unused.{each-length}
-use Rattle.cull.proofs.Lanes.{CodePlaces}
+use Rattle.stage_entering.proofs.Lanes.{CodePlaces, ending-none, ending-some}
 
 pub ends-first : {card ranking sets xs : List ℕ} {k u : ℕ} → EndsTried card ranking sets xs xs k u (u + 0)
 ends-first {u = u} = let q : u + 0 ≡ u = omega arith in rw q (record { size = refl; counts = λ i w h. refl; enters = λ f C K E. E })
@@ -109,14 +110,6 @@ module _ {card sets : List ℕ} {P : ℕ} (s : Setting card sets P) (ranking : L
   ends-entered {k} {xs} f C d T = endings-entered s (stage-over s ranking f k C) d (T .enters f C (stageLabel xs k) (endings-begun s (stage-over s ranking f k C) d))
 
 -- ---- by two numbers
-
-pub ending-none : (h l : ℕ) → nowhere ≤ h → laneEnding h l ≡ none
-unfolding laneEnding
-ending-none h l k = rw (le-ltb h nowhere k)
-
-pub ending-some : (h l : ℕ) → h < nowhere → laneEnding h l ≡ some (marksBy h l)
-unfolding laneEnding
-ending-some h l k = rw (lt-ltb h nowhere k)
 
 -- one node was tried
 pub ends-one : {card ranking sets : List ℕ} {P k : ℕ} {xs ys : List ℕ} {o : Option ℕ} (s : Setting card sets P) (z : ℕ) → z < P → o ≡ endingFrom (sixPlaces ranking) (machinesOf card) z → EndingTried xs ys o (length sets * P + z) k

@@ -1,9 +1,5 @@
 pub mod Columns
-pub mod Relaxing
 pub mod Unused
-pub mod Front
-pub mod Lanes
-pub mod Spreading
 pub mod Linking
 pub mod Edges
 pub mod Positions

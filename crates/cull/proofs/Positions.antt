@@ -43,11 +43,12 @@ use Rattle.cull.proofs.Edges.{over, within, symbol-at}
 use Rattle.stage.specs.Below.{Below}
 use Rattle.cull.specs.Stages.{stage-alike-edges, stage-within, stage-sized, stage-count}
 use Rattle.stage.specs.StageLabels.{countOf, stageLabel}
-use Rattle.cull.specs.Relaxation.{Relaxes}
+use Rattle.stage_entering.specs.Relaxation.{Relaxes}
 use Rattle.stage.specs.Relaxing.{Makes, countsOf, Fits}
-use Rattle.cull.specs.Tables.{ListsOf}
-use Rattle.cull.specs.Entering.{NodesPre, InOrder, SymbolLinked, Among, InputTried}
-use Rattle.cull.specs.Settling.{Kept, wayBy, marksOf, fromOf, ArcsOf, SettlePre, SettledBy}
+use Rattle.stage_pairs.specs.Tables.{ListsOf}
+use Rattle.stage_entering.specs.Entering.{NodesPre}
+use Rattle.stage_pairs.specs.Inputs.{InOrder, SymbolLinked, Among, InputTried}
+use Rattle.stage_settling.specs.Settling.{Kept, wayBy, marksOf, fromOf, ArcsOf, SettlePre, SettledBy}
 use Rattle.cull.specs.Culling.{pairsCounted, stageGraph, Culled}
 use Rattle.cull.proofs.Linking.{linked-entry, kept as kept-edge, edge-kept, whole-edge, whole-ending}
 

@@ -21,8 +21,10 @@ use Rattle.tables.specs.JointNumbers.{endingFrom}
 use Rattle.cells.specs.declared.Groups.{Groups}
 use Rattle.cells.specs.Columns.{WeightsOf}
 use Rattle.cells.specs.Groups.{GroupsOf}
-use Rattle.cull.specs.Tables.{ListPre, ListsOf}
-use Rattle.cull.specs.Entering.{InOrder, laneEnding, endSum}
+use Rattle.stage_pairs.specs.Tables.{ListPre, ListsOf}
+use Rattle.stage_pairs.specs.Inputs.{InOrder}
+use Rattle.cull.specs.Entering.{endSum}
+use Rattle.stage_entering.specs.Entering.{laneEnding}
 use Rattle.cull.specs.Cull.{left, FewestBelow}
 use Rattle.cull.specs.OneConstraint.{LeastPrices}
 use Rattle.cull.specs.Stages.{stage}

@@ -15,10 +15,8 @@ pub mod Stages
 pub mod Idle
 pub mod CullLabels
 pub mod FewestTold
-pub mod Relaxation
 pub mod Tables
 pub mod Entering
-pub mod Settling
 pub mod Culling
 pub mod Survivors
 pub mod TwoEngines

@@ -1,3 +1,4 @@
 pub mod Marks
 pub mod Totals
 pub mod StageWork
+pub mod Trying

@@ -8,7 +8,7 @@ use lib.Dec.{eqb}
 use lib.ListN.{length, length-replicate}
 use Rattle.basics.specs.Sets.{member}
 use Rattle.product.specs.Laws.Setting.{few-codes}
-use Rattle.cull.specs.Entering.{AheadOf}
+use Rattle.stage_entering.specs.Entering.{AheadOf}
 use Rattle.cull.proofs.Culling.{SymbolsTried, symbols-start, nodes-there, symbol-reads, input-pre, symbols-next, ahead-stays, entered-symbols, lent-kept}
 use Rattle.cull.proofs.enter_symbol.Statement.{statement}
 use Rattle.cull.proofs.enter_symbol.Tie as tie

@@ -1,0 +1,3 @@
+pub mod Relaxing
+pub mod Front
+pub mod Lanes

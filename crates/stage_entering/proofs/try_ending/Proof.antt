@@ -1,0 +1,43 @@
+-- `try_ending` meets its contract.
+use mathlib.Core.Path.{refl, sym, _∙_, ap, subst}
+use mathlib.Core.Option.{some}
+use Prim.Native.Nat.{ℕ, _<_}
+use native.Mathlib.Omega.{arith}
+use borrow.Author.Tests.{not-true, not-false}
+use Rattle.stage_entering.specs.Entering.{not-final, dropped-ending, lowered-ending}
+use Rattle.stage_entering.proofs.Lanes.{ending-none, ending-some, marks-small}
+use borrow.Author.Needs.{needs}
+use Rattle.stage_entering.proofs.try_ending.Statement.{statement}
+use Rattle.stage_entering.proofs.try_ending.Tie as tie
+
+returns : tie.Need-returns
+returns c = not-final (ending-none _ _ (omega (arith, c .if1 .taken))) refl
+
+ending-left-requires : tie.Need-ending-left-requires
+ending-left-requires c κs = (c .before .before .before .before .pre .0 .node, omega (arith, subst (λ (m : ℕ). m < 16777216) (sym (c .before .marks-of .ensures)) (marks-small _ _)), c .before .before .before .before .pre .0 .stage)
+
+returns-2 : tie.Need-returns-2
+returns-2 c = dropped-ending (c .before .before .before .marks-of .result) (ending-some _ _ (omega (arith, c .before .before .before .before .if1 .left)) ∙ ap some (sym (c .before .before .before .marks-of .ensures))) _ (c .before .ending-left .ensures) (not-true _ (c .if2 .taken)) refl
+
+marks-at-requires : tie.Need-marks-at-requires
+marks-at-requires c κs = (omega (arith, subst (λ (m : ℕ). m < 16777216) (sym (c .before .before .before .before .marks-of .ensures)) (marks-small _ _)), c .before .before .before .before .before .before .before .pre .0 .stage)
+
+lower-requires : tie.Need-lower-requires
+lower-requires c κs = c .before .before .before .before .before .before .before .before .pre .0
+
+returns-3 : tie.Need-returns-3
+returns-3 c = lowered-ending (c .before .before .before .before .before .before .before .before .marks-of .result) (ending-some _ _ (omega (arith, c .before .before .before .before .before .before .before .before .before .if1 .left)) ∙ ap some (sym (c .before .before .before .before .before .before .before .before .marks-of .ensures))) _ (c .before .before .before .before .before .before .ending-left .ensures) (not-false _ (c .before .before .before .before .before .if2 .left)) _ (c .before .before .before .marks-at .ensures) _ (c .before .before .lower .ensures)
+
+pub try-ending-spec : {M : Type 1} → statement M
+try-ending-spec =
+    tie.close
+    (tie.spec
+    returns
+    (λ c κs. search needs)
+    ending-left-requires
+    (λ c. search needs)
+    returns-2
+    marks-at-requires
+    lower-requires
+    (λ c. search needs)
+    returns-3)

@@ -1,0 +1,88 @@
+-- `try_four` meets its contract.
+use Prim.Native.Nat.{_+_, _-_, _≤_}
+use native.Mathlib.Omega.{arith}
+use Rattle.stage_entering.specs.Entering.{CodesTried}
+use Rattle.stage_entering.proofs.Lanes.{codes-start, codes-next, codes-end, code-ready, AtPlaces, code-at, lanes-at, front-is, places-start, places-row, places-next}
+use Rattle.stage_entering.proofs.try_four.Statement.{statement}
+use Rattle.stage_entering.proofs.try_four.Tie as tie
+
+abbrev Inv-loop : tie.InvT-loop
+Inv-loop work₀ ahead high low front back base stage size a₀ b₀ code₀ work a b code = (code ≤ size) × CodesTried work₀ work high low front back stage base (base + size) code × AtPlaces code back a b
+
+abbrev μ-loop : tie.MeasureT-loop
+μ-loop work₀ ahead high low front back base stage size a₀ b₀ code₀ work a b code = size - code
+
+mul-size : tie.Need-mul-size Inv-loop μ-loop
+mul-size c = omega (arith, c .before .before .before .before .pre .few)
+
+loop-holds : tie.Need-loop-holds Inv-loop μ-loop
+loop-holds c = (omega arith, codes-start, places-start (c .before .before .before .before .pre .some-back))
+
+mul-try-code : tie.Need-mul-try-code Inv-loop μ-loop
+mul-try-code c = omega (arith, front-is (c .before .before .loop .inv .2) (c .before .loop-test .taken), c .before .before .before .before .before .before .before .pre .small)
+
+add-try-code : tie.Need-add-try-code Inv-loop μ-loop
+add-try-code c = omega (arith, c .before .before .loop .inv .2 .within, c .before .before .before .before .before .before .before .pre .small)
+
+mul-try-code-2 : tie.Need-mul-try-code-2 Inv-loop μ-loop
+mul-try-code-2 c = omega (arith, c .before .before .loop .inv .2 .within, c .before .before .before .before .before .before .before .pre .small)
+
+add-try-code-2 : tie.Need-add-try-code-2 Inv-loop μ-loop
+add-try-code-2 c = omega (arith, c .before .loop-test .taken, c .before .before .before .before .before .before .before .pre .given .few)
+
+add-try-code-3 : tie.Need-add-try-code-3 Inv-loop μ-loop
+add-try-code-3 c = omega (arith, c .before .before .before .before .before .before .before .pre .given .few)
+
+try-code-requires : tie.Need-try-code-requires Inv-loop μ-loop
+try-code-requires c κs = code-at _ (c .before .before .loop .inv .2) (code-ready (c .before .before .before .before .before .before .before .pre) (c .before .before .loop .inv .1) (c .before .loop-test .taken))
+
+add-code : tie.Need-add-code Inv-loop μ-loop
+add-code c = omega (arith, c .before .before .before .before .loop-test .taken, c .before .before .before .before .before .before .before .before .before .before .pre .few)
+
+add-b : tie.Need-add-b Inv-loop μ-loop
+add-b c = omega (arith, c .before .before .before .before .before .loop .inv .2 .within, c .before .before .before .before .before .before .before .before .before .before .pre .small)
+
+add-a : tie.Need-add-a Inv-loop μ-loop
+add-a c = omega (arith, front-is (c .before .before .before .before .before .before .loop .inv .2) (c .before .before .before .before .before .loop-test .taken), c .before .before .before .before .before .before .before .before .before .before .before .pre .small)
+
+loop-less : tie.Need-loop-less Inv-loop μ-loop
+loop-less c = omega (arith, c .before .before .before .before .before .loop-test .taken)
+
+loop-again : tie.Need-loop-again Inv-loop μ-loop
+loop-again c = (omega (arith, c .before .before .before .before .before .loop-test .taken), codes-next (c .before .before .before .before .before .before .loop .inv .1) (lanes-at _ (c .before .before .before .before .before .before .loop .inv .2) (c .before .before .before .try-code .ensures)), places-row (c .before .before .before .before .before .before .loop .inv .2) (omega (arith, c .if1 .taken)))
+
+loop-less-2 : tie.Need-loop-less-2 Inv-loop μ-loop
+loop-less-2 c = omega (arith, c .before .before .before .before .before .loop-test .taken)
+
+loop-again-2 : tie.Need-loop-again-2 Inv-loop μ-loop
+loop-again-2 c = (omega (arith, c .before .before .before .before .before .loop-test .taken), codes-next (c .before .before .before .before .before .before .loop .inv .1) (lanes-at _ (c .before .before .before .before .before .before .loop .inv .2) (c .before .before .before .try-code .ensures)), places-next (c .before .before .before .before .before .before .loop .inv .2) (c .if1 .left))
+
+same-length : tie.Need-same-length Inv-loop μ-loop
+same-length c = c .before .loop .inv .1 .size
+
+returns : tie.Need-returns Inv-loop μ-loop
+returns c = codes-end (c .before .loop .inv .1) (omega (arith, c .before .loop .inv .0, c .loop-test .left))
+
+pub try-four-spec : {M : Type 1} → statement M
+try-four-spec =
+    tie.close
+    (tie.spec
+    Inv-loop
+    μ-loop
+    mul-size
+    loop-holds
+    mul-try-code
+    add-try-code
+    mul-try-code-2
+    add-try-code-2
+    add-try-code-3
+    try-code-requires
+    add-code
+    add-b
+    add-a
+    loop-less
+    loop-again
+    loop-less-2
+    loop-again-2
+    same-length
+    returns)

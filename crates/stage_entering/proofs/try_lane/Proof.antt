@@ -1,0 +1,44 @@
+-- `try_lane` meets its contract.
+use mathlib.Core.Path.{sym, subst}
+use Prim.Native.Nat.{ℕ, _<_}
+use native.Mathlib.Omega.{arith}
+use Rattle.stage_entering.proofs.Front.{front-room}
+use Rattle.stage_entering.proofs.Lanes.{marks-small, lane-arc, lane-nothing, lane-passed, lane-tried}
+use borrow.Author.Needs.{needs}
+use Rattle.stage_entering.proofs.try_lane.Statement.{statement}
+use Rattle.stage_entering.proofs.try_lane.Tie as tie
+
+returns : tie.Need-returns
+returns c = lane-nothing (omega (arith, c .if1 .taken))
+
+add-front : tie.Need-add-front
+add-front c = omega (arith, front-room (c .before .before .before .before .pre) (omega (arith, c .before .before .if1 .left)) (c .before .behind-front .result))
+
+returns-2 : tie.Need-returns-2
+returns-2 c = lane-passed (c .before .before .before .before .before .pre) (omega (arith, c .before .before .before .if1 .left)) (c .before .before .behind-front .ensures) (omega (arith, c .if2 .taken))
+
+add-try-arc : tie.Need-add-try-arc
+add-try-arc c = omega (arith, c .before .before .before .before .before .before .pre .given .few, c .before .before .before .before .before .before .pre .leads)
+
+try-arc-requires : tie.Need-try-arc-requires
+try-arc-requires c κs = lane-arc (c .before .before .before .before .before .before .before .pre) (subst (λ (m : ℕ). m < 16777216) (sym (c .marks-of .ensures)) (marks-small _ _))
+
+returns-3 : tie.Need-returns-3
+returns-3 c = lane-tried (omega (arith, c .before .before .before .before .before .before .before .before .if1 .left)) (c .before .before .before .marks-of .ensures) (c .before .before .try-arc .ensures)
+
+pub try-lane-spec : {M : Type 1} → statement M
+try-lane-spec =
+    tie.close
+    (tie.spec
+    returns
+    (λ c κs. search needs)
+    (λ c. search needs)
+    (λ c. search needs)
+    (λ c. search needs)
+    add-front
+    returns-2
+    add-try-arc
+    (λ c κs. search needs)
+    try-arc-requires
+    (λ c. search needs)
+    returns-3)

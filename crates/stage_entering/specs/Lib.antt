@@ -1,0 +1,2 @@
+pub mod Relaxation
+pub mod Entering

@@ -1,0 +1,80 @@
+-- `spread` meets its contract.
+use mathlib.Core.Path.{_∙_}
+use Prim.Native.Nat.{_*_, _-_, _≤_}
+use native.Mathlib.Omega.{arith}
+use lib.ListN.{getD}
+use Rattle.settling.proofs.Insertions.{listed}
+use Rattle.stage_settling.proofs.Spreading.{Spreading, spreading-start, spreading-step, spreading-end, settle-kept, entry-ready}
+use borrow.Author.Needs.{needs}
+use Rattle.stage_settling.proofs.spread.Statement.{statement}
+use Rattle.stage_settling.proofs.spread.Tie as tie
+
+abbrev Inv-loop : tie.InvT-loop
+Inv-loop work₀ opened₀ entries ends base size to stage end at₀ work opened at = (getD ends (4 * to) 0 ≤ at) × Spreading work₀ work opened₀ opened entries ends stage base size to at
+
+abbrev μ-loop : tie.MeasureT-loop
+μ-loop work₀ opened₀ entries ends base size to stage end at₀ work opened at = end - at
+
+mul-place : tie.Need-mul-place Inv-loop μ-loop
+mul-place c = omega (arith, c .before .before .pre .2, c .before .before .pre .0 .few)
+
+add-place : tie.Need-add-place Inv-loop μ-loop
+add-place c = omega (arith, c .before .before .pre .2, c .before .before .pre .0 .few)
+
+element-copy-out-place : tie.Need-element-copy-out-place Inv-loop μ-loop
+element-copy-out-place c = omega (arith, c .before .before .pre .2, c .before .before .pre .0 .few)
+
+mul-place-3 : tie.Need-mul-place-3 Inv-loop μ-loop
+mul-place-3 c = omega (arith, c .before .before .before .before .pre .2, c .before .before .before .before .pre .0 .few)
+
+element-copy-out-place-2 : tie.Need-element-copy-out-place-2 Inv-loop μ-loop
+element-copy-out-place-2 c = omega (arith, c .before .before .before .before .pre .2, c .before .before .before .before .pre .0 .few)
+
+loop-holds : tie.Need-loop-holds Inv-loop μ-loop
+loop-holds c = (omega (arith, c .place2 .ensures .0), spreading-start (c .place2 .ensures .0))
+
+shared-slice-read-try-entry : tie.Need-shared-slice-read-try-entry Inv-loop μ-loop
+shared-slice-read-try-entry c = c .before .before .before .before .before .before .before .before .before .before .before .pre .0 .within _ _ (listed _ _ _ (c .before .before .before .before .loop .inv .0) (omega (arith, c .before .before .before .loop-test .taken, c .before .before .before .before .before .before .before .place .ensures .0)))
+
+try-entry-requires : tie.Need-try-entry-requires Inv-loop μ-loop
+try-entry-requires c κs = entry-ready _ _ (settle-kept (c .before .before .before .before .before .before .before .before .before .before .before .pre .0) (c .before .before .before .before .loop .inv .1 .fell)) (c .before .before .before .before .loop .inv .1 .fell .bits ∙ c .before .before .before .before .before .before .before .before .before .before .before .pre .1) (listed _ _ _ (c .before .before .before .before .loop .inv .0) (omega (arith, c .before .before .before .loop-test .taken, c .before .before .before .before .before .before .before .place .ensures .0)))
+
+add-at : tie.Need-add-at Inv-loop μ-loop
+add-at c = omega (arith, c .before .before .before .before .before .before .loop-test .taken, c .before .before .before .before .before .before .before .before .before .before .place .ensures)
+
+loop-less : tie.Need-loop-less Inv-loop μ-loop
+loop-less c = omega (arith, c .before .before .before .before .before .before .loop-test .taken)
+
+loop-again : tie.Need-loop-again Inv-loop μ-loop
+loop-again c = (omega (arith, c .before .before .before .before .before .before .before .loop .inv .0), spreading-step (c .before .before .before .before .before .before .before .loop .inv .1) (listed _ _ _ (c .before .before .before .before .before .before .before .loop .inv .0) (omega (arith, c .before .before .before .before .before .before .loop-test .taken, c .before .before .before .before .before .before .before .before .before .before .place .ensures .0))) (c .before .before .before .before .before .before .before .before .before .before .before .before .before .before .pre .0 .from _ _ (listed _ _ _ (c .before .before .before .before .before .before .before .loop .inv .0) (omega (arith, c .before .before .before .before .before .before .loop-test .taken, c .before .before .before .before .before .before .before .before .before .before .place .ensures .0)))) (c .before .before .try-entry .ensures))
+
+same-length : tie.Need-same-length Inv-loop μ-loop
+same-length c = c .before .loop .inv .1 .fell .size
+
+returns : tie.Need-returns Inv-loop μ-loop
+returns c = spreading-end (c .before .loop .inv .1) (omega (arith, c .loop-test .left, c .before .before .before .before .place .ensures .0))
+
+pub spread-spec : {M : Type 1} → statement M
+spread-spec =
+    tie.close
+    (tie.spec
+    Inv-loop
+    μ-loop
+    mul-place
+    add-place
+    (λ c. search needs)
+    element-copy-out-place
+    (λ c κs. search needs)
+    mul-place-3
+    (λ c. search needs)
+    element-copy-out-place-2
+    (λ c κs. search needs)
+    loop-holds
+    (λ c. search needs)
+    shared-slice-read-try-entry
+    try-entry-requires
+    add-at
+    loop-less
+    loop-again
+    same-length
+    returns)

@@ -1,0 +1,48 @@
+-- `try_entry` meets its contract.
+use mathlib.Core.Path.{refl}
+use native.Mathlib.Omega.{arith}
+use Rattle.basics.proofs.Bools.{clash}
+use borrow.Author.Needs.{needs}
+use Rattle.stage_settling.proofs.try_entry.Statement.{statement}
+use Rattle.stage_settling.proofs.try_entry.Tie as tie
+
+cast-from : tie.Need-cast-from
+cast-from c = search needs
+
+add-try-arc : tie.Need-add-try-arc
+add-try-arc c = omega (arith, c .before .before .pre .few, c .before .before .pre .from)
+
+add-try-arc-2 : tie.Need-add-try-arc-2
+add-try-arc-2 c = omega (arith, c .before .before .pre .few, c .before .before .pre .code)
+
+try-arc-requires : tie.Need-try-arc-requires
+try-arc-requires c κs = c .before .before .pre .arc
+
+put-requires : tie.Need-put-requires
+put-requires c κs = (c .before .before .before .before .before .before .before .pre .from, c .before .before .before .before .before .before .before .pre .bits)
+
+same-length : tie.Need-same-length
+same-length c = search needs
+
+returns : tie.Need-returns
+returns c = record { lower = c .before .before .before .before .before .try-arc .result; tried = c .before .before .before .before .before .try-arc .ensures; more = λ _. c .put .ensures; same = λ q. absurd (clash (c .before .before .if1 .taken) q) }
+
+same-length-2 : tie.Need-same-length-2
+same-length-2 c = search needs
+
+returns-2 : tie.Need-returns-2
+returns-2 c = record { lower = c .before .before .before .try-arc .result; tried = c .before .before .before .try-arc .ensures; more = λ q. absurd (clash q (c .if1 .left)); same = λ _. refl }
+
+pub try-entry-spec : {M : Type 1} → statement M
+try-entry-spec =
+    tie.close
+    (tie.spec
+    cast-from
+    add-try-arc
+    add-try-arc-2
+    try-arc-requires
+    put-requires
+    same-length
+    returns
+    same-length-2
+    returns-2)
