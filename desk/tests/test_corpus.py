@@ -10,10 +10,12 @@ from . import REPOSITORY
 
 CORPUS = REPOSITORY / "crates" / "test_corpus"
 PRIME = 1000000007
+# the refusals that leave the work slice as it was
+KEEPING = (*range(1, 10), 25, 26)
 
 
 class Fields:
-    """The fields of the file's cases, one after another, as crates/test_corpus/src/fields.rt has them."""
+    """The fields of the file's cases, one after another, as crates/test_calls/src/fields.rt has them."""
 
     def __init__(self, file: bytes) -> None:
         self.file, self.at = file, 0
@@ -40,7 +42,15 @@ class Fields:
 
 
 def in_short(slice: bytearray) -> int:
-    return sum((at + 1) * byte for at, byte in enumerate(slice)) % PRIME
+    number = 0
+    for byte in slice:
+        number = (257 * number + byte) % PRIME
+    return number
+
+
+def kept(said: str, work: int) -> str:
+    """What ends the line of a refusal that leaves the work slice as it was: its length. The binding lends one of its own, so that is not tried here."""
+    return f" {work}" if int(said.split()[0]) in KEEPING else ""
 
 
 def evaluation(counts: tuple[int, ...], pairs: int, length: int) -> str:
@@ -70,7 +80,7 @@ def search(name: str, call: Callable[..., pastaspur.Best], read: Callable[[Field
         return evaluation(found.counts, len(found.candidate) // 2, found.word_length)
 
     said = answered(best, NONE)
-    return f"{name} {said} {in_short(answer)}"
+    return f"{name} {said} {in_short(answer)}{kept(said, work)}"
 
 
 def weigh(fields: Fields) -> str:
@@ -83,7 +93,7 @@ def weigh(fields: Fields) -> str:
         return f"{evaluation(found.counts, len(found.candidate) // 2, found.word_length)} {found.sum}"
 
     said = answered(best, f"{NONE} 0")
-    return f"optimize weights {said} {in_short(answer)}"
+    return f"optimize weights {said} {in_short(answer)}{kept(said, work)}"
 
 
 def evaluate(fields: Fields) -> str:
@@ -123,7 +133,8 @@ def judge(fields: Fields) -> str:
         judged = pastaspur.judge(card, ranking, word, tableau, work_numbers=work)
         return f"{judged.verdict.value} {judged.row}"
 
-    return f"judge {answered(found, '0 0')}"
+    said = answered(found, "0 0")
+    return f"judge {said}{kept(said, work)}"
 
 
 def compare(fields: Fields) -> str:

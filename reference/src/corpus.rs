@@ -1,8 +1,9 @@
 //! A corpus of calls for a test program of the gate: a file with the calls, and the lines that have to be printed.
 //!
 //! The file is one call after another: a byte for its kind, from 1 in the order of `KINDS`, and its fields. Numbers have 16
-//! bits, the lower byte first. A list is its length and its elements. Of the work slice only the length is given, of the
-//! answer and target slices their length and the byte that they are filled with. A set of symbols has 64 bits, a weight 32.
+//! bits, the lower byte first. A list is its length and its elements. Of the work slice only the length is given: the test
+//! program fills it with 7s. Of the answer and target slices it is their length and the byte that they are filled with. A
+//! set of symbols has 64 bits, a weight 32.
 //!
 //! The live tableau's calls are not in it: the test program, itself proved safe, would have to go through a slice of rows
 //! by hand. The test program `test_live` makes them, and so does the comparison.
@@ -218,19 +219,34 @@ fn fields(call: &Call) -> Vec<u8> {
     fields.0
 }
 
-/// A whole slice in one number: each byte times its place, counted from 1, added up modulo 1,000,000,007.
+/// A whole slice in one number: its bytes as the digits of a number to base 257, modulo 1,000,000,007.
 fn sum(slice: &[u8]) -> u64 {
-    slice.iter().zip(1..).fold(0, |sum, (&byte, place)| (sum + place * byte as u64) % 1_000_000_007)
+    slice.iter().fold(0, |sum, &byte| (257 * sum + byte as u64) % 1_000_000_007)
 }
 
 fn joined(numbers: &[usize], between: &str) -> String {
     numbers.iter().map(usize::to_string).collect::<Vec<_>>().join(between)
 }
 
+/// How many numbers of the work slice still hold what they were filled with, where the call has to keep them: all that
+/// were lent.
+fn kept(call: &Call, number: u32) -> String {
+    if !matches!(number, 1..=9 | 25 | 26) {
+        return String::new();
+    }
+    match call {
+        Call::Optimize { work, .. } | Call::OptimizeSets { work, .. } | Call::Judge { work, .. } => {
+            format!(" {}", work.len())
+        }
+        Call::OptimizeWeights { work, .. } => format!(" {}", work.len()),
+        _ => String::new(),
+    }
+}
+
 /// What the test program prints for a call.
 fn line(call: &Call, outcome: &Outcome) -> String {
     let Outcome { number, result, slice, .. } = outcome;
-    match call {
+    let line = match call {
         Call::Optimize { .. } | Call::OptimizeSets { .. } | Call::OptimizeWeights { .. } => {
             let name = call.name();
             format!("{name} {number} {} {} {}", joined(&result[..6], ","), joined(&result[6..], " "), sum(slice))
@@ -247,7 +263,8 @@ fn line(call: &Call, outcome: &Outcome) -> String {
         Call::FindRanking { .. } => format!("ranking {number} {}", joined(result, ",")),
         Call::Judge { .. } => format!("judge {number} {}", joined(result, " ")),
         Call::Rows { .. } | Call::Live { .. } => unreachable!("left out"),
-    }
+    };
+    line + &kept(call, *number)
 }
 
 /// The longest best candidate that there is, in slices that just hold it and that just do not, and its evaluation.

@@ -1,7 +1,7 @@
-// Runs the corpus: makes the call that each case of the file `cases` asks, and writes a line with what it answers, as calls.rt has it. The second
-// implementation, in reference/, makes the cases and the lines that are expected.
+// Runs the corpus: makes the call that each case of the file `cases` asks, and writes a line with what it answers, as `test_calls` has it. The second
+// implementation, in reference/, makes the cases and the lines that are expected; those of tests/calls are written by hand.
 //
-// A case is a byte that says its kind, and its fields (fields.rt):
+// A case is a byte that says its kind, and its fields (`test_calls`, fields.rt):
 //
 //     1 optimize    card, ranking, word: bytes; numbers of work, bytes of answer: a number each; what the answer is filled with: a byte
 //     2 evaluate    card, candidate: bytes
@@ -19,37 +19,33 @@
 // A case of another kind, one that the file ends in and one that asks to be lent more than there is are faulty. 10 to 12, the live tableau's calls, are not
 // in the file: `test_live` makes them. Each of the functions for a kind goes from the place of the first field to the place after the last, which is nowhere
 // for a faulty case.
-mod calls;
-mod fields;
-mod writing;
-
-use calls::compare;
-use calls::derive;
-use calls::evaluate;
-use calls::find;
-use calls::lend_and_join;
-use calls::lend_and_judge;
-use calls::lend_and_pack;
-use calls::lend_and_search;
-use calls::lend_and_search_sets;
-use calls::lend_and_weigh;
-use calls::read_part;
-use fields::NOWHERE;
-use fields::after;
-use fields::after_bytes;
-use fields::after_numbers;
-use fields::after_sets;
-use fields::after_weights;
-use fields::byte_at;
-use fields::bytes_at;
-use fields::numbers_at;
-use fields::profile_at;
-use fields::sets_at;
-use fields::size_at;
-use fields::weights_at;
+use test_calls::calls::compare;
+use test_calls::calls::derive;
+use test_calls::calls::evaluate;
+use test_calls::calls::find;
+use test_calls::calls::lend_and_join;
+use test_calls::calls::lend_and_judge;
+use test_calls::calls::lend_and_pack;
+use test_calls::calls::lend_and_search;
+use test_calls::calls::lend_and_search_sets;
+use test_calls::calls::lend_and_weigh;
+use test_calls::calls::read_part;
+use test_calls::fields::NOWHERE;
+use test_calls::fields::after;
+use test_calls::fields::after_bytes;
+use test_calls::fields::after_numbers;
+use test_calls::fields::after_sets;
+use test_calls::fields::after_weights;
+use test_calls::fields::byte_at;
+use test_calls::fields::bytes_at;
+use test_calls::fields::numbers_at;
+use test_calls::fields::profile_at;
+use test_calls::fields::sets_at;
+use test_calls::fields::size_at;
+use test_calls::fields::weights_at;
+use test_calls::writing::end_line;
+use test_calls::writing::write_bad_case;
 use test_support::slices::read_file;
-use writing::end_line;
-use writing::write_bad_case;
 
 // One byte more than the file may have.
 const FILE_BYTES: usize = 409601;
