@@ -48,3 +48,11 @@ class Numbers(unittest.TestCase):
             lambda: pastaspur.LiveTableau(259, ranking),
         ):
             self.assertRaises(OverflowError, call)
+
+
+class Lengths(unittest.TestCase):
+    def test_a_part_may_end_past_65535(self) -> None:
+        """A card whose part has 65,535 bytes, more than a case of tests/calls can hold: the layout is right, and the part is refused."""
+        with self.assertRaises(pastaspur.Refused) as refused:
+            pastaspur.read_part(bytes([1, 2, 6, 0, 255, 255]) + bytes(65535), 0)
+        self.assertEqual(refused.exception.number, 3)
