@@ -86,7 +86,9 @@ step-requires c κs =
 
 -- the step, as the machine has it
 taken : (c : tie.After-step Inv-loop μ-loop) →
-    stepOf (machineOf (c .before .before .before .before .before .before .before .args .part .now)) (c .before .before .before .loop .position .state) (pairAt (c .before .before .before .before .before .before .before .args .candidate .now) (c .before .before .before .loop .at)) ≡ stepped (c .step .result)
+    let at-loop = c .before .before .before .loop in
+    let entry = c .before .before .before .before .before .before .before in
+    stepOf (machineOf (entry .args .part .now)) (at-loop .position .state) (pairAt (entry .args .candidate .now) (at-loop .at)) ≡ stepped (c .step .result)
 taken c = ap (stepOf (machineOf (c .before .before .before .before .before .before .before .args .part .now)) (c .before .before .before .loop .position .state)) (sym (c .before .pair-at .ensures)) ∙ sym (c .step .ensures)
 
 returns : tie.Need-returns Inv-loop μ-loop
@@ -98,7 +100,9 @@ returns c =
 
 -- the step that was taken
 moved : (c : tie.After-wide Inv-loop μ-loop) →
-    stepOf (machineOf (c .before .before .before .before .before .before .before .before .before .before .before .args .part .now)) (c .before .before .before .before .before .before .before .loop .position .state) (pairAt (c .before .before .before .before .before .before .before .before .before .before .before .args .candidate .now) (c .before .before .before .before .before .before .before .loop .at))
+    let at-loop = c .before .before .before .before .before .before .before .loop in
+    let entry = c .before .before .before .before .before .before .before .before .before .before .before in
+    stepOf (machineOf (entry .args .part .now)) (at-loop .position .state) (pairAt (entry .args .candidate .now) (at-loop .at))
     ≡ some (c .before .before .next .given .0 .0 .state, c .wide .result)
 moved c =
     let g = c .before .before .next .given in
@@ -116,7 +120,9 @@ add-marks c =
     marks-fit (k .loop .marks) (k .loop .at) (length (s .args .candidate .now)) (c .wide .result) (k .loop .inv .2) (k .loop .inv .1) (s .pre .1 .1) (few c)
 
 add-at : tie.Need-add-at Inv-loop μ-loop
-add-at c = let s = c .before .before .before .before .before .before .before .before .before .before .before in place-fits (c .before .before .before .before .before .before .before .loop .at) (length (s .args .candidate .now)) (here (c .before .before .before .before .before .before)) (s .pre .1 .1)
+add-at c =
+    let at-loop = c .before .before .before .before .before .before .before .loop in
+    let s = c .before .before .before .before .before .before .before .before .before .before .before in place-fits (at-loop .at) (length (s .args .candidate .now)) (here (c .before .before .before .before .before .before)) (s .pre .1 .1)
 
 loop-less : tie.Need-loop-less Inv-loop μ-loop
 loop-less c = nearer (c .before .before .before .before .before .before .before .loop .at) (length (c .before .before .before .before .before .before .before .before .before .before .before .args .candidate .now)) (c .before .before .before .before .before .before .loop-test .taken)

@@ -39,9 +39,10 @@ sum-passed c =
     eqb-true (total (a .lengths .now)) (length (a .parts .now)) (was-true (c .enum-told3 .given .1) 17 t (lit< tt) (sum-tested (c .before .before)))
 
 -- the refusal of parts that pass
-parts-passed : (c : tie.After-enum-told5)
-    → firstOf (partsRefusal (c .before .before .before .before .before .before .before .before .before .before .before .before .args .symbols) (split (c .before .before .before .before .before .before .before .before .before .before .before .before .args .lengths .now) (c .before .before .before .before .before .before .before .before .before .before .before .before .args .parts .now))
-    ∷ refuse 6 (fewStates (split (c .before .before .before .before .before .before .before .before .before .before .before .before .args .lengths .now) (c .before .before .before .before .before .before .before .before .before .before .before .before .args .parts .now))) ∷ [])
+parts-passed : (c : tie.After-enum-told5) →
+    let entry = c .before .before .before .before .before .before .before .before .before .before .before .before in
+    firstOf (partsRefusal (entry .args .symbols) (split (entry .args .lengths .now) (entry .args .parts .now))
+    ∷ refuse 6 (fewStates (split (entry .args .lengths .now) (entry .args .parts .now))) ∷ [])
     ≡ 0
 parts-passed c = passed-number (c .enum-told5 .given .1) (c .before .before .check-parts .ensures)
 

@@ -16,8 +16,13 @@ enter-step-requires : tie.Need-enter-step-requires
 enter-step-requires c κs = from-pre (c .before .before .before .before .before .pre) (c .step-code .result) (c .step-code .ensures)
 
 returns-2 : tie.Need-returns-2
-returns-2 c = let s = c .before .before .before .before .before .before .before .before in
-    λ x one. from-entered {e = c .before .before .before .step-code .result} (s .args .arc) (s .args .state) x (omega (arith, c .before .before .before .before .before .before .if1 .left)) (c .before .before .before .step-code .ensures) (λ y. c .before .before .before .before .before .outputs-for .ensures x y one) (c .before .before .enter-step .ensures)
+returns-2 c =
+    let at-enter-step = c .before .before .enter-step in
+    let at-step-code = c .before .before .before .step-code in
+    let at-outputs-for = c .before .before .before .before .before .outputs-for in
+    let at-if1 = c .before .before .before .before .before .before .if1 in
+    let s = c .before .before .before .before .before .before .before .before in
+    λ x one. from-entered {e = at-step-code .result} (s .args .arc) (s .args .state) x (omega (arith, at-if1 .left)) (at-step-code .ensures) (λ y. at-outputs-for .ensures x y one) (at-enter-step .ensures)
 
 pub enter-from-spec : {M : Type 1} → statement M
 enter-from-spec =

@@ -24,20 +24,29 @@ loop-holds : tie.Need-loop-holds Inv-loop μ-loop
 loop-holds c = (refl, hand-start (c .before .before .before .before .before .before .before .before .before .pre) _ (c .partners .result) (c .before .before .before .clear .ensures) refl (c .partners .ensures))
 
 part-requires : tie.Need-part-requires Inv-loop μ-loop
-part-requires c κs = (c .before .before .before .before .before .before .before .before .before .before .before .before .pre .accepted, machine-there (c .before .before .before .before .before .before .before .before .before .before .before .before .pre) (c .before .before .loop .inv .1) (c .before .loop-test .taken))
+part-requires c κs =
+    let at-loop = c .before .before .loop in
+    let entry = c .before .before .before .before .before .before .before .before .before .before .before .before in
+    (entry .pre .accepted, machine-there (entry .pre) (at-loop .inv .1) (c .before .loop-test .taken))
 
 fill-state-requires : tie.Need-fill-state-requires Inv-loop μ-loop
 fill-state-requires c κs = state-pre (c .before .before .before .before .before .before .before .before .before .before .before .before .before .before .pre) (c .before .before .before .before .loop .inv .1) (c .before .before .before .loop-test .taken) (c .before .part .ensures)
 
 loop-again : tie.Need-loop-again Inv-loop μ-loop
-loop-again c = let s = c .before .before .before .before .before .before .before .before .before .before .before .before .before .before .before .before .before in
-    let l = c .before .before .before .before .before .before .before .loop in
-    let t = c .before .before .before .before .before .before .loop-test .taken in
+loop-again c =
+    let at-fill-state = c .before .before .fill-state in
+    let at-part = c .before .before .before .before .part in
+    let at-loop-test = c .before .before .before .before .before .before .loop-test in
+    let at-loop = c .before .before .before .before .before .before .before .loop in
+    let at-set-of = c .before .before .before .before .before .before .before .before .before .before .before .before .before .set-of in
+    let s = c .before .before .before .before .before .before .before .before .before .before .before .before .before .before .before .before .before in
+    let l = at-loop in
+    let t = at-loop-test .taken in
     let card = s .args .card .now in
     let states = s .args .states .now in
-    let h : StateFilled (machineAt (machinesOf card) (l .m)) (getD states (l .m) 0) (s .args .input) (length states) (l .m) (l .steps) (c .before .before .fill-state .last .0) (c .before .before .fill-state .result) =
-    rw (machine-at card (l .m) (machine-there (s .pre) (l .inv .1) t) noMachine, ← (c .before .before .before .before .part .ensures)) (c .before .before .fill-state .ensures (s .args .input) (c .before .before .before .before .before .before .before .before .before .before .before .before .before .set-of .ensures)) in
-    (c .before .before .fill-state .kept .0 ∙ l .inv .0, hand-next (s .pre) (l .inv .1) t (c .before .before .fill-state .result) h)
+    let h : StateFilled (machineAt (machinesOf card) (l .m)) (getD states (l .m) 0) (s .args .input) (length states) (l .m) (l .steps) (at-fill-state .last .0) (at-fill-state .result) =
+    rw (machine-at card (l .m) (machine-there (s .pre) (l .inv .1) t) noMachine, ← (at-part .ensures)) (at-fill-state .ensures (s .args .input) (at-set-of .ensures)) in
+    (at-fill-state .kept .0 ∙ l .inv .0, hand-next (s .pre) (l .inv .1) t (at-fill-state .result) h)
 
 same-length : tie.Need-same-length Inv-loop μ-loop
 same-length c = c .before .loop .inv .0 ∙ c .before .before .before .before .before .clear .kept .0

@@ -31,7 +31,10 @@ loop-holds c = let s = c .before .before .before .before in
     )
 
 nth-arc-requires : tie.Need-nth-arc-requires Inv-loop μ-loop
-nth-arc-requires c κs = let s = c .before .before .before .before .before .before .before in (accepted (s .pre .accepted .0) (s .args .part .now) (s .pre .accepted .1) .shape, c .before .before .before .before .state-count .ensures, omega (arith, c .before .before .loop .inv .0, c .before .loop-test .taken))
+nth-arc-requires c κs =
+    let at-loop = c .before .before .loop in
+    let at-state-count = c .before .before .before .before .state-count in
+    let s = c .before .before .before .before .before .before .before in (accepted (s .pre .accepted .0) (s .args .part .now) (s .pre .accepted .1) .shape, at-state-count .ensures, omega (arith, at-loop .inv .0, c .before .loop-test .taken))
 
 enter-from-requires : tie.Need-enter-from-requires Inv-loop μ-loop
 enter-from-requires c κs = let l = c .before .before .before in

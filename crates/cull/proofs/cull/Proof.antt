@@ -22,10 +22,14 @@ returns c =
     call-refused (word-best-small _ _ _ _) (n .result) e p (c .refused .ensures)
 
 -- the input is accepted
-passed : (c : tie.After-enum-told) → inputRefusal (c .before .before .before .before .before .before .before .before .args .card .now) (c .before .before .before .before .before .before .before .before .args .ranking .now) (c .before .before .before .before .before .before .before .before .args .word .now) (length (c .before .before .before .before .before .before .before .before .args .work .now)) ≡ 0
+passed : (c : tie.After-enum-told) →
+    let entry = c .before .before .before .before .before .before .before .before in
+    inputRefusal (entry .args .card .now) (entry .args .ranking .now) (entry .args .word .now) (length (entry .args .work .now)) ≡ 0
 passed c = sym (c .before .before .check-input .ensures .number) ∙ ap checkedNumber (c .enum-told .given .1)
 
-accepts : (c : tie.After-enum-told) → AcceptedInput (c .before .before .before .before .before .before .before .before .args .card .now) (c .before .before .before .before .before .before .before .before .args .ranking .now) (c .before .before .before .before .before .before .before .before .args .word .now) (length (c .before .before .before .before .before .before .before .before .args .work .now))
+accepts : (c : tie.After-enum-told) →
+    let entry = c .before .before .before .before .before .before .before .before in
+    AcceptedInput (entry .args .card .now) (entry .args .ranking .now) (entry .args .word .now) (length (entry .args .work .now))
 accepts c = accepted-input _ _ _ _ (passed c)
 
 -- its sizes
@@ -33,12 +37,20 @@ sizes : (c : tie.After-struct-known) → GridOf (c .before .before .before .befo
 sizes c = c .before .before .before .before .check-input .ensures .sizes (passed (c .before .before))
 
 few : (c : tie.After-struct-known) → (length (c .before .before .before .before .before .before .before .before .before .before .args .word .now) + 1) * c .before .before .before .before .check-input .result .grid .size ≤ 3200
-few c = let a = accepts (c .before .before) in nodes-few (c .before .before .before .before .before .before .before .before .before .before .args .card .now) (c .before .before .before .before .before .before .before .before .before .before .args .word .now) (a .accepted) (c .before .before .before .before .check-input .result .grid .size) (sizes c .size) (a .sound)
+few c =
+    let at-check-input = c .before .before .before .before .check-input in
+    let entry = c .before .before .before .before .before .before .before .before .before .before in
+    let a = accepts (c .before .before) in nodes-few (entry .args .card .now) (entry .args .word .now) (a .accepted) (at-check-input .result .grid .size) (sizes c .size) (a .sound)
 
-fits : (c : tie.After-struct-known) → (length (c .before .before .before .before .before .before .before .before .before .before .args .word .now) + 1) * c .before .before .before .before .check-input .result .grid .size * 8 ≤ length (c .before .before .before .before .before .before .before .before .before .before .args .work .now)
+fits : (c : tie.After-struct-known) →
+    let at-check-input = c .before .before .before .before .check-input in
+    let entry = c .before .before .before .before .before .before .before .before .before .before in
+    (length (entry .args .word .now) + 1) * at-check-input .result .grid .size * 8 ≤ length (entry .args .work .now)
 fits c =
+    let at-check-input = c .before .before .before .before .check-input in
+    let entry = c .before .before .before .before .before .before .before .before .before .before in
     let a = accepts (c .before .before) in
-    omega (arith, a .nodes-fit, node-room (c .before .before .before .before .before .before .before .before .before .before .args .card .now) (c .before .before .before .before .before .before .before .before .before .before .args .word .now) (a .accepted) (c .before .before .before .before .check-input .result .grid .size) (sizes c .size))
+    omega (arith, a .nodes-fit, node-room (entry .args .card .now) (entry .args .word .now) (a .accepted) (at-check-input .result .grid .size) (sizes c .size))
 
 mul-nodes : tie.Need-mul-nodes
 mul-nodes c = omega (arith, few c)

@@ -18,7 +18,11 @@ fill-endings-requires : tie.Need-fill-endings-requires
 fill-endings-requires c κs = fill-ready (c .before .before .before .before .before .before .before .before .before .before .pre) (omega (arith, length-replicate {A = ℕ} 2600 65535, c .before .width-of .ensures))
 
 join-four-requires : tie.Need-join-four-requires
-join-four-requires c κs = join-ready (c .before .before .before .before .before .before .before .before .before .before .before .before .before .before .before .before .pre) column-small (c .before .before .before .before .before .fill-endings .ensures) (c .before .before .before .before .before .before .before .width-of .ensures .0) (omega (arith, c .before .before .before .before .before .fill-endings .ensures .size, length-replicate {A = ℕ} 2600 65535, c .before .before .before .before .before .before .before .width-of .ensures .1)) (c .before .before .before .before .before .before .before .before .before .before .before .before .before .before .before .before .pre .high-size) (c .before .before .before .before .before .before .before .before .before .before .before .before .before .before .before .before .pre .low-size)
+join-four-requires c κs =
+    let at-fill-endings = c .before .before .before .before .before .fill-endings in
+    let at-width-of = c .before .before .before .before .before .before .before .width-of in
+    let entry = c .before .before .before .before .before .before .before .before .before .before .before .before .before .before .before .before in
+    join-ready (entry .pre) column-small (at-fill-endings .ensures) (at-width-of .ensures .0) (omega (arith, at-fill-endings .ensures .size, length-replicate {A = ℕ} 2600 65535, at-width-of .ensures .1)) (entry .pre .high-size) (entry .pre .low-size)
 
 mul-t27 : tie.Need-mul-t27
 mul-t27 c = let t = c .before .before .before .before .before .before .before .before .before .before .before .before .before .before .before .before .before .before .before .before .before in omega (arith, few-nodes (t .pre .setting), position-there (t .pre .setting) (length (t .args .sets .now)) (omega arith))

@@ -26,7 +26,9 @@ add-look-ahead : tie.Need-add-look-ahead Inv-loop μ-loop
 add-look-ahead c = omega (arith, nodes-there (c .before .before .before .before .before .before .before .before .before .before .before .before .pre .0) symbols-start (c .before .before .before .before .before .before .before .before .before .before .before .before .pre .2) .few)
 
 look-ahead-requires : tie.Need-look-ahead-requires Inv-loop μ-loop
-look-ahead-requires c κs = let N = nodes-there (c .before .before .before .before .before .before .before .before .before .before .before .before .pre .0) symbols-start (c .before .before .before .before .before .before .before .before .before .before .before .before .pre .2) in (N .nodes, N .few, few-codes (c .before .before .before .before .before .before .before .before .before .before .before .before .pre .0 .given .setting), N .stage, length-replicate {A = ℕ} 128 0)
+look-ahead-requires c κs =
+    let entry = c .before .before .before .before .before .before .before .before .before .before .before .before in
+    let N = nodes-there (entry .pre .0) symbols-start (entry .pre .2) in (N .nodes, N .few, few-codes (entry .pre .0 .given .setting), N .stage, length-replicate {A = ℕ} 128 0)
 
 mul-left : tie.Need-mul-left Inv-loop μ-loop
 mul-left c = omega (arith, c .before .before .before .before .before .before .before .before .before .before .before .before .before .pre .2, c .before .before .before .before .before .before .before .before .before .before .before .before .before .pre .0 .given .setting .few)
@@ -75,7 +77,9 @@ same-length-4 : tie.Need-same-length-4 Inv-loop μ-loop
 same-length-4 c = c .before .loop .inv .3
 
 returns : tie.Need-returns Inv-loop μ-loop
-returns c = entered-symbols (c .before .before .before .before .before .before .before .before .before .before .before .before .before .before .before .before .pre .0) (c .before .loop .inv .0) (c .before .before .before .before .before .before .before .before .before .before .before .before .before .before .before .before .pre .2) (omega (arith, c .loop-test .left))
+returns c =
+    let entry = c .before .before .before .before .before .before .before .before .before .before .before .before .before .before .before .before in
+    entered-symbols (entry .pre .0) (c .before .loop .inv .0) (entry .pre .2) (omega (arith, c .loop-test .left))
 
 pub enter-symbol-spec : {M : Type 1} → statement M
 enter-symbol-spec =

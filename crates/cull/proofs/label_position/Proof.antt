@@ -11,10 +11,17 @@ mul-settle : tie.Need-mul-settle
 mul-settle c = let t = c .before .before .before .before .before .before .before .before .before .before .before .before .before .before .before .before .before .before .before .before .before .before .before .before in omega (arith, few-nodes (t .pre .0 .given .setting), position-there (t .pre .0 .given .setting) (t .args .position) (t .pre .0 .within))
 
 settle-requires : tie.Need-settle-requires
-settle-requires c κs = settle-ready (c .before .before .before .before .before .before .before .before .before .before .before .before .before .before .before .before .before .before .before .before .before .before .before .before .pre .0) (c .before .before .before .before .before .before .before .before .before .enter .ensures)
+settle-requires c κs =
+    let at-enter = c .before .before .before .before .before .before .before .before .before .enter in
+    let entry = c .before .before .before .before .before .before .before .before .before .before .before .before .before .before .before .before .before .before .before .before .before .before .before .before in
+    settle-ready (entry .pre .0) (at-enter .ensures)
 
 returns : tie.Need-returns
-returns c = position-labelled (c .before .before .before .before .before .before .before .before .before .before .before .before .before .before .before .before .before .before .before .before .before .before .before .before .before .before .before .pre .0) (c .before .before .before .before .before .before .before .before .before .before .before .before .enter .ensures) (c .before .before .settle .ensures)
+returns c =
+    let at-settle = c .before .before .settle in
+    let at-enter = c .before .before .before .before .before .before .before .before .before .before .before .before .enter in
+    let entry = c .before .before .before .before .before .before .before .before .before .before .before .before .before .before .before .before .before .before .before .before .before .before .before .before .before .before .before in
+    position-labelled (entry .pre .0) (at-enter .ensures) (at-settle .ensures)
 
 pub label-position-spec : {M : Type 1} → statement M
 label-position-spec =

@@ -38,28 +38,56 @@ mul-try-ending : tie.Need-mul-try-ending Inv-loop μ-loop
 mul-try-ending c = let r = ending-places (c .before .before .before .before .before .before .before .pre) (c .before .before .loop .code) (c .before .loop-test .taken) in omega (arith, r .front-is, r .back-is, c .before .before .before .before .before .before .before .pre .small)
 
 shared-slice-read-try-ending : tie.Need-shared-slice-read-try-ending Inv-loop μ-loop
-shared-slice-read-try-ending c = let r = ending-places (c .before .before .before .before .before .before .before .before .pre) (c .before .before .before .loop .code) (c .before .before .loop-test .taken) in omega (arith, r .front-is, r .back-is, c .before .before .before .before .before .before .before .before .pre .small, c .before .before .before .before .before .before .before .before .pre .high-room)
+shared-slice-read-try-ending c =
+    let at-loop-test = c .before .before .loop-test in
+    let at-loop = c .before .before .before .loop in
+    let entry = c .before .before .before .before .before .before .before .before in
+    let r = ending-places (entry .pre) (at-loop .code) (at-loop-test .taken) in omega (arith, r .front-is, r .back-is, entry .pre .small, entry .pre .high-room)
 
 mul-try-ending-2 : tie.Need-mul-try-ending-2 Inv-loop μ-loop
-mul-try-ending-2 c = let r = ending-places (c .before .before .before .before .before .before .before .before .pre) (c .before .before .before .loop .code) (c .before .before .loop-test .taken) in omega (arith, r .front-is, r .back-is, c .before .before .before .before .before .before .before .before .pre .small)
+mul-try-ending-2 c =
+    let at-loop-test = c .before .before .loop-test in
+    let at-loop = c .before .before .before .loop in
+    let entry = c .before .before .before .before .before .before .before .before in
+    let r = ending-places (entry .pre) (at-loop .code) (at-loop-test .taken) in omega (arith, r .front-is, r .back-is, entry .pre .small)
 
 shared-slice-read-try-ending-2 : tie.Need-shared-slice-read-try-ending-2 Inv-loop μ-loop
-shared-slice-read-try-ending-2 c = let r = ending-places (c .before .before .before .before .before .before .before .before .before .pre) (c .before .before .before .before .loop .code) (c .before .before .before .loop-test .taken) in omega (arith, r .front-is, r .back-is, c .before .before .before .before .before .before .before .before .before .pre .small, c .before .before .before .before .before .before .before .before .before .pre .high-room)
+shared-slice-read-try-ending-2 c =
+    let at-loop-test = c .before .before .before .loop-test in
+    let at-loop = c .before .before .before .before .loop in
+    let entry = c .before .before .before .before .before .before .before .before .before in
+    let r = ending-places (entry .pre) (at-loop .code) (at-loop-test .taken) in omega (arith, r .front-is, r .back-is, entry .pre .small, entry .pre .high-room)
 
 add-try-ending : tie.Need-add-try-ending Inv-loop μ-loop
 add-try-ending c = omega (arith, c .before .before .before .before .before .before .before .before .before .pre .high-sums (c .before .before .before .before .loop .code) (c .before .before .before .loop-test .taken))
 
 mul-try-ending-3 : tie.Need-mul-try-ending-3 Inv-loop μ-loop
-mul-try-ending-3 c = let r = ending-places (c .before .before .before .before .before .before .before .before .before .pre) (c .before .before .before .before .loop .code) (c .before .before .before .loop-test .taken) in omega (arith, r .front-is, r .back-is, c .before .before .before .before .before .before .before .before .before .pre .small)
+mul-try-ending-3 c =
+    let at-loop-test = c .before .before .before .loop-test in
+    let at-loop = c .before .before .before .before .loop in
+    let entry = c .before .before .before .before .before .before .before .before .before in
+    let r = ending-places (entry .pre) (at-loop .code) (at-loop-test .taken) in omega (arith, r .front-is, r .back-is, entry .pre .small)
 
 shared-slice-read-try-ending-3 : tie.Need-shared-slice-read-try-ending-3 Inv-loop μ-loop
-shared-slice-read-try-ending-3 c = let r = ending-places (c .before .before .before .before .before .before .before .before .before .before .pre) (c .before .before .before .before .before .loop .code) (c .before .before .before .before .loop-test .taken) in omega (arith, r .front-is, r .back-is, c .before .before .before .before .before .before .before .before .before .before .pre .small, c .before .before .before .before .before .before .before .before .before .before .pre .low-room)
+shared-slice-read-try-ending-3 c =
+    let at-loop-test = c .before .before .before .before .loop-test in
+    let at-loop = c .before .before .before .before .before .loop in
+    let entry = c .before .before .before .before .before .before .before .before .before .before in
+    let r = ending-places (entry .pre) (at-loop .code) (at-loop-test .taken) in omega (arith, r .front-is, r .back-is, entry .pre .small, entry .pre .low-room)
 
 mul-try-ending-4 : tie.Need-mul-try-ending-4 Inv-loop μ-loop
-mul-try-ending-4 c = let r = ending-places (c .before .before .before .before .before .before .before .before .before .before .pre) (c .before .before .before .before .before .loop .code) (c .before .before .before .before .loop-test .taken) in omega (arith, r .front-is, r .back-is, c .before .before .before .before .before .before .before .before .before .before .pre .small)
+mul-try-ending-4 c =
+    let at-loop-test = c .before .before .before .before .loop-test in
+    let at-loop = c .before .before .before .before .before .loop in
+    let entry = c .before .before .before .before .before .before .before .before .before .before in
+    let r = ending-places (entry .pre) (at-loop .code) (at-loop-test .taken) in omega (arith, r .front-is, r .back-is, entry .pre .small)
 
 shared-slice-read-try-ending-4 : tie.Need-shared-slice-read-try-ending-4 Inv-loop μ-loop
-shared-slice-read-try-ending-4 c = let r = ending-places (c .before .before .before .before .before .before .before .before .before .before .before .pre) (c .before .before .before .before .before .before .loop .code) (c .before .before .before .before .before .loop-test .taken) in omega (arith, r .front-is, r .back-is, c .before .before .before .before .before .before .before .before .before .before .before .pre .small, c .before .before .before .before .before .before .before .before .before .before .before .pre .low-room)
+shared-slice-read-try-ending-4 c =
+    let at-loop-test = c .before .before .before .before .before .loop-test in
+    let at-loop = c .before .before .before .before .before .before .loop in
+    let entry = c .before .before .before .before .before .before .before .before .before .before .before in
+    let r = ending-places (entry .pre) (at-loop .code) (at-loop-test .taken) in omega (arith, r .front-is, r .back-is, entry .pre .small, entry .pre .low-room)
 
 add-try-ending-2 : tie.Need-add-try-ending-2 Inv-loop μ-loop
 add-try-ending-2 c = omega (arith, c .before .before .before .before .before .before .before .before .before .before .before .pre .low-sums (c .before .before .before .before .before .before .loop .code) (c .before .before .before .before .before .loop-test .taken))
@@ -68,7 +96,11 @@ add-try-ending-3 : tie.Need-add-try-ending-3 Inv-loop μ-loop
 add-try-ending-3 c = omega (arith, c .before .before .before .before .before .loop-test .taken, c .before .before .before .before .before .before .before .before .before .before .before .pre .few-nodes)
 
 try-ending-requires : tie.Need-try-ending-requires Inv-loop μ-loop
-try-ending-requires c κs = (record { node = omega (arith, c .before .before .before .before .before .loop-test .taken, c .before .before .before .before .before .before .before .before .before .before .before .pre .nodes, c .before .before .before .before .before .before .loop .inv .1 .size); stage = c .before .before .before .before .before .before .before .before .before .before .before .pre .stage }, omega (arith, c .before .before .before .before .before .loop-test .taken, c .before .before .before .before .before .before .before .before .before .before .before .pre .few-nodes))
+try-ending-requires c κs =
+    let at-loop-test = c .before .before .before .before .before .loop-test in
+    let at-loop = c .before .before .before .before .before .before .loop in
+    let entry = c .before .before .before .before .before .before .before .before .before .before .before in
+    (record { node = omega (arith, at-loop-test .taken, entry .pre .nodes, at-loop .inv .1 .size); stage = entry .pre .stage }, omega (arith, at-loop-test .taken, entry .pre .few-nodes))
 
 add-code : tie.Need-add-code Inv-loop μ-loop
 add-code c = omega (arith, c .before .before .before .before .before .before .before .before .loop-test .taken, c .before .before .before .before .before .before .before .before .before .before .before .before .before .before .pre .few)

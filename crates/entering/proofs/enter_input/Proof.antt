@@ -24,26 +24,48 @@ loop-holds : tie.Need-loop-holds Inv-loop μ-loop
 loop-holds c = let s = c .before .before .before .before .before .before .before .before .before .before .before .before in (fours-start (s .pre .1), omega (arith, c .before .before .prepare .ok), s .pre .5, s .pre .6)
 
 join-four-requires : tie.Need-join-four-requires Inv-loop μ-loop
-join-four-requires c κs = let l = c .before .before .before .before .before .before .loop in
-    four-ready (of-width (c .before .before .before .before .before .before .before .before .before .before .before .before .before .before .before .before .before .before .before .pre .0) (c .before .before .before .before .before .before .before .before .before .before .before .width-of .ensures .0)) (c .before .before .before .before .before .before .before .before .before .prepare .ensures) (four-few (l .outputs) (c .before .before .before .before .next-four .ensures)) (l .inv .2) (l .inv .3)
+join-four-requires c κs =
+    let at-next-four = c .before .before .before .before .next-four in
+    let at-loop = c .before .before .before .before .before .before .loop in
+    let at-prepare = c .before .before .before .before .before .before .before .before .before .prepare in
+    let at-width-of = c .before .before .before .before .before .before .before .before .before .before .before .width-of in
+    let entry = c .before .before .before .before .before .before .before .before .before .before .before .before .before .before .before .before .before .before .before in
+    let l = at-loop in
+    four-ready (of-width (entry .pre .0) (at-width-of .ensures .0)) (at-prepare .ensures) (four-few (l .outputs) (at-next-four .ensures)) (l .inv .2) (l .inv .3)
 
 try-four-requires : tie.Need-try-four-requires Inv-loop μ-loop
-try-four-requires c κs = let s = c .before .before .before .before .before .before .before .before .before .before .before .before .before .before .before .before .before .before .before .before .before .before .before .before .before .before .before in
-    let l = c .before .before .before .before .before .before .before .before .before .before .before .before .before .before .loop in
-    let j = c .before .before .before .before .before .before .before .join-four in
-    try-ready (of-width (s .pre .0) (c .before .before .before .before .before .before .before .before .before .before .before .before .before .before .before .before .before .before .before .width-of .ensures .0)) (c .before .before .before .before .before .before .before .before .before .before .before .before .before .before .before .before .before .prepare .ensures) (four-few (l .outputs) (c .before .before .before .before .before .before .before .before .before .before .before .before .next-four .ensures)) (j .kept .1 .1 .1 .1 .1 .1 .0 ∙ l .inv .2) (j .kept .1 .1 .1 .1 .1 .1 .1 .0 ∙ l .inv .3) (s .pre .2) (l .inv .0 .position) (j .ensures)
+try-four-requires c κs =
+    let at-join-four = c .before .before .before .before .before .before .before .join-four in
+    let at-next-four = c .before .before .before .before .before .before .before .before .before .before .before .before .next-four in
+    let at-loop = c .before .before .before .before .before .before .before .before .before .before .before .before .before .before .loop in
+    let at-prepare = c .before .before .before .before .before .before .before .before .before .before .before .before .before .before .before .before .before .prepare in
+    let at-width-of = c .before .before .before .before .before .before .before .before .before .before .before .before .before .before .before .before .before .before .before .width-of in
+    let s = c .before .before .before .before .before .before .before .before .before .before .before .before .before .before .before .before .before .before .before .before .before .before .before .before .before .before .before in
+    let l = at-loop in
+    let j = at-join-four in
+    try-ready (of-width (s .pre .0) (at-width-of .ensures .0)) (at-prepare .ensures) (four-few (l .outputs) (at-next-four .ensures)) (j .kept .1 .1 .1 .1 .1 .1 .0 ∙ l .inv .2) (j .kept .1 .1 .1 .1 .1 .1 .1 .0 ∙ l .inv .3) (s .pre .2) (l .inv .0 .position) (j .ensures)
 
 loop-less : tie.Need-loop-less Inv-loop μ-loop
-loop-less c = let l = c .before .before .before .before .before .before .before .before .before .before .before .before .before .before .before .before .before .before .loop in omega (arith, c .without-four .ensures, without-less (l .outputs) (l .inv .1) (omega (arith, c .before .before .before .before .before .before .before .before .before .before .before .before .before .before .before .before .before .loop-test .taken)))
+loop-less c =
+    let at-loop-test = c .before .before .before .before .before .before .before .before .before .before .before .before .before .before .before .before .before .loop-test in
+    let at-loop = c .before .before .before .before .before .before .before .before .before .before .before .before .before .before .before .before .before .before .loop in
+    let l = at-loop in omega (arith, c .without-four .ensures, without-less (l .outputs) (l .inv .1) (omega (arith, at-loop-test .taken)))
 
 loop-again : tie.Need-loop-again Inv-loop μ-loop
-loop-again c = let s = c .before .before .before .before .before .before .before .before .before .before .before .before .before .before .before .before .before .before .before .before .before .before .before .before .before .before .before .before .before .before .before in
-    let l = c .before .before .before .before .before .before .before .before .before .before .before .before .before .before .before .before .before .before .loop in
-    let j = c .before .before .before .before .before .before .before .before .before .before .before .join-four in
-    let f = c .before .before .before .before .before .before .before .before .before .before .before .before .before .before .before .before .next-four .ensures in
+loop-again c =
+    let at-try-four = c .before .before .before .try-four in
+    let at-join-four = c .before .before .before .before .before .before .before .before .before .before .before .join-four in
+    let at-next-four = c .before .before .before .before .before .before .before .before .before .before .before .before .before .before .before .before .next-four in
+    let at-loop = c .before .before .before .before .before .before .before .before .before .before .before .before .before .before .before .before .before .before .loop in
+    let at-prepare = c .before .before .before .before .before .before .before .before .before .before .before .before .before .before .before .before .before .before .before .before .before .prepare in
+    let at-width-of = c .before .before .before .before .before .before .before .before .before .before .before .before .before .before .before .before .before .before .before .before .before .before .before .width-of in
+    let s = c .before .before .before .before .before .before .before .before .before .before .before .before .before .before .before .before .before .before .before .before .before .before .before .before .before .before .before .before .before .before .before in
+    let l = at-loop in
+    let j = at-join-four in
+    let f = at-next-four .ensures in
     let eh = j .kept .1 .1 .1 .1 .1 .1 .0 ∙ l .inv .2 in
     let el = j .kept .1 .1 .1 .1 .1 .1 .1 .0 ∙ l .inv .3 in (
-      fours-next (of-width (s .pre .0) (c .before .before .before .before .before .before .before .before .before .before .before .before .before .before .before .before .before .before .before .before .before .before .before .width-of .ensures .0)) (c .before .before .before .before .before .before .before .before .before .before .before .before .before .before .before .before .before .before .before .before .before .prepare .ensures) (four-few (l .outputs) f) eh el (s .pre .2) (l .inv .0 .position) (j .ensures) (s .pre .3) (c .before .before .before .try-four .ensures) (four-or-after (l .outputs) (l .inv .1) f (c .without-four .ensures)) (l .inv .0),
+      fours-next (of-width (s .pre .0) (at-width-of .ensures .0)) (at-prepare .ensures) (four-few (l .outputs) f) eh el (s .pre .2) (l .inv .0 .position) (j .ensures) (s .pre .3) (at-try-four .ensures) (four-or-after (l .outputs) (l .inv .1) f (c .without-four .ensures)) (l .inv .0),
       omega (arith, c .without-four .ok),
       eh,
       el,

@@ -44,15 +44,24 @@ list-four-requires c κs = let s = c .before .before .before .before .before .be
     )
 
 loop-less : tie.Need-loop-less Inv-loop μ-loop
-loop-less c = let l = c .before .before .before .before .before .before .before .before .before .before .before .before .before .before .before .before .before .before .loop in
-    omega (arith, c .without-four .ensures, without-less (l .left) (omega (arith, l .inv .0 .fours-to .left-is, fours-small (small (c .before .before .before .before .before .before .before .before .before .before .before .before .before .before .before .before .before .before .before .before .before .before .before .before .before)) (l .inv .0 .fours))) (omega (arith, c .before .before .before .before .before .before .before .before .before .before .before .before .before .before .before .before .before .loop-test .taken)))
+loop-less c =
+    let at-loop-test = c .before .before .before .before .before .before .before .before .before .before .before .before .before .before .before .before .before .loop-test in
+    let at-loop = c .before .before .before .before .before .before .before .before .before .before .before .before .before .before .before .before .before .before .loop in
+    let l = at-loop in
+    omega (arith, c .without-four .ensures, without-less (l .left) (omega (arith, l .inv .0 .fours-to .left-is, fours-small (small (c .before .before .before .before .before .before .before .before .before .before .before .before .before .before .before .before .before .before .before .before .before .before .before .before .before)) (l .inv .0 .fours))) (omega (arith, at-loop-test .taken)))
 
 loop-again : tie.Need-loop-again Inv-loop μ-loop
-loop-again c = let s = c .before .before .before .before .before .before .before .before .before .before .before .before .before .before .before .before .before .before .before .before .before .before .before .before .before in
-    let l = c .before .before .before .before .before .before .before .before .before .before .before .before .before .before .before .before .before .before .loop in
-    let j = c .before .before .before .before .before .before .before .before .before .before .before .before .join-four in
-    let d = c .before .before .before .list-four .ensures in (
-      four-listed (s .pre .0) (s .pre .1) (s .pre .2) (l .inv .0) (omega (arith, c .before .before .before .before .before .before .before .before .before .before .before .before .before .before .before .before .before .loop-test .taken)) (c .before .before .before .before .before .before .before .before .before .before .before .before .before .before .before .before .next-four .ensures) (j .ensures) (d .0) (d .1) (c .without-four .ensures),
+loop-again c =
+    let at-list-four = c .before .before .before .list-four in
+    let at-join-four = c .before .before .before .before .before .before .before .before .before .before .before .before .join-four in
+    let at-next-four = c .before .before .before .before .before .before .before .before .before .before .before .before .before .before .before .before .next-four in
+    let at-loop-test = c .before .before .before .before .before .before .before .before .before .before .before .before .before .before .before .before .before .loop-test in
+    let at-loop = c .before .before .before .before .before .before .before .before .before .before .before .before .before .before .before .before .before .before .loop in
+    let s = c .before .before .before .before .before .before .before .before .before .before .before .before .before .before .before .before .before .before .before .before .before .before .before .before .before in
+    let l = at-loop in
+    let j = at-join-four in
+    let d = at-list-four .ensures in (
+      four-listed (s .pre .0) (s .pre .1) (s .pre .2) (l .inv .0) (omega (arith, at-loop-test .taken)) (at-next-four .ensures) (j .ensures) (d .0) (d .1) (c .without-four .ensures),
       j .kept .1 .1 .1 .1 .1 .1 .0 ∙ l .inv .1,
       j .kept .1 .1 .1 .1 .1 .1 .1 .0 ∙ l .inv .2,
     )

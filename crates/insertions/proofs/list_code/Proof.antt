@@ -33,13 +33,17 @@ list-lane-requires c κs = let s = c .before .before .before .before .before .be
     entry-next f (λ _. f (l .j)) (l .j) 1 4 (omega (arith, c .before .before .before .before .before .before .loop-test .taken)) (l .inv .1) (l .inv .2) (λ i h. let e : l .j + i ≡ l .j = omega arith in ap f e) (s .pre .0)
 
 loop-again : tie.Need-loop-again Inv-loop μ-loop
-loop-again c = let s = c .before .before .before .before .before .before .before .before .before .before .before .before .before .before in
-    let l = c .before .before .before .before .before .before .before .before .before .before .loop in
+loop-again c =
+    let at-list-lane = c .before .before .list-lane in
+    let at-loop-test = c .before .before .before .before .before .before .before .before .before .loop-test in
+    let at-loop = c .before .before .before .before .before .before .before .before .before .before .loop in
+    let s = c .before .before .before .before .before .before .before .before .before .before .before .before .before .before in
+    let l = at-loop in
     let f = codeLane (s .args .high .now) (s .args .low .now) (s .args .code) (s .args .a) (s .args .b) in
-    let d = c .before .before .list-lane .ensures in
+    let d = at-list-lane .ensures in
     let p = l .inv .1 in
     let q = l .inv .2 in
-    (omega (arith, c .before .before .before .before .before .before .before .before .before .loop-test .taken), d .0 ∙ (λ i. put (f (l .j)) (p i) (q i)) ∙ sym (placed-next f (s .args .entries .now) (s .args .ends .now) (l .j)), d .1 ∙ ap (bump 1 (f (l .j))) q ∙ sym (bumped-next 1 f (s .args .ends .now) (l .j)))
+    (omega (arith, at-loop-test .taken), d .0 ∙ (λ i. put (f (l .j)) (p i) (q i)) ∙ sym (placed-next f (s .args .entries .now) (s .args .ends .now) (l .j)), d .1 ∙ ap (bump 1 (f (l .j))) q ∙ sym (bumped-next 1 f (s .args .ends .now) (l .j)))
 
 same-length : tie.Need-same-length Inv-loop μ-loop
 same-length c = let s = c .before .before .before .before .before in

@@ -12,7 +12,11 @@ use Rattle.insertions.proofs.list_lane.Tie as tie
 place : (c : tie.After-entry-of)
     → (getD (c .before .before .before .before .before .before .args .ends .now) (c .before .before .list-of .result + 1) 0 < length (c .before .before .before .before .before .before .args .entries .now))
     × (getD (c .before .before .before .before .before .before .args .ends .now) (c .before .before .list-of .result + 1) 0 < 65535)
-place c = let s = c .before .before .before .before .before .before in lane-room (laneOf (s .args .code) (s .args .step) (s .args .rest)) (s .pre) (sym (c .before .before .before .before .moves .ensures) ∙ c .before .before .before .if1 .taken) (c .before .before .list-of .result) (c .before .before .list-of .ensures .0)
+place c =
+    let at-list-of = c .before .before .list-of in
+    let at-if1 = c .before .before .before .if1 in
+    let at-moves = c .before .before .before .before .moves in
+    let s = c .before .before .before .before .before .before in lane-room (laneOf (s .args .code) (s .args .step) (s .args .rest)) (s .pre) (sym (at-moves .ensures) ∙ at-if1 .taken) (at-list-of .result) (at-list-of .ensures .0)
 
 entry-of-requires : tie.Need-entry-of-requires
 entry-of-requires c κs = c .before .before .before .before .before .pre .codes 0 (omega arith)

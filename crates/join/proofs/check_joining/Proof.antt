@@ -17,7 +17,9 @@ ok c = passed-number (c .enum-told .given .1) (c .before .before .check .ensures
 tested-27 : (c : tie.After-tested) → checkedNumber (c .tested .result) ≡ refuse 27 (joinable (c .before .before .before .before .before .before .args .card .now) (c .before .before .before .before .before .before .args .first) (c .before .before .before .before .before .before .args .second))
 tested-27 c = c .tested .ensures ∙ ap (refuse 27) (c .before .is-joinable .ensures)
 
-ok-27 : (c : tie.After-enum-told3) → refuse 27 (joinable (c .before .before .before .before .before .before .before .before .args .card .now) (c .before .before .before .before .before .before .before .before .args .first) (c .before .before .before .before .before .before .before .before .args .second)) ≡ 0
+ok-27 : (c : tie.After-enum-told3) →
+    let entry = c .before .before .before .before .before .before .before .before in
+    refuse 27 (joinable (entry .args .card .now) (entry .args .first) (entry .args .second)) ≡ 0
 ok-27 c = passed-number (c .enum-told3 .given .1) (tested-27 (c .before .before))
 
 returns : tie.Need-returns

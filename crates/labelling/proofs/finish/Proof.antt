@@ -53,16 +53,32 @@ close-counts-requires : tie.Need-close-counts-requires
 close-counts-requires c κs = counts-ready (c .before .before .before .before .before .before .before .before .before .before .before .before .pre) (c .before .before .before .before .before .before .before .if1 .taken) (c .before .before .before .settle .ensures)
 
 returns : tie.Need-returns
-returns c = counts-finished (c .before .before .before .before .before .before .before .before .before .before .before .before .before .before .before .pre) (c .before .before .before .before .before .before .before .before .before .before .if1 .taken) (c .before .before .before .before .before .before .settle .ensures) (c .before .before .close-counts .ensures)
+returns c =
+    let at-close-counts = c .before .before .close-counts in
+    let at-settle = c .before .before .before .before .before .before .settle in
+    let at-if1 = c .before .before .before .before .before .before .before .before .before .before .if1 in
+    let entry = c .before .before .before .before .before .before .before .before .before .before .before .before .before .before .before in
+    counts-finished (entry .pre) (at-if1 .taken) (at-settle .ensures) (at-close-counts .ensures)
 
 settle-requires-2 : tie.Need-settle-requires-2
 settle-requires-2 c κs = numbers-settle (c .before .before .before .before .before .before .before .before .before .pre) (c .before .before .before .before .if1 .left) (c .before .before .before .six-highs .ensures)
 
 close-numbers-requires : tie.Need-close-numbers-requires
-close-numbers-requires c κs = numbers-ready (c .before .before .before .before .before .before .before .before .before .before .before .before .before .pre) (c .before .before .before .before .before .before .before .before .if1 .left) (c .before .before .before .before .before .before .before .six-highs .ensures) (c .before .before .before .settle2 .ensures)
+close-numbers-requires c κs =
+    let at-settle2 = c .before .before .before .settle2 in
+    let at-six-highs = c .before .before .before .before .before .before .before .six-highs in
+    let at-if1 = c .before .before .before .before .before .before .before .before .if1 in
+    let entry = c .before .before .before .before .before .before .before .before .before .before .before .before .before in
+    numbers-ready (entry .pre) (at-if1 .left) (at-six-highs .ensures) (at-settle2 .ensures)
 
 returns-2 : tie.Need-returns-2
-returns-2 c = numbers-finished (c .before .before .before .before .before .before .before .before .before .before .before .before .before .before .before .before .pre) (c .before .before .before .before .before .before .before .before .before .before .before .if1 .left) (c .before .before .before .before .before .before .before .before .before .before .six-highs .ensures) (c .before .before .before .before .before .before .settle2 .ensures) (c .before .before .close-numbers .ensures)
+returns-2 c =
+    let at-close-numbers = c .before .before .close-numbers in
+    let at-settle2 = c .before .before .before .before .before .before .settle2 in
+    let at-six-highs = c .before .before .before .before .before .before .before .before .before .before .six-highs in
+    let at-if1 = c .before .before .before .before .before .before .before .before .before .before .before .if1 in
+    let entry = c .before .before .before .before .before .before .before .before .before .before .before .before .before .before .before .before in
+    numbers-finished (entry .pre) (at-if1 .left) (at-six-highs .ensures) (at-settle2 .ensures) (at-close-numbers .ensures)
 
 pub finish-spec : {M : Type 1} → statement M
 finish-spec =

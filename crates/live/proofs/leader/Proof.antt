@@ -221,7 +221,9 @@ module _ {M : Type 1} (𝓤 : URA M) (H : Heap 𝓤) (A : Atoms 𝓤) (W : Given
           split ! $ move ! (1 ∷ []) $ use1 W (raw (fact 𝓤 (c ≡ unled (checkedNumber (Refused r))))) (none-of 𝓤 H A mem run (Refused r) c) $ heard ! (c ≡ unled (checkedNumber (Refused r))) (λ said. split ! $ drop ! $
           peeks ! T₁.the-row (Is T₁.the-row) (shows 𝓤 H A T₁.the-row) c (w ∷ []) (λ told. land ! (from ! (stop !)) (init ! 5 refl (typed c w told)) $ returns-within ! Post refl (look ! 5 refl) $
           forget ! 5 refl $ forget ! 6 refl $ forget ! 7 refl $ forget ! 8 refl $ forget ! 9 refl $ forget ! 10 refl $ forget ! 12 refl $
-          move ! (5 ∷ 14 ∷ []) $ free1 ! $ move ! (5 ∷ 13 ∷ []) $ free1 ! $ move ! (5 ∷ 12 ∷ []) $ free1 ! $ move ! (5 ∷ 11 ∷ []) $ free1 ! $ move ! (5 ∷ 10 ∷ []) $ free1 ! $ move ! (5 ∷ 9 ∷ []) $ free1 ! $ move ! (5 ∷ 8 ∷ []) $ free1 ! $ move ! (5 ∷ 7 ∷ []) $ free1 ! $ move ! (5 ∷ 6 ∷ []) $ free1 ! $ free0 ! $
+          move ! (5 ∷ 14 ∷ []) $ free1 ! $ move ! (5 ∷ 13 ∷ []) $ free1 ! $ move ! (5 ∷ 12 ∷ []) $ free1 ! $ move ! (5 ∷ 11 ∷ []) $ free1 ! $
+          move ! (5 ∷ 10 ∷ []) $ free1 ! $ move ! (5 ∷ 9 ∷ []) $ free1 ! $ move ! (5 ∷ 8 ∷ []) $ free1 ! $ move ! (5 ∷ 7 ∷ []) $ free1 ! $ move ! (5 ∷ 6 ∷ []) $
+          free1 ! $ free0 ! $
           by ! (exits c w (lead-refused machines (k .now) count ys e (number-positive r) said))))))
       decides Passed g e =
           first ! $ switches-on ! (load ! (from ! (vrt ! refl (fld ! refl (stop !)))) (look-tag ! 9 (whole !))) $ exec ! (𝓣 .C) (𝓣 .Λ) En skip Then $
@@ -235,7 +237,9 @@ module _ {M : Type 1} (𝓤 : URA M) (H : Heap 𝓤) (A : Atoms 𝓤) (W : Given
           split ! $ move ! (1 ∷ []) $ use1 W (raw (fact 𝓤 (c ≡ unled (checkedNumber Passed)))) (none-of 𝓤 H A mem run Passed c) $ heard ! (c ≡ unled (checkedNumber Passed)) (λ said. split ! $ drop ! $
           peeks ! T₁.the-row (Is T₁.the-row) (shows 𝓤 H A T₁.the-row) c (w ∷ []) (λ told. land ! (from ! (stop !)) (init ! 5 refl (typed c w told)) $ returns-within ! Post refl (look ! 5 refl) $
           forget ! 5 refl $ forget ! 6 refl $ forget ! 7 refl $ forget ! 8 refl $ forget ! 9 refl $ forget ! 10 refl $ forget ! 12 refl $ forget ! 13 refl $
-          move ! (5 ∷ 14 ∷ []) $ free1 ! $ move ! (5 ∷ 13 ∷ []) $ free1 ! $ move ! (5 ∷ 12 ∷ []) $ free1 ! $ move ! (5 ∷ 11 ∷ []) $ free1 ! $ move ! (5 ∷ 10 ∷ []) $ free1 ! $ move ! (5 ∷ 9 ∷ []) $ free1 ! $ move ! (5 ∷ 8 ∷ []) $ free1 ! $ move ! (5 ∷ 7 ∷ []) $ free1 ! $ move ! (5 ∷ 6 ∷ []) $ free1 ! $ free0 ! $
+          move ! (5 ∷ 14 ∷ []) $ free1 ! $ move ! (5 ∷ 13 ∷ []) $ free1 ! $ move ! (5 ∷ 12 ∷ []) $ free1 ! $ move ! (5 ∷ 11 ∷ []) $ free1 ! $
+          move ! (5 ∷ 10 ∷ []) $ free1 ! $ move ! (5 ∷ 9 ∷ []) $ free1 ! $ move ! (5 ∷ 8 ∷ []) $ free1 ! $ move ! (5 ∷ 7 ∷ []) $ free1 ! $ move ! (5 ∷ 6 ∷ []) $
+          free1 ! $ free0 ! $
           by ! (exits c w (lead-none machines (k .now) count ys e refl (eqb→eq count 0 empty) said)))))))
           (λ rows. skips ! $ exec ! (𝓣 .C) (𝓣 .Λ) En mirs.t-6 (atRet En Post) $
           -- `foremost`, with copies of what the references own
@@ -256,7 +260,9 @@ module _ {M : Type 1} (𝓤 : URA M) (H : Heap 𝓤) (A : Atoms 𝓤) (W : Given
           split ! $ move ! (1 ∷ []) $ use1 W (raw (fact 𝓤 (c ≡ led r))) (led-of 𝓤 H A mem run r c) $ heard ! (c ≡ led r) (λ said. split ! $ drop ! $
           peeks ! T₁.the-row (Is T₁.the-row) (shows 𝓤 H A T₁.the-row) c (w₁ ∷ []) (λ told. land ! (from ! (stop !)) (init ! 5 refl (typed c w₁ told)) $ returns ! (look ! 5 refl) $
           forget ! 5 refl $ forget ! 6 refl $ forget ! 7 refl $ forget ! 8 refl $ forget ! 9 refl $ forget ! 10 refl $ forget ! 11 refl $ forget ! 12 refl $ forget ! 13 refl $
-          move ! (5 ∷ 14 ∷ []) $ free1 ! $ move ! (5 ∷ 13 ∷ []) $ free1 ! $ move ! (5 ∷ 12 ∷ []) $ free1 ! $ move ! (5 ∷ 11 ∷ []) $ free1 ! $ move ! (5 ∷ 10 ∷ []) $ free1 ! $ move ! (5 ∷ 9 ∷ []) $ free1 ! $ move ! (5 ∷ 8 ∷ []) $ free1 ! $ move ! (5 ∷ 7 ∷ []) $ free1 ! $ move ! (5 ∷ 6 ∷ []) $ free1 ! $ free0 ! $
+          move ! (5 ∷ 14 ∷ []) $ free1 ! $ move ! (5 ∷ 13 ∷ []) $ free1 ! $ move ! (5 ∷ 12 ∷ []) $ free1 ! $ move ! (5 ∷ 11 ∷ []) $ free1 ! $
+          move ! (5 ∷ 10 ∷ []) $ free1 ! $ move ! (5 ∷ 9 ∷ []) $ free1 ! $ move ! (5 ∷ 8 ∷ []) $ free1 ! $ move ! (5 ∷ 7 ∷ []) $ free1 ! $ move ! (5 ∷ 6 ∷ []) $
+          free1 ! $ free0 ! $
           by ! (exits c w₁ (lead-done machines (k .now) count ys e refl (said ∙ best))))))))))))
 
     walk : ent 𝓤 (onEntry 𝓤 H A leader.signature (κ₀, (κ₁, tt)) (q₀, (q₁, tt)) (machines, (k, (count, (x, tt)))) vals) (WpFn 𝓤 H (𝓣 .C) (𝓣 .Λ) code.function (vint w8 machines ∷ s₀ ∷ vint w64 count ∷ s ∷ []) Post)

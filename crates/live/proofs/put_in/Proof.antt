@@ -177,7 +177,9 @@ module _ {M : Type 1} (𝓤 : URA M) (H : Heap 𝓤) (A : Atoms 𝓤) (W : Given
           first ! $ switches-on ! (load ! (from ! (vrt ! refl (fld ! refl (stop !)))) (look-tag ! 7 (whole !))) $ exec ! C Λ En gives-up Then $
           assigns ! (of-opd ! (load ! (from ! (stop !)) (look ! 7 refl))) (from ! (stop !)) (init ! 2 refl (typed-checked 𝓤 H A W (Refused t) (val (Refused t)) g₁)) $ returns-within ! Post refl (look ! 2 refl) $
           forget ! 2 refl $ forget ! 3 refl $ forget ! 4 refl $ forget ! 5 refl $ forget ! 6 refl $ forget ! 7 refl $ forget ! 8 refl $ forget ! 9 refl $
-          move ! (2 ∷ 12 ∷ []) $ free1 ! $ move ! (2 ∷ 11 ∷ []) $ free1 ! $ move ! (2 ∷ 10 ∷ []) $ free1 ! $ move ! (2 ∷ 9 ∷ []) $ free1 ! $ move ! (2 ∷ 8 ∷ []) $ free1 ! $ move ! (2 ∷ 7 ∷ []) $ free1 ! $ move ! (2 ∷ 6 ∷ []) $ free1 ! $ move ! (2 ∷ 5 ∷ []) $ free1 ! $ move ! (2 ∷ 4 ∷ []) $ free1 ! $ move ! (2 ∷ 3 ∷ []) $ free1 ! $ free0 ! $
+          move ! (2 ∷ 12 ∷ []) $ free1 ! $ move ! (2 ∷ 11 ∷ []) $ free1 ! $ move ! (2 ∷ 10 ∷ []) $ free1 ! $ move ! (2 ∷ 9 ∷ []) $ free1 ! $ move ! (2 ∷ 8 ∷ []) $
+          free1 ! $ move ! (2 ∷ 7 ∷ []) $ free1 ! $ move ! (2 ∷ 6 ∷ []) $ free1 ! $ move ! (2 ∷ 5 ∷ []) $ free1 ! $ move ! (2 ∷ 4 ∷ []) $ free1 ! $
+          move ! (2 ∷ 3 ∷ []) $ free1 ! $ free0 ! $
           -- the borrow is given up at the list that it has
           move ! (1 ∷ []) $ fsplit ! $ drop ! $ fsplit ! $ use1 W (‵ (fres γ (codedHoleys R .code (heres R ys)))) (W .names .obs-res γ (codedHoleys R .code (heres R ys))) $ use1 W (‵ (finally R γ ys)) (res-finally 𝓤 H A W (named 0) κ R γ ys) $
           keep ! (2 ∷ 0 ∷ []) $ by ! (exits (Refused t) ys g₁ refl (not-put count ys row pre (found .0), found .1))
@@ -200,7 +202,9 @@ module _ {M : Type 1} (𝓤 : URA M) (H : Heap 𝓤) (A : Atoms 𝓤) (W : Given
           -- [obs; the borrow; the token; _0; _1; …]
           assigns ! (of-opd ! (load ! (from ! (stop !)) (look ! 8 refl))) (from ! (stop !)) (init ! 3 refl (typed-checked 𝓤 H A W Passed (val Passed) g₁)) $
           returns ! (look ! 3 refl) $ forget ! 3 refl $ forget ! 4 refl $ forget ! 5 refl $ forget ! 6 refl $ forget ! 7 refl $ forget ! 8 refl $ forget ! 9 refl $ forget ! 10 refl $ forget ! 11 refl $ forget ! 12 refl $
-          move ! (3 ∷ 13 ∷ []) $ free1 ! $ move ! (3 ∷ 12 ∷ []) $ free1 ! $ move ! (3 ∷ 11 ∷ []) $ free1 ! $ move ! (3 ∷ 10 ∷ []) $ free1 ! $ move ! (3 ∷ 9 ∷ []) $ free1 ! $ move ! (3 ∷ 8 ∷ []) $ free1 ! $ move ! (3 ∷ 7 ∷ []) $ free1 ! $ move ! (3 ∷ 6 ∷ []) $ free1 ! $ move ! (3 ∷ 5 ∷ []) $ free1 ! $ move ! (3 ∷ 4 ∷ []) $ free1 ! $ free0 ! $
+          move ! (3 ∷ 13 ∷ []) $ free1 ! $ move ! (3 ∷ 12 ∷ []) $ free1 ! $ move ! (3 ∷ 11 ∷ []) $ free1 ! $ move ! (3 ∷ 10 ∷ []) $ free1 ! $
+          move ! (3 ∷ 9 ∷ []) $ free1 ! $ move ! (3 ∷ 8 ∷ []) $ free1 ! $ move ! (3 ∷ 7 ∷ []) $ free1 ! $ move ! (3 ∷ 6 ∷ []) $ free1 ! $ move ! (3 ∷ 5 ∷ []) $
+          free1 ! $ move ! (3 ∷ 4 ∷ []) $ free1 ! $ free0 ! $
           use1 W (‵ (fres γ (codedHoleys R .code (heres R (set ys count row))))) (W .names .obs-res γ (codedHoleys R .code (heres R (set ys count row)))) $ use1 W (‵ (finally R γ (set ys count row))) (res-finally 𝓤 H A W (named 0) κ R γ (set ys count row)) $
           keep ! (2 ∷ 0 ∷ []) $ by ! (exits Passed (set ys count row) g₁ (length-set ys count row) (put count ys row pre (gone .0), gone .1)))
         where

@@ -157,7 +157,9 @@ module _ {M : Type 1} (𝓤 : URA M) (H : Heap 𝓤) (A : Atoms 𝓤) (W : Given
   goes-call : (row : record-of.Row) (w₀ : Val) → Is R row (w₀ ∷ []) → ent 𝓤 (⋆ 𝓤 H A ((‵ (flft κ₀ q₀) ⊛ ‵ (flft κ₁ q₁)) ∷ (K ⊛ Mine) ∷ [])) (Call 𝓤 H A mem run .pre (to-call row w₀))
   goes-call row w₀ g =
       qed W ((‵ (flft κ₀ q₀) ⊛ ‵ (flft κ₁ q₁)) ∷ (K ⊛ Mine) ∷ []) ∵
-      split ! $ move ! (2 ∷ []) $ split ! $ nothing ! $ owned ! R (Is R) (L.makes T.the-type T′.the-plain 𝓤 H A) row (w₀ ∷ []) g $ fjoin ! $ move ! (2 ∷ 0 ∷ []) $ fjoin ! $ owned ! usize (Is usize) (uint-makes 𝓤 H A W w64) count _ (refl, gc) $ fjoin ! $ move ! (1 ∷ 0 ∷ []) $ fjoin ! $ owned ! u8 (Is u8) (uint-makes 𝓤 H A W w8) machines _ (refl, gm) $ fjoin ! $
+      split ! $ move ! (2 ∷ []) $ split ! $ nothing ! $ owned ! R (Is R) (L.makes T.the-type T′.the-plain 𝓤 H A) row (w₀ ∷ []) g $ fjoin ! $ move ! (2 ∷ 0 ∷ []) $
+      fjoin ! $ owned ! usize (Is usize) (uint-makes 𝓤 H A W w64) count _ (refl, gc) $ fjoin ! $ move ! (1 ∷ 0 ∷ []) $ fjoin ! $
+      owned ! u8 (Is u8) (uint-makes 𝓤 H A W w8) machines _ (refl, gm) $ fjoin ! $
       nothing ! $ move ! (3 ∷ 0 ∷ []) $ join ! $ move ! (2 ∷ 0 ∷ []) $ join ! $ join ! $ frame ! $ done !
 
   abbrev to-give : counted-of.Counted → Val → Give 𝓤 H A mem run .Ghost
@@ -174,19 +176,27 @@ module _ {M : Type 1} (𝓤 : URA M) (H : Heap 𝓤) (A : Atoms 𝓤) (W : Given
       qed W (‵ (u32 .own r (w₁ ∷ [])) ∷ ‵ (flft κ₀ q₀) ∷ ‵ (flft κ₁ q₁) ∷ ‵ (flft κ₂ q₂) ∷ ‵ (flft κ₃ q₃) ∷ K ∷ N ∷ ‵ (finally R (x .name) zs) ∷ ‵ (fres (y .name) (Array usize 1 .coded .code rs)) ∷ []) ∵
       suffices ! _ (ends-at 𝓤 H A pastaspur-add-row.ended stayed (pastaspur-add-row.clauses 𝓤 H A mem run) W (((κ₀, (κ₁, (κ₂, (κ₃, tt)))), (q₀, (q₁, (q₂, (q₃, tt)))), tt, (machines, (k, (count, (x, (ns, (y, tt)))))), vals), tt) w₁ r (tt, (tt, (tt, (zs, (tt, (rs, tt)))))) (tt, (tt, (tt, (long, (tt, (tt, tt))))))) $ says ! is $
       nothing ! $ move ! (5 ∷ 0 ∷ []) $ join ! $ move ! (4 ∷ 0 ∷ []) $ join ! $ move ! (3 ∷ 0 ∷ []) $ join ! $ move ! (2 ∷ 0 ∷ []) $ join ! $ frame ! $
-      nothing ! $ move ! (5 ∷ 0 ∷ []) $ fjoin ! $ move ! (3 ∷ 0 ∷ []) $ fjoin ! $ move ! (3 ∷ 0 ∷ []) $ fjoin ! $ owned ! usize (Is usize) (uint-makes 𝓤 H A W w64) count _ (refl, gc) $ fjoin ! $ move ! (2 ∷ 0 ∷ []) $ fjoin ! $ owned ! u8 (Is u8) (uint-makes 𝓤 H A W w8) machines _ (refl, gm) $ fjoin ! $ frame ! $ done !
+      nothing ! $ move ! (5 ∷ 0 ∷ []) $ fjoin ! $ move ! (3 ∷ 0 ∷ []) $ fjoin ! $ move ! (3 ∷ 0 ∷ []) $ fjoin ! $
+      owned ! usize (Is usize) (uint-makes 𝓤 H A W w64) count _ (refl, gc) $ fjoin ! $ move ! (2 ∷ 0 ∷ []) $ fjoin ! $
+      owned ! u8 (Is u8) (uint-makes 𝓤 H A W w8) machines _ (refl, gm) $ fjoin ! $ frame ! $ done !
 
   walk : (𝓣 : Tables 𝓤 H) (known-read : Triple 𝓤 (𝓣 .C #results·row-of) (Read 𝓤 H A mem run)) (known-call : Triple 𝓤 (𝓣 .C #live·add) (Call 𝓤 H A mem run)) (known-give : Triple 𝓤 (𝓣 .C #results·give-count) (Give 𝓤 H A mem run)) → ent 𝓤 (onEntry 𝓤 H A pastaspur-add-row.signature (κ₀, (κ₁, (κ₂, (κ₃, tt)))) (q₀, (q₁, (q₂, (q₃, tt)))) (machines, (k, (count, (x, (ns, (y, tt)))))) vals) (WpFn 𝓤 H (𝓣 .C) (𝓣 .Λ) code.function (vint w8 machines ∷ s₀ ∷ vint w64 count ∷ s ∷ p₂ ∷ p ∷ []) Post)
   walk 𝓣 known-read known-call known-give =
       qed W ((‵ (flft κ₀ q₀) ⊛ (‵ (flft κ₁ q₁) ⊛ (‵ (flft κ₂ q₂) ⊛ (‵ (flft κ₃ q₃) ⊛ ‵ ftrue)))) ∷ ‵ (owns (u8 ∷ ShrSlice (named 0) κ₀ u8 ∷ usize ∷ MutSlice (named 1) κ₁ R ∷ ShrRef (named 2) κ₂ (Array u16 7) ∷ MutRef (named 3) κ₃ (Array usize 1) ∷ []) (machines, (k, (count, (x, (ns, (y, tt)))))) vals) ∷ []) ∵ enter ! (𝓣 .C) (𝓣 .Λ) code.function (vint w8 machines ∷ s₀ ∷ vint w64 count ∷ s ∷ p₂ ∷ p ∷ []) _ $
       alloc1 ! (λ l₀. alloc1 ! (λ l₁. alloc1 ! (λ l₂. alloc1 ! (λ l₃. alloc1 ! (λ l₄. alloc1 ! (λ l₅. alloc1 ! (λ l₆. alloc1 ! (λ l₇. alloc1 ! (λ l₈. alloc1 ! (λ l₉. alloc1 ! (λ l₁₀. alloc1 ! (λ l₁₁. alloc0 ! $ params1 ! $
-      pass1 ! (init ! 20 refl (tt, record { fits = gm })) $ pass1 ! (init ! 18 refl (tt, (tt, (record { fits = room₀ .0 }, tt)))) $ pass1 ! (init ! 16 refl (tt, record { fits = gc })) $ pass1 ! (init ! 14 refl (tt, (tt, (record { fits = room .0 }, tt)))) $ pass1 ! (init ! 12 refl (tt, tt)) $ pass1 ! (init ! 10 refl (tt, tt)) $ pass0 ! $
-      move ! (25 ∷ []) $ fsplit ! $ drop ! $ fsplit ! $ move ! (1 ∷ []) $ fsplit ! $ drop ! $ fsplit ! $ move ! (1 ∷ []) $ fsplit ! $ move ! (1 ∷ []) $ fsplit ! $ move ! (1 ∷ []) $ drop ! $ move ! (28 ∷ []) $ split ! $ move ! (1 ∷ []) $ split ! $ move ! (1 ∷ []) $ split ! $ move ! (1 ∷ []) $ split ! $ move ! (1 ∷ []) $ drop ! $
+      pass1 ! (init ! 20 refl (tt, record { fits = gm })) $ pass1 ! (init ! 18 refl (tt, (tt, (record { fits = room₀ .0 }, tt)))) $
+      pass1 ! (init ! 16 refl (tt, record { fits = gc })) $ pass1 ! (init ! 14 refl (tt, (tt, (record { fits = room .0 }, tt)))) $
+      pass1 ! (init ! 12 refl (tt, tt)) $ pass1 ! (init ! 10 refl (tt, tt)) $ pass0 ! $
+      move ! (25 ∷ []) $ fsplit ! $ drop ! $ fsplit ! $ move ! (1 ∷ []) $ fsplit ! $ drop ! $ fsplit ! $ move ! (1 ∷ []) $ fsplit ! $ move ! (1 ∷ []) $ fsplit ! $
+      move ! (1 ∷ []) $ drop ! $ move ! (28 ∷ []) $ split ! $ move ! (1 ∷ []) $ split ! $ move ! (1 ∷ []) $ split ! $ move ! (1 ∷ []) $ split ! $
+      move ! (1 ∷ []) $ drop ! $
       -- `row_of`, with a copy of what the numbers' reference owns
       move ! (5 ∷ []) $ use1 W (N ⊛ N) (shr-copy 𝓤 H A W (named 2) κ₂ (Array u16 7) .twice ns (p₂ ∷ [])) $ split ! $ move ! (3 ∷ 0 ∷ []) $ use2 W (raw (Read 𝓤 H A mem run .pre to-read)) goes-read $
       calls-at ! (fmOf 𝓤 H (W .laws) 𝓣) (Read 𝓤 H A mem run) known-read to-read (and-then ! (load ! (from ! (stop !)) (look ! 20 refl)) (no-more !)) (λ w₀.
       use1 W (later (some (λ (row : record-of.Row). ((‵ (flft κ₂ q₂) ⊛ ‵ ftrue) ⊛ ‵ (R .own row (w₀ ∷ []))) ⊛ raw (ensured 𝓤 H A row-of.ended (row-of.clauses 𝓤 H A mem run) (κ₂, tt) (ns, tt) tt row)))) (id⊢ 𝓤 _) $ await ! tt $ pick ! (λ row.
-      split ! $ move ! (1 ∷ []) $ use1 W (raw (fact 𝓤 (row ≡ asRow (ns .now)))) (read-of 𝓤 H A mem run κ₂ ns row) $ heard ! (row ≡ asRow (ns .now)) (λ read. split ! $ split ! $ move ! (2 ∷ []) $ peeks ! R (Is R) (shows 𝓤 H A R) row (w₀ ∷ []) (λ g. land ! (from ! (stop !)) (init ! 18 refl (typed-row row w₀ g)) $
+      split ! $ move ! (1 ∷ []) $ use1 W (raw (fact 𝓤 (row ≡ asRow (ns .now)))) (read-of 𝓤 H A mem run κ₂ ns row) $
+      heard ! (row ≡ asRow (ns .now)) (λ read. split ! $ split ! $ move ! (2 ∷ []) $
+      peeks ! R (Is R) (shows 𝓤 H A R) row (w₀ ∷ []) (λ g. land ! (from ! (stop !)) (init ! 18 refl (typed-row row w₀ g)) $
       keep ! (6 ∷ 5 ∷ 1 ∷ 4 ∷ 9 ∷ 3 ∷ 8 ∷ 7 ∷ 32 ∷ 30 ∷ 28 ∷ 26 ∷ 24 ∷ 22 ∷ 20 ∷ 18 ∷ 16 ∷ 14 ∷ 12 ∷ 10 ∷ 33 ∷ 31 ∷ 29 ∷ 27 ∷ 25 ∷ 23 ∷ 21 ∷ 19 ∷ 17 ∷ 15 ∷ 13 ∷ 11 ∷ []) $
       assigns ! (addr ! (from ! (fld ! refl (hop ! (look-in ! 12 (sub ! 0 refl (whole !))) (stop !))))) (from ! (stop !)) (init ! 17 refl (tt, tt)) $
       assigns ! (agg ! (and-then ! (load ! (from ! (stop !)) (look ! 17 refl)) (and-then ! (load ! (from ! (fld ! refl (stop !))) (look-in ! 12 (sub ! 1 refl (whole !)))) (no-more !)))) (from ! (stop !)) (init ! 18 refl (tt, (tt, (record { fits = room .0 }, tt)))) $
@@ -204,10 +214,15 @@ module _ {M : Type 1} (𝓤 : URA M) (H : Heap 𝓤) (A : Atoms 𝓤) (W : Given
       calls-at ! (fmOf 𝓤 H (W .laws) 𝓣) (Give 𝓤 H A mem run) known-give (to-give a w) (and-then ! (load ! (from ! (stop !)) (look ! 15 refl)) (and-then ! (load ! (from ! (stop !)) (look ! 18 refl)) (no-more !))) (λ w₁.
       use1 W (later (some (λ (r : ℕ). ((‵ (flft κ₃ q₃) ⊛ ‵ ftrue) ⊛ ‵ (u32 .own r (w₁ ∷ []))) ⊛ raw (ensured 𝓤 H A give-count.ended (give-count.clauses 𝓤 H A mem run) (κ₃, tt) (a, (y, tt)) tt r)))) (id⊢ 𝓤 _) $ await ! tt $ pick ! (λ r.
       split ! $ move ! (1 ∷ []) $ use1 W (some (λ (ws : Unit {0} × (List ℕ × Unit {0})). ‵ (lasts give-count.ended (κ₃, tt) (a, (y, tt)) ws) ⊛ raw (fact 𝓤 ((r ≡ a .number) × (ws .1 .0 ≡ a .count ∷ []))))) (id⊢ 𝓤 _) $ pick ! (λ ws.
-      split ! $ move ! (1 ∷ []) $ heard ! ((r ≡ a .number) × (ws .1 .0 ≡ a .count ∷ [])) (λ gave. fsplit ! $ drop ! $ fsplit ! $ move ! (2 ∷ []) $ split ! $ split ! $ move ! (2 ∷ []) $ peeks ! u32 (Is u32) (shows 𝓤 H A u32) r (w₁ ∷ []) (λ is. land ! (from ! (stop !)) (init ! 11 refl (uint-lawful 𝓤 H A W w32 .typed r _ is .0)) $
+      split ! $ move ! (1 ∷ []) $ heard ! ((r ≡ a .number) × (ws .1 .0 ≡ a .count ∷ [])) (λ gave. fsplit ! $ drop ! $ fsplit ! $ move ! (2 ∷ []) $ split ! $
+      split ! $ move ! (2 ∷ []) $
+      peeks ! u32 (Is u32) (shows 𝓤 H A u32) r (w₁ ∷ []) (λ is. land ! (from ! (stop !)) (init ! 11 refl (uint-lawful 𝓤 H A W w32 .typed r _ is .0)) $
       keep ! (0 ∷ 5 ∷ 6 ∷ 7 ∷ 1 ∷ 8 ∷ 9 ∷ 10 ∷ 3 ∷ 11 ∷ 12 ∷ 13 ∷ 14 ∷ 15 ∷ 16 ∷ 17 ∷ 18 ∷ 19 ∷ 20 ∷ 21 ∷ 22 ∷ 23 ∷ 24 ∷ 25 ∷ 26 ∷ 27 ∷ 28 ∷ 29 ∷ 30 ∷ 31 ∷ 32 ∷ 33 ∷ 34 ∷ []) $ returns ! (look ! 9 refl) $
       forget ! 9 refl $ forget ! 10 refl $ forget ! 11 refl $ forget ! 12 refl $ forget ! 13 refl $ forget ! 14 refl $ forget ! 15 refl $ forget ! 16 refl $ forget ! 17 refl $ forget ! 18 refl $ forget ! 19 refl $ forget ! 20 refl $
-      move ! (9 ∷ 21 ∷ []) $ free1 ! $ move ! (9 ∷ 20 ∷ []) $ free1 ! $ move ! (9 ∷ 19 ∷ []) $ free1 ! $ move ! (9 ∷ 18 ∷ []) $ free1 ! $ move ! (9 ∷ 17 ∷ []) $ free1 ! $ move ! (9 ∷ 16 ∷ []) $ free1 ! $ move ! (9 ∷ 15 ∷ []) $ free1 ! $ move ! (9 ∷ 14 ∷ []) $ free1 ! $ move ! (9 ∷ 13 ∷ []) $ free1 ! $ move ! (9 ∷ 12 ∷ []) $ free1 ! $ move ! (9 ∷ 11 ∷ []) $ free1 ! $ move ! (9 ∷ 10 ∷ []) $ free1 ! $ free0 ! $ by ! (exits r w₁ (zs .1 .1 .1 .0) (ws .1 .0) long (gave .0 ∙ ap (λ (b : counted-of.Counted). b .number) (said .answers) ∙ ap (λ (b : record-of.Row). adding machines (k .now) count (x .now) b .number) read, (gave .1 ∙ ap (λ (b : counted-of.Counted). b .count ∷ []) (said .answers) ∙ ap (λ (b : record-of.Row). adding machines (k .now) count (x .now) b .count ∷ []) read, said .leaves ∙ ap (addedList machines (k .now) count (x .now)) read))))))))))))))))))))))))))))))
+      move ! (9 ∷ 21 ∷ []) $ free1 ! $ move ! (9 ∷ 20 ∷ []) $ free1 ! $ move ! (9 ∷ 19 ∷ []) $ free1 ! $ move ! (9 ∷ 18 ∷ []) $ free1 ! $ move ! (9 ∷ 17 ∷ []) $
+      free1 ! $ move ! (9 ∷ 16 ∷ []) $ free1 ! $ move ! (9 ∷ 15 ∷ []) $ free1 ! $ move ! (9 ∷ 14 ∷ []) $ free1 ! $ move ! (9 ∷ 13 ∷ []) $ free1 ! $
+      move ! (9 ∷ 12 ∷ []) $ free1 ! $ move ! (9 ∷ 11 ∷ []) $ free1 ! $ move ! (9 ∷ 10 ∷ []) $ free1 ! $ free0 ! $
+      by ! (exits r w₁ (zs .1 .1 .1 .0) (ws .1 .0) long (gave .0 ∙ ap (λ (b : counted-of.Counted). b .number) (said .answers) ∙ ap (λ (b : record-of.Row). adding machines (k .now) count (x .now) b .number) read, (gave .1 ∙ ap (λ (b : counted-of.Counted). b .count ∷ []) (said .answers) ∙ ap (λ (b : record-of.Row). adding machines (k .now) count (x .now) b .count ∷ []) read, said .leaves ∙ ap (addedList machines (k .now) count (x .now)) read))))))))))))))))))))))))))))))
 
 module _ {M : Type 1} (𝓤 : URA M) (H : Heap 𝓤) (A : Atoms 𝓤) (W : Given 𝓤 H A) (mem : Memory → SProp 𝓤) (run : Routine → Fun 𝓤) (𝓣 : Tables 𝓤 H) (known-read : Triple 𝓤 (𝓣 .C #results·row-of) (Read 𝓤 H A mem run)) (known-call : Triple 𝓤 (𝓣 .C #live·add) (Call 𝓤 H A mem run)) (known-give : Triple 𝓤 (𝓣 .C #results·give-count) (Give 𝓤 H A mem run)) where
   pastaspur-add-row-walks : Walks 𝓤 H A pastaspur-add-row.ended stayed (WpFn 𝓤 H (𝓣 .C) (𝓣 .Λ) code.function) (pastaspur-add-row.clauses 𝓤 H A mem run)

@@ -153,10 +153,14 @@ module _ {M : Type 1} (𝓤 : URA M) (H : Heap 𝓤) (A : Atoms 𝓤) (W : Given
       move ! (17 ∷ []) $ fsplit ! $ drop ! $ fsplit ! $ move ! (1 ∷ []) $ fsplit ! $ drop ! $ fsplit ! $ move ! (1 ∷ []) $ fsplit ! $ move ! (1 ∷ []) $ drop ! $ move ! (19 ∷ []) $ split ! $ move ! (1 ∷ []) $ split ! $ move ! (1 ∷ []) $ split ! $ move ! (1 ∷ []) $ drop ! $
       keep ! (2 ∷ 1 ∷ 0 ∷ 5 ∷ 4 ∷ 3 ∷ 20 ∷ 18 ∷ 16 ∷ 14 ∷ 12 ∷ 10 ∷ 8 ∷ 6 ∷ 21 ∷ 19 ∷ 17 ∷ 15 ∷ 13 ∷ 11 ∷ 9 ∷ 7 ∷ []) $
       -- `live::leader`, with a copy of what the ranking's reference owns
-      move ! (3 ∷ []) $ use1 W (K ⊛ K) (shr-slice-copy 𝓤 H A W (named 0) κ₀ u8 .twice k (s₀ ∷ [])) $ split ! $ move ! (5 ∷ []) $ use1 W (S ⊛ S) (shr-slice-copy 𝓤 H A W (named 1) κ₁ R .twice x (s ∷ [])) $ split ! $ move ! (2 ∷ 0 ∷ []) $ join ! $ move ! (3 ∷ 4 ∷ []) $ join ! $ use2 W (raw (Call 𝓤 H A mem run .pre to-call)) goes-call $
+      move ! (3 ∷ []) $ use1 W (K ⊛ K) (shr-slice-copy 𝓤 H A W (named 0) κ₀ u8 .twice k (s₀ ∷ [])) $ split ! $ move ! (5 ∷ []) $
+      use1 W (S ⊛ S) (shr-slice-copy 𝓤 H A W (named 1) κ₁ R .twice x (s ∷ [])) $ split ! $ move ! (2 ∷ 0 ∷ []) $ join ! $ move ! (3 ∷ 4 ∷ []) $ join ! $
+      use2 W (raw (Call 𝓤 H A mem run .pre to-call)) goes-call $
       calls-at ! (fmOf 𝓤 H (W .laws) 𝓣) (Call 𝓤 H A mem run) known-call to-call (and-then ! (load ! (from ! (stop !)) (look ! 6 refl)) (and-then ! (load ! (from ! (stop !)) (look ! 7 refl)) (and-then ! (load ! (from ! (stop !)) (look ! 8 refl)) (and-then ! (load ! (from ! (stop !)) (look ! 9 refl)) (no-more !))))) (λ w.
       use1 W (later (some (λ (a : lead-of.Lead). ((‵ (flft κ₀ q₀) ⊛ (‵ (flft κ₁ q₁) ⊛ ‵ ftrue)) ⊛ ‵ (T₁.the-row .own a (w ∷ []))) ⊛ raw (ensured 𝓤 H A leader.ended (leader.clauses 𝓤 H A mem run) (κ₀, (κ₁, tt)) (machines, (k, (count, (x, tt)))) tt a)))) (id⊢ 𝓤 _) $ await ! tt $ pick ! (λ a.
-      split ! $ move ! (1 ∷ []) $ use1 W (raw (fact 𝓤 (a ≡ leading machines (k .now) count (x .now)))) (call-of 𝓤 H A mem run κ₀ κ₁ machines k count x a) $ heard ! (a ≡ leading machines (k .now) count (x .now)) (λ said. split ! $ split ! $ move ! (1 ∷ []) $ split ! $ move ! (3 ∷ []) $ peeks ! T₁.the-row (Is T₁.the-row) (shows 𝓤 H A T₁.the-row) a (w ∷ []) (λ told. land ! (from ! (stop !)) (init ! 14 refl (typed a w told)) $
+      split ! $ move ! (1 ∷ []) $ use1 W (raw (fact 𝓤 (a ≡ leading machines (k .now) count (x .now)))) (call-of 𝓤 H A mem run κ₀ κ₁ machines k count x a) $
+      heard ! (a ≡ leading machines (k .now) count (x .now)) (λ said. split ! $ split ! $ move ! (1 ∷ []) $ split ! $ move ! (3 ∷ []) $
+      peeks ! T₁.the-row (Is T₁.the-row) (shows 𝓤 H A T₁.the-row) a (w ∷ []) (λ told. land ! (from ! (stop !)) (init ! 14 refl (typed a w told)) $
       keep ! (3 ∷ 1 ∷ 6 ∷ 5 ∷ 4 ∷ 7 ∷ 8 ∷ 9 ∷ 10 ∷ 11 ∷ 12 ∷ 13 ∷ 14 ∷ 15 ∷ 16 ∷ 17 ∷ 18 ∷ 19 ∷ 20 ∷ 21 ∷ 22 ∷ 23 ∷ []) $
       assigns ! (addr ! (from ! (hop ! (look ! 11 refl) (stop !)))) (from ! (stop !)) (init ! 13 refl (tt, tt)) $
       -- `give_lead`
@@ -164,10 +168,14 @@ module _ {M : Type 1} (𝓤 : URA M) (H : Heap 𝓤) (A : Atoms 𝓤) (W : Given
       calls-at ! (fmOf 𝓤 H (W .laws) 𝓣) (Give 𝓤 H A mem run) known-give (to-give a w) (and-then ! (load ! (from ! (stop !)) (look ! 11 refl)) (and-then ! (load ! (from ! (stop !)) (look ! 12 refl)) (no-more !))) (λ w₁.
       use1 W (later (some (λ (r : ℕ). ((‵ (flft κ₂ q₂) ⊛ ‵ ftrue) ⊛ ‵ (u32 .own r (w₁ ∷ []))) ⊛ raw (ensured 𝓤 H A give-lead.ended (give-lead.clauses 𝓤 H A mem run) (κ₂, tt) (a, (y, tt)) tt r)))) (id⊢ 𝓤 _) $ await ! tt $ pick ! (λ r.
       split ! $ move ! (1 ∷ []) $ use1 W (some (λ (ws : Unit {0} × (List ℕ × Unit {0})). ‵ (lasts give-lead.ended (κ₂, tt) (a, (y, tt)) ws) ⊛ raw (fact 𝓤 ((r ≡ a .number) × (ws .1 .0 ≡ leadNumbers a))))) (id⊢ 𝓤 _) $ pick ! (λ ws.
-      split ! $ move ! (1 ∷ []) $ heard ! ((r ≡ a .number) × (ws .1 .0 ≡ leadNumbers a)) (λ gave. fsplit ! $ drop ! $ fsplit ! $ move ! (2 ∷ []) $ split ! $ split ! $ move ! (2 ∷ []) $ peeks ! u32 (Is u32) (shows 𝓤 H A u32) r (w₁ ∷ []) (λ is. land ! (from ! (stop !)) (init ! 9 refl (uint-lawful 𝓤 H A W w32 .typed r _ is .0)) $
+      split ! $ move ! (1 ∷ []) $ heard ! ((r ≡ a .number) × (ws .1 .0 ≡ leadNumbers a)) (λ gave. fsplit ! $ drop ! $ fsplit ! $ move ! (2 ∷ []) $ split ! $
+      split ! $ move ! (2 ∷ []) $
+      peeks ! u32 (Is u32) (shows 𝓤 H A u32) r (w₁ ∷ []) (λ is. land ! (from ! (stop !)) (init ! 9 refl (uint-lawful 𝓤 H A W w32 .typed r _ is .0)) $
       keep ! (0 ∷ 5 ∷ 6 ∷ 1 ∷ 7 ∷ 8 ∷ 3 ∷ 9 ∷ 10 ∷ 11 ∷ 12 ∷ 13 ∷ 14 ∷ 15 ∷ 16 ∷ 17 ∷ 18 ∷ 19 ∷ 20 ∷ 21 ∷ 22 ∷ 23 ∷ 24 ∷ []) $ returns ! (look ! 7 refl) $
       forget ! 7 refl $ forget ! 8 refl $ forget ! 9 refl $ forget ! 10 refl $ forget ! 11 refl $ forget ! 12 refl $ forget ! 13 refl $ forget ! 14 refl $
-      move ! (7 ∷ 15 ∷ []) $ free1 ! $ move ! (7 ∷ 14 ∷ []) $ free1 ! $ move ! (7 ∷ 13 ∷ []) $ free1 ! $ move ! (7 ∷ 12 ∷ []) $ free1 ! $ move ! (7 ∷ 11 ∷ []) $ free1 ! $ move ! (7 ∷ 10 ∷ []) $ free1 ! $ move ! (7 ∷ 9 ∷ []) $ free1 ! $ move ! (7 ∷ 8 ∷ []) $ free1 ! $ free0 ! $ by ! (exits r w₁ (ws .1 .0) (gave .0 ∙ ap (λ (b : lead-of.Lead). b .number) said, gave .1 ∙ ap leadNumbers said)))))))))))))))))))
+      move ! (7 ∷ 15 ∷ []) $ free1 ! $ move ! (7 ∷ 14 ∷ []) $ free1 ! $ move ! (7 ∷ 13 ∷ []) $ free1 ! $ move ! (7 ∷ 12 ∷ []) $ free1 ! $ move ! (7 ∷ 11 ∷ []) $
+      free1 ! $ move ! (7 ∷ 10 ∷ []) $ free1 ! $ move ! (7 ∷ 9 ∷ []) $ free1 ! $ move ! (7 ∷ 8 ∷ []) $ free1 ! $ free0 ! $
+      by ! (exits r w₁ (ws .1 .0) (gave .0 ∙ ap (λ (b : lead-of.Lead). b .number) said, gave .1 ∙ ap leadNumbers said)))))))))))))))))))
 
 module _ {M : Type 1} (𝓤 : URA M) (H : Heap 𝓤) (A : Atoms 𝓤) (W : Given 𝓤 H A) (mem : Memory → SProp 𝓤) (run : Routine → Fun 𝓤) (𝓣 : Tables 𝓤 H) (known-call : Triple 𝓤 (𝓣 .C #live·leader) (Call 𝓤 H A mem run)) (known-give : Triple 𝓤 (𝓣 .C #results·give-lead) (Give 𝓤 H A mem run)) where
   pastaspur-leader-walks : Walks 𝓤 H A pastaspur-leader.ended stayed (WpFn 𝓤 H (𝓣 .C) (𝓣 .Λ) code.function) (pastaspur-leader.clauses 𝓤 H A mem run)

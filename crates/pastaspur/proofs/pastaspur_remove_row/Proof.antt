@@ -126,7 +126,9 @@ module _ {M : Type 1} (𝓤 : URA M) (H : Heap 𝓤) (A : Atoms 𝓤) (W : Given
   goes-call : ent 𝓤 (⋆ 𝓤 H A ((‵ (flft κ₀ q₀) ⊛ ‵ (flft κ₁ q₁)) ∷ (K ⊛ Mine) ∷ [])) (Call 𝓤 H A mem run .pre to-call)
   goes-call =
       qed W ((‵ (flft κ₀ q₀) ⊛ ‵ (flft κ₁ q₁)) ∷ (K ⊛ Mine) ∷ []) ∵
-      split ! $ move ! (2 ∷ []) $ split ! $ nothing ! $ owned ! u16 (Is u16) (uint-makes 𝓤 H A W w16) id _ (refl, gi) $ fjoin ! $ move ! (2 ∷ 0 ∷ []) $ fjoin ! $ owned ! usize (Is usize) (uint-makes 𝓤 H A W w64) count _ (refl, gc) $ fjoin ! $ move ! (1 ∷ 0 ∷ []) $ fjoin ! $ owned ! u8 (Is u8) (uint-makes 𝓤 H A W w8) machines _ (refl, gm) $ fjoin ! $
+      split ! $ move ! (2 ∷ []) $ split ! $ nothing ! $ owned ! u16 (Is u16) (uint-makes 𝓤 H A W w16) id _ (refl, gi) $ fjoin ! $ move ! (2 ∷ 0 ∷ []) $ fjoin ! $
+      owned ! usize (Is usize) (uint-makes 𝓤 H A W w64) count _ (refl, gc) $ fjoin ! $ move ! (1 ∷ 0 ∷ []) $ fjoin ! $
+      owned ! u8 (Is u8) (uint-makes 𝓤 H A W w8) machines _ (refl, gm) $ fjoin ! $
       nothing ! $ move ! (3 ∷ 0 ∷ []) $ join ! $ move ! (2 ∷ 0 ∷ []) $ join ! $ join ! $ frame ! $ done !
 
   abbrev to-give : counted-of.Counted → Val → Give 𝓤 H A mem run .Ghost
@@ -143,13 +145,17 @@ module _ {M : Type 1} (𝓤 : URA M) (H : Heap 𝓤) (A : Atoms 𝓤) (W : Given
       qed W (‵ (u32 .own r (w₁ ∷ [])) ∷ ‵ (flft κ₀ q₀) ∷ ‵ (flft κ₁ q₁) ∷ ‵ (flft κ₂ q₂) ∷ K ∷ ‵ (finally R (x .name) zs) ∷ ‵ (fres (y .name) (Array usize 1 .coded .code rs)) ∷ []) ∵
       suffices ! _ (ends-at 𝓤 H A pastaspur-remove-row.ended stayed (pastaspur-remove-row.clauses 𝓤 H A mem run) W (((κ₀, (κ₁, (κ₂, tt))), (q₀, (q₁, (q₂, tt))), tt, (machines, (k, (count, (x, (id, (y, tt)))))), vals), tt) w₁ r (tt, (tt, (tt, (zs, (tt, (rs, tt)))))) (tt, (tt, (tt, (long, (tt, (tt, tt))))))) $ says ! is $
       nothing ! $ move ! (4 ∷ 0 ∷ []) $ join ! $ move ! (3 ∷ 0 ∷ []) $ join ! $ move ! (2 ∷ 0 ∷ []) $ join ! $ frame ! $
-      nothing ! $ move ! (4 ∷ 0 ∷ []) $ fjoin ! $ owned ! u16 (Is u16) (uint-makes 𝓤 H A W w16) id _ (refl, gi) $ fjoin ! $ move ! (3 ∷ 0 ∷ []) $ fjoin ! $ owned ! usize (Is usize) (uint-makes 𝓤 H A W w64) count _ (refl, gc) $ fjoin ! $ move ! (2 ∷ 0 ∷ []) $ fjoin ! $ owned ! u8 (Is u8) (uint-makes 𝓤 H A W w8) machines _ (refl, gm) $ fjoin ! $ frame ! $ done !
+      nothing ! $ move ! (4 ∷ 0 ∷ []) $ fjoin ! $ owned ! u16 (Is u16) (uint-makes 𝓤 H A W w16) id _ (refl, gi) $ fjoin ! $ move ! (3 ∷ 0 ∷ []) $ fjoin ! $
+      owned ! usize (Is usize) (uint-makes 𝓤 H A W w64) count _ (refl, gc) $ fjoin ! $ move ! (2 ∷ 0 ∷ []) $ fjoin ! $
+      owned ! u8 (Is u8) (uint-makes 𝓤 H A W w8) machines _ (refl, gm) $ fjoin ! $ frame ! $ done !
 
   walk : (𝓣 : Tables 𝓤 H) (known-call : Triple 𝓤 (𝓣 .C #live·remove) (Call 𝓤 H A mem run)) (known-give : Triple 𝓤 (𝓣 .C #results·give-count) (Give 𝓤 H A mem run)) → ent 𝓤 (onEntry 𝓤 H A pastaspur-remove-row.signature (κ₀, (κ₁, (κ₂, tt))) (q₀, (q₁, (q₂, tt))) (machines, (k, (count, (x, (id, (y, tt)))))) vals) (WpFn 𝓤 H (𝓣 .C) (𝓣 .Λ) code.function (vint w8 machines ∷ s₀ ∷ vint w64 count ∷ s ∷ vint w16 id ∷ p ∷ []) Post)
   walk 𝓣 known-call known-give =
       qed W ((‵ (flft κ₀ q₀) ⊛ (‵ (flft κ₁ q₁) ⊛ (‵ (flft κ₂ q₂) ⊛ ‵ ftrue))) ∷ ‵ (owns (u8 ∷ ShrSlice (named 0) κ₀ u8 ∷ usize ∷ MutSlice (named 1) κ₁ R ∷ u16 ∷ MutRef (named 2) κ₂ (Array usize 1) ∷ []) (machines, (k, (count, (x, (id, (y, tt)))))) vals) ∷ []) ∵ enter ! (𝓣 .C) (𝓣 .Λ) code.function (vint w8 machines ∷ s₀ ∷ vint w64 count ∷ s ∷ vint w16 id ∷ p ∷ []) _ $
       alloc1 ! (λ l₀. alloc1 ! (λ l₁. alloc1 ! (λ l₂. alloc1 ! (λ l₃. alloc1 ! (λ l₄. alloc1 ! (λ l₅. alloc1 ! (λ l₆. alloc1 ! (λ l₇. alloc1 ! (λ l₈. alloc1 ! (λ l₉. alloc1 ! (λ l₁₀. alloc0 ! $ params1 ! $
-      pass1 ! (init ! 18 refl (tt, record { fits = gm })) $ pass1 ! (init ! 16 refl (tt, (tt, (record { fits = room₀ .0 }, tt)))) $ pass1 ! (init ! 14 refl (tt, record { fits = gc })) $ pass1 ! (init ! 12 refl (tt, (tt, (record { fits = room .0 }, tt)))) $ pass1 ! (init ! 10 refl (tt, record { fits = gi })) $ pass1 ! (init ! 8 refl (tt, tt)) $ pass0 ! $
+      pass1 ! (init ! 18 refl (tt, record { fits = gm })) $ pass1 ! (init ! 16 refl (tt, (tt, (record { fits = room₀ .0 }, tt)))) $
+      pass1 ! (init ! 14 refl (tt, record { fits = gc })) $ pass1 ! (init ! 12 refl (tt, (tt, (record { fits = room .0 }, tt)))) $
+      pass1 ! (init ! 10 refl (tt, record { fits = gi })) $ pass1 ! (init ! 8 refl (tt, tt)) $ pass0 ! $
       move ! (23 ∷ []) $ fsplit ! $ drop ! $ fsplit ! $ move ! (1 ∷ []) $ fsplit ! $ drop ! $ fsplit ! $ move ! (1 ∷ []) $ fsplit ! $ drop ! $ fsplit ! $ move ! (1 ∷ []) $ drop ! $ move ! (25 ∷ []) $ split ! $ move ! (1 ∷ []) $ split ! $ move ! (1 ∷ []) $ split ! $ move ! (1 ∷ []) $ drop ! $
       keep ! (2 ∷ 1 ∷ 0 ∷ 5 ∷ 4 ∷ 3 ∷ 26 ∷ 24 ∷ 22 ∷ 20 ∷ 18 ∷ 16 ∷ 14 ∷ 12 ∷ 10 ∷ 8 ∷ 6 ∷ 27 ∷ 25 ∷ 23 ∷ 21 ∷ 19 ∷ 17 ∷ 15 ∷ 13 ∷ 11 ∷ 9 ∷ 7 ∷ []) $
       assigns ! (addr ! (from ! (fld ! refl (hop ! (look-in ! 10 (sub ! 0 refl (whole !))) (stop !))))) (from ! (stop !)) (init ! 14 refl (tt, tt)) $
@@ -168,10 +174,15 @@ module _ {M : Type 1} (𝓤 : URA M) (H : Heap 𝓤) (A : Atoms 𝓤) (W : Given
       calls-at ! (fmOf 𝓤 H (W .laws) 𝓣) (Give 𝓤 H A mem run) known-give (to-give a w) (and-then ! (load ! (from ! (stop !)) (look ! 12 refl)) (and-then ! (load ! (from ! (stop !)) (look ! 15 refl)) (no-more !))) (λ w₁.
       use1 W (later (some (λ (r : ℕ). ((‵ (flft κ₂ q₂) ⊛ ‵ ftrue) ⊛ ‵ (u32 .own r (w₁ ∷ []))) ⊛ raw (ensured 𝓤 H A give-count.ended (give-count.clauses 𝓤 H A mem run) (κ₂, tt) (a, (y, tt)) tt r)))) (id⊢ 𝓤 _) $ await ! tt $ pick ! (λ r.
       split ! $ move ! (1 ∷ []) $ use1 W (some (λ (ws : Unit {0} × (List ℕ × Unit {0})). ‵ (lasts give-count.ended (κ₂, tt) (a, (y, tt)) ws) ⊛ raw (fact 𝓤 ((r ≡ a .number) × (ws .1 .0 ≡ a .count ∷ []))))) (id⊢ 𝓤 _) $ pick ! (λ ws.
-      split ! $ move ! (1 ∷ []) $ heard ! ((r ≡ a .number) × (ws .1 .0 ≡ a .count ∷ [])) (λ gave. fsplit ! $ drop ! $ fsplit ! $ move ! (2 ∷ []) $ split ! $ split ! $ move ! (2 ∷ []) $ peeks ! u32 (Is u32) (shows 𝓤 H A u32) r (w₁ ∷ []) (λ is. land ! (from ! (stop !)) (init ! 9 refl (uint-lawful 𝓤 H A W w32 .typed r _ is .0)) $
+      split ! $ move ! (1 ∷ []) $ heard ! ((r ≡ a .number) × (ws .1 .0 ≡ a .count ∷ [])) (λ gave. fsplit ! $ drop ! $ fsplit ! $ move ! (2 ∷ []) $ split ! $
+      split ! $ move ! (2 ∷ []) $
+      peeks ! u32 (Is u32) (shows 𝓤 H A u32) r (w₁ ∷ []) (λ is. land ! (from ! (stop !)) (init ! 9 refl (uint-lawful 𝓤 H A W w32 .typed r _ is .0)) $
       keep ! (0 ∷ 5 ∷ 6 ∷ 1 ∷ 7 ∷ 8 ∷ 3 ∷ 9 ∷ 10 ∷ 11 ∷ 12 ∷ 13 ∷ 14 ∷ 15 ∷ 16 ∷ 17 ∷ 18 ∷ 19 ∷ 20 ∷ 21 ∷ 22 ∷ 23 ∷ 24 ∷ 25 ∷ 26 ∷ 27 ∷ 28 ∷ 29 ∷ 30 ∷ []) $ returns ! (look ! 7 refl) $
       forget ! 7 refl $ forget ! 8 refl $ forget ! 9 refl $ forget ! 10 refl $ forget ! 11 refl $ forget ! 12 refl $ forget ! 13 refl $ forget ! 14 refl $ forget ! 15 refl $ forget ! 16 refl $ forget ! 17 refl $
-      move ! (7 ∷ 18 ∷ []) $ free1 ! $ move ! (7 ∷ 17 ∷ []) $ free1 ! $ move ! (7 ∷ 16 ∷ []) $ free1 ! $ move ! (7 ∷ 15 ∷ []) $ free1 ! $ move ! (7 ∷ 14 ∷ []) $ free1 ! $ move ! (7 ∷ 13 ∷ []) $ free1 ! $ move ! (7 ∷ 12 ∷ []) $ free1 ! $ move ! (7 ∷ 11 ∷ []) $ free1 ! $ move ! (7 ∷ 10 ∷ []) $ free1 ! $ move ! (7 ∷ 9 ∷ []) $ free1 ! $ move ! (7 ∷ 8 ∷ []) $ free1 ! $ free0 ! $ by ! (exits r w₁ (zs .1 .1 .1 .0) (ws .1 .0) long (gave .0 ∙ ap (λ (b : counted-of.Counted). b .number) (said .answers), (gave .1 ∙ ap (λ (b : counted-of.Counted). b .count ∷ []) (said .answers), said .leaves)))))))))))))))))))))))))
+      move ! (7 ∷ 18 ∷ []) $ free1 ! $ move ! (7 ∷ 17 ∷ []) $ free1 ! $ move ! (7 ∷ 16 ∷ []) $ free1 ! $ move ! (7 ∷ 15 ∷ []) $ free1 ! $ move ! (7 ∷ 14 ∷ []) $
+      free1 ! $ move ! (7 ∷ 13 ∷ []) $ free1 ! $ move ! (7 ∷ 12 ∷ []) $ free1 ! $ move ! (7 ∷ 11 ∷ []) $ free1 ! $ move ! (7 ∷ 10 ∷ []) $ free1 ! $
+      move ! (7 ∷ 9 ∷ []) $ free1 ! $ move ! (7 ∷ 8 ∷ []) $ free1 ! $ free0 ! $
+      by ! (exits r w₁ (zs .1 .1 .1 .0) (ws .1 .0) long (gave .0 ∙ ap (λ (b : counted-of.Counted). b .number) (said .answers), (gave .1 ∙ ap (λ (b : counted-of.Counted). b .count ∷ []) (said .answers), said .leaves)))))))))))))))))))))))))
 
 module _ {M : Type 1} (𝓤 : URA M) (H : Heap 𝓤) (A : Atoms 𝓤) (W : Given 𝓤 H A) (mem : Memory → SProp 𝓤) (run : Routine → Fun 𝓤) (𝓣 : Tables 𝓤 H) (known-call : Triple 𝓤 (𝓣 .C #live·remove) (Call 𝓤 H A mem run)) (known-give : Triple 𝓤 (𝓣 .C #results·give-count) (Give 𝓤 H A mem run)) where
   pastaspur-remove-row-walks : Walks 𝓤 H A pastaspur-remove-row.ended stayed (WpFn 𝓤 H (𝓣 .C) (𝓣 .Λ) code.function) (pastaspur-remove-row.clauses 𝓤 H A mem run)

@@ -54,9 +54,11 @@ print-answer-requires : tie.Need-print-answer-requires Inv-loop μ-loop
 print-answer-requires c κs = let i = c .before .before .before .before .before .before .before .before .before .loop .inv in (omega (arith, i .7, c .before .before .before .before .before .before .before .before .before .before .before .before .before .before .pre .4), i .4, i .5)
 
 -- the lines from this one on give the tally
-counted-on : (c : tie.After-print-answer Inv-loop μ-loop)
-    → linesTally (c .before .before .before .before .before .before .before .before .before .before .before .before .before .before .before .args .card .now) (c .print-answer .result .tally) (endedLines [] (drop (c .before .before .before .before .next .given .0 .1 .0) (c .before .before .before .before .before .before .before .before .before .before .before .before .before .before .before .args .piece .now)))
-    ≡ linesTally (c .before .before .before .before .before .before .before .before .before .before .before .before .before .before .before .args .card .now) (c .before .before .before .before .before .before .before .before .before .before .before .before .before .before .before .args .tally) (endedLines (take (c .before .before .before .before .before .before .before .before .before .before .before .before .before .before .before .args .held) (c .before .before .before .before .before .before .before .before .before .before .before .before .before .before .before .args .line .now)) (c .before .before .before .before .before .before .before .before .before .before .before .before .before .before .before .args .piece .now))
+counted-on : (c : tie.After-print-answer Inv-loop μ-loop) →
+    let at-next = c .before .before .before .before .next in
+    let entry = c .before .before .before .before .before .before .before .before .before .before .before .before .before .before .before in
+    linesTally (entry .args .card .now) (c .print-answer .result .tally) (endedLines [] (drop (at-next .given .0 .1 .0) (entry .args .piece .now)))
+    ≡ linesTally (entry .args .card .now) (entry .args .tally) (endedLines (take (entry .args .held) (entry .args .line .now)) (entry .args .piece .now))
 counted-on c =
     let s = c .before .before .before .before .before .before .before .before .before .before .before .before .before .before .before .args in
     let k = c .before .before .before .before .before .before .before .before in
@@ -71,24 +73,30 @@ counted-on c =
 
 -- past the thousandth line, or a write failed
 same-length : tie.Need-same-length Inv-loop μ-loop
-same-length c = omega (arith, c .before .before .before .before .before .before .before .before .before .before .before .before .before .next-line .kept .1 .1 .0, c .before .before .before .before .before .before .before .before .before .before .before .before .before .before .before .before .before .before .before .before .pre .1)
+same-length c =
+    let at-next-line = c .before .before .before .before .before .before .before .before .before .before .before .before .before .next-line in
+    let entry = c .before .before .before .before .before .before .before .before .before .before .before .before .before .before .before .before .before .before .before .before in
+    omega (arith, at-next-line .kept .1 .1 .0, entry .pre .1)
 
 same-length-2 : tie.Need-same-length-2 Inv-loop μ-loop
 same-length-2 c = omega (arith, c .before .before .before .before .before .print-answer .kept .1 .1 .1 .0, c .before .before .before .before .before .before .before .before .before .before .before .before .before .before .before .loop .inv .7)
 
 returns : tie.Need-returns Inv-loop μ-loop
 returns c =
+    let at-next = c .before .before .before .before .before .before .before .before .before .next in
+    let at-loop = c .before .before .before .before .before .before .before .before .before .before .before .before .before .before .before .loop in
+    let entry = c .before .before .before .before .before .before .before .before .before .before .before .before .before .before .before .before .before .before .before .before in
     let p = c .before .before .before .before .before in
-    let l = c .before .before .before .before .before .before .before .before .before .before .before .before .before .before .before .loop in
+    let l = at-loop in
     let past : p .print-answer .result .written ≡ true → p .print-answer .result .tally .past ≡ true = past-written (p .print-answer .result .tally .past) (p .print-answer .result .written) (c .if1 .taken) in
     record {
       few = lit≤ tt;
       fits = p .print-answer .ensures .0 .1;
       lines-counted = λ w.
-          let rest = endedLines [] (drop (c .before .before .before .before .before .before .before .before .before .next .given .0 .1 .0) (c .before .before .before .before .before .before .before .before .before .before .before .before .before .before .before .before .before .before .before .before .args .piece .now)) in
+          let rest = endedLines [] (drop (at-next .given .0 .1 .0) (entry .args .piece .now)) in
           let e = p .print-answer .ensures .0 .0 in
-          let none-more = nothing-after (c .before .before .before .before .before .before .before .before .before .before .before .before .before .before .before .before .before .before .before .before .args .card .now) (l .so-far) _ rest (l .inv .5) (sym (ap (λ (u : Tally). u .past) e) ∙ past w) in
-          e ∙ sym none-more ∙ ap (λ (u : Tally). linesTally (c .before .before .before .before .before .before .before .before .before .before .before .before .before .before .before .before .before .before .before .before .args .card .now) u rest) (sym e) ∙ counted-on p;
+          let none-more = nothing-after (entry .args .card .now) (l .so-far) _ rest (l .inv .5) (sym (ap (λ (u : Tally). u .past) e) ∙ past w) in
+          e ∙ sym none-more ∙ ap (λ (u : Tally). linesTally (entry .args .card .now) u rest) (sym e) ∙ counted-on p;
       bytes = λ w q. absurd (clash (past w) q);
     }
 

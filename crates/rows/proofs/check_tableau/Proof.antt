@@ -25,7 +25,8 @@ layout-test c = let a = c .before .before .before .before .before .args in c .ch
 
 returns : tie.Need-returns
 returns c =
-    let a = c .before .before .before .before .before .before .before .args in
+    let entry = c .before .before .before .before .before .before .before in
+    let a = entry .args in
     goes-up (c .enum-told2 .given .1) (refuse 19 (soundTableau (machineCount (a .card .now)) (a .tableau .now))) (refuse 20 (everyRow (isForWord (a .card .now) (a .word .now)) (a .tableau .now)) ∷ refuse 21 (everyRow (countsAreProfile (a .card .now)) (a .tableau .now)) ∷ []) (layout-test (c .before .before))
 
 -- what each check that passed says

@@ -14,7 +14,10 @@ returns : tie.Need-returns
 returns c = record { read = []; fits = zero-le; text = λ h. absurd (omega arith) }
 
 slice-aggregate-finish : tie.Need-slice-aggregate-finish
-slice-aggregate-finish c = sym (length-take-le _ _ (omega (arith, c .before .before .before .before .before .before .before .answer-pieces .ensures .answers .few, c .before .before .before .before .before .before .before .answer-pieces .kept .1 .0, c .before .before .before .before .before .before .before .before .before .before .before .before .before .pre .1)))
+slice-aggregate-finish c =
+    let at-answer-pieces = c .before .before .before .before .before .before .before .answer-pieces in
+    let entry = c .before .before .before .before .before .before .before .before .before .before .before .before .before in
+    sym (length-take-le _ _ (omega (arith, at-answer-pieces .ensures .answers .few, at-answer-pieces .kept .1 .0, entry .pre .1)))
 
 finish-requires : tie.Need-finish-requires
 finish-requires c κs =

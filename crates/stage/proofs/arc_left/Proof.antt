@@ -35,7 +35,13 @@ returns-4 c = makes-broken 1 (c .before .before .before .before .before .before 
 
 -- src/lib.rt:103:9
 returns-5 : tie.Need-returns-5
-returns-5 c = left-told (makes-next (c .before .before .before .before .before .before .before .before .args .target) (makes-next (c .before .before .before .before .before .before .before .before .args .target) left-start (place-0 _) (c .before .before .before .before .before .makes .ensures) (not-false _ (c .before .before .before .before .if2 .left))) (place-1 _) (c .before .before .makes2 .ensures) (not-false _ (c .before .if4 .left))) (omega (arith, c .if5 .taken))
+returns-5 c =
+    let at-makes2 = c .before .before .makes2 in
+    let at-if2 = c .before .before .before .before .if2 in
+    let at-makes = c .before .before .before .before .before .makes in
+    let entry = c .before .before .before .before .before .before .before .before in
+    let target = entry .args .target in
+    left-told (makes-next (target) (makes-next (target) left-start (place-0 _) (at-makes .ensures) (not-false _ (at-if2 .left))) (place-1 _) (at-makes2 .ensures) (not-false _ (c .before .if4 .left))) (omega (arith, c .if5 .taken))
 
 -- src/lib.rt:105:9
 makes-requires-3 : tie.Need-makes-requires-3
@@ -43,11 +49,24 @@ makes-requires-3 c κs = search needs
 
 -- src/lib.rt:106:9
 returns-6 : tie.Need-returns-6
-returns-6 c = makes-broken 2 (c .before .before .before .before .before .before .before .before .before .before .args .target) (omega (arith, c .before .before .before .before .before .before .before .before .if1 .left, c .before .before .before .before .before .if3 .left, c .before .before .if5 .left)) (place-2 _) (c .before .makes3 .ensures) (not-true _ (c .if6 .taken))
+returns-6 c =
+    let at-if5 = c .before .before .if5 in
+    let at-if3 = c .before .before .before .before .before .if3 in
+    let at-if1 = c .before .before .before .before .before .before .before .before .if1 in
+    let entry = c .before .before .before .before .before .before .before .before .before .before in
+    makes-broken 2 (entry .args .target) (omega (arith, at-if1 .left, at-if3 .left, at-if5 .left)) (place-2 _) (c .before .makes3 .ensures) (not-true _ (c .if6 .taken))
 
 -- src/lib.rt:109:9
 returns-7 : tie.Need-returns-7
-returns-7 c = left-told (makes-next (c .before .before .before .before .before .before .before .before .before .before .before .args .target) (makes-next (c .before .before .before .before .before .before .before .before .before .before .before .args .target) (makes-next (c .before .before .before .before .before .before .before .before .before .before .before .args .target) left-start (place-0 _) (c .before .before .before .before .before .before .before .before .makes .ensures) (not-false _ (c .before .before .before .before .before .before .before .if2 .left))) (place-1 _) (c .before .before .before .before .before .makes2 .ensures) (not-false _ (c .before .before .before .before .if4 .left))) (place-2 _) (c .before .before .makes3 .ensures) (not-false _ (c .before .if6 .left))) (omega (arith, c .if7 .taken))
+returns-7 c =
+    let at-makes3 = c .before .before .makes3 in
+    let at-if4 = c .before .before .before .before .if4 in
+    let at-makes2 = c .before .before .before .before .before .makes2 in
+    let at-if2 = c .before .before .before .before .before .before .before .if2 in
+    let at-makes = c .before .before .before .before .before .before .before .before .makes in
+    let entry = c .before .before .before .before .before .before .before .before .before .before .before in
+    let target = entry .args .target in
+    left-told (makes-next (target) (makes-next (target) (makes-next (target) left-start (place-0 _) (at-makes .ensures) (not-false _ (at-if2 .left))) (place-1 _) (at-makes2 .ensures) (not-false _ (at-if4 .left))) (place-2 _) (at-makes3 .ensures) (not-false _ (c .before .if6 .left))) (omega (arith, c .if7 .taken))
 
 -- src/lib.rt:111:9
 makes-requires-4 : tie.Need-makes-requires-4
@@ -55,11 +74,27 @@ makes-requires-4 c κs = search needs
 
 -- src/lib.rt:112:9
 returns-8 : tie.Need-returns-8
-returns-8 c = makes-broken 3 (c .before .before .before .before .before .before .before .before .before .before .before .before .before .args .target) (omega (arith, c .before .before .before .before .before .before .before .before .before .before .before .if1 .left, c .before .before .before .before .before .before .before .before .if3 .left, c .before .before .before .before .before .if5 .left, c .before .before .if7 .left)) (place-3 _) (c .before .makes4 .ensures) (not-true _ (c .if8 .taken))
+returns-8 c =
+    let at-if7 = c .before .before .if7 in
+    let at-if5 = c .before .before .before .before .before .if5 in
+    let at-if3 = c .before .before .before .before .before .before .before .before .if3 in
+    let at-if1 = c .before .before .before .before .before .before .before .before .before .before .before .if1 in
+    let entry = c .before .before .before .before .before .before .before .before .before .before .before .before .before in
+    makes-broken 3 (entry .args .target) (omega (arith, at-if1 .left, at-if3 .left, at-if5 .left, at-if7 .left)) (place-3 _) (c .before .makes4 .ensures) (not-true _ (c .if8 .taken))
 
 -- src/lib.rt:115:9
 returns-9 : tie.Need-returns-9
-returns-9 c = left-told (makes-next (c .before .before .before .before .before .before .before .before .before .before .before .before .before .before .args .target) (makes-next (c .before .before .before .before .before .before .before .before .before .before .before .before .before .before .args .target) (makes-next (c .before .before .before .before .before .before .before .before .before .before .before .before .before .before .args .target) (makes-next (c .before .before .before .before .before .before .before .before .before .before .before .before .before .before .args .target) left-start (place-0 _) (c .before .before .before .before .before .before .before .before .before .before .before .makes .ensures) (not-false _ (c .before .before .before .before .before .before .before .before .before .before .if2 .left))) (place-1 _) (c .before .before .before .before .before .before .before .before .makes2 .ensures) (not-false _ (c .before .before .before .before .before .before .before .if4 .left))) (place-2 _) (c .before .before .before .before .before .makes3 .ensures) (not-false _ (c .before .before .before .before .if6 .left))) (place-3 _) (c .before .before .makes4 .ensures) (not-false _ (c .before .if8 .left))) (omega (arith, c .if9 .taken))
+returns-9 c =
+    let at-makes4 = c .before .before .makes4 in
+    let at-if6 = c .before .before .before .before .if6 in
+    let at-makes3 = c .before .before .before .before .before .makes3 in
+    let at-if4 = c .before .before .before .before .before .before .before .if4 in
+    let at-makes2 = c .before .before .before .before .before .before .before .before .makes2 in
+    let at-if2 = c .before .before .before .before .before .before .before .before .before .before .if2 in
+    let at-makes = c .before .before .before .before .before .before .before .before .before .before .before .makes in
+    let entry = c .before .before .before .before .before .before .before .before .before .before .before .before .before .before in
+    let target = entry .args .target in
+    left-told (makes-next (target) (makes-next (target) (makes-next (target) (makes-next (target) left-start (place-0 _) (at-makes .ensures) (not-false _ (at-if2 .left))) (place-1 _) (at-makes2 .ensures) (not-false _ (at-if4 .left))) (place-2 _) (at-makes3 .ensures) (not-false _ (at-if6 .left))) (place-3 _) (at-makes4 .ensures) (not-false _ (c .before .if8 .left))) (omega (arith, c .if9 .taken))
 
 -- src/lib.rt:117:9
 makes-requires-5 : tie.Need-makes-requires-5
@@ -67,11 +102,29 @@ makes-requires-5 c κs = search needs
 
 -- src/lib.rt:118:9
 returns-10 : tie.Need-returns-10
-returns-10 c = makes-broken 4 (c .before .before .before .before .before .before .before .before .before .before .before .before .before .before .before .before .args .target) (omega (arith, c .before .before .before .before .before .before .before .before .before .before .before .before .before .before .if1 .left, c .before .before .before .before .before .before .before .before .before .before .before .if3 .left, c .before .before .before .before .before .before .before .before .if5 .left, c .before .before .before .before .before .if7 .left, c .before .before .if9 .left)) (place-4 _) (c .before .makes5 .ensures) (not-true _ (c .if10 .taken))
+returns-10 c =
+    let at-if9 = c .before .before .if9 in
+    let at-if7 = c .before .before .before .before .before .if7 in
+    let at-if5 = c .before .before .before .before .before .before .before .before .if5 in
+    let at-if3 = c .before .before .before .before .before .before .before .before .before .before .before .if3 in
+    let at-if1 = c .before .before .before .before .before .before .before .before .before .before .before .before .before .before .if1 in
+    let entry = c .before .before .before .before .before .before .before .before .before .before .before .before .before .before .before .before in
+    makes-broken 4 (entry .args .target) (omega (arith, at-if1 .left, at-if3 .left, at-if5 .left, at-if7 .left, at-if9 .left)) (place-4 _) (c .before .makes5 .ensures) (not-true _ (c .if10 .taken))
 
 -- src/lib.rt:86:1
 returns-11 : tie.Need-returns-11
-returns-11 c = left-told (makes-next (c .before .before .before .before .before .before .before .before .before .before .before .before .before .before .before .before .args .target) (makes-next (c .before .before .before .before .before .before .before .before .before .before .before .before .before .before .before .before .args .target) (makes-next (c .before .before .before .before .before .before .before .before .before .before .before .before .before .before .before .before .args .target) (makes-next (c .before .before .before .before .before .before .before .before .before .before .before .before .before .before .before .before .args .target) (makes-next (c .before .before .before .before .before .before .before .before .before .before .before .before .before .before .before .before .args .target) left-start (place-0 _) (c .before .before .before .before .before .before .before .before .before .before .before .before .before .makes .ensures) (not-false _ (c .before .before .before .before .before .before .before .before .before .before .before .before .if2 .left))) (place-1 _) (c .before .before .before .before .before .before .before .before .before .before .makes2 .ensures) (not-false _ (c .before .before .before .before .before .before .before .before .before .if4 .left))) (place-2 _) (c .before .before .before .before .before .before .before .makes3 .ensures) (not-false _ (c .before .before .before .before .before .before .if6 .left))) (place-3 _) (c .before .before .before .before .makes4 .ensures) (not-false _ (c .before .before .before .if8 .left))) (place-4 _) (c .before .makes5 .ensures) (not-false _ (c .if10 .left))) (omega (arith, c .before .before .before .before .before .before .before .before .before .before .before .before .before .before .before .before .pre .3))
+returns-11 c =
+    let at-if8 = c .before .before .before .if8 in
+    let at-makes4 = c .before .before .before .before .makes4 in
+    let at-if6 = c .before .before .before .before .before .before .if6 in
+    let at-makes3 = c .before .before .before .before .before .before .before .makes3 in
+    let at-if4 = c .before .before .before .before .before .before .before .before .before .if4 in
+    let at-makes2 = c .before .before .before .before .before .before .before .before .before .before .makes2 in
+    let at-if2 = c .before .before .before .before .before .before .before .before .before .before .before .before .if2 in
+    let at-makes = c .before .before .before .before .before .before .before .before .before .before .before .before .before .makes in
+    let entry = c .before .before .before .before .before .before .before .before .before .before .before .before .before .before .before .before in
+    let target = entry .args .target in
+    left-told (makes-next (target) (makes-next (target) (makes-next (target) (makes-next (target) (makes-next (target) left-start (place-0 _) (at-makes .ensures) (not-false _ (at-if2 .left))) (place-1 _) (at-makes2 .ensures) (not-false _ (at-if4 .left))) (place-2 _) (at-makes3 .ensures) (not-false _ (at-if6 .left))) (place-3 _) (at-makes4 .ensures) (not-false _ (at-if8 .left))) (place-4 _) (c .before .makes5 .ensures) (not-false _ (c .if10 .left))) (omega (arith, entry .pre .3))
 
 pub arc-left-spec : {M : Type 1} → statement M
 arc-left-spec =

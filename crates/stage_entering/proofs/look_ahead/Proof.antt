@@ -36,7 +36,10 @@ loop-less : tie.Need-loop-less Inv-loop μ-loop
 loop-less c = omega (arith, c .before .loop-test .taken)
 
 loop-again : tie.Need-loop-again Inv-loop μ-loop
-loop-again c = (omega (arith, c .before .loop-test .taken), simp length-set (c .before .before .loop .inv .1), look-next (omega (arith, c .before .loop-test .taken, c .before .before .loop .inv .1, c .before .before .before .before .pre .2)) (c .before .before .loop .inv .2) (c .front-counts .ensures))
+loop-again c =
+    let at-loop = c .before .before .loop in
+    let entry = c .before .before .before .before in
+    (omega (arith, c .before .loop-test .taken), simp length-set (at-loop .inv .1), look-next (omega (arith, c .before .loop-test .taken, at-loop .inv .1, entry .pre .2)) (at-loop .inv .2) (c .front-counts .ensures))
 
 returns : tie.Need-returns Inv-loop μ-loop
 returns c = look-end (c .before .loop .inv .2) (omega (arith, c .loop-test .left))

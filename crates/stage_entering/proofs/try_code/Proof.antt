@@ -62,7 +62,12 @@ add-try-lane-6 : tie.Need-add-try-lane-6 Inv-loop μ-loop
 add-try-lane-6 c = omega (arith, c .before .before .before .before .before .before .before .before .before .before .before .before .pre .lows .sums (c .before .before .before .before .before .before .loop .j) (omega (arith, c .before .before .before .before .before .loop-test .taken)))
 
 try-lane-requires : tie.Need-try-lane-requires Inv-loop μ-loop
-try-lane-requires c κs = lane-ready (c .before .before .before .before .before .before .before .before .before .before .before .before .pre) (c .before .before .before .before .before .before .before .front-counts .ensures) (c .before .before .before .before .before .before .loop .inv .1) (omega (arith, c .before .before .before .before .before .loop-test .taken))
+try-lane-requires c κs =
+    let at-loop-test = c .before .before .before .before .before .loop-test in
+    let at-loop = c .before .before .before .before .before .before .loop in
+    let at-front-counts = c .before .before .before .before .before .before .before .front-counts in
+    let entry = c .before .before .before .before .before .before .before .before .before .before .before .before in
+    lane-ready (entry .pre) (at-front-counts .ensures) (at-loop .inv .1) (omega (arith, at-loop-test .taken))
 
 add-j : tie.Need-add-j Inv-loop μ-loop
 add-j c = omega (arith, c .before .before .before .before .before .before .before .before .loop-test .taken)

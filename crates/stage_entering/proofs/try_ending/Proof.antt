@@ -26,7 +26,14 @@ lower-requires : tie.Need-lower-requires
 lower-requires c κs = c .before .before .before .before .before .before .before .before .pre .0
 
 returns-3 : tie.Need-returns-3
-returns-3 c = lowered-ending (c .before .before .before .before .before .before .before .before .marks-of .result) (ending-some _ _ (omega (arith, c .before .before .before .before .before .before .before .before .before .if1 .left)) ∙ ap some (sym (c .before .before .before .before .before .before .before .before .marks-of .ensures))) _ (c .before .before .before .before .before .before .ending-left .ensures) (not-false _ (c .before .before .before .before .before .if2 .left)) _ (c .before .before .before .marks-at .ensures) _ (c .before .before .lower .ensures)
+returns-3 c =
+    let at-lower = c .before .before .lower in
+    let at-marks-at = c .before .before .before .marks-at in
+    let at-if2 = c .before .before .before .before .before .if2 in
+    let at-ending-left = c .before .before .before .before .before .before .ending-left in
+    let at-marks-of = c .before .before .before .before .before .before .before .before .marks-of in
+    let at-if1 = c .before .before .before .before .before .before .before .before .before .if1 in
+    lowered-ending (at-marks-of .result) (ending-some _ _ (omega (arith, at-if1 .left)) ∙ ap some (sym (at-marks-of .ensures))) _ (at-ending-left .ensures) (not-false _ (at-if2 .left)) _ (at-marks-at .ensures) _ (at-lower .ensures)
 
 pub try-ending-spec : {M : Type 1} → statement M
 try-ending-spec =

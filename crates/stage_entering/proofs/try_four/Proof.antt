@@ -49,13 +49,21 @@ loop-less : tie.Need-loop-less Inv-loop μ-loop
 loop-less c = omega (arith, c .before .before .before .before .before .loop-test .taken)
 
 loop-again : tie.Need-loop-again Inv-loop μ-loop
-loop-again c = (omega (arith, c .before .before .before .before .before .loop-test .taken), codes-next (c .before .before .before .before .before .before .loop .inv .1) (lanes-at _ (c .before .before .before .before .before .before .loop .inv .2) (c .before .before .before .try-code .ensures)), places-row (c .before .before .before .before .before .before .loop .inv .2) (omega (arith, c .if1 .taken)))
+loop-again c =
+    let at-try-code = c .before .before .before .try-code in
+    let at-loop-test = c .before .before .before .before .before .loop-test in
+    let at-loop = c .before .before .before .before .before .before .loop in
+    (omega (arith, at-loop-test .taken), codes-next (at-loop .inv .1) (lanes-at _ (at-loop .inv .2) (at-try-code .ensures)), places-row (at-loop .inv .2) (omega (arith, c .if1 .taken)))
 
 loop-less-2 : tie.Need-loop-less-2 Inv-loop μ-loop
 loop-less-2 c = omega (arith, c .before .before .before .before .before .loop-test .taken)
 
 loop-again-2 : tie.Need-loop-again-2 Inv-loop μ-loop
-loop-again-2 c = (omega (arith, c .before .before .before .before .before .loop-test .taken), codes-next (c .before .before .before .before .before .before .loop .inv .1) (lanes-at _ (c .before .before .before .before .before .before .loop .inv .2) (c .before .before .before .try-code .ensures)), places-next (c .before .before .before .before .before .before .loop .inv .2) (c .if1 .left))
+loop-again-2 c =
+    let at-try-code = c .before .before .before .try-code in
+    let at-loop-test = c .before .before .before .before .before .loop-test in
+    let at-loop = c .before .before .before .before .before .before .loop in
+    (omega (arith, at-loop-test .taken), codes-next (at-loop .inv .1) (lanes-at _ (at-loop .inv .2) (at-try-code .ensures)), places-next (at-loop .inv .2) (c .if1 .left))
 
 same-length : tie.Need-same-length Inv-loop μ-loop
 same-length c = c .before .loop .inv .1 .size

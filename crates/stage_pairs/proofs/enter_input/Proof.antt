@@ -31,31 +31,52 @@ prepare-requires c κs =
     record { accepted = T .accepted; counts-are = T .counts-are; input = c .before .before .before .before .before .before .before .before .before .before .pre .0 .input; width = w; room = omega (arith, w, T .room) }
 
 loop-holds : tie.Need-loop-holds Inv-loop μ-loop
-loop-holds c = (fours-start, omega (arith, c .before .before .prepare .ok), c .before .before .before .before .before .before .before .before .before .before .before .before .before .pre .0 .high-size, c .before .before .before .before .before .before .before .before .before .before .before .before .before .pre .0 .low-size)
+loop-holds c =
+    let at-prepare = c .before .before .prepare in
+    let entry = c .before .before .before .before .before .before .before .before .before .before .before .before .before in
+    (fours-start, omega (arith, at-prepare .ok), entry .pre .0 .high-size, entry .pre .0 .low-size)
 
 join-four-requires : tie.Need-join-four-requires Inv-loop μ-loop
 join-four-requires c κs =
-    let l = c .before .before .before .before .before .before .loop in
-    join-ready (c .before .before .before .before .before .before .before .before .before .before .before .before .before .before .before .before .before .before .before .before .pre .0 .tables) (c .before .before .before .before .before .before .before .before .before .prepare .ensures) (four-few (l .outputs) (c .before .before .before .before .next-four .ensures)) (l .inv .2) (l .inv .3)
+    let at-next-four = c .before .before .before .before .next-four in
+    let at-loop = c .before .before .before .before .before .before .loop in
+    let at-prepare = c .before .before .before .before .before .before .before .before .before .prepare in
+    let entry = c .before .before .before .before .before .before .before .before .before .before .before .before .before .before .before .before .before .before .before .before in
+    let l = at-loop in
+    join-ready (entry .pre .0 .tables) (at-prepare .ensures) (four-few (l .outputs) (at-next-four .ensures)) (l .inv .2) (l .inv .3)
 
 try-four-requires : tie.Need-try-four-requires Inv-loop μ-loop
 try-four-requires c κs =
-    let Q = c .before .before .before .before .before .before .before .before .before .before .before .before .before .before .before .before .before .before .before .before .before .before .before .before .before .before .before .before .pre .0 in
-    let l = c .before .before .before .before .before .before .before .before .before .before .before .before .before .before .loop in
-    let j = c .before .before .before .before .before .before .before .join-four in
-    four-ready (Q .tables) (c .before .before .before .before .before .before .before .before .before .before .before .before .before .before .before .before .before .prepare .ensures) (four-few (l .outputs) (c .before .before .before .before .before .before .before .before .before .before .before .before .next-four .ensures)) (j .kept .1 .1 .1 .1 .1 .1 .0 ∙ l .inv .2) (j .kept .1 .1 .1 .1 .1 .1 .1 .0 ∙ l .inv .3) (j .ensures) _ _ (Q .order) (nodes-kept (l .inv .0 .size) (l .inv .0 .others) (Q .given)) (ahead-kept (l .inv .0 .counts) (λ w h. l .inv .0 .others w (inr h)) (Q .ahead-is))
+    let at-join-four = c .before .before .before .before .before .before .before .join-four in
+    let at-next-four = c .before .before .before .before .before .before .before .before .before .before .before .before .next-four in
+    let at-loop = c .before .before .before .before .before .before .before .before .before .before .before .before .before .before .loop in
+    let at-prepare = c .before .before .before .before .before .before .before .before .before .before .before .before .before .before .before .before .before .prepare in
+    let entry = c .before .before .before .before .before .before .before .before .before .before .before .before .before .before .before .before .before .before .before .before .before .before .before .before .before .before .before .before in
+    let Q = entry .pre .0 in
+    let l = at-loop in
+    let j = at-join-four in
+    four-ready (Q .tables) (at-prepare .ensures) (four-few (l .outputs) (at-next-four .ensures)) (j .kept .1 .1 .1 .1 .1 .1 .0 ∙ l .inv .2) (j .kept .1 .1 .1 .1 .1 .1 .1 .0 ∙ l .inv .3) (j .ensures) _ _ (Q .order) (nodes-kept (l .inv .0 .size) (l .inv .0 .others) (Q .given)) (ahead-kept (l .inv .0 .counts) (λ w h. l .inv .0 .others w (inr h)) (Q .ahead-is))
 
 loop-less : tie.Need-loop-less Inv-loop μ-loop
-loop-less c = let l = c .before .before .before .before .before .before .before .before .before .before .before .before .before .before .before .before .before .before .loop in omega (arith, c .without-four .ensures, without-less (l .outputs) (l .inv .1) (omega (arith, c .before .before .before .before .before .before .before .before .before .before .before .before .before .before .before .before .before .loop-test .taken)))
+loop-less c =
+    let at-loop-test = c .before .before .before .before .before .before .before .before .before .before .before .before .before .before .before .before .before .loop-test in
+    let at-loop = c .before .before .before .before .before .before .before .before .before .before .before .before .before .before .before .before .before .before .loop in
+    let l = at-loop in omega (arith, c .without-four .ensures, without-less (l .outputs) (l .inv .1) (omega (arith, at-loop-test .taken)))
 
 loop-again : tie.Need-loop-again Inv-loop μ-loop
 loop-again c =
-    let l = c .before .before .before .before .before .before .before .before .before .before .before .before .before .before .before .before .before .before .loop in
-    let j = c .before .before .before .before .before .before .before .before .before .before .before .join-four in
-    let f = c .before .before .before .before .before .before .before .before .before .before .before .before .before .before .before .before .next-four .ensures in
+    let at-try-four = c .before .before .before .try-four in
+    let at-join-four = c .before .before .before .before .before .before .before .before .before .before .before .join-four in
+    let at-next-four = c .before .before .before .before .before .before .before .before .before .before .before .before .before .before .before .before .next-four in
+    let at-loop = c .before .before .before .before .before .before .before .before .before .before .before .before .before .before .before .before .before .before .loop in
+    let at-prepare = c .before .before .before .before .before .before .before .before .before .before .before .before .before .before .before .before .before .before .before .before .before .prepare in
+    let entry = c .before .before .before .before .before .before .before .before .before .before .before .before .before .before .before .before .before .before .before .before .before .before .before .before .before .before .before .before .before .before .before .before in
+    let l = at-loop in
+    let j = at-join-four in
+    let f = at-next-four .ensures in
     let eh = j .kept .1 .1 .1 .1 .1 .1 .0 ∙ l .inv .2 in
     let el = j .kept .1 .1 .1 .1 .1 .1 .1 .0 ∙ l .inv .3 in (
-      fours-next (c .before .before .before .before .before .before .before .before .before .before .before .before .before .before .before .before .before .before .before .before .before .before .before .before .before .before .before .before .before .before .before .before .pre .0 .tables) (c .before .before .before .before .before .before .before .before .before .before .before .before .before .before .before .before .before .before .before .before .before .prepare .ensures) (four-few (l .outputs) f) eh el (j .ensures) (four-or-after (l .outputs) (l .inv .1) f (c .without-four .ensures)) (l .inv .0) (c .before .before .before .try-four .ensures),
+      fours-next (entry .pre .0 .tables) (at-prepare .ensures) (four-few (l .outputs) f) eh el (j .ensures) (four-or-after (l .outputs) (l .inv .1) f (c .without-four .ensures)) (l .inv .0) (at-try-four .ensures),
       omega (arith, c .without-four .ok),
       eh,
       el,
@@ -74,7 +95,10 @@ same-length-4 : tie.Need-same-length-4 Inv-loop μ-loop
 same-length-4 c = c .before .loop .inv .3 ∙ sym (c .before .before .before .before .before .before .before .before .before .before .before .before .before .before .before .pre .0 .low-size)
 
 returns : tie.Need-returns Inv-loop μ-loop
-returns c = fours-end (codes-are (c .before .before .before .before .before .before .before .before .before .before .before .before .before .before .before .pre .0 .tables)) (c .before .before .before .before .before .before .before .before .before .before .before .before .before .before .before .pre .1) (c .before .before .before .before .prepare .ensures) (omega (arith, c .loop-test .left)) (c .before .loop .inv .0)
+returns c =
+    let at-prepare = c .before .before .before .before .prepare in
+    let entry = c .before .before .before .before .before .before .before .before .before .before .before .before .before .before .before in
+    fours-end (codes-are (entry .pre .0 .tables)) (entry .pre .1) (at-prepare .ensures) (omega (arith, c .loop-test .left)) (c .before .loop .inv .0)
 
 pub enter-input-spec : {M : Type 1} → statement M
 enter-input-spec =

@@ -19,7 +19,10 @@ loop-holds : tie.Need-loop-holds Inv-loop μ-loop
 loop-holds c = (one-in _ _ _ _ (c .before .least .ensures .1) (c .before .least .ensures .2) refl, part-less _ _ _ _ (λ k h. h) (c .without-least .ensures .1))
 
 loop-again : tie.Need-loop-again Inv-loop μ-loop
-loop-again c = (⊎-elim (λ w. one-in _ _ _ _ (c .before .before .before .least2 .ensures .1) (c .before .before .before .before .before .loop .inv .1 _ (c .before .before .before .least2 .ensures .2)) (w .1)) (λ w. one-same _ _ _ _ (c .before .before .before .before .before .loop .inv .0) (w .1)) (c .before .if1 .came), part-less _ _ _ _ (c .before .before .before .before .before .loop .inv .1) (c .without-least2 .ensures .1))
+loop-again c =
+    let at-least2 = c .before .before .before .least2 in
+    let at-loop = c .before .before .before .before .before .loop in
+    (⊎-elim (λ w. one-in _ _ _ _ (at-least2 .ensures .1) (at-loop .inv .1 _ (at-least2 .ensures .2)) (w .1)) (λ w. one-same _ _ _ _ (at-loop .inv .0) (w .1)) (c .before .if1 .came), part-less _ _ _ _ (at-loop .inv .1) (c .without-least2 .ensures .1))
 
 add-is-before : tie.Need-add-is-before Inv-loop μ-loop
 add-is-before c = let Q = c .before .before .before .before .before .before .pre .1 in omega (arith, c .least2 .ensures .1, Q .few, Q .half)

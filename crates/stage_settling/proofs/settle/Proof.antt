@@ -30,13 +30,23 @@ take-requires : tie.Need-take-requires Inv-loop μ-loop Inv-loop2 μ-loop2
 take-requires c κs = (omega (arith, c .before .loop-test .taken, c .before .before .loop .inv .0, c .before .before .before .before .before .pre .few), c .before .before .loop .inv .1 .bits)
 
 spread-requires : tie.Need-spread-requires Inv-loop μ-loop Inv-loop2 μ-loop2
-spread-requires c κs = (settling-ready (c .before .before .before .before .before .loop .inv .1) (c .before .before .before .before .before .before .before .before .pre), c .before .before .take .ensures .size ∙ c .before .before .before .before .before .loop .inv .1 .bits, omega (arith, c .before .before .before .before .loop-test .taken, c .before .before .before .before .before .loop .inv .0))
+spread-requires c κs =
+    let at-take = c .before .before .take in
+    let at-loop-test = c .before .before .before .before .loop-test in
+    let at-loop = c .before .before .before .before .before .loop in
+    let entry = c .before .before .before .before .before .before .before .before in
+    (settling-ready (at-loop .inv .1) (entry .pre), at-take .ensures .size ∙ at-loop .inv .1 .bits, omega (arith, at-loop-test .taken, at-loop .inv .0))
 
 loop-less : tie.Need-loop-less Inv-loop μ-loop Inv-loop2 μ-loop2
 loop-less c = omega (arith, c .before .before .before .before .before .before .before .loop-test .taken)
 
 loop-again : tie.Need-loop-again Inv-loop μ-loop Inv-loop2 μ-loop2
-loop-again c = (omega (arith, c .before .before .before .before .before .before .before .before .loop .inv .0), settling-step (c .before .before .before .before .before .before .before .before .loop .inv .1) (c .before .before .before .before .before .take .ensures) (c .before .before .spread .ensures) _ (λ w a n. omega (arith, a, n, c .before .before .before .before .before .before .before .loop-test .taken)))
+loop-again c =
+    let at-spread = c .before .before .spread in
+    let at-take = c .before .before .before .before .before .take in
+    let at-loop-test = c .before .before .before .before .before .before .before .loop-test in
+    let at-loop = c .before .before .before .before .before .before .before .before .loop in
+    (omega (arith, at-loop .inv .0), settling-step (at-loop .inv .1) (at-take .ensures) (at-spread .ensures) _ (λ w a n. omega (arith, a, n, at-loop-test .taken)))
 
 loop2-holds : tie.Need-loop2-holds Inv-loop μ-loop Inv-loop2 μ-loop2
 loop2-holds c = λ xs s. s
@@ -54,10 +64,24 @@ take-requires-2 : tie.Need-take-requires-2 Inv-loop μ-loop Inv-loop2 μ-loop2
 take-requires-2 c κs = (omega (arith, c .before .if1 .left), c .before .before .before .before .before .loop2 .inv _ (c .before .before .before .before .before .before .before .loop .inv .1) .bits)
 
 spread-requires-2 : tie.Need-spread-requires-2 Inv-loop μ-loop Inv-loop2 μ-loop2
-spread-requires-2 c κs = let Z = c .before .before .before .before .before .before .before .before .loop2 .inv _ (c .before .before .before .before .before .before .before .before .before .before .loop .inv .1) in (settling-ready Z (c .before .before .before .before .before .before .before .before .before .before .before .before .before .pre), c .before .before .take2 .ensures .size ∙ Z .bits, Z .inside _ (c .before .before .before .before .before .choose .ensures .found (omega (arith, c .before .before .before .before .if1 .left))))
+spread-requires-2 c κs =
+    let at-take2 = c .before .before .take2 in
+    let at-if1 = c .before .before .before .before .if1 in
+    let at-choose = c .before .before .before .before .before .choose in
+    let at-loop2 = c .before .before .before .before .before .before .before .before .loop2 in
+    let at-loop = c .before .before .before .before .before .before .before .before .before .before .loop in
+    let entry = c .before .before .before .before .before .before .before .before .before .before .before .before .before in
+    let Z = at-loop2 .inv _ (at-loop .inv .1) in (settling-ready Z (entry .pre), at-take2 .ensures .size ∙ Z .bits, Z .inside _ (at-choose .ensures .found (omega (arith, at-if1 .left))))
 
 loop2-less : tie.Need-loop2-less Inv-loop μ-loop Inv-loop2 μ-loop2
-loop2-less c = turn-less (c .before .before .before .before .before .before .before .before .before .before .before .loop2 .inv _ (c .before .before .before .before .before .before .before .before .before .before .before .before .before .loop .inv .1)) (c .before .before .before .before .before .take2 .ensures) (c .before .before .spread2 .ensures) (c .before .before .before .before .before .before .before .before .choose .ensures .found (omega (arith, c .before .before .before .before .before .before .before .if1 .left)))
+loop2-less c =
+    let at-spread2 = c .before .before .spread2 in
+    let at-take2 = c .before .before .before .before .before .take2 in
+    let at-if1 = c .before .before .before .before .before .before .before .if1 in
+    let at-choose = c .before .before .before .before .before .before .before .before .choose in
+    let at-loop2 = c .before .before .before .before .before .before .before .before .before .before .before .loop2 in
+    let at-loop = c .before .before .before .before .before .before .before .before .before .before .before .before .before .loop in
+    turn-less (at-loop2 .inv _ (at-loop .inv .1)) (at-take2 .ensures) (at-spread2 .ensures) (at-choose .ensures .found (omega (arith, at-if1 .left)))
 
 loop2-again : tie.Need-loop2-again Inv-loop μ-loop Inv-loop2 μ-loop2
 loop2-again c = λ xs s. settling-step (c .before .before .before .before .before .before .before .before .before .before .before .loop2 .inv xs s) (c .before .before .before .before .before .take2 .ensures) (c .before .before .spread2 .ensures) _ (λ w a n. a)

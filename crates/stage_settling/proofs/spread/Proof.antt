@@ -34,10 +34,20 @@ loop-holds : tie.Need-loop-holds Inv-loop μ-loop
 loop-holds c = (omega (arith, c .place2 .ensures .0), spreading-start (c .place2 .ensures .0))
 
 shared-slice-read-try-entry : tie.Need-shared-slice-read-try-entry Inv-loop μ-loop
-shared-slice-read-try-entry c = c .before .before .before .before .before .before .before .before .before .before .before .pre .0 .within _ _ (listed _ _ _ (c .before .before .before .before .loop .inv .0) (omega (arith, c .before .before .before .loop-test .taken, c .before .before .before .before .before .before .before .place .ensures .0)))
+shared-slice-read-try-entry c =
+    let at-loop-test = c .before .before .before .loop-test in
+    let at-loop = c .before .before .before .before .loop in
+    let at-place = c .before .before .before .before .before .before .before .place in
+    let entry = c .before .before .before .before .before .before .before .before .before .before .before in
+    entry .pre .0 .within _ _ (listed _ _ _ (at-loop .inv .0) (omega (arith, at-loop-test .taken, at-place .ensures .0)))
 
 try-entry-requires : tie.Need-try-entry-requires Inv-loop μ-loop
-try-entry-requires c κs = entry-ready _ _ (settle-kept (c .before .before .before .before .before .before .before .before .before .before .before .pre .0) (c .before .before .before .before .loop .inv .1 .fell)) (c .before .before .before .before .loop .inv .1 .fell .bits ∙ c .before .before .before .before .before .before .before .before .before .before .before .pre .1) (listed _ _ _ (c .before .before .before .before .loop .inv .0) (omega (arith, c .before .before .before .loop-test .taken, c .before .before .before .before .before .before .before .place .ensures .0)))
+try-entry-requires c κs =
+    let at-loop-test = c .before .before .before .loop-test in
+    let at-loop = c .before .before .before .before .loop in
+    let at-place = c .before .before .before .before .before .before .before .place in
+    let entry = c .before .before .before .before .before .before .before .before .before .before .before in
+    entry-ready _ _ (settle-kept (entry .pre .0) (at-loop .inv .1 .fell)) (at-loop .inv .1 .fell .bits ∙ entry .pre .1) (listed _ _ _ (at-loop .inv .0) (omega (arith, at-loop-test .taken, at-place .ensures .0)))
 
 add-at : tie.Need-add-at Inv-loop μ-loop
 add-at c = omega (arith, c .before .before .before .before .before .before .loop-test .taken, c .before .before .before .before .before .before .before .before .before .before .place .ensures)
@@ -46,7 +56,13 @@ loop-less : tie.Need-loop-less Inv-loop μ-loop
 loop-less c = omega (arith, c .before .before .before .before .before .before .loop-test .taken)
 
 loop-again : tie.Need-loop-again Inv-loop μ-loop
-loop-again c = (omega (arith, c .before .before .before .before .before .before .before .loop .inv .0), spreading-step (c .before .before .before .before .before .before .before .loop .inv .1) (listed _ _ _ (c .before .before .before .before .before .before .before .loop .inv .0) (omega (arith, c .before .before .before .before .before .before .loop-test .taken, c .before .before .before .before .before .before .before .before .before .before .place .ensures .0))) (c .before .before .before .before .before .before .before .before .before .before .before .before .before .before .pre .0 .from _ _ (listed _ _ _ (c .before .before .before .before .before .before .before .loop .inv .0) (omega (arith, c .before .before .before .before .before .before .loop-test .taken, c .before .before .before .before .before .before .before .before .before .before .place .ensures .0)))) (c .before .before .try-entry .ensures))
+loop-again c =
+    let at-try-entry = c .before .before .try-entry in
+    let at-loop-test = c .before .before .before .before .before .before .loop-test in
+    let at-loop = c .before .before .before .before .before .before .before .loop in
+    let at-place = c .before .before .before .before .before .before .before .before .before .before .place in
+    let entry = c .before .before .before .before .before .before .before .before .before .before .before .before .before .before in
+    (omega (arith, at-loop .inv .0), spreading-step (at-loop .inv .1) (listed _ _ _ (at-loop .inv .0) (omega (arith, at-loop-test .taken, at-place .ensures .0))) (entry .pre .0 .from _ _ (listed _ _ _ (at-loop .inv .0) (omega (arith, at-loop-test .taken, at-place .ensures .0)))) (at-try-entry .ensures))
 
 same-length : tie.Need-same-length Inv-loop μ-loop
 same-length c = c .before .loop .inv .1 .fell .size

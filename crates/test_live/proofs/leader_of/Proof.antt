@@ -174,7 +174,10 @@ module _ {M : Type 1} (𝓤 : URA M) (H : Heap 𝓤) (A : Atoms 𝓤) (W : Given
   exits a w is =
       qed W (‵ (T₁.the-row .own a (w ∷ [])) ∷ ‵ (flft κ₀ q₀) ∷ K ∷ []) ∵
       suffices ! _ (ends-at 𝓤 H A leader-of.ended stayed (leader-of.clauses 𝓤 H A mem run) W (((κ₀, tt), (q₀, tt), tt, (board, (records, (machines, (k, (count, tt))))), vals), tt) w a (tt, (tt, (tt, (tt, (tt, tt))))) (tt, (tt, (tt, (tt, (tt, tt)))))) $ says ! is $
-      nothing ! $ move ! (2 ∷ 0 ∷ []) $ join ! $ frame ! $ nothing ! $ owned ! usize (Is usize) (uint-makes 𝓤 H A W w64) count _ (refl, gc) $ fjoin ! $ move ! (2 ∷ 0 ∷ []) $ fjoin ! $ owned ! u8 (Is u8) (uint-makes 𝓤 H A W w8) machines _ (refl, gm) $ fjoin ! $ owned ! usize (Is usize) (uint-makes 𝓤 H A W w64) records _ (refl, gn) $ fjoin ! $ owned ! TB.the-row (Is TB.the-row) (L.makes TB.the-type TB′.the-plain 𝓤 H A) board _ gb $ fjoin ! $ frame ! $ done !
+      nothing ! $ move ! (2 ∷ 0 ∷ []) $ join ! $ frame ! $ nothing ! $ owned ! usize (Is usize) (uint-makes 𝓤 H A W w64) count _ (refl, gc) $ fjoin ! $
+      move ! (2 ∷ 0 ∷ []) $ fjoin ! $ owned ! u8 (Is u8) (uint-makes 𝓤 H A W w8) machines _ (refl, gm) $ fjoin ! $
+      owned ! usize (Is usize) (uint-makes 𝓤 H A W w64) records _ (refl, gn) $ fjoin ! $
+      owned ! TB.the-row (Is TB.the-row) (L.makes TB.the-type TB′.the-plain 𝓤 H A) board _ gb $ fjoin ! $ frame ! $ done !
 
   walk : (𝓣 : Tables 𝓤 H) (known-call : Triple 𝓤 (𝓣 .C #live·leader) (Call 𝓤 H A mem run)) → ent 𝓤 (onEntry 𝓤 H A leader-of.signature (κ₀, tt) (q₀, tt) (board, (records, (machines, (k, (count, tt))))) vals) (WpFn 𝓤 H (𝓣 .C) (𝓣 .Λ) code.function (low-b ∷ vint w64 records ∷ vint w8 machines ∷ s₀ ∷ vint w64 count ∷ []) Post)
   walk 𝓣 known-call =
@@ -186,21 +189,35 @@ module _ {M : Type 1} (𝓤 : URA M) (H : Heap 𝓤) (A : Atoms 𝓤) (W : Given
       assigns ! (agg ! (and-then ! (load ! (from ! (stop !)) (look ! 2 refl)) (and-then ! (load ! (from ! (stop !)) (look ! 12 refl)) (no-more !)))) (from ! (stop !)) (init ! 0 refl (tt, (tt, (record { fits = gn }, tt)))) $
       move ! (19 ∷ []) $ fsplit ! $ drop ! $ fsplit ! $ drop ! $ fsplit ! $ drop ! $ fsplit ! $ move ! (1 ∷ []) $ fsplit ! $ drop ! $ drop ! $ move ! (19 ∷ []) $ split ! $ move ! (1 ∷ []) $ drop ! $
       -- the array is its records, side by side, the first of which are lent for a lifetime of the call
-      owned ! (Array R 34) (Is (Array R 34)) (array-makes 𝓤 H A W R (L.makes T.the-type T′.the-plain 𝓤 H A) 34) all (va ∷ []) arr $ move ! (7 ∷ 0 ∷ []) $ use2 W (‵ (partAt (Array R 34) fullShare all l₆ 0)) (part-in-at 𝓤 H A W (Array R 34) refl fullShare all l₆ 0 arrT refl va) $ use1 W (‵ (arr-parts (shares R) 34 .part fullShare all l₆ 0)) (array-apart 𝓤 H A W R fullShare tt 34 all l₆ 0) $ fsplit ! $ feqL ! (λ long.
-      rewrite ! 0 (λ (F : Fml). ‵ F) (whole-parts all l₆ 0) refl $ rewrite ! 0 (λ (l : List record-of.Row). ‵ (cells (mem-of R) l l₆ 0)) (sym (take-append-drop records all)) refl $ use1 W (‵ (cells (mem-of R) ys l₆ 0) ⊛ ‵ (cells (mem-of R) rest l₆ (at 0 (mem-of R .size) (length ys)))) (cut-app 𝓤 H A (mem-of R) ys rest l₆ 0) $ split ! $ move ! (0 ∷ 2 ∷ 3 ∷ []) $
-      rewrite ! 0 (λ (F : Fml). ‵ F) (sym (whole-parts ys l₆ 0)) refl $ feqI ! ℕ (length ys) (length ys) refl $ fjoin ! $ lft-new ! tt (λ ν. move ! (1 ∷ []) $ use1 W (later (some (λ (γ : GName). ‵ (ShrSlice (named 1) (ν ∷ []) R .own (record { ptr = (l₆, 0); name = γ; now = ys }) (sliceVal (l₆, 0) (length ys) ∷ [])) ⊛ ‵ (flent (ν ∷ []) (arr-parts (shares R) (length ys) .part fullShare ys l₆ 0))))) (lends-shr-slice 𝓤 H A W R (named 1) (ν ∷ []) fullShare ys l₆ 0 (room long)) $ await ! tt $ pick ! (λ γ. split ! $
+      owned ! (Array R 34) (Is (Array R 34)) (array-makes 𝓤 H A W R (L.makes T.the-type T′.the-plain 𝓤 H A) 34) all (va ∷ []) arr $ move ! (7 ∷ 0 ∷ []) $
+      use2 W (‵ (partAt (Array R 34) fullShare all l₆ 0)) (part-in-at 𝓤 H A W (Array R 34) refl fullShare all l₆ 0 arrT refl va) $
+      use1 W (‵ (arr-parts (shares R) 34 .part fullShare all l₆ 0)) (array-apart 𝓤 H A W R fullShare tt 34 all l₆ 0) $ fsplit ! $ feqL ! (λ long.
+      rewrite ! 0 (λ (F : Fml). ‵ F) (whole-parts all l₆ 0) refl $
+      rewrite ! 0 (λ (l : List record-of.Row). ‵ (cells (mem-of R) l l₆ 0)) (sym (take-append-drop records all)) refl $
+      use1 W (‵ (cells (mem-of R) ys l₆ 0) ⊛ ‵ (cells (mem-of R) rest l₆ (at 0 (mem-of R .size) (length ys)))) (cut-app 𝓤 H A (mem-of R) ys rest l₆ 0) $ split ! $
+      move ! (0 ∷ 2 ∷ 3 ∷ []) $
+      rewrite ! 0 (λ (F : Fml). ‵ F) (sym (whole-parts ys l₆ 0)) refl $ feqI ! ℕ (length ys) (length ys) refl $ fjoin ! $ lft-new ! tt (λ ν. move ! (1 ∷ []) $
+      use1 W (later (some (λ (γ : GName). ‵ (ShrSlice (named 1) (ν ∷ []) R .own (record { ptr = (l₆, 0); name = γ; now = ys }) (sliceVal (l₆, 0) (length ys) ∷ [])) ⊛ ‵ (flent (ν ∷ []) (arr-parts (shares R) (length ys) .part fullShare ys l₆ 0))))) (lends-shr-slice 𝓤 H A W R (named 1) (ν ∷ []) fullShare ys l₆ 0 (room long)) $
+      await ! tt $ pick ! (λ γ. split ! $
       rewrite ! 6 (λ (m : ℕ). ‵ (fat fullShare (sliceTy given) l₈ 0 (sliceVal (l₆, 0) m))) (sym (lent long)) refl $
       -- `live::leader`, with a copy of what the ranking's reference owns
       move ! (4 ∷ []) $ use1 W (K ⊛ K) (shr-slice-copy 𝓤 H A W (named 0) κ₀ u8 .twice k (s₀ ∷ [])) $ split ! $ move ! (0 ∷ 2 ∷ []) $ join ! $ move ! (4 ∷ 3 ∷ []) $ join ! $ use2 W (raw (Call 𝓤 H A mem run .pre (to-call ν γ l₆))) (goes-call ν γ l₆ long) $
       calls-at ! (fmOf 𝓤 H (W .laws) 𝓣) (Call 𝓤 H A mem run) known-call (to-call ν γ l₆) (and-then ! (load ! (from ! (stop !)) (look ! 13 refl)) (and-then ! (load ! (from ! (stop !)) (look ! 11 refl)) (and-then ! (load ! (from ! (stop !)) (look ! 9 refl)) (and-then ! (load ! (from ! (stop !)) (look ! 4 refl)) (no-more !))))) (λ w.
       use1 W (later (some (λ (a : lead-of.Lead). ((‵ (flft κ₀ q₀) ⊛ (‵ (flft (ν ∷ []) fullShare) ⊛ ‵ ftrue)) ⊛ ‵ (T₁.the-row .own a (w ∷ []))) ⊛ raw (ensured 𝓤 H A leader.ended (leader.clauses 𝓤 H A mem run) (κ₀, (ν ∷ [], tt)) (machines, (k, (count, ((x γ l₆), tt)))) tt a)))) (id⊢ 𝓤 _) $ await ! tt $ pick ! (λ a.
-      split ! $ move ! (1 ∷ []) $ use1 W (raw (fact 𝓤 (a ≡ leading machines (k .now) count ys))) (call-of 𝓤 H A mem run κ₀ (ν ∷ []) machines k count (x γ l₆) a) $ heard ! (a ≡ leading machines (k .now) count ys) (λ said. split ! $ split ! $ move ! (1 ∷ []) $ split ! $ move ! (3 ∷ []) $ peeks ! T₁.the-row (Is T₁.the-row) (shows 𝓤 H A T₁.the-row) a (w ∷ []) (λ told. land ! (from ! (stop !)) (init ! 22 refl (typed a w told)) $
+      split ! $ move ! (1 ∷ []) $ use1 W (raw (fact 𝓤 (a ≡ leading machines (k .now) count ys))) (call-of 𝓤 H A mem run κ₀ (ν ∷ []) machines k count (x γ l₆) a) $
+      heard ! (a ≡ leading machines (k .now) count ys) (λ said. split ! $ split ! $ move ! (1 ∷ []) $ split ! $ move ! (3 ∷ []) $
+      peeks ! T₁.the-row (Is T₁.the-row) (shows 𝓤 H A T₁.the-row) a (w ∷ []) (λ told. land ! (from ! (stop !)) (init ! 22 refl (typed a w told)) $
       -- the lifetime ends, and the records are the array's again
-      move ! (1 ∷ []) $ lft-end ! tt $ move ! (0 ∷ 5 ∷ []) $ lent-back ! tt $ fsplit ! $ drop ! $ rewrite ! 0 (λ (F : Fml). ‵ F) (whole-parts ys l₆ 0) refl $ move ! (0 ∷ 5 ∷ []) $ use2 W (‵ (cells (mem-of R) (ys ++ rest) l₆ 0)) (join-app 𝓤 H A (mem-of R) ys rest l₆ 0) $ rewrite ! 0 (λ (l : List record-of.Row). ‵ (cells (mem-of R) l l₆ 0)) (take-append-drop records all) refl $ rewrite ! 0 (λ (F : Fml). ‵ F) (sym (whole-parts all l₆ 0)) refl $ feqI ! ℕ (length all) 34 long $ fjoin ! $
+      move ! (1 ∷ []) $ lft-end ! tt $ move ! (0 ∷ 5 ∷ []) $ lent-back ! tt $ fsplit ! $ drop ! $ rewrite ! 0 (λ (F : Fml). ‵ F) (whole-parts ys l₆ 0) refl $
+      move ! (0 ∷ 5 ∷ []) $ use2 W (‵ (cells (mem-of R) (ys ++ rest) l₆ 0)) (join-app 𝓤 H A (mem-of R) ys rest l₆ 0) $
+      rewrite ! 0 (λ (l : List record-of.Row). ‵ (cells (mem-of R) l l₆ 0)) (take-append-drop records all) refl $
+      rewrite ! 0 (λ (F : Fml). ‵ F) (sym (whole-parts all l₆ 0)) refl $ feqI ! ℕ (length all) 34 long $ fjoin ! $
       use1 W (‵ (partAt (Array R 34) fullShare all l₆ 0)) (array-whole 𝓤 H A W R fullShare 34 all l₆ 0) $ use1 W (some (λ (v : Val). ‵ (fat fullShare arrT l₆ 0 v) ⊛ ‵ (Array R 34 .own all (v ∷ [])))) (part-out-at 𝓤 H A W (Array R 34) refl fullShare all l₆ 0 arrT refl) $ pick ! (λ v. split ! $
       keep ! (2 ∷ 4 ∷ 5 ∷ 21 ∷ 19 ∷ 17 ∷ 15 ∷ 13 ∷ 11 ∷ 0 ∷ 8 ∷ 6 ∷ 22 ∷ 20 ∷ 18 ∷ 16 ∷ 14 ∷ 12 ∷ 10 ∷ 9 ∷ 7 ∷ []) $ returns ! (look ! 3 refl) $
       forget ! 3 refl $ forget ! 4 refl $ forget ! 5 refl $ forget ! 6 refl $ forget ! 7 refl $ forget ! 8 refl $ forget ! 9 refl $ forget ! 10 refl $ forget ! 11 refl $
-      move ! (3 ∷ 12 ∷ []) $ free1 ! $ move ! (3 ∷ 11 ∷ []) $ free1 ! $ move ! (3 ∷ 10 ∷ []) $ free1 ! $ move ! (3 ∷ 9 ∷ []) $ free1 ! $ move ! (3 ∷ 8 ∷ []) $ free1 ! $ move ! (3 ∷ 7 ∷ []) $ free1 ! $ move ! (3 ∷ 6 ∷ []) $ free1 ! $ move ! (3 ∷ 5 ∷ []) $ free1 ! $ move ! (3 ∷ 4 ∷ []) $ free1 ! $ free0 ! $ by ! (exits a w said))))))))))))))))))
+      move ! (3 ∷ 12 ∷ []) $ free1 ! $ move ! (3 ∷ 11 ∷ []) $ free1 ! $ move ! (3 ∷ 10 ∷ []) $ free1 ! $ move ! (3 ∷ 9 ∷ []) $ free1 ! $ move ! (3 ∷ 8 ∷ []) $
+      free1 ! $ move ! (3 ∷ 7 ∷ []) $ free1 ! $ move ! (3 ∷ 6 ∷ []) $ free1 ! $ move ! (3 ∷ 5 ∷ []) $ free1 ! $ move ! (3 ∷ 4 ∷ []) $ free1 ! $ free0 ! $
+      by ! (exits a w said))))))))))))))))))
 
 module _ {M : Type 1} (𝓤 : URA M) (H : Heap 𝓤) (A : Atoms 𝓤) (W : Given 𝓤 H A) (mem : Memory → SProp 𝓤) (run : Routine → Fun 𝓤) (𝓣 : Tables 𝓤 H) (known-call : Triple 𝓤 (𝓣 .C #live·leader) (Call 𝓤 H A mem run)) where
   leader-of-walks : Walks 𝓤 H A leader-of.ended stayed (WpFn 𝓤 H (𝓣 .C) (𝓣 .Λ) code.function) (leader-of.clauses 𝓤 H A mem run)

@@ -193,13 +193,17 @@ slice-aggregate-least-tight-3 : tie.Need-slice-aggregate-least-tight-3 Inv-least
 slice-aggregate-least-tight-3 c = machines-of (entry (node (c .before .before .before .before .before .before .before .before)) .pre .0) _ refl
 
 least-tight-requires-2 : tie.Need-least-tight-requires-2 Inv-least μ-least Inv-loop μ-loop
-least-tight-requires-2 c κs = let t = c .before .before .before .before .before .before .before .before in
+least-tight-requires-2 c κs =
+    let at-fill-at = c .before .before .before .fill-at in
+    let at-if2 = c .before .before .before .before .before .before .if2 in
+    let at-least2 = c .before .before .before .before .before .before .before .least2 in
+    let t = c .before .before .before .before .before .before .before .before in
     let l = node t in
     let s = entry l in
     let G = ground-there (s .pre .0) in
     let O = l .loop .inv .0 _ G in
     let R = reached-same (t .least .inv .1) (t .least .inv .2 _) O in
-    way-least G R (symbol-way G R (machines-are (s .pre .0)) (c .before .before .before .fill-at .kept .0 ∙ t .least .inv .3) (c .before .before .before .fill-at .ensures) (t .least .inv .0 _ G _ _ O) (c .before .before .before .before .before .before .before .least2 .ensures .2) (c .before .before .before .before .before .before .if2 .left)) (nodes (s .pre .0))
+    way-least G R (symbol-way G R (machines-are (s .pre .0)) (at-fill-at .kept .0 ∙ t .least .inv .3) (at-fill-at .ensures) (t .least .inv .0 _ G _ _ O) (at-least2 .ensures .2) (at-if2 .left)) (nodes (s .pre .0))
 
 slice-aggregate-go-on-4 : tie.Need-slice-aggregate-go-on-4 Inv-least μ-least Inv-loop μ-loop
 slice-aggregate-go-on-4 c = sym (sizes (c .before .before .before .before .before .before .before .before .before .before .before .before) .0)
@@ -217,15 +221,21 @@ slice-aggregate-go-on-7 : tie.Need-slice-aggregate-go-on-7 Inv-least μ-least In
 slice-aggregate-go-on-7 c = machines-of (entry (node (c .before .before .before .before .before .before .before .before .before .before .before .before .before .before .before)) .pre .0) _ refl
 
 go-on-requires-2 : tie.Need-go-on-requires-2 Inv-least μ-least Inv-loop μ-loop
-go-on-requires-2 c κs = let t = c .before .before .before .before .before .before .before .before .before .before .before .before .before .before .before .before in
+go-on-requires-2 c κs =
+    let at-if4 = c .before .before .before .before .before .if4 in
+    let at-least-tight2 = c .before .before .before .before .before .before .before .least-tight2 in
+    let at-fill-at = c .before .before .before .before .before .before .before .before .before .before .before .fill-at in
+    let at-if2 = c .before .before .before .before .before .before .before .before .before .before .before .before .before .before .if2 in
+    let at-least2 = c .before .before .before .before .before .before .before .before .before .before .before .before .before .before .before .least2 in
+    let t = c .before .before .before .before .before .before .before .before .before .before .before .before .before .before .before .before in
     let l = node t in
     let s = entry l in
     let G = ground-there (s .pre .0) in
     let O = l .loop .inv .0 _ G in
     let R = reached-same (t .least .inv .1) (t .least .inv .2 _) O in
     let T = t .least .inv .0 _ G _ _ O in
-    let Y = symbol-way G R (machines-are (s .pre .0)) (c .before .before .before .before .before .before .before .before .before .before .before .fill-at .kept .0 ∙ t .least .inv .3) (c .before .before .before .before .before .before .before .before .before .before .before .fill-at .ensures) T (c .before .before .before .before .before .before .before .before .before .before .before .before .before .before .before .least2 .ensures .2) (c .before .before .before .before .before .before .before .before .before .before .before .before .before .before .if2 .left) in
-    way-go G R Y (c .before .before .before .before .before .before .before .least-tight2 .ensures) T (c .before .before .before .before .before .if4 .taken) (c .before .before .before .before .before .before .before .before .before .before .before .before .before .before .before .least2 .ensures .0)
+    let Y = symbol-way G R (machines-are (s .pre .0)) (at-fill-at .kept .0 ∙ t .least .inv .3) (at-fill-at .ensures) T (at-least2 .ensures .2) (at-if2 .left) in
+    way-go G R Y (at-least-tight2 .ensures) T (at-if4 .taken) (at-least2 .ensures .0)
 
 add-written-2 : tie.Need-add-written-2 Inv-least μ-least Inv-loop μ-loop
 add-written-2 c = omega (arith, sizes (c .before .before .before .before .before .before .before .before .before .before .before .before .before .before .before .before .before .before .before .before .before) .2)
@@ -264,6 +274,9 @@ least-again c = let t = c .before .before .before in
 
 loop-less : tie.Need-loop-less Inv-least μ-least Inv-loop μ-loop
 loop-less c =
+    let at-if3 = c .before .before .before .before .before .before .before .before .before .before .if3 in
+    let at-least-tight = c .before .before .before .before .before .before .before .before .before .before .before .before .least-tight in
+    let at-if2 = c .before .before .before .before .before .before .before .before .before .before .before .before .before .before .before .if2 in
     let t = c .before .before .before .before .before .before .before .before .before .before .before .before .before .before .before .before .before in
     let l = node t in
     let s = entry l in
@@ -272,10 +285,15 @@ loop-less c =
     let R = reached-same (t .least .inv .1) (t .least .inv .2 _) O in
     let T = t .least .inv .0 _ G _ _ O in
     let same : t .least .low ≡ l .loop .low = ap (λ (a : At). a .label .low) (t .least .inv .2 0) in
-    subst (λ (n : ℕ). c .before .before .before .before .before .before .before .before .before .before .before .before .least-tight .result .low < n) same (way-falls G R (insertion-way G O (s .pre .0 .counts-are) refl (t .before .before .before .places-of .ensures) (l .before .before .before .before .before .before .prepare .ensures) (c .before .before .before .before .before .before .before .before .before .before .before .before .before .before .before .if2 .taken)) (c .before .before .before .before .before .before .before .before .before .before .before .before .least-tight .ensures) T (c .before .before .before .before .before .before .before .before .before .before .if3 .taken))
+    subst (λ (n : ℕ). at-least-tight .result .low < n) same (way-falls G R (insertion-way G O (s .pre .0 .counts-are) refl (t .before .before .before .places-of .ensures) (l .before .before .before .before .before .before .prepare .ensures) (at-if2 .taken)) (at-least-tight .ensures) T (at-if3 .taken))
 
 loop-again : tie.Need-loop-again Inv-least μ-least Inv-loop μ-loop
 loop-again c =
+    let at-go-on = c .before .before .before .before .go-on in
+    let at-if3 = c .before .before .before .before .before .before .before .before .before .before .if3 in
+    let at-least-tight = c .before .before .before .before .before .before .before .before .before .before .before .before .least-tight in
+    let at-if2 = c .before .before .before .before .before .before .before .before .before .before .before .before .before .before .before .if2 in
+    let at-least2 = c .before .before .before .before .before .before .before .before .before .before .before .before .before .before .before .before .least2 in
     let t = c .before .before .before .before .before .before .before .before .before .before .before .before .before .before .before .before .before in
     let l = node t in
     let s = entry l in (
@@ -283,37 +301,48 @@ loop-again c =
           let O = l .loop .inv .0 L G in
           let R = reached-same (t .least .inv .1) (t .least .inv .2 _) O in
           let T = t .least .inv .0 L G _ _ O in
-          way-next G R (insertion-way G O (s .pre .0 .counts-are) refl (t .before .before .before .places-of .ensures) (l .before .before .before .before .before .before .prepare .ensures) (c .before .before .before .before .before .before .before .before .before .before .before .before .before .before .before .if2 .taken)) (c .before .before .before .before .before .before .before .before .before .before .before .before .least-tight .ensures) T (c .before .before .before .before .before .before .before .before .before .before .if3 .taken) (c .before .before .before .before .before .before .before .before .before .before .before .before .before .before .before .before .least2 .ensures .0) (c .before .before .before .before .go-on .ensures),
+          way-next G R (insertion-way G O (s .pre .0 .counts-are) refl (t .before .before .before .places-of .ensures) (l .before .before .before .before .before .before .prepare .ensures) (at-if2 .taken)) (at-least-tight .ensures) T (at-if3 .taken) (at-least2 .ensures .0) (at-go-on .ensures),
       t .least .inv .3,
-      ap length (c .before .before .before .before .go-on .ensures .bytes) ∙ simp length-set (ap length (t .least .inv .1) ∙ l .loop .inv .2),
+      ap length (at-go-on .ensures .bytes) ∙ simp length-set (ap length (t .least .inv .1) ∙ l .loop .inv .2),
     )
 
 loop-less-2 : tie.Need-loop-less-2 Inv-least μ-least Inv-loop μ-loop
 loop-less-2 c =
+    let at-if4 = c .before .before .before .before .before .before .before .before .before .before .if4 in
+    let at-least-tight2 = c .before .before .before .before .before .before .before .before .before .before .before .before .least-tight2 in
+    let at-fill-at = c .before .before .before .before .before .before .before .before .before .before .before .before .before .before .before .before .fill-at in
+    let at-if2 = c .before .before .before .before .before .before .before .before .before .before .before .before .before .before .before .before .before .before .before .if2 in
+    let at-least2 = c .before .before .before .before .before .before .before .before .before .before .before .before .before .before .before .before .before .before .before .before .least2 in
     let t = c .before .before .before .before .before .before .before .before .before .before .before .before .before .before .before .before .before .before .before .before .before in
     let l = node t in
     let s = entry l in
-    let filled = c .before .before .before .before .before .before .before .before .before .before .before .before .before .before .before .before .fill-at in
+    let filled = at-fill-at in
     let G = ground-there (s .pre .0) in
     let O = l .loop .inv .0 _ G in
     let R = reached-same (t .least .inv .1) (t .least .inv .2 _) O in
     let T = t .least .inv .0 _ G _ _ O in
     let same : t .least .low ≡ l .loop .low = ap (λ (a : At). a .label .low) (t .least .inv .2 0) in
-    subst (λ (n : ℕ). c .before .before .before .before .before .before .before .before .before .before .before .before .least-tight2 .result .low < n) same (way-falls G R (symbol-way G R (machines-are (s .pre .0)) (filled .kept .0 ∙ t .least .inv .3) (filled .ensures) T (c .before .before .before .before .before .before .before .before .before .before .before .before .before .before .before .before .before .before .before .before .least2 .ensures .2) (c .before .before .before .before .before .before .before .before .before .before .before .before .before .before .before .before .before .before .before .if2 .left)) (c .before .before .before .before .before .before .before .before .before .before .before .before .least-tight2 .ensures) T (c .before .before .before .before .before .before .before .before .before .before .if4 .taken))
+    subst (λ (n : ℕ). at-least-tight2 .result .low < n) same (way-falls G R (symbol-way G R (machines-are (s .pre .0)) (filled .kept .0 ∙ t .least .inv .3) (filled .ensures) T (at-least2 .ensures .2) (at-if2 .left)) (at-least-tight2 .ensures) T (at-if4 .taken))
 
 loop-again-2 : tie.Need-loop-again-2 Inv-least μ-least Inv-loop μ-loop
 loop-again-2 c =
+    let at-go-on2 = c .before .before .before .before .go-on2 in
+    let at-if4 = c .before .before .before .before .before .before .before .before .before .before .if4 in
+    let at-least-tight2 = c .before .before .before .before .before .before .before .before .before .before .before .before .least-tight2 in
+    let at-fill-at = c .before .before .before .before .before .before .before .before .before .before .before .before .before .before .before .before .fill-at in
+    let at-if2 = c .before .before .before .before .before .before .before .before .before .before .before .before .before .before .before .before .before .before .before .if2 in
+    let at-least2 = c .before .before .before .before .before .before .before .before .before .before .before .before .before .before .before .before .before .before .before .before .least2 in
     let t = c .before .before .before .before .before .before .before .before .before .before .before .before .before .before .before .before .before .before .before .before .before in
     let l = node t in
     let s = entry l in
-    let filled = c .before .before .before .before .before .before .before .before .before .before .before .before .before .before .before .before .fill-at in (
+    let filled = at-fill-at in (
       λ L G.
           let O = l .loop .inv .0 L G in
           let R = reached-same (t .least .inv .1) (t .least .inv .2 _) O in
           let T = t .least .inv .0 L G _ _ O in
-          way-next G R (symbol-way G R (machines-are (s .pre .0)) (filled .kept .0 ∙ t .least .inv .3) (filled .ensures) T (c .before .before .before .before .before .before .before .before .before .before .before .before .before .before .before .before .before .before .before .before .least2 .ensures .2) (c .before .before .before .before .before .before .before .before .before .before .before .before .before .before .before .before .before .before .before .if2 .left)) (c .before .before .before .before .before .before .before .before .before .before .before .before .least-tight2 .ensures) T (c .before .before .before .before .before .before .before .before .before .before .if4 .taken) (c .before .before .before .before .before .before .before .before .before .before .before .before .before .before .before .before .before .before .before .before .least2 .ensures .0) (c .before .before .before .before .go-on2 .ensures),
+          way-next G R (symbol-way G R (machines-are (s .pre .0)) (filled .kept .0 ∙ t .least .inv .3) (filled .ensures) T (at-least2 .ensures .2) (at-if2 .left)) (at-least-tight2 .ensures) T (at-if4 .taken) (at-least2 .ensures .0) (at-go-on2 .ensures),
       filled .kept .0 ∙ t .least .inv .3,
-      ap length (c .before .before .before .before .go-on2 .ensures .bytes) ∙ simp length-set (ap length (t .least .inv .1) ∙ l .loop .inv .2),
+      ap length (at-go-on2 .ensures .bytes) ∙ simp length-set (ap length (t .least .inv .1) ∙ l .loop .inv .2),
     )
 
 -- ---- the end

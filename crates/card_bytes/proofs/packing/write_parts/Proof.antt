@@ -24,7 +24,9 @@ abbrev μ-loop : tie.MeasureT-loop
 μ-loop target₀ lengths parts offset₀ from₀ i₀ i-end target offset from i = i-end - i
 
 -- the part to be written lies within the parts
-in-parts : (c : tie.In-loop Inv-loop μ-loop) → total (take (c .before .loop .i) (c .before .before .before .before .before .args .lengths .now)) + getD (c .before .before .before .before .before .args .lengths .now) (c .before .loop .i) 0 ≤ total (c .before .before .before .before .before .args .lengths .now)
+in-parts : (c : tie.In-loop Inv-loop μ-loop) →
+    let entry = c .before .before .before .before .before in
+    total (take (c .before .loop .i) (entry .args .lengths .now)) + getD (entry .args .lengths .now) (c .before .loop .i) 0 ≤ total (entry .args .lengths .now)
 in-parts c = total-within (c .before .before .before .before .before .args .lengths .now) (c .before .loop .i) (omega arith)
 
 -- the target keeps its length

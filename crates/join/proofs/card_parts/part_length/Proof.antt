@@ -14,8 +14,9 @@ use Rattle.join.proofs.card_parts.part_length.Statement.{statement}
 use Rattle.join.proofs.card_parts.part_length.Tie as tie
 
 -- the states of the joined machine
-count : (c : tie.After-state-count2)
-    → c .before .state-count .result * c .state-count2 .result ≡ stateCount (partOf (c .before .before .before .before .before .before .args .card .now) (c .before .before .before .before .before .before .args .lower)) * stateCount (partOf (c .before .before .before .before .before .before .args .card .now) (c .before .before .before .before .before .before .args .other))
+count : (c : tie.After-state-count2) →
+    let entry = c .before .before .before .before .before .before in
+    c .before .state-count .result * c .state-count2 .result ≡ stateCount (partOf (entry .args .card .now) (entry .args .lower)) * stateCount (partOf (entry .args .card .now) (entry .args .other))
 count c = ap₂ (λ (m n : ℕ). m * n) (c .before .state-count .ensures ∙ ap stateCount (c .before .before .before .part .ensures)) (c .state-count2 .ensures ∙ ap stateCount (c .before .before .part2 .ensures))
 
 -- its size

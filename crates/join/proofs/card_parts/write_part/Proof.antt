@@ -11,7 +11,9 @@ use Rattle.join.proofs.card_parts.write_part.Statement.{statement}
 use Rattle.join.proofs.card_parts.write_part.Tie as tie
 
 -- the joined part's place
-here : (c : tie.Then1) → getD (joinedParts (c .before .before .before .args .lower) (c .before .before .before .args .other) (partsOf (c .before .before .before .args .card .now))) (c .before .before .before .args .i) [] ≡ joinedPart (partOf (c .before .before .before .args .card .now) (c .before .before .before .args .lower)) (partOf (c .before .before .before .args .card .now) (c .before .before .before .args .other))
+here : (c : tie.Then1) →
+    let entry = c .before .before .before in
+    getD (joinedParts (entry .args .lower) (entry .args .other) (partsOf (entry .args .card .now))) (entry .args .i) [] ≡ joinedPart (partOf (entry .args .card .now) (entry .args .lower)) (partOf (entry .args .card .now) (entry .args .other))
 here c =
     let s = c .before .before .before in
     let card = s .args .card .now in
@@ -20,9 +22,10 @@ here c =
     ap (λ (k : ℕ). getD (joinedParts i j (partsOf card)) k []) (c .if1 .taken) ∙ new-here card i j (s .pre .0)
 
 -- the old part's number
-in-card : (c : tie.After-old-number)
-    → (c .old-number .result < machineCount (c .before .before .before .before .before .args .card .now))
-    × (getD (joinedParts (c .before .before .before .before .before .args .lower) (c .before .before .before .before .before .args .other) (partsOf (c .before .before .before .before .before .args .card .now))) (c .before .before .before .before .before .args .i) [] ≡ partOf (c .before .before .before .before .before .args .card .now) (c .old-number .result))
+in-card : (c : tie.After-old-number) →
+    let entry = c .before .before .before .before .before in
+    (c .old-number .result < machineCount (entry .args .card .now))
+    × (getD (joinedParts (entry .args .lower) (entry .args .other) (partsOf (entry .args .card .now))) (entry .args .i) [] ≡ partOf (entry .args .card .now) (c .old-number .result))
 in-card c =
     let s = c .before .before .before .before .before in
     let card = s .args .card .now in

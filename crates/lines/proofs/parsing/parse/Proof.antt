@@ -56,7 +56,9 @@ write-ranking-requires : tie.Need-write-ranking-requires
 write-ranking-requires c κs = let f = ranking-digits _ (ranked (c .before)) in (f .digits, le-trans (f .no-more) (c .before .before .before .before .before .before .before .before .before .before .before .before .before .pre .0))
 
 write-word-requires : tie.Need-write-word-requires
-write-word-requires c κs = let k = c .before .before .before .before .before in (worded k, omega (arith, word-symbols _ (worded k), symbols-length (k .before .before .before .before .before .before), c .before .before .before .before .before .before .before .before .before .before .before .before .before .before .before .before .before .pre .1))
+write-word-requires c κs =
+    let entry = c .before .before .before .before .before .before .before .before .before .before .before .before .before .before .before .before .before in
+    let k = c .before .before .before .before .before in (worded k, omega (arith, word-symbols _ (worded k), symbols-length (k .before .before .before .before .before .before), entry .pre .1))
 
 same-length : tie.Need-same-length
 same-length c = c .before .before .before .before .before .before .write-ranking .kept .1 .0

@@ -33,14 +33,19 @@ plus-requires-6 c κs = omega (arith, c .before .before .before .before .before 
 
 returns : tie.Need-returns
 returns c =
+    let at-plus5 = c .before .before .plus5 in
+    let at-plus4 = c .before .before .before .plus4 in
+    let at-plus3 = c .before .before .before .before .plus3 in
+    let at-plus2 = c .before .before .before .before .before .plus2 in
+    let at-plus = c .before .before .before .before .before .before .plus in
     let s = c .before .before .before .before .before .before .before .before .before in
     let t = s .args .self in
-    let sums = sums-added t (s .args .reply .counts) (six s) (c .before .before .before .before .before .before .plus .ensures .0) (c .before .before .before .before .before .plus2 .ensures .0) (c .before .before .before .before .plus3 .ensures .0) (c .before .before .before .plus4 .ensures .0) (c .before .before .plus5 .ensures .0) (c .before .plus6 .ensures .0) in
-    let p0 : c .before .before .before .before .before .before .plus .result < 65535 * (t .answered + 1) + 1 = omega (arith, c .before .before .before .before .before .before .plus .ensures .1, s .pre .0 .small 0) in
-    let p1 : c .before .before .before .before .before .plus2 .result < 65535 * (t .answered + 1) + 1 = omega (arith, c .before .before .before .before .before .plus2 .ensures .1, s .pre .0 .small 1) in
-    let p2 : c .before .before .before .before .plus3 .result < 65535 * (t .answered + 1) + 1 = omega (arith, c .before .before .before .before .plus3 .ensures .1, s .pre .0 .small 2) in
-    let p3 : c .before .before .before .plus4 .result < 65535 * (t .answered + 1) + 1 = omega (arith, c .before .before .before .plus4 .ensures .1, s .pre .0 .small 3) in
-    let p4 : c .before .before .plus5 .result < 65535 * (t .answered + 1) + 1 = omega (arith, c .before .before .plus5 .ensures .1, s .pre .0 .small 4) in
+    let sums = sums-added t (s .args .reply .counts) (six s) (at-plus .ensures .0) (at-plus2 .ensures .0) (at-plus3 .ensures .0) (at-plus4 .ensures .0) (at-plus5 .ensures .0) (c .before .plus6 .ensures .0) in
+    let p0 : at-plus .result < 65535 * (t .answered + 1) + 1 = omega (arith, at-plus .ensures .1, s .pre .0 .small 0) in
+    let p1 : at-plus2 .result < 65535 * (t .answered + 1) + 1 = omega (arith, at-plus2 .ensures .1, s .pre .0 .small 1) in
+    let p2 : at-plus3 .result < 65535 * (t .answered + 1) + 1 = omega (arith, at-plus3 .ensures .1, s .pre .0 .small 2) in
+    let p3 : at-plus4 .result < 65535 * (t .answered + 1) + 1 = omega (arith, at-plus4 .ensures .1, s .pre .0 .small 3) in
+    let p4 : at-plus5 .result < 65535 * (t .answered + 1) + 1 = omega (arith, at-plus5 .ensures .1, s .pre .0 .small 4) in
     let p5 : c .before .plus6 .result < 65535 * (t .answered + 1) + 1 = omega (arith, c .before .plus6 .ensures .1, s .pre .0 .small 5) in (
       answered-tally t (s .args .reply .counts) sums,
       record {

@@ -20,12 +20,19 @@ write-counts-requires : tie.Need-write-counts-requires
 write-counts-requires c κs = omega (arith, accepted-length (c .before .before .before .before .args .counts .now) (c .before .before .before .before .args .bytes .now), fits (c .before))
 
 write-pairs-requires : tie.Need-write-pairs-requires
-write-pairs-requires c κs = let w = c .before .before .before .write-counts .ensures in omega (arith, accepted-length (c .before .before .before .before .before .before .before .before .args .counts .now) (c .before .before .before .before .before .before .before .before .args .bytes .now), fits (c .before .before .before .before .before), w .place, written-length w)
+write-pairs-requires c κs =
+    let at-write-counts = c .before .before .before .write-counts in
+    let entry = c .before .before .before .before .before .before .before .before in
+    let w = at-write-counts .ensures in omega (arith, accepted-length (entry .args .counts .now) (entry .args .bytes .now), fits (c .before .before .before .before .before), w .place, written-length w)
 
 write-byte-requires : tie.Need-write-byte-requires
-write-byte-requires c κs = let v = c .before .before .before .before .before .before .before .write-counts .ensures in
-    let w = c .before .before .before .write-pairs .ensures in
-    omega (arith, accepted-length (c .before .before .before .before .before .before .before .before .before .before .before .before .args .counts .now) (c .before .before .before .before .before .before .before .before .before .before .before .before .args .bytes .now), fits (c .before .before .before .before .before .before .before .before .before), v .place, written-length v, w .place, written-length w)
+write-byte-requires c κs =
+    let at-write-pairs = c .before .before .before .write-pairs in
+    let at-write-counts = c .before .before .before .before .before .before .before .write-counts in
+    let entry = c .before .before .before .before .before .before .before .before .before .before .before .before in
+    let v = at-write-counts .ensures in
+    let w = at-write-pairs .ensures in
+    omega (arith, accepted-length (entry .args .counts .now) (entry .args .bytes .now), fits (c .before .before .before .before .before .before .before .before .before), v .place, written-length v, w .place, written-length w)
 
 returns : tie.Need-returns
 unfolding acceptedLine

@@ -23,39 +23,74 @@ parts : (c : tie.After-shared-slice-known) → length (closingLines (c .before .
 parts c = closing-length (c .before .args .answered) (c .before .args .refused) (c .before .args .totals .now)
 
 write-number-requires : tie.Need-write-number-requires
-write-number-requires c κs = let w = c .before .before .before .write-text .ensures in
-    omega (arith, fits (c .before .before .before .before .before .before .before), parts (c .before .before .before .before .before .before .before), answered-length (c .before .before .before .before .before .before .before .before .args .answered) (c .before .before .before .before .before .before .before .before .args .refused), w .place, written-length w)
+write-number-requires c κs =
+    let at-write-text = c .before .before .before .write-text in
+    let entry = c .before .before .before .before .before .before .before .before in
+    let w = at-write-text .ensures in
+    omega (arith, fits (c .before .before .before .before .before .before .before), parts (c .before .before .before .before .before .before .before), answered-length (entry .args .answered) (entry .args .refused), w .place, written-length w)
 
 write-text-requires-2 : tie.Need-write-text-requires-2
-write-text-requires-2 c κs = let v = c .before .before .before .before .before .before .before .before .write-text .ensures in
-    let w = c .before .before .before .before .write-number .ensures in
-    omega (arith, fits (c .before .before .before .before .before .before .before .before .before .before .before .before), parts (c .before .before .before .before .before .before .before .before .before .before .before .before), answered-length (c .before .before .before .before .before .before .before .before .before .before .before .before .before .args .answered) (c .before .before .before .before .before .before .before .before .before .before .before .before .before .args .refused), v .place, written-length v, w .place, written-length w)
+write-text-requires-2 c κs =
+    let back-12 = c .before .before .before .before .before .before .before .before .before .before .before .before in
+    let at-write-number = c .before .before .before .before .write-number in
+    let at-write-text = c .before .before .before .before .before .before .before .before .write-text in
+    let entry = c .before .before .before .before .before .before .before .before .before .before .before .before .before in
+    let v = at-write-text .ensures in
+    let w = at-write-number .ensures in
+    omega (arith, fits (back-12), parts (back-12), answered-length (entry .args .answered) (entry .args .refused), v .place, written-length v, w .place, written-length w)
 
 write-number-requires-2 : tie.Need-write-number-requires-2
-write-number-requires-2 c κs = let u = c .before .before .before .before .before .before .before .before .before .before .before .before .write-text .ensures in
-    let v = c .before .before .before .before .before .before .before .before .write-number .ensures in
-    let w = c .before .before .before .write-text2 .ensures in
-    omega (arith, fits (c .before .before .before .before .before .before .before .before .before .before .before .before .before .before .before .before), parts (c .before .before .before .before .before .before .before .before .before .before .before .before .before .before .before .before), answered-length (c .before .before .before .before .before .before .before .before .before .before .before .before .before .before .before .before .before .args .answered) (c .before .before .before .before .before .before .before .before .before .before .before .before .before .before .before .before .before .args .refused), u .place, written-length u, v .place, written-length v, w .place, written-length w)
+write-number-requires-2 c κs =
+    let back-16 = c .before .before .before .before .before .before .before .before .before .before .before .before .before .before .before .before in
+    let at-write-text2 = c .before .before .before .write-text2 in
+    let at-write-number = c .before .before .before .before .before .before .before .before .write-number in
+    let at-write-text = c .before .before .before .before .before .before .before .before .before .before .before .before .write-text in
+    let entry = c .before .before .before .before .before .before .before .before .before .before .before .before .before .before .before .before .before in
+    let u = at-write-text .ensures in
+    let v = at-write-number .ensures in
+    let w = at-write-text2 .ensures in
+    omega (arith, fits (back-16), parts (back-16), answered-length (entry .args .answered) (entry .args .refused), u .place, written-length u, v .place, written-length v, w .place, written-length w)
 
 write-byte-requires : tie.Need-write-byte-requires
-write-byte-requires c κs = let t = c .before .before .before .before .before .before .before .before .before .before .before .before .before .before .before .before .write-text .ensures in
-    let u = c .before .before .before .before .before .before .before .before .before .before .before .before .write-number .ensures in
-    let v = c .before .before .before .before .before .before .before .write-text2 .ensures in
-    let w = c .before .before .before .write-number2 .ensures in
-    omega (arith, fits (c .before .before .before .before .before .before .before .before .before .before .before .before .before .before .before .before .before .before .before .before), parts (c .before .before .before .before .before .before .before .before .before .before .before .before .before .before .before .before .before .before .before .before), answered-length (c .before .before .before .before .before .before .before .before .before .before .before .before .before .before .before .before .before .before .before .before .before .args .answered) (c .before .before .before .before .before .before .before .before .before .before .before .before .before .before .before .before .before .before .before .before .before .args .refused), t .place, written-length t, u .place, written-length u, v .place, written-length v, w .place, written-length w)
+write-byte-requires c κs =
+    let back-20 = c .before .before .before .before .before .before .before .before .before .before .before .before .before .before .before .before .before .before .before .before in
+    let at-write-number2 = c .before .before .before .write-number2 in
+    let at-write-text2 = c .before .before .before .before .before .before .before .write-text2 in
+    let at-write-number = c .before .before .before .before .before .before .before .before .before .before .before .before .write-number in
+    let at-write-text = c .before .before .before .before .before .before .before .before .before .before .before .before .before .before .before .before .write-text in
+    let entry = c .before .before .before .before .before .before .before .before .before .before .before .before .before .before .before .before .before .before .before .before .before in
+    let t = at-write-text .ensures in
+    let u = at-write-number .ensures in
+    let v = at-write-text2 .ensures in
+    let w = at-write-number2 .ensures in
+    omega (arith, fits (back-20), parts (back-20), answered-length (entry .args .answered) (entry .args .refused), t .place, written-length t, u .place, written-length u, v .place, written-length v, w .place, written-length w)
 
 write-total-requires : tie.Need-write-total-requires
-write-total-requires c κs = let s = c .before .before .before .before .before .before .before .before .before .before .before .before .before .before .before .before .before .before .before .before .write-text .ensures in
-    let t = c .before .before .before .before .before .before .before .before .before .before .before .before .before .before .before .before .write-number .ensures in
-    let u = c .before .before .before .before .before .before .before .before .before .before .before .write-text2 .ensures in
-    let v = c .before .before .before .before .before .before .before .write-number2 .ensures in
-    let w = c .before .before .before .write-byte .ensures in
-    omega (arith, fits (c .before .before .before .before .before .before .before .before .before .before .before .before .before .before .before .before .before .before .before .before .before .before .before .before), parts (c .before .before .before .before .before .before .before .before .before .before .before .before .before .before .before .before .before .before .before .before .before .before .before .before), answered-length (c .before .before .before .before .before .before .before .before .before .before .before .before .before .before .before .before .before .before .before .before .before .before .before .before .before .args .answered) (c .before .before .before .before .before .before .before .before .before .before .before .before .before .before .before .before .before .before .before .before .before .before .before .before .before .args .refused), s .place, written-length s, t .place, written-length t, u .place, written-length u, v .place, written-length v, w .place, written-length w)
+write-total-requires c κs =
+    let back-24 = c .before .before .before .before .before .before .before .before .before .before .before .before .before .before .before .before .before .before .before .before .before .before .before .before in
+    let at-write-byte = c .before .before .before .write-byte in
+    let at-write-number2 = c .before .before .before .before .before .before .before .write-number2 in
+    let at-write-text2 = c .before .before .before .before .before .before .before .before .before .before .before .write-text2 in
+    let at-write-number = c .before .before .before .before .before .before .before .before .before .before .before .before .before .before .before .before .write-number in
+    let at-write-text = c .before .before .before .before .before .before .before .before .before .before .before .before .before .before .before .before .before .before .before .before .write-text in
+    let entry = c .before .before .before .before .before .before .before .before .before .before .before .before .before .before .before .before .before .before .before .before .before .before .before .before .before in
+    let s = at-write-text .ensures in
+    let t = at-write-number .ensures in
+    let u = at-write-text2 .ensures in
+    let v = at-write-number2 .ensures in
+    let w = at-write-byte .ensures in
+    omega (arith, fits (back-24), parts (back-24), answered-length (entry .args .answered) (entry .args .refused), s .place, written-length s, t .place, written-length t, u .place, written-length u, v .place, written-length v, w .place, written-length w)
 
 returns : tie.Need-returns
 unfolding closingLines answeredLine
 returns c =
-    let w = written-append (written-append (written-append (written-append (written-append (c .before .before .before .before .before .before .before .before .before .before .before .before .before .before .before .before .before .before .before .before .before .before .before .write-text .ensures) (c .before .before .before .before .before .before .before .before .before .before .before .before .before .before .before .before .before .before .before .write-number .ensures)) (c .before .before .before .before .before .before .before .before .before .before .before .before .before .before .write-text2 .ensures)) (c .before .before .before .before .before .before .before .before .before .before .write-number2 .ensures)) (c .before .before .before .before .before .before .write-byte .ensures)) (c .before .before .write-total .ensures) in
+    let at-write-total = c .before .before .write-total in
+    let at-write-byte = c .before .before .before .before .before .before .write-byte in
+    let at-write-number2 = c .before .before .before .before .before .before .before .before .before .before .write-number2 in
+    let at-write-text2 = c .before .before .before .before .before .before .before .before .before .before .before .before .before .before .write-text2 in
+    let at-write-number = c .before .before .before .before .before .before .before .before .before .before .before .before .before .before .before .before .before .before .before .write-number in
+    let at-write-text = c .before .before .before .before .before .before .before .before .before .before .before .before .before .before .before .before .before .before .before .before .before .before .before .write-text in
+    let w = written-append (written-append (written-append (written-append (written-append (at-write-text .ensures) (at-write-number .ensures)) (at-write-text2 .ensures)) (at-write-number2 .ensures)) (at-write-byte .ensures)) (at-write-total .ensures) in
     (front-place w, front-bytes w (fits (c .before .before .before .before .before .before .before .before .before .before .before .before .before .before .before .before .before .before .before .before .before .before .before .before .before .before .before)))
 
 pub write-closing-spec : {M : Type 1} → statement M

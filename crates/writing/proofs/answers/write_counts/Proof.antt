@@ -16,7 +16,12 @@ write-next-counts-requires c κs = let w = c .before .before .before .before .wr
     omega (arith, counts-first-length (c .before .before .before .before .before .before .before .before .before .before .args .counts .now) (c .before .before .before .before .before .before .before .if1 .left), w .place, written-length w)
 
 returns-2 : tie.Need-returns-2
-returns-2 c = rw (counts-first (c .before .before .before .before .before .before .before .before .before .before .before .before .before .args .counts .now) (c .before .before .before .before .before .before .before .before .before .before .if1 .left)) (written-append (c .before .before .before .before .before .before .before .write-number .ensures) (c .before .before .write-next-counts .ensures))
+returns-2 c =
+    let at-write-next-counts = c .before .before .write-next-counts in
+    let at-write-number = c .before .before .before .before .before .before .before .write-number in
+    let at-if1 = c .before .before .before .before .before .before .before .before .before .before .if1 in
+    let entry = c .before .before .before .before .before .before .before .before .before .before .before .before .before in
+    rw (counts-first (entry .args .counts .now) (at-if1 .left)) (written-append (at-write-number .ensures) (at-write-next-counts .ensures))
 
 pub write-counts-spec : {M : Type 1} → statement M
 write-counts-spec =

@@ -18,14 +18,24 @@ write-byte-requires-2 c κs = let v = c .before .before .before .before .before 
     omega (arith, pair-length (c .before .before .before .before .before .before .before .before .before .before .args .input) (c .before .before .before .before .before .before .before .before .before .before .args .output), v .place, written-length v, w .place, written-length w)
 
 write-number-requires-2 : tie.Need-write-number-requires-2
-write-number-requires-2 c κs = let u = c .before .before .before .before .before .before .before .before .before .before .before .write-byte .ensures in
-    let v = c .before .before .before .before .before .before .before .write-number .ensures in
-    let w = c .before .before .before .write-byte2 .ensures in
-    omega (arith, pair-length (c .before .before .before .before .before .before .before .before .before .before .before .before .before .before .args .input) (c .before .before .before .before .before .before .before .before .before .before .before .before .before .before .args .output), u .place, written-length u, v .place, written-length v, w .place, written-length w)
+write-number-requires-2 c κs =
+    let at-write-byte2 = c .before .before .before .write-byte2 in
+    let at-write-number = c .before .before .before .before .before .before .before .write-number in
+    let at-write-byte = c .before .before .before .before .before .before .before .before .before .before .before .write-byte in
+    let entry = c .before .before .before .before .before .before .before .before .before .before .before .before .before .before in
+    let u = at-write-byte .ensures in
+    let v = at-write-number .ensures in
+    let w = at-write-byte2 .ensures in
+    omega (arith, pair-length (entry .args .input) (entry .args .output), u .place, written-length u, v .place, written-length v, w .place, written-length w)
 
 returns : tie.Need-returns
 unfolding pairText
-returns c = written-append (written-append (written-append (c .before .before .before .before .before .before .before .before .before .before .before .before .before .before .write-byte .ensures) (c .before .before .before .before .before .before .before .before .before .before .write-number .ensures)) (c .before .before .before .before .before .before .write-byte2 .ensures)) (c .before .before .write-number2 .ensures)
+returns c =
+    let at-write-number2 = c .before .before .write-number2 in
+    let at-write-byte2 = c .before .before .before .before .before .before .write-byte2 in
+    let at-write-number = c .before .before .before .before .before .before .before .before .before .before .write-number in
+    let at-write-byte = c .before .before .before .before .before .before .before .before .before .before .before .before .before .before .write-byte in
+    written-append (written-append (written-append (at-write-byte .ensures) (at-write-number .ensures)) (at-write-byte2 .ensures)) (at-write-number2 .ensures)
 
 pub write-pair-spec : {M : Type 1} → statement M
 write-pair-spec =

@@ -12,14 +12,25 @@ write-number-requires c κs = let w = c .before .before .before .write-text .ens
     omega (arith, byte-length (c .before .before .before .before .before .before .before .args .number) (c .before .before .before .before .before .before .before .fits .number .fits), w .place, written-length w)
 
 write-byte-requires : tie.Need-write-byte-requires
-write-byte-requires c κs = let v = c .before .before .before .before .before .before .before .write-text .ensures in
-    let w = c .before .before .before .write-number .ensures in
-    omega (arith, byte-length (c .before .before .before .before .before .before .before .before .before .before .before .args .number) (c .before .before .before .before .before .before .before .before .before .before .before .fits .number .fits), v .place, written-length v, w .place, written-length w)
+write-byte-requires c κs =
+    let at-write-number = c .before .before .before .write-number in
+    let at-write-text = c .before .before .before .before .before .before .before .write-text in
+    let entry = c .before .before .before .before .before .before .before .before .before .before .before in
+    let at-fits = c .before .before .before .before .before .before .before .before .before .before .before .fits in
+    let v = at-write-text .ensures in
+    let w = at-write-number .ensures in
+    omega (arith, byte-length (entry .args .number) (at-fits .number .fits), v .place, written-length v, w .place, written-length w)
 
 returns : tie.Need-returns
 unfolding refusedLine
-returns c = let w = written-append (written-append (c .before .before .before .before .before .before .before .before .before .before .write-text .ensures) (c .before .before .before .before .before .before .write-number .ensures)) (c .before .before .write-byte .ensures) in
-    (front-place w, front-bytes w (le-trans (refused-fits (c .before .before .before .before .before .before .before .before .before .before .before .before .before .before .args .number) (c .before .before .before .before .before .before .before .before .before .before .before .before .before .before .fits .number .fits)) (c .before .before .before .before .before .before .before .before .before .before .before .before .before .before .pre)))
+returns c =
+    let at-write-byte = c .before .before .write-byte in
+    let at-write-number = c .before .before .before .before .before .before .write-number in
+    let at-write-text = c .before .before .before .before .before .before .before .before .before .before .write-text in
+    let entry = c .before .before .before .before .before .before .before .before .before .before .before .before .before .before in
+    let at-fits = c .before .before .before .before .before .before .before .before .before .before .before .before .before .before .fits in
+    let w = written-append (written-append (at-write-text .ensures) (at-write-number .ensures)) (at-write-byte .ensures) in
+    (front-place w, front-bytes w (le-trans (refused-fits (entry .args .number) (at-fits .number .fits)) (entry .pre)))
 
 pub write-refused-spec : {M : Type 1} → statement M
 write-refused-spec =

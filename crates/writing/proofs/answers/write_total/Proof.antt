@@ -14,7 +14,12 @@ write-byte-requires c κs = let w = c .before .before .before .before .write-tex
     omega (arith, total-none-length (c .before .before .before .before .before .before .before .before .before .args .totals .now) (c .before .if1 .taken), w .place, written-length w, c .before .before .before .before .before .before .before .before .before .pre)
 
 returns : tie.Need-returns
-returns c = rw (total-none (c .before .before .before .before .before .before .before .before .before .before .before .before .args .totals .now) (c .before .before .before .before .if1 .taken)) (written-append (c .before .before .before .before .before .before .before .write-text .ensures) (c .before .before .write-byte .ensures))
+returns c =
+    let at-write-byte = c .before .before .write-byte in
+    let at-if1 = c .before .before .before .before .if1 in
+    let at-write-text = c .before .before .before .before .before .before .before .write-text in
+    let entry = c .before .before .before .before .before .before .before .before .before .before .before .before in
+    rw (total-none (entry .args .totals .now) (at-if1 .taken)) (written-append (at-write-text .ensures) (at-write-byte .ensures))
 
 -- some
 write-byte-requires-2 : tie.Need-write-byte-requires-2
@@ -22,20 +27,37 @@ write-byte-requires-2 c κs = let w = c .before .before .before .before .write-t
     omega (arith, total-some-length (c .before .before .before .before .before .before .before .before .before .args .totals .now) (c .before .if1 .left), w .place, written-length w, c .before .before .before .before .before .before .before .before .before .pre)
 
 write-counts-requires : tie.Need-write-counts-requires
-write-counts-requires c κs = let v = c .before .before .before .before .before .before .before .before .write-text .ensures in
-    let w = c .before .before .before .write-byte2 .ensures in
-    omega (arith, total-some-length (c .before .before .before .before .before .before .before .before .before .before .before .before .before .args .totals .now) (c .before .before .before .before .before .if1 .left), v .place, written-length v, w .place, written-length w, c .before .before .before .before .before .before .before .before .before .before .before .before .before .pre)
+write-counts-requires c κs =
+    let at-write-byte2 = c .before .before .before .write-byte2 in
+    let at-if1 = c .before .before .before .before .before .if1 in
+    let at-write-text = c .before .before .before .before .before .before .before .before .write-text in
+    let entry = c .before .before .before .before .before .before .before .before .before .before .before .before .before in
+    let v = at-write-text .ensures in
+    let w = at-write-byte2 .ensures in
+    omega (arith, total-some-length (entry .args .totals .now) (at-if1 .left), v .place, written-length v, w .place, written-length w, entry .pre)
 
 write-byte-requires-3 : tie.Need-write-byte-requires-3
-write-byte-requires-3 c κs = let u = c .before .before .before .before .before .before .before .before .before .before .before .before .write-text .ensures in
-    let v = c .before .before .before .before .before .before .before .write-byte2 .ensures in
-    let w = c .before .before .before .write-counts .ensures in
-    omega (arith, total-some-length (c .before .before .before .before .before .before .before .before .before .before .before .before .before .before .before .before .before .args .totals .now) (c .before .before .before .before .before .before .before .before .before .if1 .left), u .place, written-length u, v .place, written-length v, w .place, written-length w, c .before .before .before .before .before .before .before .before .before .before .before .before .before .before .before .before .before .pre)
+write-byte-requires-3 c κs =
+    let at-write-counts = c .before .before .before .write-counts in
+    let at-write-byte2 = c .before .before .before .before .before .before .before .write-byte2 in
+    let at-if1 = c .before .before .before .before .before .before .before .before .before .if1 in
+    let at-write-text = c .before .before .before .before .before .before .before .before .before .before .before .before .write-text in
+    let entry = c .before .before .before .before .before .before .before .before .before .before .before .before .before .before .before .before .before in
+    let u = at-write-text .ensures in
+    let v = at-write-byte2 .ensures in
+    let w = at-write-counts .ensures in
+    omega (arith, total-some-length (entry .args .totals .now) (at-if1 .left), u .place, written-length u, v .place, written-length v, w .place, written-length w, entry .pre)
 
 returns-2 : tie.Need-returns-2
 returns-2 c =
-    rw (total-some (c .before .before .before .before .before .before .before .before .before .before .before .before .before .before .before .before .before .before .before .before .args .totals .now) (c .before .before .before .before .before .before .before .before .before .before .before .before .if1 .left))
-    (written-append (written-append (written-append (c .before .before .before .before .before .before .before .before .before .before .before .before .before .before .before .write-text .ensures) (c .before .before .before .before .before .before .before .before .before .before .write-byte2 .ensures)) (c .before .before .before .before .before .before .write-counts .ensures)) (c .before .before .write-byte3 .ensures))
+    let at-write-byte3 = c .before .before .write-byte3 in
+    let at-write-counts = c .before .before .before .before .before .before .write-counts in
+    let at-write-byte2 = c .before .before .before .before .before .before .before .before .before .before .write-byte2 in
+    let at-if1 = c .before .before .before .before .before .before .before .before .before .before .before .before .if1 in
+    let at-write-text = c .before .before .before .before .before .before .before .before .before .before .before .before .before .before .before .write-text in
+    let entry = c .before .before .before .before .before .before .before .before .before .before .before .before .before .before .before .before .before .before .before .before in
+    rw (total-some (entry .args .totals .now) (at-if1 .left))
+    (written-append (written-append (written-append (at-write-text .ensures) (at-write-byte2 .ensures)) (at-write-counts .ensures)) (at-write-byte3 .ensures))
 
 pub write-total-spec : {M : Type 1} → statement M
 write-total-spec =
