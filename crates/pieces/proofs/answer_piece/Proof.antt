@@ -73,10 +73,7 @@ counted-on c =
 
 -- past the thousandth line, or a write failed
 same-length : tie.Need-same-length Inv-loop μ-loop
-same-length c =
-    let at-next-line = c .before .before .before .before .before .before .before .before .before .before .before .before .before .next-line in
-    let entry = c .before .before .before .before .before .before .before .before .before .before .before .before .before .before .before .before .before .before .before .before in
-    omega (arith, at-next-line .kept .1 .1 .0, entry .pre .1)
+same-length c = omega (arith, c .before .before .before .before .before .before .before .before .before .before .before .before .before .next-line .kept .1 .1 .0, c .before .before .before .before .before .before .before .before .before .before .before .before .before .before .before .before .before .before .before .before .pre .1)
 
 same-length-2 : tie.Need-same-length-2 Inv-loop μ-loop
 same-length-2 c = omega (arith, c .before .before .before .before .before .print-answer .kept .1 .1 .1 .0, c .before .before .before .before .before .before .before .before .before .before .before .before .before .before .before .loop .inv .7)
