@@ -39,28 +39,28 @@ pub record PositionClosed (card ws sets ranked sums own next : List ℕ) (K P i 
   pub own-size : length own ≡ 256
   pub next-size : length next ≡ 256
 
-module _ {card ws marks sets steps entries ends : List ℕ} {P W kept : ℕ} {counts : Bool} (s : Setting card sets P) (O : OrderPre counts card sets ws marks P) (X : Prepared (machinesOf card) 0 W steps kept)
+module _ {card ws hs marks sets steps entries ends : List ℕ} {P W kept : ℕ} {counts : Bool} (s : Setting card sets P) (O : OrderPre counts card sets ws hs marks P) (X : Prepared (machinesOf card) 0 W steps kept)
     (Y : Listed (machinesOf card) (O .order) kept entries ends) {i : ℕ} (within : i ≤ length sets)
     {own : List ℕ} (L : Labels (rankedCosts 1)) (A : Position own P) (E : Entered (cellGraph ws card sets) (placeOf card) (placed (i * P) P L (cellAt own)) i) where
-  ties : Tied (numberGraph ws card sets) (placeOf card) i (listsBy counts ws entries ends) (i * P) P
+  ties : Tied (numberGraph ws card sets) (placeOf card) i (listsBy counts hs entries ends) (i * P) P
   ties = tied s i within ws counts (O .weights) (O .same) X Y
 
   its-node : (c : ℕ) → c < P → i * P + c < (length sets + 1) * P
   its-node c b = node-below s i (i * P + c) within (omega arith)
 
-  settle-pre : SettlePre (listsBy counts ws entries ends) own P
+  settle-pre : SettlePre (listsBy counts hs entries ends) own P
   settle-pre =
       settle-ready counts (few-codes s) A Y (s .states) (O .highs-few) (O .lows-few) (O .if-ranked)
       (settle-fits counts (few-codes s) A entries ends {top = nowhere} (omega arith) (λ c x b l. O .short (E .attained) (i * P + c) x (its-node c b) (placed-in (i * P) P L (cellAt own) c b ∙ l) .room))
 
-  module _ {ys : List ℕ} (S : Settled (listsBy counts ws entries ends) own ys) where
+  module _ {ys : List ℕ} (S : Settled (listsBy counts hs entries ends) own ys) where
     done : Done (cellGraph ws card sets) (placeOf card) (placed (i * P) P L (cellAt ys)) i
     done = settled-position ws s ties A (S .size) S L E
 
     last : (c : ℕ) → c < P → cellAt ys c .high < nowhere → cellAt ys c .high % 256 ≡ 255
     last = settled-last ws s ties A (S .size) S
 
-    short : (c : ℕ) → c < P → cellAt ys c .high < nowhere → KeptShort counts ws (cellAt ys c .high / 256, cellAt ys c .low)
+    short : (c : ℕ) → c < P → cellAt ys c .high < nowhere → KeptShort counts hs (cellAt ys c .high / 256, cellAt ys c .low)
     short c b h = O .short (done .attained) (i * P + c) (cellAt ys c .high / 256, cellAt ys c .low) (its-node c b) (placed-in (i * P) P L (cellAt ys) c b ∙ label-there (cellAt ys c) h)
 
     close-ready : {ranked sums next : List ℕ} → counts ≡ inCounts sums → Room ranked sums ((length sets + 1) * P) → length next ≡ 256 → ClosePre ranked sums ys next (i * P) P
@@ -97,12 +97,12 @@ module _ {card ws marks sets steps entries ends : List ℕ} {P W kept : ℕ} {co
         }
 
   module _ {ranked sums : List ℕ} (kind : counts ≡ inCounts sums) where
-    pub finish-ready : {next : List ℕ} → Room ranked sums ((length sets + 1) * P) → length next ≡ 256 → FinishPre ranked sums ws own next entries ends (i * P) P
+    pub finish-ready : {next : List ℕ} → Room ranked sums ((length sets + 1) * P) → length next ≡ 256 → FinishPre ranked sums hs own next entries ends (i * P) P
     finish-ready R e = record {
-      settle = subst (λ (k : Bool). SettlePre (listsBy k ws entries ends) own P) kind settle-pre;
-      close = λ ys S. close-ready (subst (λ (k : Bool). Settled (listsBy k ws entries ends) own ys) (sym kind) S) kind R e;
+      settle = subst (λ (k : Bool). SettlePre (listsBy k hs entries ends) own P) kind settle-pre;
+      close = λ ys S. close-ready (subst (λ (k : Bool). Settled (listsBy k hs entries ends) own ys) (sym kind) S) kind R e;
     }
 
     pub finished : {ranked′ sums′ own′ next next′ : List ℕ} (K : ℕ) → K ≤ 6 → Labelled card ws sets ranked sums (suc i) L → NextFits next
-        → Finished ranked ranked′ sums sums′ ws own own′ next next′ entries ends (i * P) P → PositionClosed card ws sets ranked′ sums′ own′ next′ K P i
-    finished K six B N F = closed-next (subst (λ (k : Bool). Settled (listsBy k ws entries ends) own (F .labels)) (sym kind) (F .settled)) K six B N (F .closed)
+        → Finished ranked ranked′ sums sums′ hs own own′ next next′ entries ends (i * P) P → PositionClosed card ws sets ranked′ sums′ own′ next′ K P i
+    finished K six B N F = closed-next (subst (λ (k : Bool). Settled (listsBy k hs entries ends) own (F .labels)) (sym kind) (F .settled)) K six B N (F .closed)

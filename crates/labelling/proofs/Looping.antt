@@ -34,7 +34,7 @@ room-kept r s R = record { counts = λ e. r ∙ R .counts (sym s ∙ e); numbers
 kind-kept : (sums sums′ : List ℕ) → length sums′ ≡ length sums → inCounts sums ≡ inCounts sums′
 kind-kept sums sums′ s = ap (λ (n : ℕ). eqb n 0) (sym s)
 
-module _ {ranked sums card : List ℕ} {grid : Grid} {ws sets steps entries ends : List ℕ} (Z : PositionsPre ranked sums card grid ws sets steps entries ends) where
+module _ {ranked sums card : List ℕ} {grid : Grid} {ws hs sets steps entries ends : List ℕ} (Z : PositionsPre ranked sums card grid ws hs sets steps entries ends) where
   its-setting : Setting card sets (grid .size)
   its-setting = Z .search .setting
 
@@ -64,11 +64,11 @@ module _ {ranked sums card : List ℕ} {grid : Grid} {ws sets steps entries ends
 
   -- ---- the last position
   module _ {own next : List ℕ} (E : EndingsEntered card ws own) where
-    pub last-ready : length next ≡ 256 → FinishPre ranked sums ws own next entries ends (length sets * grid .size) (grid .size)
+    pub last-ready : length next ≡ 256 → FinishPre ranked sums hs own next entries ends (length sets * grid .size) (grid .size)
     last-ready e =
         finish-ready its-setting (Z .search .order-pre) (Z .prepared) (Z .listed) (omega arith) (λ _. none) (position-of (E .position)) (E .entered sets (grid .size) its-setting) refl (Z .search .room) e
 
-    pub last-closed : {ranked′ sums′ own′ next′ : List ℕ} → NextFits next → Finished ranked ranked′ sums sums′ ws own own′ next next′ entries ends (length sets * grid .size) (grid .size)
+    pub last-closed : {ranked′ sums′ own′ next′ : List ℕ} → NextFits next → Finished ranked ranked′ sums sums′ hs own own′ next next′ entries ends (length sets * grid .size) (grid .size)
         → PositionClosed card ws sets ranked′ sums′ own′ next′ (length (take (grid .machines) (grid .counts))) (grid .size) (length sets)
     last-closed N F =
         finished its-setting (Z .search .order-pre) (Z .prepared) (Z .listed) (omega arith) (λ _. none) (position-of (E .position)) (E .entered sets (grid .size) its-setting) {ranked = ranked} {sums = sums} refl
@@ -89,11 +89,11 @@ module _ {ranked sums card : List ℕ} {grid : Grid} {ws sets steps entries ends
           let q : i + 1 ≡ suc i = omega arith in
           E .entered sets (grid .size) i (B .labels) its-setting below refl (B .labelled .done) (λ t h. ap (λ (n : ℕ). B .labels (n * grid .size + t)) q ∙ B .followed .labels t h)
 
-      pub symbols-ready : length ranked′ ≡ length ranked → FinishPre ranked′ sums′ ws own′ next entries ends (i * grid .size) (grid .size)
+      pub symbols-ready : length ranked′ ≡ length ranked → FinishPre ranked′ sums′ hs own′ next entries ends (i * grid .size) (grid .size)
       symbols-ready ranked-size =
           finish-ready its-setting (Z .search .order-pre) (Z .prepared) (Z .listed) (omega arith) (B .labels) (position-of (E .position)) entered (kind-kept sums sums′ sums-size) (room-kept ranked-size sums-size (Z .search .room)) (B .next-size)
 
-      pub symbols-closed : {ranked″ sums″ own″ next″ : List ℕ} → Finished ranked′ ranked″ sums′ sums″ ws own′ own″ next next″ entries ends (i * grid .size) (grid .size)
+      pub symbols-closed : {ranked″ sums″ own″ next″ : List ℕ} → Finished ranked′ ranked″ sums′ sums″ hs own′ own″ next next″ entries ends (i * grid .size) (grid .size)
           → PositionClosed card ws sets ranked″ sums″ own″ next″ (length (take (grid .machines) (grid .counts))) (grid .size) i
       symbols-closed F =
           finished its-setting (Z .search .order-pre) (Z .prepared) (Z .listed) (omega arith) (B .labels) (position-of (E .position)) entered {ranked = ranked′} {sums = sums′} (kind-kept sums sums′ sums-size)

@@ -13,6 +13,7 @@ use Rattle.product.specs.Nodes.{stateCounts}
 use Rattle.tables.specs.Places.{sixPlaces}
 use Rattle.tables.specs.Laws.Cards.{card-machines}
 use Rattle.tables.proofs.Prefix.{places-six}
+use Rattle.settling.specs.Prices.{rankedHighs}
 use Rattle.settling.proofs.Prices.{ranked-highs-few, ranked-lows-few}
 use Rattle.cells.specs.declared.Groups.{Groups}
 use Rattle.cells.specs.Columns.{WeightsOf}
@@ -31,7 +32,7 @@ use Rattle.labelling.proofs.Sizes.{counts-are, counts-length, states-ar
 
 -- ---- the columns of the insertions, counted and in lists
 
-module _ {ranked sums card : List ℕ} {grid : Grid} {ws marks sets : List ℕ} (Q : SearchPre ranked sums card grid ws marks sets) where
+module _ {ranked sums card : List ℕ} {grid : Grid} {ws hs marks sets : List ℕ} (Q : SearchPre ranked sums card grid ws hs marks sets) where
   pub fill-ready : {steps : List ℕ} → 65 * grid .states ≤ length steps → FillPre card (take (grid .machines) (grid .counts)) steps (grid .states) 0
   fill-ready room = record { accepted = Q .setting .accepted; counts-are = counts-are (Q .setting .accepted) (Q .grid-of); input = omega arith; width = states-are (Q .setting .accepted) (Q .grid-of); room = room }
 
@@ -51,7 +52,7 @@ module _ {ranked sums card : List ℕ} {grid : Grid} {ws marks sets : List ℕ} 
     }
 
     pub lists-ready : {entries ends : List ℕ} → 65 * grid .states ≤ length steps → ListedBy steps (take (grid .machines) (grid .counts)) marks (grid .states) kept entries ends
-        → PositionsPre ranked sums card grid ws sets steps entries ends
+        → PositionsPre ranked sums card grid ws hs sets steps entries ends
     lists-ready room L = record {
       marks = marks;
       search = Q;
@@ -72,7 +73,7 @@ module _ {card ranking sets work : List ℕ} {grid : Grid} (Q : LabelPre card ra
   counts-ranked = subst (λ (n : ℕ). isRanking n ranking ≡ true) (sym (G .machines) ∙ counts-length (Q .setting .accepted) G) (Q .ranks)
 
   module _ {ws : List ℕ} (W : WeightsOf (stateCounts (machinesOf card)) ws) (R : RankedWeights (sixPlaces ranking) ws) where
-    ranked-order : OrderPre true card sets ws ws (grid .size)
+    ranked-order : OrderPre true card sets ws rankedHighs ws (grid .size)
     ranked-order = record {
       weights = W;
       marks-are = W;
@@ -89,7 +90,7 @@ module _ {card ranking sets work : List ℕ} {grid : Grid} (Q : LabelPre card ra
           record { room = record { high = omega (arith, r .high); low = r .low }; in-counts = λ _. omega (arith, r .high); in-number = λ e. absurd (true≢false e) };
     }
 
-    pub search-ready : SearchPre work [] card grid ws ws sets
+    pub search-ready : SearchPre work [] card grid ws rankedHighs ws sets
     search-ready = record { setting = Q .setting; grid-of = G; order-pre = ranked-order; room = record { counts = λ _. Q .room; numbers = λ z. absurd (z refl) } }
 
     -- all nodes are labelled, in the order of the ranking

@@ -28,7 +28,7 @@ use Rattle.grid.specs.Grids.{GridOf}
 use Rattle.insertions.specs.RankedWeights.{RankedWeights}
 use Rattle.insertions.specs.Listed.{Listed}
 use Rattle.entering.specs.Entering.{cellGraph, mostOf}
-use Rattle.labelling.specs.Kinds.{inCounts, highsBy, lowsBy, listsBy}
+use Rattle.labelling.specs.Kinds.{inCounts, lowsBy, listsBy}
 use Rattle.closing.specs.Closing.{Held, ClosePre, ClosedAt}
 use Rattle.labelling.specs.Laws.LabelRoom.{LabelRoom}
 use Rattle.labelling.specs.Laws.Tied.{SamePrices}
@@ -47,25 +47,25 @@ pub record PositionsDone (card ranking sets xs ys : List ℕ) (i : ℕ) : Type 0
 -- ---- the order, by the numbers of the machines
 
 -- a label leaves settling room for 128 pairs more, and can be stored
-pub record KeptShort (counts : Bool) (ws : List ℕ) (c : Ranked 1) : Type 0 where
-  pub room : LabelRoom (mostPrice (highsBy counts ws)) (mostPrice (lowsBy counts)) nowhere c
+pub record KeptShort (counts : Bool) (hs : List ℕ) (c : Ranked 1) : Type 0 where
+  pub room : LabelRoom (mostPrice hs) (mostPrice (lowsBy counts)) nowhere c
   pub in-counts : counts ≡ true → c .0 < 2 ^ 48
   pub in-number : counts ≡ false → (c .0 < 2 ^ 51) × (c .1 < 4096)
 
--- what labelling asks of an order: the numbers `ws` of the machines make it; `marks` are those by which the lists have marks, in ranked order, and
--- the lists price these as the machines do; labels are short
-pub record OrderPre (counts : Bool) (card sets ws marks : List ℕ) (P : ℕ) : Type 0 where
+-- what labelling asks of an order: the numbers `ws` of the machines make it; `marks` are those by which the lists have marks, in the order of some
+-- places; the numbers `hs` of these places price them as the machines do; labels are short
+pub record OrderPre (counts : Bool) (card sets ws hs marks : List ℕ) (P : ℕ) : Type 0 where
   pub weights : WeightsOf (stateCounts (machinesOf card)) ws
   pub marks-are : WeightsOf (stateCounts (machinesOf card)) marks
   pub order : List ℕ
   pub six : SixPlaces order
   pub ranked : RankedWeights order marks
-  pub same : SamePrices order (highsBy counts ws) (lowsBy counts) ws
-  pub highs-few : SixWeights (highsBy counts ws)
+  pub same : SamePrices order hs (lowsBy counts) ws
+  pub highs-few : SixWeights hs
   pub lows-few : SixWeights (lowsBy counts)
-  pub if-ranked : RankedIf counts (highsBy counts ws) (lowsBy counts)
-  pub most : (K : ℕ) → K ≤ 6 → mostOf (highOf ws) K ≤ mostPrice (highsBy counts ws)
-  pub short : {M : Labels (rankedCosts 1)} → Attained (cellGraph ws card sets) M → (u : ℕ) (c : Ranked 1) → u < (length sets + 1) * P → M u ≡ some c → KeptShort counts ws c
+  pub if-ranked : RankedIf counts hs (lowsBy counts)
+  pub most : (K : ℕ) → K ≤ 6 → mostOf (highOf ws) K ≤ mostPrice hs
+  pub short : {M : Labels (rankedCosts 1)} → Attained (cellGraph ws card sets) M → (u : ℕ) (c : Ranked 1) → u < (length sets + 1) * P → M u ≡ some c → KeptShort counts hs c
 
 -- ---- the search
 
@@ -75,16 +75,16 @@ pub record Room (ranked sums : List ℕ) (n : ℕ) : Type 0 where
   pub numbers : length sums ≢ 0 → length sums ≡ n
 
 -- a setting with the card's sizes, an order, and room for the labels
-pub record SearchPre (ranked sums card : List ℕ) (grid : Grid) (ws marks sets : List ℕ) : Type 0 where
+pub record SearchPre (ranked sums card : List ℕ) (grid : Grid) (ws hs marks sets : List ℕ) : Type 0 where
   pub setting : Setting card sets (grid .size)
   pub grid-of : GridOf card grid
-  pub order-pre : OrderPre (inCounts sums) card sets ws marks (grid .size)
+  pub order-pre : OrderPre (inCounts sums) card sets ws hs marks (grid .size)
   pub room : Room ranked sums ((length sets + 1) * grid .size)
 
 -- and lists that have the insertions of outputs that tell of all others
-pub record PositionsPre (ranked sums card : List ℕ) (grid : Grid) (ws sets steps entries ends : List ℕ) : Type 0 where
+pub record PositionsPre (ranked sums card : List ℕ) (grid : Grid) (ws hs sets steps entries ends : List ℕ) : Type 0 where
   pub marks : List ℕ
-  pub search : SearchPre ranked sums card grid ws marks sets
+  pub search : SearchPre ranked sums card grid ws hs marks sets
   pub kept : ℕ
   pub prepared : Prepared (machinesOf card) 0 (grid .states) steps kept
   pub columns : 65 * grid .states ≤ length steps
@@ -104,12 +104,12 @@ pub record AllLabelled (card ws sets ranked ranked′ sums sums′ : List ℕ) :
 -- ---- one position
 
 -- it may be settled, and closed then
-pub record FinishPre (ranked sums ws own next entries ends : List ℕ) (base P : ℕ) : Type 0 where
-  pub settle : SettlePre (listsBy (inCounts sums) ws entries ends) own P
-  pub close : (ys : List ℕ) → Settled (listsBy (inCounts sums) ws entries ends) own ys → ClosePre ranked sums ys next base P
+pub record FinishPre (ranked sums hs own next entries ends : List ℕ) (base P : ℕ) : Type 0 where
+  pub settle : SettlePre (listsBy (inCounts sums) hs entries ends) own P
+  pub close : (ys : List ℕ) → Settled (listsBy (inCounts sums) hs entries ends) own ys → ClosePre ranked sums ys next base P
 
 -- it was settled, and closed
-pub record Finished (ranked ranked′ sums sums′ ws own own′ next next′ entries ends : List ℕ) (base P : ℕ) : Type 0 where
+pub record Finished (ranked ranked′ sums sums′ hs own own′ next next′ entries ends : List ℕ) (base P : ℕ) : Type 0 where
   pub labels : List ℕ
-  pub settled : Settled (listsBy (inCounts sums) ws entries ends) own labels
+  pub settled : Settled (listsBy (inCounts sums) hs entries ends) own labels
   pub closed : ClosedAt ranked ranked′ sums sums′ labels own′ next next′ base P

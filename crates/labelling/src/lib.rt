@@ -14,7 +14,7 @@ use machine::Pair;
 fn finish(
     ranked: &mut [u16],
     sums: &mut [u64],
-    numbers: &[u64],
+    highs: [u64; 6],
     base: usize,
     size: usize,
     own: &mut [u64; 256],
@@ -22,16 +22,14 @@ fn finish(
     entries: &[u32],
     ends: &[u16; 514],
 )
-    requires { ⌜ FinishPre (now ranked) (now sums) (now numbers) (now own) (now next) (now entries) (now ends) base size ⌝ }
-    ensures { λ _. ⌜ Finished (now (ranked .entry)) (now (ranked .exit)) (now (sums .entry)) (now (sums .exit)) (now (numbers .entry)) (now (own .entry)) (now (own .exit)) (now (next .entry)) (now (next .exit)) (now (entries .entry)) (now (ends .entry)) base size ⌝ }
+    requires { ⌜ FinishPre (now ranked) (now sums) highs (now own) (now next) (now entries) (now ends) base size ⌝ }
+    ensures { λ _. ⌜ Finished (now (ranked .entry)) (now (ranked .exit)) (now (sums .entry)) (now (sums .exit)) highs (now (own .entry)) (now (own .exit)) (now (next .entry)) (now (next .exit)) (now (entries .entry)) (now (ends .entry)) base size ⌝ }
 {
     if sums.len() == 0 {
-        let highs = machine_weights::HIGHS;
         let lows = machine_weights::LOWS;
         settling::settle(own, entries, ends, &highs, &lows, true, size);
         closing::close_counts(ranked, base, size, own, next);
     } else {
-        let highs = machine_weights::six_highs(numbers);
         let lows = [0u64; 6];
         settling::settle(own, entries, ends, &highs, &lows, false, size);
         closing::close_numbers(sums, base, size, own, next);
@@ -45,6 +43,7 @@ fn label_positions(
     card: &[u8],
     grid: Grid,
     numbers: &[u64],
+    highs: [u64; 6],
     sets: &[u64],
     steps: &mut [u16],
     entries: &[u32],
@@ -53,7 +52,7 @@ fn label_positions(
     high: &mut [u64],
     low: &mut [u64],
 )
-    requires { ⌜ PositionsPre (now ranked) (now sums) (now card) grid (now numbers) (now sets) (now steps) (now entries) (now ends) × GroupsOf (take (grid .machines) (grid .counts)) g × (g .front + g .back ≤ 66) × (length (now high) ≡ 264) × (length (now low) ≡ 264) ⌝ }
+    requires { ⌜ PositionsPre (now ranked) (now sums) (now card) grid (now numbers) highs (now sets) (now steps) (now entries) (now ends) × GroupsOf (take (grid .machines) (grid .counts)) g × (g .front + g .back ≤ 66) × (length (now high) ≡ 264) × (length (now low) ≡ 264) ⌝ }
     ensures { λ _. ⌜ AllLabelled (now (card .entry)) (now (numbers .entry)) (now (sets .entry)) (now (ranked .entry)) (now (ranked .exit)) (now (sums .entry)) (now (sums .exit)) ⌝ }
 {
     let all = grid.counts;
@@ -77,7 +76,7 @@ fn label_positions(
     finish(
         ranked,
         sums,
-        numbers,
+        highs,
         position * size,
         size,
         &mut own,
@@ -102,7 +101,7 @@ fn label_positions(
         finish(
             ranked,
             sums,
-            numbers,
+            highs,
             position * size,
             size,
             &mut own,
@@ -113,19 +112,21 @@ fn label_positions(
     }
 }
 
-// Labels all nodes. `marks` has the numbers by which the lists have the marks; `steps` and `entries` are overwritten.
+// Labels all nodes. `marks` has the numbers by which the lists have the marks, `highs` what these count in high, by their places; `steps` and `entries`
+// are overwritten.
 fn label_with(
     ranked: &mut [u16],
     sums: &mut [u64],
     card: &[u8],
     grid: Grid,
     numbers: &[u64],
+    highs: [u64; 6],
     marks: &[u64],
     sets: &[u64],
     steps: &mut [u16],
     entries: &mut [u32],
 )
-    requires { ⌜ SearchPre (now ranked) (now sums) (now card) grid (now numbers) (now marks) (now sets) × (65 * grid .states ≤ length (now steps)) × (63 * grid .size ≤ length (now entries)) ⌝ }
+    requires { ⌜ SearchPre (now ranked) (now sums) (now card) grid (now numbers) highs (now marks) (now sets) × (65 * grid .states ≤ length (now steps)) × (63 * grid .size ≤ length (now entries)) ⌝ }
     ensures { λ _. ⌜ AllLabelled (now (card .entry)) (now (numbers .entry)) (now (sets .entry)) (now (ranked .entry)) (now (ranked .exit)) (now (sums .entry)) (now (sums .exit)) ⌝ }
 {
     let all = grid.counts;
@@ -166,6 +167,7 @@ fn label_with(
         card,
         grid,
         numbers,
+        highs,
         sets,
         steps,
         entries,
@@ -183,10 +185,11 @@ fn label_few(
     card: &[u8],
     grid: Grid,
     numbers: &[u64],
+    highs: [u64; 6],
     marks: &[u64],
     sets: &[u64],
 )
-    requires { ⌜ SearchPre (now ranked) (now sums) (now card) grid (now numbers) (now marks) (now sets) × (grid .size ≤ 16) ⌝ }
+    requires { ⌜ SearchPre (now ranked) (now sums) (now card) grid (now numbers) highs (now marks) (now sets) × (grid .size ≤ 16) ⌝ }
     ensures { λ _. ⌜ AllLabelled (now (card .entry)) (now (numbers .entry)) (now (sets .entry)) (now (ranked .entry)) (now (ranked .exit)) (now (sums .entry)) (now (sums .exit)) ⌝ }
 {
     let places = 65 * grid.states;
@@ -198,6 +201,7 @@ fn label_few(
         card,
         grid,
         numbers,
+        highs,
         marks,
         sets,
         &mut steps[..places],
@@ -212,10 +216,11 @@ fn label_many(
     card: &[u8],
     grid: Grid,
     numbers: &[u64],
+    highs: [u64; 6],
     marks: &[u64],
     sets: &[u64],
 )
-    requires { ⌜ SearchPre (now ranked) (now sums) (now card) grid (now numbers) (now marks) (now sets) ⌝ }
+    requires { ⌜ SearchPre (now ranked) (now sums) (now card) grid (now numbers) highs (now marks) (now sets) ⌝ }
     ensures { λ _. ⌜ AllLabelled (now (card .entry)) (now (numbers .entry)) (now (sets .entry)) (now (ranked .entry)) (now (ranked .exit)) (now (sums .entry)) (now (sums .exit)) ⌝ }
 {
     let places = 65 * grid.states;
@@ -227,6 +232,7 @@ fn label_many(
         card,
         grid,
         numbers,
+        highs,
         marks,
         sets,
         &mut steps[..places],
@@ -241,16 +247,17 @@ pub fn label_all(
     card: &[u8],
     grid: Grid,
     numbers: &[u64],
+    highs: [u64; 6],
     marks: &[u64],
     sets: &[u64],
 )
-    requires { ⌜ SearchPre (now ranked) (now sums) (now card) grid (now numbers) (now marks) (now sets) ⌝ }
+    requires { ⌜ SearchPre (now ranked) (now sums) (now card) grid (now numbers) highs (now marks) (now sets) ⌝ }
     ensures { λ _. ⌜ AllLabelled (now (card .entry)) (now (numbers .entry)) (now (sets .entry)) (now (ranked .entry)) (now (ranked .exit)) (now (sums .entry)) (now (sums .exit)) ⌝ }
 {
     if grid.size <= 16 {
-        label_few(ranked, sums, card, grid, numbers, marks, sets);
+        label_few(ranked, sums, card, grid, numbers, highs, marks, sets);
     } else {
-        label_many(ranked, sums, card, grid, numbers, marks, sets);
+        label_many(ranked, sums, card, grid, numbers, highs, marks, sets);
     }
 }
 
@@ -263,5 +270,6 @@ pub fn label(work: &mut [u16], card: &[u8], grid: Grid, ranking: &[u8], sets: &[
     let machines = grid.machines;
     let numbers = machine_weights::ranked_weights(&all[..machines], ranking);
     let used = &numbers[..3 * machines];
-    label_all(work, &mut [], card, grid, used, used, sets);
+    let highs = machine_weights::HIGHS;
+    label_all(work, &mut [], card, grid, used, highs, used, sets);
 }

@@ -2,5 +2,6 @@
 pub mod Sound
 pub mod Weighing
 pub mod Done
+pub mod FirstPlace
 pub mod Prices
 pub mod Room

@@ -1,3 +1,4 @@
 pub mod WeighsBy
+pub mod FirstPlace
 pub mod Labelling
 pub mod Laws

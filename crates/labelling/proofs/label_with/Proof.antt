@@ -85,7 +85,7 @@ same-length-3 : tie.Need-same-length-3
 same-length-3 c =
     let at-label-positions = c .before .before .before .before .before .before .before .before .label-positions in
     let at-prepare = c .before .before .before .before .before .before .before .before .before .before .before .before .before .before .before .before .before .before .before .before .before .before .before .before .before .before .before .before .before .before .before .before .before .before .before .prepare in
-    at-label-positions .kept .1 .1 .1 .1 .1 .1 .0 ∙ at-prepare .kept .0
+    at-label-positions .kept .1 .1 .1 .1 .1 .1 .1 .0 ∙ at-prepare .kept .0
 
 pub label-with-spec : {M : Type 1} → statement M
 label-with-spec =

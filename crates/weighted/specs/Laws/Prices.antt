@@ -4,17 +4,21 @@ use mathlib.Core.Logic.{_⊎_, inl, inr}
 use mathlib.Core.List.{List, [], _∷_}
 use Prim.Native.Nat.{ℕ, zero, suc, _+_, _*_, _/_, _%_, _^_, _<_, _≤_}
 use native.Mathlib.Nat.{mul-comm, zero-mul}
+use native.Mathlib.Decide.{decLt}
 use native.Mathlib.Omega.{arith}
-use lib.ListN.{length, getD}
+use lib.ListN.{length, getD, set, length-set, List·getD-eq-default}
 use Rattle.tables.specs.Places.{markNumber}
 use Rattle.tables.specs.Laws.Packing.{six-number}
 use Rattle.settling.specs.Prices.{SixWeights, marksPrice, mostPrice}
 use Rattle.cells.specs.Cells.{highOf, lowOf}
 use Rattle.cells.specs.Columns.{weighed}
-use Rattle.labelling.specs.Kinds.{sixHighs, noLows}
+use Rattle.machine_weights.specs.Highs.{sixHighs}
+use Rattle.labelling.specs.Kinds.{noLows}
 use Rattle.labelling.specs.Laws.Tied.{SamePrices}
 use Rattle.weighted.specs.WeighsBy.{WeighsBy}
+use Rattle.weighted.specs.FirstPlace.{firstPut}
 use Rattle.weighted.specs.Laws.Sound.{Sound}
+use Rattle.weighted.specs.Laws.FirstPlace.{placedAt, first-high, six-placed}
 
 -- marks of at most six machines, one by one
 pub six-terms : (w : ℕ → ℕ) (xs : List ℕ) → length xs ≤ 6
@@ -56,24 +60,28 @@ module _ (a b c d e f : ℕ) (ha : a ≤ 15) (hb : b ≤ 15) (hc : c ≤ 15) (hd
   unfolding marksPrice
   packed-price ns = λ i. getD ns 0 0 * first i + (getD ns 1 0 * second i + (getD ns 2 0 * third i + (getD ns 3 0 * fourth i + (getD ns 4 0 * fifth i + getD ns 5 0 * sixth i))))
 
--- six numbers for places price the number of marks, where a machine has the place of its own number, or counts nothing
-place-price : (places ns : List ℕ) (w : ℕ → ℕ) → length places ≡ 6 → ((m : ℕ) → m < 6 → (getD ns m 0 ≡ w m) × ((getD places m 0 ≡ m) ⊎ (w m ≡ 0)))
+-- six numbers for places price the number of marks, where at each place stands the machine that counts this number, or it counts nothing; the first
+-- machine may have changed places with another one
+place-price : (places ns : List ℕ) (w : ℕ → ℕ) (k : ℕ) → k < 6 → length places ≡ 6 → ((m : ℕ) → m < 6 → (getD ns m 0 ≡ w (placedAt k m)) × ((getD places m 0 ≡ placedAt k m) ⊎ (w (placedAt k m) ≡ 0)))
     → (marks : List ℕ) → length marks ≤ 6 → ((m : ℕ) → getD marks m 0 ≤ 15) → marksPrice ns (markNumber places marks) ≡ weighed w 0 marks
 unfolding marksPrice
-place-price places ns w size same marks few most =
+place-price places ns w k below size same marks few most =
     (λ i. marksPrice ns (six-number places marks size i))
     ∙ packed-price (at 0) (at 1) (at 2) (at 3) (at 4) (at 5) (most (getD places 0 0)) (most (getD places 1 0)) (most (getD places 2 0)) (most (getD places 3 0)) (most (getD places 4 0)) (most (getD places 5 0)) ns
-    ∙ omega (arith, part 0 (omega arith), part 1 (omega arith), part 2 (omega arith), part 3 (omega arith), part 4 (omega arith), part 5 (omega arith), six-terms w marks few)
+    ∙ omega (arith, part 0 (omega arith), part 1 (omega arith), part 2 (omega arith), part 3 (omega arith), part 4 (omega arith), part 5 (omega arith), six-placed term k below, six-terms w marks few)
   where
     at : ℕ → ℕ
     at m = getD marks (getD places m 0) 0
 
-    part : (m : ℕ) → m < 6 → getD ns m 0 * at m ≡ w m * getD marks m 0
+    term : ℕ → ℕ
+    term m = w m * getD marks m 0
+
+    part : (m : ℕ) → m < 6 → getD ns m 0 * at m ≡ term (placedAt k m)
     part m h = go (same m h .1)
       where
-        go : (getD places m 0 ≡ m) ⊎ (w m ≡ 0) → getD ns m 0 * at m ≡ w m * getD marks m 0
+        go : (getD places m 0 ≡ placedAt k m) ⊎ (w (placedAt k m) ≡ 0) → getD ns m 0 * at m ≡ term (placedAt k m)
         go (inl e) = let p = same m h .0 in λ i. p i * getD marks (e i) 0
-        go (inr z) = ap (λ (n : ℕ). n * at m) (same m h .0 ∙ z) ∙ zero-mul (at m) ∙ sym (ap (λ (n : ℕ). n * getD marks m 0) z ∙ zero-mul (getD marks m 0))
+        go (inr z) = ap (λ (n : ℕ). n * at m) (same m h .0 ∙ z) ∙ zero-mul (at m) ∙ sym (ap (λ (n : ℕ). n * getD marks (placedAt k m) 0) z ∙ zero-mul (getD marks (placedAt k m) 0))
 
 no-low : (m : ℕ) → getD noLows m 0 ≡ 0
 no-low zero = refl
@@ -84,42 +92,29 @@ no-low (suc (suc (suc (suc zero)))) = refl
 no-low (suc (suc (suc (suc (suc zero))))) = refl
 no-low (suc (suc (suc (suc (suc (suc m)))))) = refl
 
--- the machines in card order, of which no more than these count
-pub record InCardOrder (places ws : List ℕ) : Type 0 where
+-- the lists have marks by these places
+pub record FirstPlaced (places ws : List ℕ) (k : ℕ) : Type 0 where
   pub size : length places ≡ 6
-  pub place : (m : ℕ) → m < 6 → (getD places m 0 ≡ m) ⊎ (highOf ws m ≡ 0)
+  pub below : k < 6
+  pub place : (m : ℕ) → m < 6 → (getD places m 0 ≡ placedAt k m) ⊎ (highOf ws (placedAt k m) ≡ 0)
 
-pub weights-tie : {places weights ws : List ℕ} → WeighsBy weights ws → InCardOrder places ws → SamePrices places (sixHighs ws) noLows ws
-weights-tie {places} {ws = ws} W O = record { high = place-price places (sixHighs ws) (highOf ws) (O .size) highs; low = place-price places noLows (lowOf ws) (O .size) lows }
-  where
-    highs : (m : ℕ) → m < 6 → (getD (sixHighs ws) m 0 ≡ highOf ws m) × ((getD places m 0 ≡ m) ⊎ (highOf ws m ≡ 0))
-    highs zero h = (refl, O .place 0 h)
-    highs (suc zero) h = (refl, O .place 1 h)
-    highs (suc (suc zero)) h = (refl, O .place 2 h)
-    highs (suc (suc (suc zero))) h = (refl, O .place 3 h)
-    highs (suc (suc (suc (suc zero)))) h = (refl, O .place 4 h)
-    highs (suc (suc (suc (suc (suc zero))))) h = (refl, O .place 5 h)
-    highs (suc (suc (suc (suc (suc (suc m)))))) h = absurd (omega arith)
-
-    lows : (m : ℕ) → m < 6 → (getD noLows m 0 ≡ lowOf ws m) × ((getD places m 0 ≡ m) ⊎ (lowOf ws m ≡ 0))
-    lows m h = (omega (arith, no-low m, W .low m), inr (W .low m))
+pub weights-tie : {places weights ws : List ℕ} {k : ℕ} → WeighsBy weights ws → FirstPlaced places ws k → SamePrices places (firstPut k (sixHighs ws)) noLows ws
+weights-tie {places} {ws = ws} {k} W O = record {
+  high = place-price places (firstPut k (sixHighs ws)) (highOf ws) k (O .below) (O .size) (λ m h. (first-high ws k m (O .below) h, O .place m h));
+  low = place-price places noLows (lowOf ws) k (O .below) (O .size) (λ m h. (omega (arith, no-low m, W .low (placedAt k m)), inr (W .low (placedAt k m))));
+}
 
 -- what settling asks of the weights
 module _ {K : ℕ} {weights ws : List ℕ} (A : Sound K weights) (W : WeighsBy weights ws) where
   high-few : (m : ℕ) → highOf ws m ≤ 1024000000000
   high-few m = omega (arith, W .high m, A .most m)
 
-  pub highs-few : SixWeights (sixHighs ws)
-  highs-few = record { most = most }
+  pub highs-few : (k : ℕ) → k < 6 → SixWeights (firstPut k (sixHighs ws))
+  highs-few k h = record { most = λ m. most m (decLt m 6) }
     where
-      most : (i : ℕ) → getD (sixHighs ws) i 0 ≤ 2 ^ 48
-      most zero = omega (arith, high-few 0)
-      most (suc zero) = omega (arith, high-few 1)
-      most (suc (suc zero)) = omega (arith, high-few 2)
-      most (suc (suc (suc zero))) = omega (arith, high-few 3)
-      most (suc (suc (suc (suc zero)))) = omega (arith, high-few 4)
-      most (suc (suc (suc (suc (suc zero))))) = omega (arith, high-few 5)
-      most (suc (suc (suc (suc (suc (suc i)))))) = omega arith
+      most : (m : ℕ) → Dec (m < 6) → getD (firstPut k (sixHighs ws)) m 0 ≤ 2 ^ 48
+      most m (yes b) = omega (arith, first-high ws k m h b, high-few (placedAt k m))
+      most m (no b) = omega (arith, List·getD-eq-default (firstPut k (sixHighs ws)) 0 {n = m} (omega (arith, length-set (set (sixHighs ws) 0 (getD (sixHighs ws) k 0)) k (getD (sixHighs ws) 0 0), length-set (sixHighs ws) 0 (getD (sixHighs ws) k 0))))
 
   pub high-most : mostPrice (sixHighs ws) ≤ 92160000000000
   unfolding mostPrice

@@ -20,7 +20,8 @@ use Rattle.settling.specs.Prices.{mostPrice}
 use Rattle.cells.specs.Cells.{highOf, lowOf}
 use Rattle.cells.specs.Columns.{WeightsOf}
 use Rattle.entering.specs.Entering.{cellGraph, mostOf}
-use Rattle.labelling.specs.Kinds.{sixHighs, noLows}
+use Rattle.machine_weights.specs.Highs.{sixHighs}
+use Rattle.labelling.specs.Kinds.{noLows}
 use Rattle.labelling.specs.Laws.LabelRoom.{LabelRoom, label-room}
 use Rattle.product.specs.WeightedPaths.{byWeights, weightedGraph}
 use Rattle.product.specs.WeightedGraph.{weighted-sized}
