@@ -83,7 +83,7 @@ module _ {card ranking sets work : List ℕ} {grid : Grid} (Q : LabelPre card ra
       same = ranked-tie R refl;
       highs-few = ranked-highs-few;
       lows-few = ranked-lows-few;
-      if-ranked = record { high = λ _. refl; low = λ _. refl };
+      if-ranked = record { high = λ _. refl; low = λ _. refl; no-low = λ e. absurd (true≢false e) };
       most = λ K six. ranked-most-high ranking R K six;
       short = λ T u c h l.
           let r = ranked-room (Q .setting) ranking W R T u c h l in

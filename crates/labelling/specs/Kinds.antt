@@ -1,21 +1,17 @@
 -- The two kinds of labels: ranked counts, where the slice of sums is empty, and sums.
 use mathlib.Core.Bool.{Bool, cond}
-use mathlib.Core.List.{List, [], _∷_}
+use mathlib.Core.List.{List}
 use Prim.Native.Nat.{ℕ}
 use lib.Dec.{eqb}
 use lib.ListN.{length}
-use Rattle.settling.specs.Prices.{rankedLows}
+use Rattle.settling.specs.Prices.{rankedLows, noLows}
 use Rattle.settling.specs.Insertions.{Lists, listsOf}
 
 -- the labels are ranked counts
 abbrev pub inCounts : List ℕ → Bool
 inCounts sums = eqb (length sums) 0
 
--- what a mark counts in low by weights
-abbrev pub noLows : List ℕ
-noLows = 0 ∷ 0 ∷ 0 ∷ 0 ∷ 0 ∷ 0 ∷ []
-
--- what it counts in low in the lists
+-- what a mark counts in low in the lists
 abbrev pub lowsBy : Bool → List ℕ
 lowsBy counts = cond counts rankedLows noLows
 

@@ -97,7 +97,7 @@ module _ {card weights sets work : List ℕ} {grid : Grid} (Q : LabelPre card we
         same = weights-tie Y (record { size = refl; below = six-machines below; place = first-place (grid .machines) k ws (its-machine below) few its-size });
         highs-few = highs-few sound Y k (six-machines below);
         lows-few = lows-few;
-        if-ranked = record { high = λ e. absurd (false≢true e); low = λ e. absurd (false≢true e) };
+        if-ranked = record { high = λ e. absurd (false≢true e); low = λ e. absurd (false≢true e); no-low = λ _. refl };
         most = λ K six. omega (arith, weighted-most-high Y K six, first-most ws k (six-machines below));
         short = λ T u c h l.
             let r = weighted-room (Q .setting) sound W Y T u c h l in

@@ -9,11 +9,10 @@ use native.Mathlib.Omega.{arith}
 use lib.ListN.{length, getD, set, length-set, List·getD-eq-default}
 use Rattle.tables.specs.Places.{markNumber}
 use Rattle.tables.specs.Laws.Packing.{six-number}
-use Rattle.settling.specs.Prices.{SixWeights, marksPrice, mostPrice}
+use Rattle.settling.specs.Prices.{SixWeights, marksPrice, mostPrice, noLows}
 use Rattle.cells.specs.Cells.{highOf, lowOf}
 use Rattle.cells.specs.Columns.{weighed}
 use Rattle.machine_weights.specs.Highs.{sixHighs}
-use Rattle.labelling.specs.Kinds.{noLows}
 use Rattle.labelling.specs.Laws.Tied.{SamePrices}
 use Rattle.weighted.specs.WeighsBy.{WeighsBy}
 use Rattle.weighted.specs.FirstPlace.{firstPut}

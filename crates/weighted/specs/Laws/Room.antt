@@ -16,12 +16,11 @@ use Rattle.product.specs.Setting.{Setting}
 use Rattle.product.specs.Laws.Edges.{product-within}
 use Rattle.product.specs.Laws.Setting.{machines-sound, few-nodes}
 use Rattle.tables.specs.Laws.Cards.{card-machines}
-use Rattle.settling.specs.Prices.{mostPrice}
+use Rattle.settling.specs.Prices.{mostPrice, noLows}
 use Rattle.cells.specs.Cells.{highOf, lowOf}
 use Rattle.cells.specs.Columns.{WeightsOf}
 use Rattle.entering.specs.Entering.{cellGraph, mostOf}
 use Rattle.machine_weights.specs.Highs.{sixHighs}
-use Rattle.labelling.specs.Kinds.{noLows}
 use Rattle.labelling.specs.Laws.LabelRoom.{LabelRoom, label-room}
 use Rattle.product.specs.WeightedPaths.{byWeights, weightedGraph}
 use Rattle.product.specs.WeightedGraph.{weighted-sized}
