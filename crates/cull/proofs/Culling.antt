@@ -23,7 +23,7 @@ use Rattle.basics.specs.Sets.{member}
 use Rattle.basics.proofs.Bools.{left as left-passes}
 use Rattle.product.specs.ProductGraph.{pairs}
 use Rattle.product.specs.Setting.{placeOf, Setting}
-use Rattle.product.specs.Laws.Setting.{symbols-few}
+use Rattle.product.specs.Laws.Setting.{symbols-few, few-nodes}
 use Rattle.cells.specs.declared.Groups.{Groups}
 use Rattle.product.specs.Laws.Letters.{over-positioned}
 use Rattle.product.specs.Laws.Entering.{NotLeft, symbols-begun, symbols-entered}
@@ -36,13 +36,14 @@ use Rattle.cull.specs.Idle.{unmarked, idle-stage}
 use Rattle.cull.specs.Stages.{cull-start}
 use Rattle.stage.specs.StageLabels.{countOf, pairCountOf, stageLabel}
 use Rattle.cull.specs.FewestTold.{fewestIn}
+use Rattle.stage_entering.specs.declared.Site.{Site}
 use Rattle.stage_entering.specs.Entering.{NodesPre, AheadOf}
 use Rattle.stage_pairs.specs.Inputs.{InputPre, InputTried}
 use Rattle.stage_settling.specs.Settling.{SettlePre, SettledBy}
-use Rattle.cull.specs.Culling.{pairsCounted, stageGraph, leftBy, Culled, StageAt, CullPre, LentTables, PositionPre, PositionEntered, PositionDone, EndPre, EndsTried, StagePre, StageDone, Blanked, PlaceCleared}
+use Rattle.cull.specs.Culling.{pairsCounted, stageGraph, leftBy, Culled, StageAt, CullPre, LentTables, PositionPre, PositionEntered, PositionDone, EndsTried, LastPre, LastTried, StagePre, StageDone, Blanked, PlaceCleared}
 use Rattle.cull.specs.Survivors.{counts-fewest}
 use Rattle.stage.proofs.StageWork.{stage-labelled, stage-unlabelled, stage-alike, spaced}
-use Rattle.cull.proofs.Positions.{culled-kept, stage-over, symbol-nodes, insertion-ready, symbol-entering, position-settled}
+use Rattle.cull.proofs.Positions.{culled-kept, stage-over, position-there, symbol-nodes, insertion-ready, symbol-entering, position-settled}
 use Rattle.stage_entering.proofs.Front.{ahead-kept}
 use Rattle.cull.proofs.Ending.{ends-entered}
 use Rattle.cull.proofs.Unused.{ways-unmarked}
@@ -141,33 +142,36 @@ module _ {card ranking sets cs entries ends xs : List ℕ} {P i k : ℕ} (Q : Po
 
 -- ---- a position
 
-module _ {card ranking sets cs entries ends xs : List ℕ} {P i k : ℕ} (Q : PositionPre card ranking sets cs entries ends xs P i k) where
-  pub end-pre : {ws steps high low : List ℕ} {g : Groups} → LentTables card ranking cs ws steps high low g P → EndPre card ranking sets cs ws xs high low g P k
-  end-pre L = record {
-    setting = Q .given .setting;
-    counts-are = Q .given .counts-are;
-    weights = L .tables .weights;
-    groups = L .tables .groups;
-    few = L .tables .few;
-    order = L .order;
-    codes = L .codes;
-    room = Q .given .room;
-    stage = Q .given .stage;
-    high-size = L .high-size;
-    low-size = L .low-size;
-  }
+-- the last position
+module _ {card ranking sets cs entries ends xs ws steps high low : List ℕ} {g : Groups} {P k : ℕ} (Q : PositionPre card ranking sets cs entries ends xs P (length sets) k) (L : LentTables card ranking cs ws steps high low g P) where
+  abbrev last : Site
+  last = record { groups = g; base = length sets * P; stage = k }
 
-  pub entered-last : {ys : List ℕ} → length sets ≤ i → EndsTried card ranking sets xs ys k (length sets * P) (length sets * P + P) → PositionEntered card ranking sets xs ys i k
-  entered-last {ys} h T =
-      let q : i ≡ length sets = omega (arith, Q .within) in
-      let d : Done (stageGraph card ranking sets (Q .later .fewest) k) (placeOf card) (stageLabel xs k) (suc (length sets)) = rw q at (Q .later .done) in
+  pub last-pre : LastPre xs card cs ws steps high low last
+  last-pre =
+      let t = position-there (Q .given .setting) (length sets) (omega arith) in
+      let p : length sets * P + g .front * g .back ≡ length sets * P + P = ap (λ (n : ℕ). length sets * P + n) (sym (L .codes)) in
       record {
-        size = T .size;
-        fewest = Q .later .fewest;
-        culled = culled-kept (T .counts) (Q .later .culled);
-        entered = rw q (ends-entered (Q .given .setting) ranking (Q .later .fewest) (Q .later .culled) d T);
+        nodes = omega (arith, Q .given .room, t, p);
+        few-nodes = omega (arith, t, p, few-nodes (Q .given .setting));
+        stage = Q .given .stage;
+        tables = L .tables;
+        high-size = L .high-size;
+        low-size = L .low-size;
       }
 
+  pub last-entered : {ys : List ℕ} → LastTried card ws xs ys last → PositionEntered card ranking sets xs ys (length sets) k
+  last-entered {ys} R = record {
+    size = T .size;
+    fewest = Q .later .fewest;
+    culled = culled-kept (T .counts) (Q .later .culled);
+    entered = ends-entered (Q .given .setting) ranking (Q .later .fewest) (Q .later .culled) (Q .later .done) T;
+  }
+    where
+      T : EndsTried card ranking sets xs ys k (length sets * P) (length sets * P + P)
+      T = R .ends ranking sets P (Q .given .setting) (L .codes) refl (L .order)
+
+module _ {card ranking sets cs entries ends xs : List ℕ} {P i k : ℕ} (Q : PositionPre card ranking sets cs entries ends xs P i k) where
   module _ {ys : List ℕ} (E : PositionEntered card ranking sets xs ys i k) where
     pub settle-ready : SettlePre ys entries ends k (i * P) P
     settle-ready = insertion-ready (Q .given .setting) ranking (E .fewest) k (Q .given .stage) (E .size ∙ Q .given .room) (E .culled) i (Q .within) (Q .given .lists) (E .entered .attained)
@@ -190,15 +194,16 @@ stage-given e h Q = record { setting = Q .setting; counts-are = Q .counts-are; l
 given-next : {card ranking sets cs entries ends xs ys : List ℕ} {P k : ℕ} → length ys ≡ length xs → CullPre card ranking sets cs entries ends xs P k → CullPre card ranking sets cs entries ends ys P k
 given-next e Q = stage-given e (Q .stage) Q
 
+pub position-passed : {card ranking sets xs ys zs : List ℕ} {i k : ℕ} → length ys ≡ length xs → PositionDone card ranking sets ys zs i k → PositionDone card ranking sets xs zs i k
+position-passed e D = record { size = D .size ∙ e; done = D .done }
+
 module _ {card ranking sets cs entries ends xs : List ℕ} {P k : ℕ} (Q : StagePre card ranking sets cs entries ends xs P k) where
-  pub stage-begun : {ys : List ℕ} → Blanked xs ys ((length sets + 1) * P) → PositionDone card ranking sets xs ys (length sets + 1) k
-  stage-begun {ys} B = record {
-    size = B .size;
-    done = record {
-      fewest = fewestIn xs;
-      culled = culled-kept (λ i w h. B .counts i w (omega (arith, Q .given .stage))) culled;
-      done = let q : length sets + 1 ≡ suc (length sets) = omega arith in rw q nothing;
-    };
+  -- no label is there: the last position is the first to be labelled
+  pub last-ready : {ys : List ℕ} → Blanked xs ys ((length sets + 1) * P) → PositionPre card ranking sets cs entries ends ys P (length sets) k
+  last-ready {ys} B = record {
+    given = given-next (B .size) (Q .given);
+    within = omega arith;
+    later = record { fewest = fewestIn xs; culled = culled-kept (λ i w h. B .counts i w (omega (arith, Q .given .stage))) culled; done = nothing };
   }
     where
       culled : Culled card ranking sets (fewestIn xs) xs k
@@ -211,14 +216,17 @@ module _ {card ranking sets cs entries ends xs : List ℕ} {P k : ℕ} (Q : Stag
       nothing : Done (stageGraph card ranking sets (fewestIn xs) k) (placeOf card) (stageLabel ys k) (suc (length sets))
       nothing = done-start (stageGraph card ranking sets (fewestIn xs) k) (placeOf card) (over-positioned (stage-over (Q .given .setting) ranking (fewestIn xs) k culled)) (stageLabel ys k) (λ u. unlabelled u (decLt u ((length sets + 1) * P)))
 
-  pub stage-start : {ys : List ℕ} → Blanked xs ys ((length sets + 1) * P) → PositionDone card ranking sets ys ys (length sets + 1) k
-  stage-start B = record { size = refl; done = stage-begun B .done }
+  pub last-labelled : {ys zs vs ws steps high low : List ℕ} {g : Groups} → LentTables card ranking cs ws steps high low g P → Blanked xs ys ((length sets + 1) * P)
+      → LastTried card ws ys zs (record { groups = g; base = length sets * P; stage = k }) → SettledBy zs vs entries ends k (length sets * P) P → PositionDone card ranking sets xs vs (length sets) k
+  last-labelled L B T D =
+      let q = last-ready B in
+      position-passed (B .size) (position-labelled q (last-entered q L T) D)
 
-  pub position-ready : {ys : List ℕ} (left : ℕ) → 0 < left → left ≤ length sets + 1 → PositionDone card ranking sets xs ys left k → PositionPre card ranking sets cs entries ends ys P (left - 1) k
-  position-ready left a b D = let q : suc (left - 1) ≡ left = omega arith in record { given = given-next (D .size) (Q .given); within = omega arith; later = rw q (D .done) }
+  pub position-ready : {ys : List ℕ} (i : ℕ) → 0 < i → i ≤ length sets → PositionDone card ranking sets xs ys i k → PositionPre card ranking sets cs entries ends ys P (i - 1) k
+  position-ready i a b D = let q : suc (i - 1) ≡ i = omega arith in record { given = given-next (D .size) (Q .given); within = omega arith; later = rw q (D .done) }
 
-pub position-passed : {card ranking sets xs ys zs : List ℕ} {i j k : ℕ} → PositionDone card ranking sets xs ys i k → PositionDone card ranking sets ys zs j k → PositionDone card ranking sets xs zs j k
-position-passed A B = record { size = B .size ∙ A .size; done = B .done }
+pub position-begun : {card ranking sets xs ys : List ℕ} {i k : ℕ} → PositionDone card ranking sets xs ys i k → PositionDone card ranking sets ys ys i k
+position-begun D = record { size = refl; done = D .done }
 
 -- all positions are done: so is the stage
 pub stage-end : {card ranking sets xs ys : List ℕ} {i k : ℕ} → PositionDone card ranking sets xs ys i k → i ≤ 0 → StageDone card ranking sets xs ys k

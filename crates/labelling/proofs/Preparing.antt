@@ -63,8 +63,8 @@ module _ {ranked sums card : List ℕ} {grid : Grid} {ws hs marks sets : List �
     }
 
 -- the front of a new array of columns
-pub columns-length : (n : ℕ) → n ≤ 2600 → length (take n (replicate {A = ℕ} 2600 65535)) ≡ n
-columns-length n h = length-take-le n (replicate {A = ℕ} 2600 65535) (omega (arith, length-replicate {A = ℕ} 2600 65535))
+pub columns-length : (room n : ℕ) → n ≤ room → length (take n (replicate {A = ℕ} room 65535)) ≡ n
+columns-length room n h = length-take-le n (replicate {A = ℕ} room 65535) (omega (arith, length-replicate {A = ℕ} room 65535))
 
 -- ---- the order of a ranking
 

@@ -193,7 +193,7 @@ fn label_few(
     ensures { λ _. ⌜ AllLabelled (now (card .entry)) (now (numbers .entry)) (now (sets .entry)) (now (ranked .entry)) (now (ranked .exit)) (now (sums .entry)) (now (sums .exit)) ⌝ }
 {
     let places = 65 * grid.states;
-    let mut steps = [65535u16; 2600];
+    let mut steps = [65535u16; 1365];
     let mut entries = [0u32; 1008];
     label_with(
         ranked,
