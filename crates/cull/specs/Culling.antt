@@ -3,7 +3,7 @@ use mathlib.Core.Path.{_≡_}
 use mathlib.Core.Option.{Option, some}
 use mathlib.Core.List.{List}
 use Prim.Native.Nat.{ℕ, suc, _+_, _*_, _≤_, _<_}
-use lib.ListN.{length}
+use lib.ListN.{length, getD}
 use Rattle.card.specs.Card.{machinesOf}
 use Rattle.paths.specs.Bounds.{Sized}
 use Rattle.paths.specs.Graph.{Graph}
@@ -61,16 +61,6 @@ pub record CullPre (card ranking sets cs entries ends xs : List ℕ) (P k : ℕ)
   pub ranked : length ranking ≡ length cs
   pub stage : k < 6
 
--- the position i, past which the positions are done
-pub record PositionPre (card ranking sets cs entries ends xs : List ℕ) (P i k : ℕ) : Type 0 where
-  pub given : CullPre card ranking sets cs entries ends xs P k
-  pub within : i ≤ length sets
-  pub later : StageAt card ranking sets xs k (suc i)
-
-pub record PositionDone (card ranking sets xs ys : List ℕ) (i k : ℕ) : Type 0 where
-  pub size : length ys ≡ length xs
-  pub done : StageAt card ranking sets ys k i
-
 -- the position i was entered
 pub record PositionEntered (card ranking sets xs ys : List ℕ) (i k : ℕ) : Type 0 where
   pub size : length ys ≡ length xs
@@ -85,6 +75,31 @@ pub record LentTables (card ranking counts ws steps high low : List ℕ) (g : Gr
   pub codes : P ≡ g .front * g .back
   pub high-size : length high ≡ 264
   pub low-size : length low ≡ 264
+
+-- the position i, before the last one, of sets under a ranking whose weights these are; the positions past it are done
+pub record SymbolsAt (card ranking sets ws xs : List ℕ) (set i : ℕ) (at : Site) : Type 0 where
+  pub setting : Setting card sets (codesAt at)
+  pub order : InOrder ranking ws
+  pub within : i < length sets
+  pub set-is : set ≡ getD sets i 0
+  pub base-is : at .base ≡ i * codesAt at
+  pub room : length xs ≡ (length sets + 1) * codesAt at * 8
+  pub stage : at .stage < 6
+  pub later : StageAt card ranking sets xs (at .stage) (suc i)
+
+-- what entering such a position needs: the tables, room for columns and for four joint steps
+pub record SymbolsPre (xs card counts ws steps high low : List ℕ) (set : ℕ) (at : Site) : Type 0 where
+  pub ranking : List ℕ
+  pub sets : List ℕ
+  pub position : ℕ
+  pub given : SymbolsAt card ranking sets ws xs set position at
+  pub tables : ListPre card counts ws steps (at .groups)
+  pub high-size : length high ≡ 264
+  pub low-size : length low ≡ 264
+
+-- it was entered, whatever the ranking, the sets and the position
+pub record SymbolsEntered (card ws xs ys : List ℕ) (set : ℕ) (at : Site) : Type 0 where
+  pub enters : (ranking sets : List ℕ) (i : ℕ) → SymbolsAt card ranking sets ws xs set i at → PositionEntered card ranking sets xs ys i (at .stage)
 
 -- what entering the last position needs: its nodes, the tables, room for columns and for four joint steps
 pub record LastPre (xs card counts ws steps high low : List ℕ) (at : Site) : Type 0 where

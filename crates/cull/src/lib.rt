@@ -18,7 +18,7 @@ ghost use Rattle.grid.specs.Grids.{GridOf};
 ghost use Rattle.cull.specs.Tables.{TablesPre};
 ghost use Rattle.stage_entering.specs.Entering.{codesAt};
 ghost use Rattle.cull.specs.Entering.{EndingsPre};
-ghost use Rattle.cull.specs.Culling.{LentTables, CullPre, PositionPre, PositionEntered, CodesEnded, LastPre, LastTried, StagePre, StageDone, Blanked, PlaceCleared};
+ghost use Rattle.cull.specs.Culling.{LentTables, CullPre, SymbolsPre, SymbolsEntered, CodesEnded, LastPre, LastTried, StagePre, StageDone, Blanked, PlaceCleared};
 use candidate::Evaluation;
 use candidate::refused;
 use cells::Groups;
@@ -57,38 +57,30 @@ fn clear_place(work: &mut [u16], count: usize, place: usize)
     }
 }
 
-// Enters a position before the last one: tries its nodes by the pairs of one symbol of its set after the other.
-fn enter_symbol(
+// Enters a position before the last one: tries its nodes by the pairs of one symbol of its set after the other. `steps`, `high` and `low` are overwritten.
+fn enter_symbols(
     work: &mut [u16],
     card: &[u8],
-    ranking: &[u8],
-    sets: &[u64],
+    set: u64,
     counts: &[u8],
     weights: &[u64],
-    entries: &[u32],
-    ends: &[u16; 514],
     steps: &mut [u16],
     high: &mut [u64],
     low: &mut [u64],
-    g: Groups,
-    size: usize,
-    position: usize,
-    stage: usize,
+    at: Site,
 )
-    requires { ⌜ PositionPre (now card) (now ranking) (now sets) (now counts) (now entries) (now ends) (now work) size position stage × LentTables (now card) (now ranking) (now counts) (now weights) (now steps) (now high) (now low) g size × (position < length (now sets)) ⌝ }
-    ensures { λ _. ⌜ PositionEntered (now (card .entry)) (now (ranking .entry)) (now (sets .entry)) (now (work .entry)) (now (work .exit)) position stage ⌝ }
+    requires { ⌜ SymbolsPre (now work) (now card) (now counts) (now weights) (now steps) (now high) (now low) set at ⌝ }
+    ensures { λ _. ⌜ SymbolsEntered (now (card .entry)) (now (weights .entry)) (now (work .entry)) (now (work .exit)) set at ⌝ }
 {
-    let base = position * size;
+    let g = at.groups;
+    let base = at.base;
+    let stage = at.stage;
+    let size = g.front * g.back;
     let mut ahead = [0u64; 128];
     look_ahead(work, &mut ahead, base + size, size, stage);
-    let mut left = sets[position];
+    let mut left = set;
     while left > 0 {
         let symbol = machine::sets::least(left) as u8;
-        let at = Site {
-            groups: g,
-            base,
-            stage,
-        };
         enter_input(
             work,
             &ahead,
@@ -169,33 +161,34 @@ fn label_stage(
 {
     blank(work, (sets.len() + 1) * size);
     let mut position = sets.len();
+    let base = position * size;
     let last = Site {
         groups: g,
-        base: position * size,
+        base,
         stage,
     };
     enter_last(work, card, counts, weights, steps, high, low, last);
-    settle(work, entries, ends, position * size, size, stage);
+    settle(work, entries, ends, base, size, stage);
     while position > 0 {
         position -= 1;
-        enter_symbol(
+        let base = position * size;
+        let at = Site {
+            groups: g,
+            base,
+            stage,
+        };
+        enter_symbols(
             work,
             card,
-            ranking,
-            sets,
+            sets[position],
             counts,
             weights,
-            entries,
-            ends,
             steps,
             high,
             low,
-            g,
-            size,
-            position,
-            stage,
+            at,
         );
-        settle(work, entries, ends, position * size, size, stage);
+        settle(work, entries, ends, base, size, stage);
     }
 }
 

@@ -4,18 +4,17 @@ use Prim.Native.Nat.{_-_, _≤_}
 use native.Mathlib.Omega.{arith}
 use lib.ListN.{length}
 use Rattle.product.specs.Laws.Setting.{few-nodes}
-use Rattle.cull.specs.Culling.{PositionDone}
 use Rattle.cull.proofs.Positions.{position-there}
-use Rattle.cull.proofs.Culling.{lent-kept, last-pre, last-entered, last-ready, last-labelled, settle-ready, position-labelled, position-ready, position-begun, position-passed, stage-end}
+use Rattle.cull.proofs.Culling.{PositionDone, lent-kept, last-pre, last-entered, last-ready, last-labelled, symbols-pre, position-entered, settle-ready, position-labelled, position-ready, position-begun, position-passed, stage-end}
 use Rattle.cull.proofs.label_stage.Statement.{statement}
 use Rattle.cull.proofs.label_stage.Tie as tie
 
 abbrev Inv-loop : tie.InvT-loop
-Inv-loop work₀ card ranking sets counts weights entries ends steps₀ high₀ low₀ g size stage position₀ work steps high low position =
+Inv-loop work₀ card ranking sets counts weights entries ends steps₀ high₀ low₀ g size stage position₀ last work steps high low position =
     (position ≤ length sets) × PositionDone card ranking sets work₀ work position stage × (length steps ≡ length steps₀) × (length high ≡ length high₀) × (length low ≡ length low₀)
 
 abbrev μ-loop : tie.MeasureT-loop
-μ-loop work₀ card ranking sets counts weights entries ends steps₀ high₀ low₀ g size stage position₀ work steps high low position = position
+μ-loop work₀ card ranking sets counts weights entries ends steps₀ high₀ low₀ g size stage position₀ last work steps high low position = position
 
 -- ---- the places on the way, from the last to the first
 
@@ -31,8 +30,11 @@ entered c = c .before .before .before .before .before .before .before .before .b
 abbrev first : tie.At-loop Inv-loop μ-loop → tie.After-settle Inv-loop μ-loop
 first c = c .before .before .before
 
-abbrev loop : tie.After-enter-symbol Inv-loop μ-loop → tie.At-loop Inv-loop μ-loop
-loop c = c .before .before .before .before .before .before
+abbrev begun : tie.At-loop Inv-loop μ-loop → tie.Start Inv-loop μ-loop
+begun c = start (blanked (entered (first c)))
+
+abbrev loop : tie.After-enter-symbols Inv-loop μ-loop → tie.At-loop Inv-loop μ-loop
+loop c = c .before .before .before .before .before .before .before
 
 -- ---- before the loop
 
@@ -45,8 +47,8 @@ mul-blank c = omega (arith, few-nodes (c .before .before .before .before .before
 blank-requires : tie.Need-blank-requires Inv-loop μ-loop
 blank-requires c κs = omega (arith, c .before .before .before .before .before .before .before .before .before .before .before .pre .0 .given .room)
 
-mul-settle : tie.Need-mul-settle Inv-loop μ-loop
-mul-settle c =
+mul-base : tie.Need-mul-base Inv-loop μ-loop
+mul-base c =
     let t = start (c .before .before) in
     let q = t .pre .0 .given .setting in
     omega (arith, few-nodes q, position-there q (length (t .args .sets .now)) (omega arith))
@@ -56,12 +58,6 @@ enter-last-requires c κs =
     let b = c .before .before .before .before .before .before in
     let t = start b in
     last-pre (last-ready (t .pre .0) (b .blank .ensures)) (t .pre .1)
-
-mul-settle-2 : tie.Need-mul-settle-2 Inv-loop μ-loop
-mul-settle-2 c =
-    let t = start (blanked (c .before .before .before .before .before .before .before .before .before)) in
-    let q = t .pre .0 .given .setting in
-    omega (arith, few-nodes q, position-there q (length (t .args .sets .now)) (omega arith))
 
 settle-requires : tie.Need-settle-requires Inv-loop μ-loop
 settle-requires c κs =
@@ -84,36 +80,44 @@ loop-holds c =
 sub-position : tie.Need-sub-position Inv-loop μ-loop
 sub-position c = omega arith
 
-enter-symbol-requires : tie.Need-enter-symbol-requires Inv-loop μ-loop
-enter-symbol-requires c κs =
-    let l = c .before .before .before .before .before in
+mul-base-2 : tie.Need-mul-base-2 Inv-loop μ-loop
+mul-base-2 c =
+    let l = c .before in
+    let q = begun l .pre .0 .given .setting in
+    omega (arith, few-nodes q, position-there q (l .loop .position - 1) (omega (arith, l .loop .inv .0)))
+
+mul-enter-symbols : tie.Need-mul-enter-symbols Inv-loop μ-loop
+mul-enter-symbols c = let l = c .before .before in omega (arith, l .loop .inv .0, begun l .pre .0 .given .setting .few)
+
+shared-slice-read-enter-symbols : tie.Need-shared-slice-read-enter-symbols Inv-loop μ-loop
+shared-slice-read-enter-symbols c = omega (arith, c .before .before .before .loop .inv .0, c .before .before .loop-test .taken)
+
+enter-symbols-requires : tie.Need-enter-symbols-requires Inv-loop μ-loop
+enter-symbols-requires c κs =
+    let l = c .before .before .before .before .before .before in
     let v = l .loop .inv in
-    let i = c .before .before .before .before .loop-test .taken in
+    let i = c .before .before .before .before .before .loop-test .taken in
     let s = first l in
     let e = entered s in
     let b = blanked e in
     let t = start b in
     let k = e .enter-last .kept .1 .1 .1 .1 in
     let d = last-labelled (t .pre .0) (t .pre .1) (b .blank .ensures) (e .enter-last .ensures) (s .settle .ensures) in
-    (position-ready (t .pre .0) (l .loop .position) i (v .0) (position-passed (d .size) (v .1)), lent-kept (t .pre .1) (v .2 ∙ k .0) (v .3 ∙ k .1 .0) (v .4 ∙ k .1 .1 .0), omega (arith, v .0, i))
-
-mul-settle-3 : tie.Need-mul-settle-3 Inv-loop μ-loop
-mul-settle-3 c =
-    let l = c .before .before .before .before .before .before .before .before .before .before .before .before .before .before .before in
-    let q = start (blanked (entered (first l))) .pre .0 .given .setting in
-    omega (arith, few-nodes q, position-there q (l .loop .position - 1) (omega (arith, l .loop .inv .0)))
+    symbols-pre (position-ready (t .pre .0) (l .loop .position) i (v .0) (position-passed (d .size) (v .1))) (lent-kept (t .pre .1) (v .2 ∙ k .0) (v .3 ∙ k .1 .0) (v .4 ∙ k .1 .1 .0)) (omega (arith, v .0, i))
 
 settle-requires-2 : tie.Need-settle-requires-2 Inv-loop μ-loop
 settle-requires-2 c κs =
     let n = c .before .before .before .before .before .before .before .before .before in
     let l = loop n in
     let v = l .loop .inv in
+    let i = n .before .before .before .before .before .before .loop-test .taken in
     let s = first l in
     let e = entered s in
     let b = blanked e in
     let t = start b in
     let d = last-labelled (t .pre .0) (t .pre .1) (b .blank .ensures) (e .enter-last .ensures) (s .settle .ensures) in
-    settle-ready (position-ready (t .pre .0) (l .loop .position) (n .before .before .before .before .before .loop-test .taken) (v .0) (position-passed (d .size) (v .1))) (n .enter-symbol .ensures)
+    let q = position-ready (t .pre .0) (l .loop .position) i (v .0) (position-passed (d .size) (v .1)) in
+    settle-ready q (position-entered q (t .pre .1) (omega (arith, v .0, i)) (n .enter-symbols .ensures))
 
 loop-less : tie.Need-loop-less Inv-loop μ-loop
 loop-less c = omega arith
@@ -123,14 +127,20 @@ loop-again c =
     let n = c .before .before .before .before .before .before .before .before .before .before .before .before in
     let l = loop n in
     let v = l .loop .inv in
+    let i = n .before .before .before .before .before .before .loop-test .taken in
     let s = first l in
     let e = entered s in
     let b = blanked e in
     let t = start b in
-    let k = n .enter-symbol .kept .1 .1 .1 .1 .1 .1 .1 .1 in
+    let k = n .enter-symbols .kept .1 .1 .1 .1 .1 in
     let d = last-labelled (t .pre .0) (t .pre .1) (b .blank .ensures) (e .enter-last .ensures) (s .settle .ensures) in
-    let q = position-ready (t .pre .0) (l .loop .position) (n .before .before .before .before .before .loop-test .taken) (v .0) (position-passed (d .size) (v .1)) in
-    (omega (arith, v .0), position-passed (v .1 .size) (position-labelled q (n .enter-symbol .ensures) (c .before .before .settle2 .ensures)), k .0 ∙ v .2, k .1 .0 ∙ v .3, k .1 .1 .0 ∙ v .4)
+    let q = position-ready (t .pre .0) (l .loop .position) i (v .0) (position-passed (d .size) (v .1)) in (
+      omega (arith, v .0),
+      position-passed (v .1 .size) (position-labelled q (position-entered q (t .pre .1) (omega (arith, v .0, i)) (n .enter-symbols .ensures)) (c .before .before .settle2 .ensures)),
+      k .0 ∙ v .2,
+      k .1 .0 ∙ v .3,
+      k .1 .1 .0 ∙ v .4,
+    )
 
 same-length : tie.Need-same-length Inv-loop μ-loop
 same-length c =
@@ -170,14 +180,15 @@ label-stage-spec =
     add-blank
     mul-blank
     blank-requires
-    mul-settle
+    mul-base
     enter-last-requires
-    mul-settle-2
     settle-requires
     loop-holds
     sub-position
-    enter-symbol-requires
-    mul-settle-3
+    mul-base-2
+    mul-enter-symbols
+    shared-slice-read-enter-symbols
+    enter-symbols-requires
     settle-requires-2
     loop-less
     loop-again
