@@ -103,7 +103,7 @@ enter-symbols-requires c κs =
     let t = start b in
     let k = e .enter-last .kept .1 .1 .1 .1 in
     let d = last-labelled (t .pre .0) (t .pre .1) (b .blank .ensures) (e .enter-last .ensures) (s .settle .ensures) in
-    symbols-pre (position-ready (t .pre .0) (l .loop .position) i (v .0) (position-passed (d .size) (v .1))) (lent-kept (t .pre .1) (v .2 ∙ k .0) (v .3 ∙ k .1 .0) (v .4 ∙ k .1 .1 .0)) (omega (arith, v .0, i))
+    symbols-pre (position-ready (t .pre .0) (l .loop .position) (omega (arith, i)) (v .0) (position-passed (d .size) (v .1))) (lent-kept (t .pre .1) (v .2 ∙ k .0) (v .3 ∙ k .1 .0) (v .4 ∙ k .1 .1 .0)) (omega (arith, v .0, i))
 
 settle-requires-2 : tie.Need-settle-requires-2 Inv-loop μ-loop
 settle-requires-2 c κs =
@@ -116,7 +116,7 @@ settle-requires-2 c κs =
     let b = blanked e in
     let t = start b in
     let d = last-labelled (t .pre .0) (t .pre .1) (b .blank .ensures) (e .enter-last .ensures) (s .settle .ensures) in
-    let q = position-ready (t .pre .0) (l .loop .position) i (v .0) (position-passed (d .size) (v .1)) in
+    let q = position-ready (t .pre .0) (l .loop .position) (omega (arith, i)) (v .0) (position-passed (d .size) (v .1)) in
     settle-ready q (position-entered q (t .pre .1) (omega (arith, v .0, i)) (n .enter-symbols .ensures))
 
 loop-less : tie.Need-loop-less Inv-loop μ-loop
@@ -134,7 +134,7 @@ loop-again c =
     let t = start b in
     let k = n .enter-symbols .kept .1 .1 .1 .1 .1 in
     let d = last-labelled (t .pre .0) (t .pre .1) (b .blank .ensures) (e .enter-last .ensures) (s .settle .ensures) in
-    let q = position-ready (t .pre .0) (l .loop .position) i (v .0) (position-passed (d .size) (v .1)) in (
+    let q = position-ready (t .pre .0) (l .loop .position) (omega (arith, i)) (v .0) (position-passed (d .size) (v .1)) in (
       omega (arith, v .0),
       position-passed (v .1 .size) (position-labelled q (position-entered q (t .pre .1) (omega (arith, v .0, i)) (n .enter-symbols .ensures)) (c .before .before .settle2 .ensures)),
       k .0 ∙ v .2,
