@@ -244,7 +244,6 @@ module _ {xs card counts ws steps high low : List ℕ} {at : Site} (Q : LastPre 
 
       pub endings-tried : {zs : List ℕ} → CodesEnded xs zs high′ low′ (g .front) (g .back) (at .stage) (at .base) (codesAt at) → LastTried card ws xs zs at
       endings-tried {zs} C = record {
-        size = C .size;
         ends = λ ranking sets P s codes base O.
             subst (λ (n : ℕ). EndsTried card ranking sets xs zs (at .stage) (length sets * P) (length sets * P + n)) (sym codes)
             (C .ends card ranking sets P s base (omega (arith, codes)) (λ c h. (λ j. laneEnding (sym (first-sum high′ (g .front) (g .back) c) j) (sym (first-sum low′ (g .front) (g .back) c) j)) ∙ lane-ending M O c (cell-at c h)));

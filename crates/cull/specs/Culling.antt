@@ -153,6 +153,5 @@ pub record CodesEnded (xs ys high low : List ℕ) (front back k b n : ℕ) : Typ
 
 -- the nodes of the last position were tried by their endings, whatever the ranking whose weights these are
 pub record LastTried (card ws xs ys : List ℕ) (at : Site) : Type 0 where
-  pub size : length ys ≡ length xs
   pub ends : (ranking sets : List ℕ) (P : ℕ) → Setting card sets P → P ≡ codesAt at → at .base ≡ length sets * P → InOrder ranking ws
       → EndsTried card ranking sets xs ys (at .stage) (length sets * P) (length sets * P + P)

@@ -1,8 +1,7 @@
 // Ellison's cull as an engine: constraint by constraint, the fewest marks from each node to an end are found, and the arcs and the endings that
 // cost more are dropped.
 ghost use mathlib.Core.Path.{_≡_};
-ghost use Prim.Native.Nat.{_+_, _*_, _<_};
-ghost use lib.ListN.{length};
+ghost use Prim.Native.Nat.{_<_};
 ghost use Rattle.tables.specs.Work.{HasNodes};
 ghost use Rattle.tables.specs.Places.{sixPlaces};
 ghost use Rattle.insertions.specs.RankedWeights.{RankedWeights};

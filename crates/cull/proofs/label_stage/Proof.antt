@@ -77,6 +77,15 @@ loop-holds c =
 
 -- ---- in the loop
 
+-- the positions from `position` on are done, from the call on
+since : (l : tie.At-loop Inv-loop μ-loop) → let t = begun l .args in PositionDone (t .card .now) (t .ranking .now) (t .sets .now) (t .work .now) (l .loop .work) (l .loop .position) (t .stage)
+since l =
+    let s = first l in
+    let e = entered s in
+    let b = blanked e in
+    let t = start b in
+    position-passed (last-labelled (t .pre .0) (t .pre .1) (b .blank .ensures) (e .enter-last .ensures) (s .settle .ensures) .size) (l .loop .inv .1)
+
 sub-position : tie.Need-sub-position Inv-loop μ-loop
 sub-position c = omega arith
 
@@ -97,13 +106,9 @@ enter-symbols-requires c κs =
     let l = c .before .before .before .before .before .before in
     let v = l .loop .inv in
     let i = c .before .before .before .before .before .loop-test .taken in
-    let s = first l in
-    let e = entered s in
-    let b = blanked e in
-    let t = start b in
-    let k = e .enter-last .kept .1 .1 .1 .1 in
-    let d = last-labelled (t .pre .0) (t .pre .1) (b .blank .ensures) (e .enter-last .ensures) (s .settle .ensures) in
-    symbols-pre (position-ready (t .pre .0) (l .loop .position) i (v .0) (position-passed (d .size) (v .1))) (lent-kept (t .pre .1) (v .2 ∙ k .0) (v .3 ∙ k .1 .0) (v .4 ∙ k .1 .1 .0)) (omega (arith, v .0, i))
+    let Q = begun l .pre in
+    let k = entered (first l) .enter-last .kept .1 .1 .1 .1 in
+    symbols-pre (position-ready (Q .0) (l .loop .position) (omega (arith, i)) (v .0) (since l)) (lent-kept (Q .1) (v .2 ∙ k .0) (v .3 ∙ k .1 .0) (v .4 ∙ k .1 .1 .0)) (omega (arith, v .0, i))
 
 settle-requires-2 : tie.Need-settle-requires-2 Inv-loop μ-loop
 settle-requires-2 c κs =
@@ -111,13 +116,9 @@ settle-requires-2 c κs =
     let l = loop n in
     let v = l .loop .inv in
     let i = n .before .before .before .before .before .before .loop-test .taken in
-    let s = first l in
-    let e = entered s in
-    let b = blanked e in
-    let t = start b in
-    let d = last-labelled (t .pre .0) (t .pre .1) (b .blank .ensures) (e .enter-last .ensures) (s .settle .ensures) in
-    let q = position-ready (t .pre .0) (l .loop .position) i (v .0) (position-passed (d .size) (v .1)) in
-    settle-ready q (position-entered q (t .pre .1) (omega (arith, v .0, i)) (n .enter-symbols .ensures))
+    let Q = begun l .pre in
+    let q = position-ready (Q .0) (l .loop .position) (omega (arith, i)) (v .0) (since l) in
+    settle-ready q (position-entered q (Q .1) (omega (arith, v .0, i)) (n .enter-symbols .ensures))
 
 loop-less : tie.Need-loop-less Inv-loop μ-loop
 loop-less c = omega arith
@@ -128,29 +129,18 @@ loop-again c =
     let l = loop n in
     let v = l .loop .inv in
     let i = n .before .before .before .before .before .before .loop-test .taken in
-    let s = first l in
-    let e = entered s in
-    let b = blanked e in
-    let t = start b in
+    let Q = begun l .pre in
     let k = n .enter-symbols .kept .1 .1 .1 .1 .1 in
-    let d = last-labelled (t .pre .0) (t .pre .1) (b .blank .ensures) (e .enter-last .ensures) (s .settle .ensures) in
-    let q = position-ready (t .pre .0) (l .loop .position) i (v .0) (position-passed (d .size) (v .1)) in (
+    let q = position-ready (Q .0) (l .loop .position) (omega (arith, i)) (v .0) (since l) in (
       omega (arith, v .0),
-      position-passed (v .1 .size) (position-labelled q (position-entered q (t .pre .1) (omega (arith, v .0, i)) (n .enter-symbols .ensures)) (c .before .before .settle2 .ensures)),
+      position-passed (v .1 .size) (position-labelled q (position-entered q (Q .1) (omega (arith, v .0, i)) (n .enter-symbols .ensures)) (c .before .before .settle2 .ensures)),
       k .0 ∙ v .2,
       k .1 .0 ∙ v .3,
       k .1 .1 .0 ∙ v .4,
     )
 
 same-length : tie.Need-same-length Inv-loop μ-loop
-same-length c =
-    let l = c .before in
-    let s = first l in
-    let e = entered s in
-    let b = blanked e in
-    let t = start b in
-    let d = last-labelled (t .pre .0) (t .pre .1) (b .blank .ensures) (e .enter-last .ensures) (s .settle .ensures) in
-    l .loop .inv .1 .size ∙ d .size
+same-length c = since (c .before) .size
 
 same-length-2 : tie.Need-same-length-2 Inv-loop μ-loop
 same-length-2 c = let l = c .before in l .loop .inv .2 ∙ entered (first l) .enter-last .kept .1 .1 .1 .1 .0
@@ -162,14 +152,7 @@ same-length-4 : tie.Need-same-length-4 Inv-loop μ-loop
 same-length-4 c = let l = c .before in l .loop .inv .4 ∙ entered (first l) .enter-last .kept .1 .1 .1 .1 .1 .1 .0
 
 returns : tie.Need-returns Inv-loop μ-loop
-returns c =
-    let l = c .before in
-    let s = first l in
-    let e = entered s in
-    let b = blanked e in
-    let t = start b in
-    let d = last-labelled (t .pre .0) (t .pre .1) (b .blank .ensures) (e .enter-last .ensures) (s .settle .ensures) in
-    stage-end (position-passed (d .size) (l .loop .inv .1)) (omega arith)
+returns c = stage-end (since (c .before)) (omega arith)
 
 pub label-stage-spec : {M : Type 1} → statement M
 label-stage-spec =

@@ -19,9 +19,14 @@ slice-aggregate-label-with c = let s = c .before .before .before .before .before
 
 label-with-requires : tie.Need-label-with-requires
 label-with-requires c κs =
-    let s = c .before .before .before .before .before .before .before .before .before .before .before in
-    let w = columns-length 1365 (65 * s .args .grid .states) (omega (arith, states-small (s .pre .0 .setting .accepted) (s .pre .0 .grid-of) (s .pre .1))) in
-    (s .pre .0, omega (arith, w), omega (arith, length-replicate {A = ℕ} 1008 0, s .pre .1))
+    let s = c .before .before .before .before .before .before .before .before .before .before .before .before .before in
+    let w = columns-length 1365 (65 * s .args .grid .states) (omega (arith, states-small (s .pre .0 .setting .accepted) (s .pre .0 .grid-of) (s .pre .1))) in (
+      s .pre .0,
+      omega (arith, w),
+      omega (arith, length-replicate {A = ℕ} 1008 0, s .pre .1),
+      record { room = λ n a b. omega (arith, length-replicate {A = ℕ} 68 0, s .pre .1) },
+      record { room = λ n a b. omega (arith, length-replicate {A = ℕ} 68 0, s .pre .1) },
+    )
 
 pub label-few-spec : {M : Type 1} → statement M
 label-few-spec =
@@ -30,6 +35,8 @@ label-few-spec =
     mul-places
     array-borrow-prefix-steps
     slice-aggregate-label-with
+    (λ c. search needs)
+    (λ c. search needs)
     (λ c. search needs)
     label-with-requires
     (λ c. search needs)
