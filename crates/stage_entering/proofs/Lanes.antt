@@ -87,9 +87,6 @@ lanes-next {xs} {ys} {zs} {high} {low} {a} {b} {u} {t} {k} {n} L T = record {
     pick p w q z (yes h) = inl (z .0, (z .1 .0, h, z .1 .2))
     pick p w q z (no h) = let e : z .1 .0 ≡ n = omega (arith, z .1 .1) in inr (z .0, z .1 .2 ∙ ap p e)
 
-pub lanes-end : {xs ys high low : List ℕ} {a b u t k i n : ℕ} → LanesTried xs ys high low a b u t k i → i ≡ n → LanesTried xs ys high low a b u t k n
-lanes-end {xs} {ys} {high} {low} {a} {b} {u} {t} {k} L q = subst (λ (j : ℕ). LanesTried xs ys high low a b u t k j) q L
-
 pub targets-kept : {xs ys : List ℕ} {u t P k : ℕ} → length ys ≡ length xs → ((w : ℕ) → w ≢ u → stageLabel ys k w ≡ stageLabel xs k w) → TargetsPre xs u t P k → TargetsPre ys u t P k
 targets-kept e f Q = record { apart = Q .apart; targets = omega (arith, e, Q .targets); few = Q .few; stage = Q .stage; fits = λ v d a b l. Q .fits v d a b (sym (f v (omega (arith, Q .apart))) ∙ l) }
 
