@@ -11,6 +11,7 @@ ghost use Rattle.columns.specs.AtHand.{AtHandPre, FilledAtHand, FromPre,
 ghost use Rattle.columns.specs.Prepared.{Prepared};
 ghost use Rattle.columns.specs.Endings.{EndingNumber, PartEndingsPre, PartEndings, EndingsPre, EndingsFilled};
 use basics::index;
+use cells::fours;
 use machine::Arc;
 use machine::sets;
 use outputs::worth;
@@ -197,12 +198,15 @@ pub fn fill_at(steps: &mut [u16], card: &[u8], states: &[u8], input: u8) -> u64
     taken
 }
 
-// Fills the columns of an accepted card's machines for one input. The outputs worth trying.
+// Fills the columns of an accepted card's machines for one input. The outputs worth trying: four are tried at once, so that of so few none is dropped.
 pub fn prepare(steps: &mut [u16], card: &[u8], counts: &[u8], width: usize, input: u8) -> u64
     requires { ⌜ FillPre (now card) (now counts) (now steps) width input ⌝ }
     ensures { λ r. ⌜ Prepared (machinesOf (now (card .entry))) input width (now (steps .exit)) r ⌝ }
 {
     let outputs = fill(steps, card, counts, width, input);
+    if fours::without_four(outputs) == 0 {
+        return outputs;
+    }
     worth(steps, width, outputs)
 }
 

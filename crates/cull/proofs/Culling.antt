@@ -23,7 +23,7 @@ use Rattle.basics.specs.Sets.{member}
 use Rattle.basics.proofs.Bools.{left as left-passes}
 use Rattle.product.specs.ProductGraph.{pairs}
 use Rattle.product.specs.Setting.{placeOf, Setting}
-use Rattle.product.specs.Laws.Setting.{symbols-few}
+use Rattle.product.specs.Laws.Setting.{symbols-few, few-nodes}
 use Rattle.cells.specs.declared.Groups.{Groups}
 use Rattle.product.specs.Laws.Letters.{over-positioned}
 use Rattle.product.specs.Laws.Entering.{NotLeft, symbols-begun, symbols-entered}
@@ -36,13 +36,15 @@ use Rattle.cull.specs.Idle.{unmarked, idle-stage}
 use Rattle.cull.specs.Stages.{cull-start}
 use Rattle.stage.specs.StageLabels.{countOf, pairCountOf, stageLabel}
 use Rattle.cull.specs.FewestTold.{fewestIn}
-use Rattle.stage_entering.specs.Entering.{NodesPre, AheadOf}
+use Rattle.stage_entering.specs.declared.Site.{Site}
+use Rattle.stage_entering.specs.Entering.{codesAt, NodesPre, AheadOf}
+use Rattle.stage_pairs.specs.Tables.{ListPre}
 use Rattle.stage_pairs.specs.Inputs.{InputPre, InputTried}
 use Rattle.stage_settling.specs.Settling.{SettlePre, SettledBy}
-use Rattle.cull.specs.Culling.{pairsCounted, stageGraph, leftBy, Culled, StageAt, CullPre, LentTables, PositionPre, PositionEntered, PositionDone, EndPre, EndsTried, StagePre, StageDone, Blanked, PlaceCleared}
+use Rattle.cull.specs.Culling.{pairsCounted, stageGraph, leftBy, Culled, StageAt, CullPre, LentTables, SymbolsAt, SymbolsPre, PositionEntered, SymbolsEntered, EndsTried, LastPre, LastTried, StagePre, StageDone, Blanked, PlaceCleared}
 use Rattle.cull.specs.Survivors.{counts-fewest}
 use Rattle.stage.proofs.StageWork.{stage-labelled, stage-unlabelled, stage-alike, spaced}
-use Rattle.cull.proofs.Positions.{culled-kept, stage-over, symbol-nodes, insertion-ready, symbol-entering, position-settled}
+use Rattle.cull.proofs.Positions.{culled-kept, stage-over, position-there, symbol-nodes, insertion-ready, symbol-entering, position-settled}
 use Rattle.stage_entering.proofs.Front.{ahead-kept}
 use Rattle.cull.proofs.Ending.{ends-entered}
 use Rattle.cull.proofs.Unused.{ways-unmarked}
@@ -69,105 +71,150 @@ blank-end B q = rw q at B
 
 -- ---- what is lent stays
 
+pub tables-kept : {card counts ws steps steps′ : List ℕ} {g : Groups} → length steps′ ≡ length steps → ListPre card counts ws steps g → ListPre card counts ws steps′ g
+tables-kept e T = record { accepted = T .accepted; counts-are = T .counts-are; weights = T .weights; groups = T .groups; few = T .few; room = omega (arith, e, T .room) }
+
 pub lent-kept : {card ranking counts ws steps steps′ high high′ low low′ : List ℕ} {g : Groups} {P : ℕ} → LentTables card ranking counts ws steps high low g P → length steps′ ≡ length steps → length high′ ≡ length high → length low′ ≡ length low
     → LentTables card ranking counts ws steps′ high′ low′ g P
-lent-kept L a b c = record {
-  tables = record { accepted = L .tables .accepted; counts-are = L .tables .counts-are; weights = L .tables .weights; groups = L .tables .groups; few = L .tables .few; room = omega (arith, a, L .tables .room) };
-  order = L .order;
-  codes = L .codes;
-  high-size = b ∙ L .high-size;
-  low-size = c ∙ L .low-size;
-}
+lent-kept L a b c = record { tables = tables-kept a (L .tables); order = L .order; codes = L .codes; high-size = b ∙ L .high-size; low-size = c ∙ L .low-size }
 
 -- ---- one symbol of the set at a position after the other
 
 -- those that are not left were tried
-pub record SymbolsTried (card ranking sets xs ys : List ℕ) (i k left : ℕ) : Type 0 where
+pub record SymbolsTried (card ws xs ys : List ℕ) (set left : ℕ) (at : Site) : Type 0 where
   pub size : length ys ≡ length xs
-  pub counts : (j w : ℕ) → j < k → countOf ys j w ≡ countOf xs j w
-  pub inside : (x : ℕ) → member left x ≡ true → member (getD sets i 0) x ≡ true
-  pub enters : (f : ℕ → ℕ → Option ℕ) → Culled card ranking sets f xs k → (K : Labels (rankedCosts 1))
-      → Entering (stageGraph card ranking sets f k) (placeOf card) K (stageLabel xs k) i (λ _. ⊥) (NotLeft (getD sets i 0))
-      → Entering (stageGraph card ranking sets f k) (placeOf card) K (stageLabel ys k) i (λ _. ⊥) (NotLeft left)
+  pub counts : (j w : ℕ) → j < at .stage → countOf ys j w ≡ countOf xs j w
+  pub inside : (x : ℕ) → member left x ≡ true → member set x ≡ true
+  pub enters : (ranking sets : List ℕ) (i : ℕ) (A : SymbolsAt card ranking sets ws xs set i at)
+      → Entering (stageGraph card ranking sets (A .later .fewest) (at .stage)) (placeOf card) (stageLabel xs (at .stage)) (stageLabel ys (at .stage)) i (λ _. ⊥) (NotLeft left)
 
-pub symbols-start : {card ranking sets xs : List ℕ} {i k : ℕ} → SymbolsTried card ranking sets xs xs i k (getD sets i 0)
-symbols-start = record { size = refl; counts = λ j w h. refl; inside = λ x m. m; enters = λ f C K E. E }
+pub symbols-start : {card ws xs : List ℕ} {set : ℕ} {at : Site} → SymbolsTried card ws xs xs set set at
+symbols-start {card} {ws} {xs} {set} {at} = record {
+  size = refl;
+  counts = λ j w h. refl;
+  inside = λ x m. m;
+  enters = λ ranking sets i A.
+      subst (λ (n : ℕ). Entering (stageGraph card ranking sets (A .later .fewest) (at .stage)) (placeOf card) (stageLabel xs (at .stage)) (stageLabel xs (at .stage)) i (λ _. ⊥) (NotLeft n)) (sym (A .set-is))
+      (symbols-begun (A .setting) (stage-over (A .setting) ranking (A .later .fewest) (at .stage) (A .later .culled)) (A .later .done));
+}
 
-module _ {card ranking sets cs entries ends xs : List ℕ} {P i k : ℕ} (Q : PositionPre card ranking sets cs entries ends xs P i k) {ys : List ℕ} {left : ℕ} (T : SymbolsTried card ranking sets xs ys i k left) where
-  begun : Entering (stageGraph card ranking sets (Q .later .fewest) k) (placeOf card) (stageLabel xs k) (stageLabel ys k) i (λ _. ⊥) (NotLeft left)
-  begun = T .enters (Q .later .fewest) (Q .later .culled) (stageLabel xs k) (symbols-begun (Q .given .setting) (stage-over (Q .given .setting) ranking (Q .later .fewest) k (Q .later .culled)) (Q .later .done))
+module _ {card ranking sets ws xs ys : List ℕ} {set i left : ℕ} {at : Site} (A : SymbolsAt card ranking sets ws xs set i at) (T : SymbolsTried card ws xs ys set left at) where
+  pub nodes-there : NodesPre ys (at .base) (codesAt at) (at .stage)
+  nodes-there =
+      subst (λ (b : ℕ). NodesPre ys b (codesAt at) (at .stage)) (sym (A .base-is))
+      (symbol-nodes (A .setting) ranking (A .later .fewest) (at .stage) (A .stage) (T .size ∙ A .room) (culled-kept (T .counts) (A .later .culled)) i (A .within) (T .enters ranking sets i A .attained))
 
-  pub nodes-there : i < length sets → NodesPre ys (i * P) P k
-  nodes-there h = symbol-nodes (Q .given .setting) ranking (Q .later .fewest) k (Q .given .stage) (T .size ∙ Q .given .room) (culled-kept (T .counts) (Q .later .culled)) i h (begun .attained)
+  in-set : (x : ℕ) → member left x ≡ true → member (getD sets i 0) x ≡ true
+  in-set x m = subst (λ (n : ℕ). member n x ≡ true) (A .set-is) (T .inside x m)
 
   module _ {x : ℕ} (m : member left x ≡ true) where
     pub symbol-reads : 1 ≤ x
-    symbol-reads = Q .given .setting .symbols i x (T .inside x m) .0
+    symbol-reads = A .setting .symbols i x (in-set x m) .0
 
-    pub input-pre : {ahead counts ws steps high low : List ℕ} {g : Groups} → LentTables card ranking counts ws steps high low g P → i < length sets → AheadOf ys k (i * P + P) P ahead → InputPre ys ahead card counts ws steps high low (record { groups = g; base = i * P; stage = k }) x
-    input-pre {ahead} L h A = record {
-      given = subst (λ (n : ℕ). NodesPre ys (i * P) n k) (L .codes) (nodes-there h);
-      ahead-is = subst (λ (n : ℕ). AheadOf ys k (i * P + n) n ahead) (L .codes) A;
-      tables = L .tables;
+    pub input-pre : {ahead counts steps high low : List ℕ} → ListPre card counts ws steps (at .groups) → length high ≡ 264 → length low ≡ 264 → AheadOf ys (at .stage) (at .base + codesAt at) (codesAt at) ahead → InputPre ys ahead card counts ws steps high low at x
+    input-pre B eh el H = record {
+      given = nodes-there;
+      ahead-is = H;
+      tables = B;
       ranking = ranking;
-      order = L .order;
-      input = omega (arith, symbols-few (Q .given .setting), Q .given .setting .symbols i x (T .inside x m));
-      high-size = L .high-size;
-      low-size = L .low-size;
+      order = A .order;
+      input = omega (arith, symbols-few (A .setting), A .setting .symbols i x (in-set x m));
+      high-size = eh;
+      low-size = el;
     }
 
-    pub symbols-next : {zs counts ws steps high low : List ℕ} {g : Groups} {after : ℕ} → LentTables card ranking counts ws steps high low g P → ((n : ℕ) → member after n ≡ (member left n && not (eqb n x)))
-        → InputTried card ws ys zs x (i * P) (g .front * g .back) k → SymbolsTried card ranking sets xs zs i k after
-    symbols-next {zs} {ws = ws} {after = after} L f R = record {
-      size = R .size ∙ T .size;
-      counts = λ j w h. R .counts j w h ∙ T .counts j w h;
-      inside = λ n z. T .inside n (left-passes (member left n) (not (eqb n x)) (sym (f n) ∙ z));
-      enters = λ g C K E. symbol-entering (Q .given .setting) ranking g k (Q .given .stage) (T .size ∙ Q .given .room) (culled-kept (T .counts) C) i left after x (T .inside x m) (L .order) f
-          (subst (λ (n : ℕ). InputTried card ws ys zs x (i * P) n k) (sym (L .codes)) R) (T .enters g C K E);
-    }
+pub symbols-next : {card ws xs ys zs : List ℕ} {set left after x : ℕ} {at : Site} → SymbolsTried card ws xs ys set left at → member left x ≡ true → ((n : ℕ) → member after n ≡ (member left n && not (eqb n x)))
+    → InputTried card ws ys zs x (at .base) (codesAt at) (at .stage) → SymbolsTried card ws xs zs set after at
+symbols-next {card} {ws} {xs} {ys} {zs} {set} {left} {after} {x} {at} T m f R = record {
+  size = R .size ∙ T .size;
+  counts = λ j w h. R .counts j w h ∙ T .counts j w h;
+  inside = λ n z. T .inside n (left-passes (member left n) (not (eqb n x)) (sym (f n) ∙ z));
+  enters = λ ranking sets i A. symbol-entering (A .setting) ranking (A .later .fewest) (at .stage) (A .stage) (T .size ∙ A .room) (culled-kept (T .counts) (A .later .culled)) i left after x (in-set A T x m) (A .order) f
+      (subst (λ (b : ℕ). InputTried card ws ys zs x b (codesAt at) (at .stage)) (A .base-is) R) (T .enters ranking sets i A);
+}
 
-  pub ahead-stays : {zs ahead ws : List ℕ} {x n : ℕ} → P ≡ n → InputTried card ws ys zs x (i * P) n k → AheadOf ys k (i * P + P) P ahead → AheadOf zs k (i * P + P) P ahead
-  ahead-stays e R A = ahead-kept (R .counts) (λ w l. R .others w (inr (omega (arith, e)))) A
+pub ahead-stays : {card ws ys zs ahead : List ℕ} {x : ℕ} (at : Site) → InputTried card ws ys zs x (at .base) (codesAt at) (at .stage) → AheadOf ys (at .stage) (at .base + codesAt at) (codesAt at) ahead → AheadOf zs (at .stage) (at .base + codesAt at) (codesAt at) ahead
+ahead-stays at R H = ahead-kept (R .counts) (λ w l. R .others w (inr l)) H
 
-  pub entered-symbols : i < length sets → left ≤ 0 → PositionEntered card ranking sets xs ys i k
-  entered-symbols h z =
-      let q : left ≡ 0 = omega arith in
-      record {
-        size = T .size;
-        fewest = Q .later .fewest;
-        culled = culled-kept (T .counts) (Q .later .culled);
-        entered = symbols-entered (Q .given .setting) (stage-over (Q .given .setting) ranking (Q .later .fewest) k (Q .later .culled)) h (Q .later .done) (subst (λ (n : ℕ). Entering (stageGraph card ranking sets (Q .later .fewest) k) (placeOf card) (stageLabel xs k) (stageLabel ys k) i (λ _. ⊥) (NotLeft n)) q begun);
-      }
+pub symbols-end : {card ws xs ys : List ℕ} {set left : ℕ} {at : Site} → SymbolsTried card ws xs ys set left at → left ≤ 0 → SymbolsEntered card ws xs ys set at
+symbols-end {card} {ws} {xs} {ys} {set} {left} {at} T z = record {
+  enters = λ ranking sets i A. record {
+    size = T .size;
+    fewest = A .later .fewest;
+    culled = culled-kept (T .counts) (A .later .culled);
+    entered = symbols-entered (A .setting) (stage-over (A .setting) ranking (A .later .fewest) (at .stage) (A .later .culled)) (A .within) (A .later .done)
+        (subst (λ (n : ℕ). Entering (stageGraph card ranking sets (A .later .fewest) (at .stage)) (placeOf card) (stageLabel xs (at .stage)) (stageLabel ys (at .stage)) i (λ _. ⊥) (NotLeft n)) none-left (T .enters ranking sets i A));
+  };
+}
+  where
+    none-left : left ≡ 0
+    none-left = omega arith
 
 -- ---- a position
 
-module _ {card ranking sets cs entries ends xs : List ℕ} {P i k : ℕ} (Q : PositionPre card ranking sets cs entries ends xs P i k) where
-  pub end-pre : {ws steps high low : List ℕ} {g : Groups} → LentTables card ranking cs ws steps high low g P → EndPre card ranking sets cs ws xs high low g P k
-  end-pre L = record {
-    setting = Q .given .setting;
-    counts-are = Q .given .counts-are;
-    weights = L .tables .weights;
-    groups = L .tables .groups;
-    few = L .tables .few;
-    order = L .order;
-    codes = L .codes;
-    room = Q .given .room;
-    stage = Q .given .stage;
-    high-size = L .high-size;
-    low-size = L .low-size;
-  }
+-- the position i, past which the positions are done
+pub record PositionPre (card ranking sets cs entries ends xs : List ℕ) (P i k : ℕ) : Type 0 where
+  pub given : CullPre card ranking sets cs entries ends xs P k
+  pub within : i ≤ length sets
+  pub later : StageAt card ranking sets xs k (suc i)
 
-  pub entered-last : {ys : List ℕ} → length sets ≤ i → EndsTried card ranking sets xs ys k (length sets * P) (length sets * P + P) → PositionEntered card ranking sets xs ys i k
-  entered-last {ys} h T =
-      let q : i ≡ length sets = omega (arith, Q .within) in
-      let d : Done (stageGraph card ranking sets (Q .later .fewest) k) (placeOf card) (stageLabel xs k) (suc (length sets)) = rw q at (Q .later .done) in
+pub record PositionDone (card ranking sets xs ys : List ℕ) (i k : ℕ) : Type 0 where
+  pub size : length ys ≡ length xs
+  pub done : StageAt card ranking sets ys k i
+
+-- the last position
+module _ {card ranking sets cs entries ends xs ws steps high low : List ℕ} {g : Groups} {P k : ℕ} (Q : PositionPre card ranking sets cs entries ends xs P (length sets) k) (L : LentTables card ranking cs ws steps high low g P) where
+  abbrev last : Site
+  last = record { groups = g; base = length sets * P; stage = k }
+
+  pub last-pre : LastPre xs card cs ws steps high low last
+  last-pre =
+      let t = position-there (Q .given .setting) (length sets) (omega arith) in
+      let p : length sets * P + g .front * g .back ≡ length sets * P + P = ap (λ (n : ℕ). length sets * P + n) (sym (L .codes)) in
       record {
-        size = T .size;
-        fewest = Q .later .fewest;
-        culled = culled-kept (T .counts) (Q .later .culled);
-        entered = rw q (ends-entered (Q .given .setting) ranking (Q .later .fewest) (Q .later .culled) d T);
+        nodes = omega (arith, Q .given .room, t, p);
+        few-nodes = omega (arith, t, p, few-nodes (Q .given .setting));
+        stage = Q .given .stage;
+        tables = L .tables;
+        high-size = L .high-size;
+        low-size = L .low-size;
       }
 
+  pub last-entered : {ys : List ℕ} → LastTried card ws xs ys last → PositionEntered card ranking sets xs ys (length sets) k
+  last-entered {ys} R = record {
+    size = T .size;
+    fewest = Q .later .fewest;
+    culled = culled-kept (T .counts) (Q .later .culled);
+    entered = ends-entered (Q .given .setting) ranking (Q .later .fewest) (Q .later .culled) (Q .later .done) T;
+  }
+    where
+      T : EndsTried card ranking sets xs ys k (length sets * P) (length sets * P + P)
+      T = R .ends ranking sets P (Q .given .setting) (L .codes) refl (L .order)
+
+-- a position before the last one
+module _ {card ranking sets cs entries ends xs ws steps high low : List ℕ} {g : Groups} {P i k : ℕ} (Q : PositionPre card ranking sets cs entries ends xs P i k) (L : LentTables card ranking cs ws steps high low g P) (h : i < length sets) where
+  abbrev here : Site
+  here = record { groups = g; base = i * P; stage = k }
+
+  symbols-at : SymbolsAt card ranking sets ws xs (getD sets i 0) i here
+  symbols-at = record {
+    setting = subst (λ (n : ℕ). Setting card sets n) (L .codes) (Q .given .setting);
+    order = L .order;
+    within = h;
+    set-is = refl;
+    base-is = ap (λ (n : ℕ). i * n) (L .codes);
+    room = Q .given .room ∙ ap (λ (n : ℕ). (length sets + 1) * n * 8) (L .codes);
+    stage = Q .given .stage;
+    later = Q .later;
+  }
+
+  pub symbols-pre : SymbolsPre xs card cs ws steps high low (getD sets i 0) here
+  symbols-pre = record { ranking = ranking; sets = sets; position = i; given = symbols-at; tables = L .tables; high-size = L .high-size; low-size = L .low-size }
+
+  pub position-entered : {ys : List ℕ} → SymbolsEntered card ws xs ys (getD sets i 0) here → PositionEntered card ranking sets xs ys i k
+  position-entered E = E .enters ranking sets i symbols-at
+
+module _ {card ranking sets cs entries ends xs : List ℕ} {P i k : ℕ} (Q : PositionPre card ranking sets cs entries ends xs P i k) where
   module _ {ys : List ℕ} (E : PositionEntered card ranking sets xs ys i k) where
     pub settle-ready : SettlePre ys entries ends k (i * P) P
     settle-ready = insertion-ready (Q .given .setting) ranking (E .fewest) k (Q .given .stage) (E .size ∙ Q .given .room) (E .culled) i (Q .within) (Q .given .lists) (E .entered .attained)
@@ -190,15 +237,16 @@ stage-given e h Q = record { setting = Q .setting; counts-are = Q .counts-are; l
 given-next : {card ranking sets cs entries ends xs ys : List ℕ} {P k : ℕ} → length ys ≡ length xs → CullPre card ranking sets cs entries ends xs P k → CullPre card ranking sets cs entries ends ys P k
 given-next e Q = stage-given e (Q .stage) Q
 
+pub position-passed : {card ranking sets xs ys zs : List ℕ} {i k : ℕ} → length ys ≡ length xs → PositionDone card ranking sets ys zs i k → PositionDone card ranking sets xs zs i k
+position-passed e D = record { size = D .size ∙ e; done = D .done }
+
 module _ {card ranking sets cs entries ends xs : List ℕ} {P k : ℕ} (Q : StagePre card ranking sets cs entries ends xs P k) where
-  pub stage-begun : {ys : List ℕ} → Blanked xs ys ((length sets + 1) * P) → PositionDone card ranking sets xs ys (length sets + 1) k
-  stage-begun {ys} B = record {
-    size = B .size;
-    done = record {
-      fewest = fewestIn xs;
-      culled = culled-kept (λ i w h. B .counts i w (omega (arith, Q .given .stage))) culled;
-      done = let q : length sets + 1 ≡ suc (length sets) = omega arith in rw q nothing;
-    };
+  -- no label is there: the last position is the first to be labelled
+  pub last-ready : {ys : List ℕ} → Blanked xs ys ((length sets + 1) * P) → PositionPre card ranking sets cs entries ends ys P (length sets) k
+  last-ready {ys} B = record {
+    given = given-next (B .size) (Q .given);
+    within = omega arith;
+    later = record { fewest = fewestIn xs; culled = culled-kept (λ i w h. B .counts i w (omega (arith, Q .given .stage))) culled; done = nothing };
   }
     where
       culled : Culled card ranking sets (fewestIn xs) xs k
@@ -211,14 +259,17 @@ module _ {card ranking sets cs entries ends xs : List ℕ} {P k : ℕ} (Q : Stag
       nothing : Done (stageGraph card ranking sets (fewestIn xs) k) (placeOf card) (stageLabel ys k) (suc (length sets))
       nothing = done-start (stageGraph card ranking sets (fewestIn xs) k) (placeOf card) (over-positioned (stage-over (Q .given .setting) ranking (fewestIn xs) k culled)) (stageLabel ys k) (λ u. unlabelled u (decLt u ((length sets + 1) * P)))
 
-  pub stage-start : {ys : List ℕ} → Blanked xs ys ((length sets + 1) * P) → PositionDone card ranking sets ys ys (length sets + 1) k
-  stage-start B = record { size = refl; done = stage-begun B .done }
+  pub last-labelled : {ys zs vs ws steps high low : List ℕ} {g : Groups} → LentTables card ranking cs ws steps high low g P → Blanked xs ys ((length sets + 1) * P)
+      → LastTried card ws ys zs (record { groups = g; base = length sets * P; stage = k }) → SettledBy zs vs entries ends k (length sets * P) P → PositionDone card ranking sets xs vs (length sets) k
+  last-labelled L B T D =
+      let q = last-ready B in
+      position-passed (B .size) (position-labelled q (last-entered q L T) D)
 
-  pub position-ready : {ys : List ℕ} (left : ℕ) → 0 < left → left ≤ length sets + 1 → PositionDone card ranking sets xs ys left k → PositionPre card ranking sets cs entries ends ys P (left - 1) k
-  position-ready left a b D = let q : suc (left - 1) ≡ left = omega arith in record { given = given-next (D .size) (Q .given); within = omega arith; later = rw q (D .done) }
+  pub position-ready : {ys : List ℕ} (i : ℕ) → 0 < i → i ≤ length sets → PositionDone card ranking sets xs ys i k → PositionPre card ranking sets cs entries ends ys P (i - 1) k
+  position-ready i a b D = let q : suc (i - 1) ≡ i = omega arith in record { given = given-next (D .size) (Q .given); within = omega arith; later = rw q (D .done) }
 
-pub position-passed : {card ranking sets xs ys zs : List ℕ} {i j k : ℕ} → PositionDone card ranking sets xs ys i k → PositionDone card ranking sets ys zs j k → PositionDone card ranking sets xs zs j k
-position-passed A B = record { size = B .size ∙ A .size; done = B .done }
+pub position-begun : {card ranking sets xs ys : List ℕ} {i k : ℕ} → PositionDone card ranking sets xs ys i k → PositionDone card ranking sets ys ys i k
+position-begun D = record { size = refl; done = D .done }
 
 -- all positions are done: so is the stage
 pub stage-end : {card ranking sets xs ys : List ℕ} {i k : ℕ} → PositionDone card ranking sets xs ys i k → i ≤ 0 → StageDone card ranking sets xs ys k

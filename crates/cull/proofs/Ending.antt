@@ -5,9 +5,8 @@ use mathlib.Core.Option.{Option, none, some}
 use mathlib.Core.List.{List, [], _∷_}
 use Prim.Native.Nat.{ℕ, zero, suc, _+_, _*_, _/_, _%_, _≤_, _<_}
 use native.Mathlib.Nat.{mod-lt, div-lt-iff-lt-mul, div-add-mod', mul-le-mul-right}
-use native.Mathlib.Decide.{decLt}
 use native.Mathlib.Omega.{arith}
-use lib.ListN.{length, getD, replicate, length-replicate, getD-replicate, List·getD-eq-default}
+use lib.ListN.{length, getD}
 use Rattle.machine.specs.Machine.{Machine, endingOf}
 use Rattle.card.specs.Layout.{symbolCount}
 use Rattle.card.specs.Card.{machinesOf}
@@ -43,7 +42,7 @@ use Rattle.tables.specs.Endings.{endingCosts}
 use Rattle.tables.specs.JointNumbers.{endingNumber, endingFrom}
 use Rattle.tables.specs.Laws.Endings.{ending-edge}
 use Rattle.product.specs.Setting.{placeOf, Setting}
-use Rattle.product.specs.Laws.Setting.{machines-sound, few-nodes}
+use Rattle.product.specs.Laws.Setting.{machines-sound}
 use Rattle.product.specs.Laws.Entering.{no-ending-tried, ending-tried, endings-begun, endings-entered}
 use Rattle.tables.specs.Engine.{engineGraph}
 use Rattle.cull.specs.Stages.{stage-no-ending}
@@ -53,9 +52,9 @@ use Rattle.cull.specs.Entering.{endSum, EndingsPre}
 use Rattle.stage_pairs.specs.Inputs.{InOrder}
 use Rattle.stage_entering.specs.declared.Site.{Site}
 use Rattle.stage.specs.Relaxing.{noCounts, LeftTold, Lowered}
-use Rattle.cull.specs.Culling.{pairsCounted, stageGraph, Culled, EndPre, EndsTried, CodesEnded}
+use Rattle.cull.specs.Culling.{pairsCounted, stageGraph, Culled, EndsTried, CodesEnded, LastPre, LastTried}
 use Rattle.cull.proofs.Linking.{ending-kept, ending-dropped}
-use Rattle.cull.proofs.Positions.{culled-kept, stage-over, position-there}
+use Rattle.cull.proofs.Positions.{culled-kept, stage-over}
 use Rattle.cull.proofs.Unused.{each-length}
 use Rattle.stage_entering.proofs.Lanes.{CodePlaces, ending-none, ending-some}
 
@@ -164,25 +163,21 @@ first-sum table front back c =
     let q : (front + c % back) * 4 + 0 ≡ (front + c % back) * 4 = omega arith in
     λ i. getD table (p i) 0 + getD table (q i) 0
 
-pub column-small : Small (replicate 2600 65535)
-column-small i = at (decLt i 2600)
-  where
-    at : Dec (i < 2600) → getD (replicate {A = ℕ} 2600 65535) i 0 ≤ 65535
-    at (yes h) = omega (arith, getD-replicate {A = ℕ} 2600 i 65535 0 h)
-    at (no h) = omega (arith, List·getD-eq-default (replicate {A = ℕ} 2600 65535) 0 {n = i} (omega (arith, length-replicate {A = ℕ} 2600 65535)))
-
 pub ending-places : {xs high low : List ℕ} {at : Site} → EndingsPre xs high low at → (code : ℕ) → code < codesAt at → CodePlaces code (at .groups .front) (at .groups .back)
 ending-places Q code h = record { front-is = div-lt-iff-lt-mul (Q .some-back) .1 h; back-is = mod-lt code (Q .some-back) }
 
-module _ {card ranking sets counts ws xs high low : List ℕ} {g : Groups} {P k : ℕ} (Q : EndPre card ranking sets counts ws xs high low g P k) where
+module _ {xs card counts ws steps high low : List ℕ} {at : Site} (Q : LastPre xs card counts ws steps high low at) where
+  abbrev g : Groups
+  g = at .groups
+
   M : CardMachines (symbolCount card) (machinesOf card)
-  M = card-machines card (Q .setting .accepted)
+  M = card-machines card (Q .tables .accepted)
 
   Z : WeightsOf (stateCounts (machinesOf card)) ws
-  Z = subst (λ (l : List ℕ). WeightsOf l ws) (Q .counts-are) (Q .weights)
+  Z = subst (λ (l : List ℕ). WeightsOf l ws) (Q .tables .counts-are) (Q .tables .weights)
 
   N : GroupsOf (stateCounts (machinesOf card)) g
-  N = subst (λ (l : List ℕ). GroupsOf l g) (Q .counts-are) (Q .groups)
+  N = subst (λ (l : List ℕ). GroupsOf l g) (Q .tables .counts-are) (Q .tables .groups)
 
   codes-are : g .front * g .back ≡ product (stateCounts (machinesOf card))
   codes-are = all-codes N
@@ -197,14 +192,17 @@ module _ {card ranking sets counts ws xs high low : List ℕ} {g : Groups} {P k 
       positive zero e = let z : g .front * g .back ≡ 0 = ap (λ (k : ℕ). g .front * k) e ∙ omega arith in absurd (omega (arith, z, some-codes))
       positive (suc n) e = omega arith
 
-  pub fill-ready : {steps : List ℕ} → places counts ≤ length steps → columns.EndingsPre card counts steps
-  fill-ready h = record { accepted = Q .setting .accepted; counts-are = Q .counts-are; room = h }
+  pub fill-ready : columns.EndingsPre card counts steps
+  fill-ready = record { accepted = Q .tables .accepted; counts-are = Q .tables .counts-are; room = omega (arith, Q .tables .room) }
 
-  module _ {steps ys : List ℕ} {W : ℕ} (small : Small steps) (E : EndingsFilled (machinesOf card) steps ys) (w : W ≡ places counts) (room : 65 * W ≤ length ys) where
+  module _ {ys : List ℕ} {W : ℕ} (small : Small steps) (E : EndingsFilled (machinesOf card) steps ys) (w : W ≡ places counts) where
+    room : 65 * W ≤ length ys
+    room = omega (arith, w, E .size, Q .tables .room)
+
     pub join-ready : {high′ low′ : List ℕ} → length high′ ≡ 264 → length low′ ≡ 264 → FourPre ys (0 ∷ 64 ∷ 64 ∷ 64 ∷ []) counts ws high′ low′ W g
     join-ready {high′} {low′} eh el =
-        subst (λ (l : List ℕ). FourPre ys (0 ∷ 64 ∷ 64 ∷ 64 ∷ []) l ws high′ low′ W g) (sym (Q .counts-are))
-        (endings-four-pre M E Z N (0 ∷ 64 ∷ 64 ∷ 64 ∷ []) high′ low′ small (w ∙ ap places (Q .counts-are)) room (Q .few) outputs eh el)
+        subst (λ (l : List ℕ). FourPre ys (0 ∷ 64 ∷ 64 ∷ 64 ∷ []) l ws high′ low′ W g) (sym (Q .tables .counts-are))
+        (endings-four-pre M E Z N (0 ∷ 64 ∷ 64 ∷ 64 ∷ []) high′ low′ small (w ∙ ap places (Q .tables .counts-are)) room (Q .tables .few) outputs eh el)
       where
         outputs : (j : ℕ) → getD (0 ∷ 64 ∷ 64 ∷ 64 ∷ []) j 0 ≤ 64
         outputs zero = omega arith
@@ -218,25 +216,22 @@ module _ {card ranking sets counts ws xs high low : List ℕ} {g : Groups} {P k 
       cell-at c h =
           let a : c / g .back < g .front = div-lt-iff-lt-mul some-back .1 h in
           let e : c / g .back * g .back + c % g .back ≡ c = div-add-mod' c (g .back) in
-          let z = ending-sum M E Z N (subst (λ (l : List ℕ). FourJoined ys (0 ∷ 64 ∷ 64 ∷ 64 ∷ []) l ws high′ low′ W g) (Q .counts-are) J) (c / g .back) (c % g .back) 0 a (mod-lt c some-back) (omega arith) refl in
+          let z = ending-sum M E Z N (subst (λ (l : List ℕ). FourJoined ys (0 ∷ 64 ∷ 64 ∷ 64 ∷ []) l ws high′ low′ W g) (Q .tables .counts-are) J) (c / g .back) (c % g .back) 0 a (mod-lt c some-back) (omega arith) refl in
           rw e at z
 
-      pub endings-ready : EndingsPre xs high′ low′ (record { groups = g; base = length sets * P; stage = k })
-      endings-ready =
-          let t = position-there (Q .setting) (length sets) (omega arith) in
-          let p : length sets * P + g .front * g .back ≡ length sets * P + P = ap (λ (n : ℕ). length sets * P + n) (sym (Q .codes)) in
-          record {
-            nodes = omega (arith, Q .room, t, p);
-            few-nodes = omega (arith, t, p, few-nodes (Q .setting));
-            stage = Q .stage;
-            few = omega (arith, codes-are, M .joint-states);
-            small = Q .few;
-            some-back = some-back;
-            high-room = omega (arith, eh, Q .few);
-            low-room = omega (arith, el, Q .few);
-            high-sums = λ c h. omega (arith, first-sum high′ (g .front) (g .back) c, J .highs (c / g .back) (c % g .back) 0 (div-lt-iff-lt-mul some-back .1 h) (mod-lt c some-back) (omega arith), mul-le-mul-right nowhere (R .machines), highs (c / g .back * g .back + c % g .back));
-            low-sums = λ c h. omega (arith, first-sum low′ (g .front) (g .back) c, J .lows (c / g .back) (c % g .back) 0 (div-lt-iff-lt-mul some-back .1 h) (mod-lt c some-back) (omega arith), mul-le-mul-right nowhere (R .machines), lows (c / g .back * g .back + c % g .back));
-          }
+      pub endings-ready : EndingsPre xs high′ low′ at
+      endings-ready = record {
+        nodes = Q .nodes;
+        few-nodes = Q .few-nodes;
+        stage = Q .stage;
+        few = omega (arith, codes-are, M .joint-states);
+        small = Q .tables .few;
+        some-back = some-back;
+        high-room = omega (arith, eh, Q .tables .few);
+        low-room = omega (arith, el, Q .tables .few);
+        high-sums = λ c h. omega (arith, first-sum high′ (g .front) (g .back) c, J .highs (c / g .back) (c % g .back) 0 (div-lt-iff-lt-mul some-back .1 h) (mod-lt c some-back) (omega arith), mul-le-mul-right nowhere (R .machines), highs (c / g .back * g .back + c % g .back));
+        low-sums = λ c h. omega (arith, first-sum low′ (g .front) (g .back) c, J .lows (c / g .back) (c % g .back) 0 (div-lt-iff-lt-mul some-back .1 h) (mod-lt c some-back) (omega arith), mul-le-mul-right nowhere (R .machines), lows (c / g .back * g .back + c % g .back));
+      }
         where
           R : FourPre ys (0 ∷ 64 ∷ 64 ∷ 64 ∷ []) counts ws high′ low′ W g
           R = join-ready eh el
@@ -247,7 +242,9 @@ module _ {card ranking sets counts ws xs high low : List ℕ} {g : Groups} {P k 
           lows : (n : ℕ) → cellSum (lowAt ys ws W 0) 0 0 counts n ≤ length counts * nowhere
           lows n = sum-small nowhere (lowAt ys ws W 0) (λ m p. low-small _ _ (R .weights m .low-few)) 0 0 counts n
 
-      pub endings-tried : {zs : List ℕ} → CodesEnded xs zs high′ low′ (g .front) (g .back) k (length sets * P) (g .front * g .back) → EndsTried card ranking sets xs zs k (length sets * P) (length sets * P + P)
-      endings-tried {zs} C =
-          subst (λ (n : ℕ). EndsTried card ranking sets xs zs k (length sets * P) (length sets * P + n)) (sym (Q .codes))
-          (C .ends card ranking sets P (Q .setting) refl (omega (arith, Q .codes)) (λ c h. (λ j. laneEnding (sym (first-sum high′ (g .front) (g .back) c) j) (sym (first-sum low′ (g .front) (g .back) c) j)) ∙ lane-ending M (Q .order) c (cell-at c h)))
+      pub endings-tried : {zs : List ℕ} → CodesEnded xs zs high′ low′ (g .front) (g .back) (at .stage) (at .base) (codesAt at) → LastTried card ws xs zs at
+      endings-tried {zs} C = record {
+        ends = λ ranking sets P s codes base O.
+            subst (λ (n : ℕ). EndsTried card ranking sets xs zs (at .stage) (length sets * P) (length sets * P + n)) (sym codes)
+            (C .ends card ranking sets P s base (omega (arith, codes)) (λ c h. (λ j. laneEnding (sym (first-sum high′ (g .front) (g .back) c) j) (sym (first-sum low′ (g .front) (g .back) c) j)) ∙ lane-ending M O c (cell-at c h)));
+      }

@@ -3,7 +3,7 @@ use mathlib.Core.Path.{_≡_}
 use mathlib.Core.Option.{Option, some}
 use mathlib.Core.List.{List}
 use Prim.Native.Nat.{ℕ, suc, _+_, _*_, _≤_, _<_}
-use lib.ListN.{length}
+use lib.ListN.{length, getD}
 use Rattle.card.specs.Card.{machinesOf}
 use Rattle.paths.specs.Bounds.{Sized}
 use Rattle.paths.specs.Graph.{Graph}
@@ -19,12 +19,11 @@ use Rattle.product.specs.Setting.{placeOf, Setting}
 use Rattle.tables.specs.Engine.{engineGraph}
 use Rattle.tables.specs.JointNumbers.{endingFrom}
 use Rattle.cells.specs.declared.Groups.{Groups}
-use Rattle.cells.specs.Columns.{WeightsOf}
-use Rattle.cells.specs.Groups.{GroupsOf}
 use Rattle.stage_pairs.specs.Tables.{ListPre, ListsOf}
 use Rattle.stage_pairs.specs.Inputs.{InOrder}
 use Rattle.cull.specs.Entering.{endSum}
-use Rattle.stage_entering.specs.Entering.{laneEnding}
+use Rattle.stage_entering.specs.declared.Site.{Site}
+use Rattle.stage_entering.specs.Entering.{codesAt, laneEnding}
 use Rattle.cull.specs.Cull.{left, FewestBelow}
 use Rattle.cull.specs.OneConstraint.{LeastPrices}
 use Rattle.cull.specs.Stages.{stage}
@@ -62,16 +61,6 @@ pub record CullPre (card ranking sets cs entries ends xs : List ℕ) (P k : ℕ)
   pub ranked : length ranking ≡ length cs
   pub stage : k < 6
 
--- the position i, past which the positions are done
-pub record PositionPre (card ranking sets cs entries ends xs : List ℕ) (P i k : ℕ) : Type 0 where
-  pub given : CullPre card ranking sets cs entries ends xs P k
-  pub within : i ≤ length sets
-  pub later : StageAt card ranking sets xs k (suc i)
-
-pub record PositionDone (card ranking sets xs ys : List ℕ) (i k : ℕ) : Type 0 where
-  pub size : length ys ≡ length xs
-  pub done : StageAt card ranking sets ys k i
-
 -- the position i was entered
 pub record PositionEntered (card ranking sets xs ys : List ℕ) (i k : ℕ) : Type 0 where
   pub size : length ys ≡ length xs
@@ -87,17 +76,37 @@ pub record LentTables (card ranking counts ws steps high low : List ℕ) (g : Gr
   pub high-size : length high ≡ 264
   pub low-size : length low ≡ 264
 
--- what trying the endings of the last position needs
-pub record EndPre (card ranking sets counts ws xs high low : List ℕ) (g : Groups) (P k : ℕ) : Type 0 where
-  pub setting : Setting card sets P
-  pub counts-are : counts ≡ stateCounts (machinesOf card)
-  pub weights : WeightsOf counts ws
-  pub groups : GroupsOf counts g
-  pub few : g .front + g .back ≤ 66
+-- the position i, before the last one, of sets under a ranking whose weights these are; the positions past it are done
+pub record SymbolsAt (card ranking sets ws xs : List ℕ) (set i : ℕ) (at : Site) : Type 0 where
+  pub setting : Setting card sets (codesAt at)
   pub order : InOrder ranking ws
-  pub codes : P ≡ g .front * g .back
-  pub room : length xs ≡ (length sets + 1) * P * 8
-  pub stage : k < 6
+  pub within : i < length sets
+  pub set-is : set ≡ getD sets i 0
+  pub base-is : at .base ≡ i * codesAt at
+  pub room : length xs ≡ (length sets + 1) * codesAt at * 8
+  pub stage : at .stage < 6
+  pub later : StageAt card ranking sets xs (at .stage) (suc i)
+
+-- what entering such a position needs: the tables, room for columns and for four joint steps
+pub record SymbolsPre (xs card counts ws steps high low : List ℕ) (set : ℕ) (at : Site) : Type 0 where
+  pub ranking : List ℕ
+  pub sets : List ℕ
+  pub position : ℕ
+  pub given : SymbolsAt card ranking sets ws xs set position at
+  pub tables : ListPre card counts ws steps (at .groups)
+  pub high-size : length high ≡ 264
+  pub low-size : length low ≡ 264
+
+-- it was entered, whatever the ranking, the sets and the position
+pub record SymbolsEntered (card ws xs ys : List ℕ) (set : ℕ) (at : Site) : Type 0 where
+  pub enters : (ranking sets : List ℕ) (i : ℕ) → SymbolsAt card ranking sets ws xs set i at → PositionEntered card ranking sets xs ys i (at .stage)
+
+-- what entering the last position needs: its nodes, the tables, room for columns and for four joint steps
+pub record LastPre (xs card counts ws steps high low : List ℕ) (at : Site) : Type 0 where
+  pub nodes : (at .base + codesAt at) * 8 ≤ length xs
+  pub few-nodes : at .base + codesAt at ≤ 3200
+  pub stage : at .stage < 6
+  pub tables : ListPre card counts ws steps (at .groups)
   pub high-size : length high ≡ 264
   pub low-size : length low ≡ 264
 
@@ -141,3 +150,8 @@ pub record CodesEnded (xs ys high low : List ℕ) (front back k b n : ℕ) : Typ
   pub ends : (card ranking sets : List ℕ) (P : ℕ) → Setting card sets P → b ≡ length sets * P → n ≤ P
       → ((c : ℕ) → c < n → laneEnding (endSum high front back c) (endSum low front back c) ≡ endingFrom (sixPlaces ranking) (machinesOf card) c)
       → EndsTried card ranking sets xs ys k (length sets * P) (length sets * P + n)
+
+-- the nodes of the last position were tried by their endings, whatever the ranking whose weights these are
+pub record LastTried (card ws xs ys : List ℕ) (at : Site) : Type 0 where
+  pub ends : (ranking sets : List ℕ) (P : ℕ) → Setting card sets P → P ≡ codesAt at → at .base ≡ length sets * P → InOrder ranking ws
+      → EndsTried card ranking sets xs ys (at .stage) (length sets * P) (length sets * P + P)

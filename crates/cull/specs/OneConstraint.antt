@@ -12,7 +12,6 @@ use Rattle.paths.specs.RankedGraph.{one-letter-positive, ranked-sized, ranked-c
 use Rattle.paths.specs.Graph.{Alphabet, Edge, Graph, pathCost, Within, Run, run→cost, cost→run}
 use Rattle.paths.specs.Labels.{Closed, Attained, run-lower-bound, held→run}
 use Rattle.paths.specs.Bounds.{Sized, BoundedCount}
-use Rattle.paths.specs.Positions.{Positioned}
 use Rattle.cull.specs.Harmony.{Alike, alike-next, fewer-beats, beats-less, letters-less, letters-same}
 use Rattle.cull.specs.Cull.{Way, Fewest}
 
@@ -112,12 +111,6 @@ module _ (K k : ℕ) {alphabet : Alphabet} (G : Graph (rankedCosts K) alphabet) 
 
   pub seen-within : {N : ℕ} → Within G N → Within byConstraint N
   seen-within W u p x h = let e = map-eq-some-iff (pricedEdge K k) (G .edge u p) .0 h in rw (← (e .2)) (W u p (e .0) (e .1))
-
-  pub seen-positioned : {pos : ℕ → ℕ} {n : ℕ} → Positioned G pos n → Positioned byConstraint pos n
-  seen-positioned Y = record {
-    next = λ u p x h. let e = map-eq-some-iff (pricedEdge K k) (G .edge u p) .0 h in rw (← (e .2)) (Y .next u p (e .0) (e .1));
-    ends = λ u x h. let c = map-eq-some-iff (price K k) (G .ending u) .0 h in Y .ends u (c .0) (c .1);
-  }
 
   pub seen-sized : Sized byConstraint (letterCount 1)
   seen-sized = ranked-sized 1 byConstraint one-letter (λ u x h. let c = map-eq-some-iff (price K k) (G .ending u) .0 h in ap (letterCount 1) (sym (c .2)) ∙ Z .at-end u (c .0) (c .1))

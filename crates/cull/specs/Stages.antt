@@ -8,12 +8,11 @@ use Rattle.paths.specs.Costs.{Labels}
 use Rattle.paths.specs.Ranked.{Ranked, letterCount, countAt, rankedCosts}
 use Rattle.paths.specs.Graph.{Alphabet, Edge, Graph, Within}
 use Rattle.paths.specs.Bounds.{Sized, BoundedCount}
-use Rattle.paths.specs.Positions.{Positioned}
 use Rattle.stage.specs.Below.{Below, below-none, below-next}
 use Rattle.cull.specs.Cull.{keepsEdge, keepsEnding, Fewest, left, FewestBelow}
-use Rattle.cull.specs.Subgraph.{sub-within, sub-positioned, sub-sized, sub-count}
+use Rattle.cull.specs.Subgraph.{sub-within, sub-sized, sub-count}
 use Rattle.cull.specs.Left.{left-edge, left-ending, edge-gone, ending-gone, no-edge-left, no-ending-left, left-alike-edges, left-sub}
-use Rattle.cull.specs.OneConstraint.{price, pricedEdge, stageMarks, byConstraint, LeastPrices, least-fewest, seen-within, seen-positioned, seen-sized, seen-count}
+use Rattle.cull.specs.OneConstraint.{price, pricedEdge, stageMarks, byConstraint, LeastPrices, least-fewest, seen-within, seen-sized, seen-count}
 
 -- ---- from stage to stage
 
@@ -70,9 +69,6 @@ module _ (K : ℕ) {alphabet : Alphabet} (G : Graph (rankedCosts K) alphabet) (Z
 
     pub stage-within : {N : ℕ} → Within G N → Within (stage k) N
     stage-within W = seen-within K k H (left-sized k) (sub-within (left-sub G (countAt K) fewest k) W)
-
-    pub stage-positioned : {pos : ℕ → ℕ} {n : ℕ} → Positioned G pos n → Positioned (stage k) pos n
-    stage-positioned Y = seen-positioned K k H (left-sized k) (sub-positioned (left-sub G (countAt K) fewest k) Y)
 
     pub stage-sized : Sized (stage k) (letterCount 1)
     stage-sized = seen-sized K k H (left-sized k)

@@ -1,8 +1,7 @@
 // Ellison's cull as an engine: constraint by constraint, the fewest marks from each node to an end are found, and the arcs and the endings that
 // cost more are dropped.
 ghost use mathlib.Core.Path.{_≡_};
-ghost use Prim.Native.Nat.{_+_, _*_, _<_};
-ghost use lib.ListN.{length};
+ghost use Prim.Native.Nat.{_<_};
 ghost use Rattle.tables.specs.Work.{HasNodes};
 ghost use Rattle.tables.specs.Places.{sixPlaces};
 ghost use Rattle.insertions.specs.RankedWeights.{RankedWeights};
@@ -18,7 +17,7 @@ ghost use Rattle.grid.specs.Grids.{GridOf};
 ghost use Rattle.cull.specs.Tables.{TablesPre};
 ghost use Rattle.stage_entering.specs.Entering.{codesAt};
 ghost use Rattle.cull.specs.Entering.{EndingsPre};
-ghost use Rattle.cull.specs.Culling.{LentTables, CullPre, PositionPre, PositionEntered, PositionDone, EndPre, EndsTried, CodesEnded, StagePre, StageDone, Blanked, PlaceCleared};
+ghost use Rattle.cull.specs.Culling.{LentTables, CullPre, SymbolsPre, SymbolsEntered, CodesEnded, LastPre, LastTried, StagePre, StageDone, Blanked, PlaceCleared};
 use candidate::Evaluation;
 use candidate::refused;
 use cells::Groups;
@@ -57,38 +56,30 @@ fn clear_place(work: &mut [u16], count: usize, place: usize)
     }
 }
 
-// Enters a position before the last one: tries its nodes by the pairs of one symbol of its set after the other.
-fn enter_symbol(
+// Enters a position before the last one: tries its nodes by the pairs of one symbol of its set after the other. `steps`, `high` and `low` are overwritten.
+fn enter_symbols(
     work: &mut [u16],
     card: &[u8],
-    ranking: &[u8],
-    sets: &[u64],
+    set: u64,
     counts: &[u8],
     weights: &[u64],
-    entries: &[u32],
-    ends: &[u16; 514],
     steps: &mut [u16],
     high: &mut [u64],
     low: &mut [u64],
-    g: Groups,
-    size: usize,
-    position: usize,
-    stage: usize,
+    at: Site,
 )
-    requires { ⌜ PositionPre (now card) (now ranking) (now sets) (now counts) (now entries) (now ends) (now work) size position stage × LentTables (now card) (now ranking) (now counts) (now weights) (now steps) (now high) (now low) g size × (position < length (now sets)) ⌝ }
-    ensures { λ _. ⌜ PositionEntered (now (card .entry)) (now (ranking .entry)) (now (sets .entry)) (now (work .entry)) (now (work .exit)) position stage ⌝ }
+    requires { ⌜ SymbolsPre (now work) (now card) (now counts) (now weights) (now steps) (now high) (now low) set at ⌝ }
+    ensures { λ _. ⌜ SymbolsEntered (now (card .entry)) (now (weights .entry)) (now (work .entry)) (now (work .exit)) set at ⌝ }
 {
-    let base = position * size;
+    let g = at.groups;
+    let base = at.base;
+    let stage = at.stage;
+    let size = g.front * g.back;
     let mut ahead = [0u64; 128];
     look_ahead(work, &mut ahead, base + size, size, stage);
-    let mut left = sets[position];
+    let mut left = set;
     while left > 0 {
         let symbol = machine::sets::least(left) as u8;
-        let at = Site {
-            groups: g,
-            base,
-            stage,
-        };
         enter_input(
             work,
             &ahead,
@@ -125,131 +116,26 @@ fn try_endings(work: &mut [u16], high: &[u64], low: &[u64], at: Site)
     }
 }
 
-// Enters the last position. The endings are joined as a column of their own.
+// Enters the last position. The endings are joined as a column of their own; `steps`, `high` and `low` are overwritten.
 fn enter_last(
     work: &mut [u16],
     card: &[u8],
-    ranking: &[u8],
-    sets: &[u64],
     counts: &[u8],
     weights: &[u64],
+    steps: &mut [u16],
     high: &mut [u64],
     low: &mut [u64],
-    g: Groups,
-    size: usize,
-    stage: usize,
+    at: Site,
 )
-    requires { ⌜ EndPre (now card) (now ranking) (now sets) (now counts) (now weights) (now work) (now high) (now low) g size stage ⌝ }
-    ensures { λ _. ⌜ EndsTried (now (card .entry)) (now (ranking .entry)) (now (sets .entry)) (now (work .entry)) (now (work .exit)) stage (length (now (sets .entry)) * size) (length (now (sets .entry)) * size + size) ⌝ }
+    requires { ⌜ LastPre (now work) (now card) (now counts) (now weights) (now steps) (now high) (now low) at ⌝ }
+    ensures { λ _. ⌜ LastTried (now (card .entry)) (now (weights .entry)) (now (work .entry)) (now (work .exit)) at ⌝ }
 {
-    let mut column = [65535u16; 2600];
+    let g = at.groups;
     let width = columns::width_of(counts);
-    columns::fill_endings(&mut column, card, counts);
+    columns::fill_endings(steps, card, counts);
     let four = [0u8, 64, 64, 64];
-    cells::join_four(&column, width, &four, counts, weights, g, high, low);
-    let at = Site {
-        groups: g,
-        base: sets.len() * size,
-        stage,
-    };
+    cells::join_four(steps, width, &four, counts, weights, g, high, low);
     try_endings(work, high, low, at);
-}
-
-// Enters a position.
-fn enter(
-    work: &mut [u16],
-    card: &[u8],
-    ranking: &[u8],
-    sets: &[u64],
-    counts: &[u8],
-    weights: &[u64],
-    entries: &[u32],
-    ends: &[u16; 514],
-    steps: &mut [u16],
-    high: &mut [u64],
-    low: &mut [u64],
-    g: Groups,
-    size: usize,
-    position: usize,
-    stage: usize,
-)
-    requires { ⌜ PositionPre (now card) (now ranking) (now sets) (now counts) (now entries) (now ends) (now work) size position stage × LentTables (now card) (now ranking) (now counts) (now weights) (now steps) (now high) (now low) g size ⌝ }
-    ensures { λ _. ⌜ PositionEntered (now (card .entry)) (now (ranking .entry)) (now (sets .entry)) (now (work .entry)) (now (work .exit)) position stage ⌝ }
-{
-    if position < sets.len() {
-        enter_symbol(
-            work,
-            card,
-            ranking,
-            sets,
-            counts,
-            weights,
-            entries,
-            ends,
-            steps,
-            high,
-            low,
-            g,
-            size,
-            position,
-            stage,
-        );
-    } else {
-        enter_last(
-            work,
-            card,
-            ranking,
-            sets,
-            counts,
-            weights,
-            high,
-            low,
-            g,
-            size,
-            stage,
-        );
-    }
-}
-
-// Finds the fewest marks from the nodes of a position.
-fn label_position(
-    work: &mut [u16],
-    card: &[u8],
-    ranking: &[u8],
-    sets: &[u64],
-    counts: &[u8],
-    weights: &[u64],
-    entries: &[u32],
-    ends: &[u16; 514],
-    steps: &mut [u16],
-    high: &mut [u64],
-    low: &mut [u64],
-    g: Groups,
-    size: usize,
-    position: usize,
-    stage: usize,
-)
-    requires { ⌜ PositionPre (now card) (now ranking) (now sets) (now counts) (now entries) (now ends) (now work) size position stage × LentTables (now card) (now ranking) (now counts) (now weights) (now steps) (now high) (now low) g size ⌝ }
-    ensures { λ _. ⌜ PositionDone (now (card .entry)) (now (ranking .entry)) (now (sets .entry)) (now (work .entry)) (now (work .exit)) position stage ⌝ }
-{
-    enter(
-        work,
-        card,
-        ranking,
-        sets,
-        counts,
-        weights,
-        entries,
-        ends,
-        steps,
-        high,
-        low,
-        g,
-        size,
-        position,
-        stage,
-    );
-    settle(work, entries, ends, position * size, size, stage);
 }
 
 // A stage: finds the fewest marks of one constraint from every node to an end, over what the stages before left.
@@ -273,26 +159,35 @@ fn label_stage(
     ensures { λ _. ⌜ StageDone (now (card .entry)) (now (ranking .entry)) (now (sets .entry)) (now (work .entry)) (now (work .exit)) stage ⌝ }
 {
     blank(work, (sets.len() + 1) * size);
-    let mut left = sets.len() + 1;
-    while left > 0 {
-        left -= 1;
-        label_position(
+    let mut position = sets.len();
+    let base = position * size;
+    let last = Site {
+        groups: g,
+        base,
+        stage,
+    };
+    enter_last(work, card, counts, weights, steps, high, low, last);
+    settle(work, entries, ends, base, size, stage);
+    while position > 0 {
+        position -= 1;
+        let base = position * size;
+        let at = Site {
+            groups: g,
+            base,
+            stage,
+        };
+        enter_symbols(
             work,
             card,
-            ranking,
-            sets,
+            sets[position],
             counts,
             weights,
-            entries,
-            ends,
             steps,
             high,
             low,
-            g,
-            size,
-            left,
-            stage,
+            at,
         );
+        settle(work, entries, ends, base, size, stage);
     }
 }
 

@@ -118,11 +118,12 @@ module _ {card counts ws own steps : List ℕ} {W : ℕ} {g : Groups} (R : Ready
   pub fill-ready : {x : ℕ} → x ≤ symbolCount card → FillPre card counts steps W x
   fill-ready h = record { accepted = R .accepted; counts-are = R .counts-are; input = omega (arith, its-machines .symbols); width = R .width; room = R .room }
 
-  module _ {steps′ four high low : List ℕ} {x kept : ℕ} (Q : Prepared (machinesOf card) x W steps′ kept) (outputs : (j : ℕ) → getD four j 0 ≤ 64) (eh : length high ≡ 264) (el : length low ≡ 264) where
+  module _ {steps′ four high low : List ℕ} {x kept : ℕ} (Q : Prepared (machinesOf card) x W steps′ kept) (outputs : (j : ℕ) → getD four j 0 ≤ 64)
+      (rh : (g .front + g .back) * 4 ≤ length high) (rl : (g .front + g .back) * 4 ≤ length low) where
     pub four-ready : FourPre steps′ four counts ws high low W g
     four-ready =
         subst (λ (l : List ℕ). FourPre steps′ four l ws high low W g) (sym (R .counts-are))
-        (four-pre its-machines (Q .columns) weights-are groups-are (R .few) four high low outputs eh el)
+        (four-pre its-machines (Q .columns) weights-are groups-are four high low outputs rh rl)
 
     module _ {own′ next : List ℕ} (N : NextRoom next ws (length counts) (product counts)) (O : Position own′ (codes card)) (J : FourJoined steps′ four counts ws high low W g) where
       joined-are : FourJoined steps′ four (stateCounts (machinesOf card)) ws high low W g
@@ -130,8 +131,8 @@ module _ {card counts ws own steps : List ℕ} {W : ℕ} {g : Groups} (R : Ready
 
       pub try-ready : TryPre own′ next high low (g .front) (g .back) × SkipPre own′ next high (g .front) (g .back) 0 (g .front * g .back)
       try-ready = (
-        try-pre its-machines (Q .columns) weights-are groups-are (R .few) joined-are outputs eh el (O .size) (N .fits),
-        skip-pre its-machines (Q .columns) weights-are groups-are (R .few) joined-are outputs (room-is N .labels) (O .labels),
+        try-pre its-machines (Q .columns) weights-are groups-are joined-are outputs rh rl (O .size) (N .fits),
+        skip-pre its-machines (Q .columns) weights-are groups-are joined-are outputs (room-is N .labels) (O .labels),
       )
 
       -- ---- four outputs more

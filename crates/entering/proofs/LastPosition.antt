@@ -42,7 +42,7 @@ use Rattle.cells.specs.Laws.Position.{placed, placed-in, placed-before, placed-
 use Rattle.cells.specs.Laws.Weighed.{weighed-whole}
 use Rattle.columns.specs.Filling.{Small}
 use Rattle.columns.specs.Endings.{EndingsPre, EndingsFilled}
-use Rattle.columns.specs.Laws.Endings.{EndingCell, endings-four-pre, ending-sum}
+use Rattle.columns.specs.Laws.Endings.{EndingCell, endings-pre, ending-sum}
 use Rattle.entering.specs.Entering.{cellGraph, Ready, EndingsEntered}
 use Rattle.entering.specs.Endings.{endingCell, firstSum, endingAt, WritePre, EndingsWritten}
 
@@ -247,10 +247,11 @@ module _ {card counts ws own steps : List ℕ} {W : ℕ} {g : Groups} (R : Ready
   fill-ready = record { accepted = R .accepted; counts-are = R .counts-are; room = omega (arith, R .room, R .width) }
 
   -- what joining asks
-  pub join-ready : {ys : List ℕ} → Small steps → EndingsFilled (machinesOf card) steps ys → (high low : List ℕ) → length high ≡ 264 → length low ≡ 264 → FourPre ys (0 ∷ 64 ∷ 64 ∷ 64 ∷ []) counts ws high low W g
-  join-ready small E high low eh el =
+  pub join-ready : {ys : List ℕ} → Small steps → EndingsFilled (machinesOf card) steps ys → (high low : List ℕ) → (g .front + g .back) * 4 ≤ length high → (g .front + g .back) * 4 ≤ length low
+      → FourPre ys (0 ∷ 64 ∷ 64 ∷ 64 ∷ []) counts ws high low W g
+  join-ready small E high low rh rl =
       let w : W ≡ places (stateCounts (machinesOf card)) = R .width ∙ ap places (R .counts-are) in
-      let p = endings-four-pre M E Z G (0 ∷ 64 ∷ 64 ∷ 64 ∷ []) high low small w (omega (arith, R .room, E .size)) (R .few) outputs eh el in
+      let p = endings-pre M E Z G (0 ∷ 64 ∷ 64 ∷ 64 ∷ []) high low small w (omega (arith, R .room, E .size)) outputs rh rl in
       rw (R .counts-are) p
     where
       outputs : (j : ℕ) → getD (0 ∷ 64 ∷ 64 ∷ 64 ∷ []) j 0 ≤ 64
@@ -264,9 +265,9 @@ module _ {card counts ws own steps : List ℕ} {W : ℕ} {g : Groups} (R : Ready
   codes-some = rw (R .counts-are) (product-positive (stateCounts (machinesOf card)) (counts-positive (M .sound)))
 
   -- what writing asks
-  pub write-ready : {ys high low : List ℕ} → Small steps → EndingsFilled (machinesOf card) steps ys → FourJoined ys (0 ∷ 64 ∷ 64 ∷ 64 ∷ []) counts ws high low W g → length high ≡ 264 → length low ≡ 264
-      → WritePre own high low (g .front) (g .back)
-  write-ready {high = high} {low = low} small E J eh el = write-pre (join-ready small E high low eh el) J (R .size) codes-some (R .few)
+  pub write-ready : {ys high low : List ℕ} → Small steps → EndingsFilled (machinesOf card) steps ys → FourJoined ys (0 ∷ 64 ∷ 64 ∷ 64 ∷ []) counts ws high low W g → (g .front + g .back) * 4 ≤ length high
+      → (g .front + g .back) * 4 ≤ length low → WritePre own high low (g .front) (g .back)
+  write-ready {high = high} {low = low} small E J rh rl = write-pre (join-ready small E high low rh rl) J (R .size) codes-some (R .few)
 
   pub last-entered : {ys high low own′ : List ℕ} → EndingsFilled (machinesOf card) steps ys → FourJoined ys (0 ∷ 64 ∷ 64 ∷ 64 ∷ []) counts ws high low W g
       → EndingsWritten own′ high low (g .front) (g .back) (g .front * g .back) → EndingsEntered card ws own′

@@ -1,6 +1,6 @@
 // The labels of the last position: the endings, joined as a column of their own.
 ghost use mathlib.Core.Path.{_≡_};
-ghost use Prim.Native.Nat.{_*_};
+ghost use Prim.Native.Nat.{_+_, _*_, _≤_};
 ghost use lib.ListN.{length};
 ghost use Rattle.columns.specs.Filling.{Small};
 ghost use Rattle.entering.specs.Entering.{Ready, EndingsEntered};
@@ -58,7 +58,7 @@ pub fn enter_endings(
     high: &mut [u64],
     low: &mut [u64],
 )
-    requires { ⌜ Ready (now card) (now counts) (now weights) (now own) (now steps) width g × Small (now steps) × (length (now high) ≡ 264) × (length (now low) ≡ 264) ⌝ }
+    requires { ⌜ Ready (now card) (now counts) (now weights) (now own) (now steps) width g × Small (now steps) × ((g .front + g .back) * 4 ≤ length (now high)) × ((g .front + g .back) * 4 ≤ length (now low)) ⌝ }
     ensures { λ _. ⌜ EndingsEntered (now (card .entry)) (now (weights .entry)) (now (own .exit)) ⌝ }
 {
     columns::fill_endings(steps, card, counts);

@@ -1,7 +1,7 @@
 // Entering a position: by the symbols of its set, or, at the last one, by the endings.
 ghost use mathlib.Core.Path.{_≡_};
 ghost use mathlib.Core.Bool.{true};
-ghost use Prim.Native.Nat.{ℕ, _≤_};
+ghost use Prim.Native.Nat.{ℕ, _+_, _*_, _≤_};
 ghost use lib.ListN.{length};
 ghost use Rattle.basics.specs.Sets.{member};
 ghost use Rattle.basics.specs.Products.{product};
@@ -28,7 +28,7 @@ fn enter_input(
     high: &mut [u64],
     low: &mut [u64],
 )
-    requires { ⌜ Ready (now card) (now counts) (now weights) (now own) (now steps) (places (now counts)) g × Position (now own) (codes (now card)) × NextRoom (now next) (now weights) (length (now counts)) (product (now counts)) × (1 ≤ input) × (input ≤ symbolCount (now card)) × (length (now high) ≡ 264) × (length (now low) ≡ 264) ⌝ }
+    requires { ⌜ Ready (now card) (now counts) (now weights) (now own) (now steps) (places (now counts)) g × Position (now own) (codes (now card)) × NextRoom (now next) (now weights) (length (now counts)) (product (now counts)) × (1 ≤ input) × (input ≤ symbolCount (now card)) × ((g .front + g .back) * 4 ≤ length (now high)) × ((g .front + g .back) * 4 ≤ length (now low)) ⌝ }
     ensures { λ _. ⌜ InputTried (now (card .entry)) (now (weights .entry)) (now (own .entry)) (now (own .exit)) (now (next .entry)) input ⌝ }
 {
     let width = columns::width_of(counts);
@@ -54,7 +54,7 @@ pub fn enter_symbols(
     high: &mut [u64],
     low: &mut [u64],
 )
-    requires { ⌜ Ready (now card) (now counts) (now weights) (now own) (now steps) (places (now counts)) g × Blank (now own) (product (now counts)) × NextRoom (now next) (now weights) (length (now counts)) (product (now counts)) × ((x : ℕ) → member symbols x ≡ true → (1 ≤ x) × (x ≤ symbolCount (now card))) × (length (now high) ≡ 264) × (length (now low) ≡ 264) ⌝ }
+    requires { ⌜ Ready (now card) (now counts) (now weights) (now own) (now steps) (places (now counts)) g × Blank (now own) (product (now counts)) × NextRoom (now next) (now weights) (length (now counts)) (product (now counts)) × ((x : ℕ) → member symbols x ≡ true → (1 ≤ x) × (x ≤ symbolCount (now card))) × ((g .front + g .back) * 4 ≤ length (now high)) × ((g .front + g .back) * 4 ≤ length (now low)) ⌝ }
     ensures { λ _. ⌜ SymbolsEntered (now (card .entry)) (now (weights .entry)) (now (own .exit)) (now (next .entry)) symbols ⌝ }
 {
     let mut left = symbols;

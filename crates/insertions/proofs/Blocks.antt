@@ -54,10 +54,10 @@ module _ {steps counts ws : List ℕ} {W kept : ℕ} {g : Groups} (R : ListPre s
       (let J = joint-cell (R .of .machines) (R .of .columns) own-weights (i / 4 % product (stateCounts (R .machines))) (outputAt (stateCounts (R .machines)) kept i) (mod-lt (i / 4) (product-positive (stateCounts (R .machines)) (counts-positive (R .of .machines .sound)))) (four-most (afterFours (i / 4 / product (stateCounts (R .machines))) kept) (i % 4)) in
       list-small (keptLane steps ws (stateCounts (R .machines)) W kept i .high) (product (stateCounts (R .machines))) (J .code) (R .of .machines .joint-states))
 
-  pub asks-four : (set : ℕ) {four : List ℕ} (high low : List ℕ) → four ≡ nextFour set → length high ≡ 264 → length low ≡ 264 → FourPre steps four counts ws high low W g
+  pub asks-four : (set : ℕ) {four : List ℕ} (high low : List ℕ) → four ≡ nextFour set → (g .front + g .back) * 4 ≤ length high → (g .front + g .back) * 4 ≤ length low → FourPre steps four counts ws high low W g
   asks-four set {four} high low e a b =
       subst (λ (qs : List ℕ). FourPre steps four qs ws high low W g) (sym (R .of .counts-are))
-      (four-pre (R .of .machines) (R .of .columns) own-weights own-groups (R .few) four high low (λ j. subst (λ (ys : List ℕ). getD ys j 0 ≤ 64) (sym e) (four-most set j)) a b)
+      (four-pre (R .of .machines) (R .of .columns) own-weights own-groups four high low (λ j. subst (λ (ys : List ℕ). getD ys j 0 ≤ 64) (sym e) (four-most set j)) a b)
 
   module _ (q : ℕ) {four high low : List ℕ} (e : four ≡ nextFour (afterFours q kept)) (J : FourJoined steps four counts ws high low W g) where
     own-joined : FourJoined steps four (stateCounts (R .machines)) ws high low W g
@@ -66,19 +66,19 @@ module _ {steps counts ws : List ℕ} {W kept : ℕ} {g : Groups} (R : ListPre s
     output-few : (j : ℕ) → getD four j 0 ≤ 64
     output-few j = subst (λ (ys : List ℕ). getD ys j 0 ≤ 64) (sym e) (four-most (afterFours q kept) j)
 
-    pub high-pre : length high ≡ 264 → TablePre high (g .front) (g .back)
-    high-pre size = record {
+    pub high-pre : (g .front + g .back) * 4 ≤ length high → TablePre high (g .front) (g .back)
+    high-pre room = record {
       few = omega (arith, codes-are, codes-few);
       some = (positive (g .front) (g .back) (omega (arith, codes-are, codes-some)), positive (g .back) (g .front) (rw (mul-comm (g .back) (g .front)) (omega (arith, codes-are, codes-some))));
-      room = omega (arith, R .few, size);
+      room = room;
       sums = λ a b j h k l. omega (arith, joint-sum (R .of .machines) (R .of .columns) own-weights own-groups own-joined a b j h k l (output-few j) .high-most);
     }
 
-    pub low-pre : length low ≡ 264 → TablePre low (g .front) (g .back)
-    low-pre size = record {
+    pub low-pre : (g .front + g .back) * 4 ≤ length low → TablePre low (g .front) (g .back)
+    low-pre room = record {
       few = omega (arith, codes-are, codes-few);
       some = (positive (g .front) (g .back) (omega (arith, codes-are, codes-some)), positive (g .back) (g .front) (rw (mul-comm (g .back) (g .front)) (omega (arith, codes-are, codes-some))));
-      room = omega (arith, R .few, size);
+      room = room;
       sums = λ a b j h k l. omega (arith, joint-sum (R .of .machines) (R .of .columns) own-weights own-groups own-joined a b j h k l (output-few j) .low-most);
     }
 

@@ -158,9 +158,6 @@ module _ {f : ℕ → Lane} {n : ℕ} {es ns : List ℕ} (R : Starts f n es ns) 
 
   -- ---- all lanes are there
 
-  abbrev pub ends-all : List ℕ
-  ends-all = bumped 1 f n ns
-
   pub list-start : (l : ℕ) → l ≤ 512 → getD (bumped 1 f n ns) l 0 ≡ startOf f n l
   unfolding startOf
   list-start zero h = bumped-before 1 f ns n 0 (omega arith) ∙ R .first

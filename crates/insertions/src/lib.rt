@@ -1,7 +1,7 @@
 // The insertions of the outputs worth trying, in lists by the code that they lead to: counted first, then written, both times in the same order.
 ghost use mathlib.Core.Path.{_≡_};
 ghost use mathlib.Core.List.{[]};
-ghost use Prim.Native.Nat.{_*_, _^_, _<_, _≤_};
+ghost use Prim.Native.Nat.{_+_, _*_, _^_, _<_, _≤_};
 ghost use lib.ListN.{length, getD, replicate};
 ghost use Rattle.insertions.specs.Lanes.{laneOf, isMove, listOf, narrowed, entryOf, bump, put, bumped, placed};
 ghost use Rattle.insertions.specs.Tables.{codeLane, fourLane, lanesFrom, CountRoom, EntryRoom, LanesPre, TablePre};
@@ -148,7 +148,7 @@ pub fn count(
     high: &mut [u64],
     low: &mut [u64],
 ) -> usize
-    requires { ⌜ (length (now ends) ≡ 514) × ListPre (now steps) (now counts) (now weights) width kept g × (length (now high) ≡ 264) × (length (now low) ≡ 264) ⌝ }
+    requires { ⌜ (length (now ends) ≡ 514) × ListPre (now steps) (now counts) (now weights) width kept g × ((g .front + g .back) * 4 ≤ length (now high)) × ((g .front + g .back) * 4 ≤ length (now low)) ⌝ }
     ensures { λ r. ⌜ Counted (now (steps .entry)) (now (counts .entry)) (now (weights .entry)) width kept (now (ends .exit)) × (r ≡ getD (now (ends .exit)) 513 0) ⌝ }
 {
     clear(ends);
@@ -260,7 +260,7 @@ pub fn list(
     high: &mut [u64],
     low: &mut [u64],
 )
-    requires { ⌜ ListPre (now steps) (now counts) (now weights) width kept g × Counted (now steps) (now counts) (now weights) width kept (now ends) × (getD (now ends) 513 0 ≤ length (now entries)) × (length (now high) ≡ 264) × (length (now low) ≡ 264) ⌝ }
+    requires { ⌜ ListPre (now steps) (now counts) (now weights) width kept g × Counted (now steps) (now counts) (now weights) width kept (now ends) × (getD (now ends) 513 0 ≤ length (now entries)) × ((g .front + g .back) * 4 ≤ length (now high)) × ((g .front + g .back) * 4 ≤ length (now low)) ⌝ }
     ensures { λ _. ⌜ ListedBy (now (steps .entry)) (now (counts .entry)) (now (weights .entry)) width kept (now (entries .exit)) (now (ends .exit)) ⌝ }
 {
     let front = g.front;

@@ -2,7 +2,8 @@
 use mathlib.Core.Path.{_≡_, refl, sym, _∙_, subst}
 use mathlib.Core.Bool.{true, true≢false}
 use mathlib.Core.List.{List, []}
-use Prim.Native.Nat.{ℕ, _+_, _*_, _≤_}
+use Prim.Native.Nat.{ℕ, zero, suc, _+_, _*_, _<_, _≤_}
+use native.Mathlib.Nat.{mul-le-mul-left, mul-zero, suc-mul}
 use native.Mathlib.Omega.{arith}
 use lib.ListN.{length, take, replicate, length-replicate}
 use lib.Seq.{length-take-le}
@@ -10,25 +11,34 @@ use Rattle.ranking.specs.Rankings.{isRanking}
 use Rattle.card.specs.Layout.{symbolCount}
 use Rattle.card.specs.Card.{machinesOf}
 use Rattle.product.specs.Nodes.{stateCounts}
+use Rattle.product.specs.Laws.Nodes.{product-positive}
 use Rattle.tables.specs.Places.{sixPlaces}
 use Rattle.tables.specs.Laws.Cards.{card-machines}
+use Rattle.tables.proofs.Counts.{all-positive}
 use Rattle.tables.proofs.Prefix.{places-six}
 use Rattle.settling.specs.Prices.{rankedHighs}
 use Rattle.settling.proofs.Prices.{ranked-highs-few, ranked-lows-few}
 use Rattle.cells.specs.declared.Groups.{Groups}
 use Rattle.cells.specs.Columns.{WeightsOf}
 use Rattle.cells.specs.Groups.{GroupsOf}
+use Rattle.cells.specs.Laws.Groups.{all-codes}
 use Rattle.columns.specs.Filling.{FillPre}
 use Rattle.columns.specs.Prepared.{Prepared}
 use Rattle.grid.specs.declared.Grid.{Grid}
 use Rattle.grid.specs.Grids.{GridOf}
 use Rattle.insertions.specs.RankedWeights.{RankedWeights}
 use Rattle.insertions.specs.Listing.{InsertionColumns, ListPre, ListedBy}
-use Rattle.labelling.specs.Labelling.{LabelPre, PositionsDone, OrderPre, SearchPre, PositionsPre, AllLabelled}
+use Rattle.labelling.specs.Labelling.{LabelPre, PositionsDone, OrderPre, SearchPre, JointRoom, PositionsPre, AllLabelled}
 use Rattle.labelling.specs.Laws.LabelRoom.{ranked-room, ranked-most-high}
 use Rattle.labelling.specs.Laws.Ranked.{ranked-done}
 use Rattle.labelling.specs.Laws.Tied.{ranked-tie}
-use Rattle.labelling.proofs.Sizes.{counts-are, counts-length, states-are}
+use Rattle.labelling.proofs.Sizes.{counts-are, counts-length, counts-some, size-is, states-are}
+
+-- two numbers that are not 0 add up to at most one more than their product
+sum-few : (a b : ℕ) → 0 < a * b → a + b ≤ a * b + 1
+sum-few zero b h = absurd (omega arith)
+sum-few (suc a) zero h = absurd (omega (arith, mul-zero (suc a)))
+sum-few (suc a) (suc b) h = let k : a * 1 ≤ a * suc b = mul-le-mul-left a (omega arith) in omega (arith, suc-mul a (suc b))
 
 -- ---- the columns of the insertions, counted and in lists
 
@@ -62,9 +72,19 @@ module _ {ranked sums card : List ℕ} {grid : Grid} {ws hs marks sets : List �
       listed = L (symbolCount card) (machinesOf card) (Q .order-pre .order) insertion-columns (Q .order-pre .six) (Q .order-pre .ranked);
     }
 
+  -- there is room for the joint steps of two groups
+  pub groups-room : {g : Groups} {table : List ℕ} → GroupsOf (take (grid .machines) (grid .counts)) g × (g .front + g .back ≤ 66) → JointRoom (grid .size) table → (g .front + g .back) * 4 ≤ length table
+  groups-room {g} G J = J .room (g .front + g .back) (G .1) (omega (arith, sum-few (g .front) (g .back) (omega (arith, codes, some)), codes))
+    where
+      codes : g .front * g .back ≡ grid .size
+      codes = all-codes (G .0) ∙ sym (size-is (Q .setting .accepted) (Q .grid-of))
+
+      some : 0 < grid .size
+      some = omega (arith, size-is (Q .setting .accepted) (Q .grid-of), product-positive (take (grid .machines) (grid .counts)) (all-positive (counts-some (Q .setting .accepted) (Q .grid-of))))
+
 -- the front of a new array of columns
-pub columns-length : (n : ℕ) → n ≤ 2600 → length (take n (replicate {A = ℕ} 2600 65535)) ≡ n
-columns-length n h = length-take-le n (replicate {A = ℕ} 2600 65535) (omega (arith, length-replicate {A = ℕ} 2600 65535))
+pub columns-length : (room n : ℕ) → n ≤ room → length (take n (replicate {A = ℕ} room 65535)) ≡ n
+columns-length room n h = length-take-le n (replicate {A = ℕ} room 65535) (omega (arith, length-replicate {A = ℕ} room 65535))
 
 -- ---- the order of a ranking
 

@@ -12,7 +12,7 @@ use Rattle.tables.proofs.Counts.{few-counts}
 use Rattle.tables.proofs.Prefix.{front-is, front-length, front-fits, front-counts}
 use Rattle.cells.specs.Cells.{places}
 use Rattle.cells.specs.Columns.{WeightsOf}
-use Rattle.columns.specs.Laws.Places.{places-few}
+use Rattle.columns.specs.Laws.Places.{places-few, places-small}
 use Rattle.grid.specs.declared.Grid.{Grid}
 use Rattle.grid.specs.Grids.{GridOf}
 
@@ -43,6 +43,9 @@ module _ {card : List ℕ} {grid : Grid} (ok : cardRefusal card ≡ 0) (G : Grid
 
   pub states-few : grid .states ≤ 40
   states-few = omega (arith, states-are, places-few counts-some)
+
+  pub states-small : grid .size ≤ 16 → grid .states ≤ 21
+  states-small h = omega (arith, states-are, places-small counts-some (omega (arith, size-is)))
 
   -- three numbers for each of them, in front of others
   module _ (numbers : List ℕ) where

@@ -74,6 +74,10 @@ pub record Room (ranked sums : List ℕ) (n : ℕ) : Type 0 where
   pub counts : length sums ≡ 0 → length ranked ≡ n * 8
   pub numbers : length sums ≢ 0 → length sums ≡ n
 
+-- a table has four numbers for each code of two groups: of these codes there are at most 66, and at most one more than the P codes of all machines
+pub record JointRoom (P : ℕ) (table : List ℕ) : Type 0 where
+  pub room : (n : ℕ) → n ≤ 66 → n ≤ P + 1 → n * 4 ≤ length table
+
 -- a setting with the card's sizes, an order, and room for the labels
 pub record SearchPre (ranked sums card : List ℕ) (grid : Grid) (ws hs marks sets : List ℕ) : Type 0 where
   pub setting : Setting card sets (grid .size)

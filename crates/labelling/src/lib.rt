@@ -5,7 +5,7 @@ ghost use Prim.Native.Nat.{_+_, _*_, _≤_};
 ghost use lib.ListN.{length, take};
 ghost use Rattle.cells.specs.Groups.{GroupsOf};
 ghost use Rattle.grid.specs.Grids.{GridOf};
-ghost use Rattle.labelling.specs.Labelling.{LabelPre, PositionsDone, FinishPre, Finished, PositionsPre, SearchPre, AllLabelled};
+ghost use Rattle.labelling.specs.Labelling.{LabelPre, PositionsDone, FinishPre, Finished, PositionsPre, SearchPre, JointRoom, AllLabelled};
 use cells::Groups;
 use grid::Grid;
 use machine::Pair;
@@ -52,7 +52,7 @@ fn label_positions(
     high: &mut [u64],
     low: &mut [u64],
 )
-    requires { ⌜ PositionsPre (now ranked) (now sums) (now card) grid (now numbers) highs (now sets) (now steps) (now entries) (now ends) × GroupsOf (take (grid .machines) (grid .counts)) g × (g .front + g .back ≤ 66) × (length (now high) ≡ 264) × (length (now low) ≡ 264) ⌝ }
+    requires { ⌜ PositionsPre (now ranked) (now sums) (now card) grid (now numbers) highs (now sets) (now steps) (now entries) (now ends) × GroupsOf (take (grid .machines) (grid .counts)) g × (g .front + g .back ≤ 66) × ((g .front + g .back) * 4 ≤ length (now high)) × ((g .front + g .back) * 4 ≤ length (now low)) ⌝ }
     ensures { λ _. ⌜ AllLabelled (now (card .entry)) (now (numbers .entry)) (now (sets .entry)) (now (ranked .entry)) (now (ranked .exit)) (now (sums .entry)) (now (sums .exit)) ⌝ }
 {
     let all = grid.counts;
@@ -112,8 +112,8 @@ fn label_positions(
     }
 }
 
-// Labels all nodes. `marks` has the numbers by which the lists have the marks, `highs` what these count in high, by their places; `steps` and `entries`
-// are overwritten.
+// Labels all nodes. `marks` has the numbers by which the lists have the marks, `highs` what these count in high, by their places; `steps`, `entries`,
+// `high` and `low` are overwritten.
 fn label_with(
     ranked: &mut [u16],
     sums: &mut [u64],
@@ -125,8 +125,10 @@ fn label_with(
     sets: &[u64],
     steps: &mut [u16],
     entries: &mut [u32],
+    high: &mut [u64],
+    low: &mut [u64],
 )
-    requires { ⌜ SearchPre (now ranked) (now sums) (now card) grid (now numbers) highs (now marks) (now sets) × (65 * grid .states ≤ length (now steps)) × (63 * grid .size ≤ length (now entries)) ⌝ }
+    requires { ⌜ SearchPre (now ranked) (now sums) (now card) grid (now numbers) highs (now marks) (now sets) × (65 * grid .states ≤ length (now steps)) × (63 * grid .size ≤ length (now entries)) × JointRoom (grid .size) (now high) × JointRoom (grid .size) (now low) ⌝ }
     ensures { λ _. ⌜ AllLabelled (now (card .entry)) (now (numbers .entry)) (now (sets .entry)) (now (ranked .entry)) (now (ranked .exit)) (now (sums .entry)) (now (sums .exit)) ⌝ }
 {
     let all = grid.counts;
@@ -135,20 +137,8 @@ fn label_with(
     let counts = &all[..machines];
     let g = cells::grouped(counts, grid.size);
     let mut ends = [0u16; 514];
-    let mut high = [0u64; 264];
-    let mut low = [0u64; 264];
     let kept = columns::prepare(steps, card, counts, states, Pair::EMPTY);
-    insertions::count(
-        &mut ends,
-        steps,
-        kept,
-        states,
-        counts,
-        marks,
-        g,
-        &mut high,
-        &mut low,
-    );
+    insertions::count(&mut ends, steps, kept, states, counts, marks, g, high, low);
     insertions::list(
         entries,
         &mut ends,
@@ -158,8 +148,8 @@ fn label_with(
         counts,
         marks,
         g,
-        &mut high,
-        &mut low,
+        high,
+        low,
     );
     label_positions(
         ranked,
@@ -173,8 +163,8 @@ fn label_with(
         entries,
         &ends,
         g,
-        &mut high,
-        &mut low,
+        high,
+        low,
     );
 }
 
@@ -193,8 +183,10 @@ fn label_few(
     ensures { λ _. ⌜ AllLabelled (now (card .entry)) (now (numbers .entry)) (now (sets .entry)) (now (ranked .entry)) (now (ranked .exit)) (now (sums .entry)) (now (sums .exit)) ⌝ }
 {
     let places = 65 * grid.states;
-    let mut steps = [65535u16; 2600];
+    let mut steps = [65535u16; 1365];
     let mut entries = [0u32; 1008];
+    let mut high = [0u64; 68];
+    let mut low = [0u64; 68];
     label_with(
         ranked,
         sums,
@@ -206,6 +198,8 @@ fn label_few(
         sets,
         &mut steps[..places],
         &mut entries,
+        &mut high,
+        &mut low,
     );
 }
 
@@ -226,6 +220,8 @@ fn label_many(
     let places = 65 * grid.states;
     let mut steps = [65535u16; 2600];
     let mut entries = [0u32; 8064];
+    let mut high = [0u64; 264];
+    let mut low = [0u64; 264];
     label_with(
         ranked,
         sums,
@@ -237,6 +233,8 @@ fn label_many(
         sets,
         &mut steps[..places],
         &mut entries,
+        &mut high,
+        &mut low,
     );
 }
 

@@ -1,6 +1,6 @@
 -- Going down the rows with the better of two finds the first row that none beats. Assumes nothing.
 use mathlib.Core.Path.{_≡_, refl, sym, ap, _∙_}
-use mathlib.Core.Bool.{Bool, true, false, not, _&&_}
+use mathlib.Core.Bool.{Bool, true, false, not}
 use mathlib.Core.List.{List, [], _∷_}
 use mathlib.Core.Option.{Option, some}
 use Prim.Native.Nat.{ℕ}
@@ -32,10 +32,6 @@ module _ (ranking : List ℕ) where
   true-not e = rw e
 
   module _ {A : Type 0} where
-    all-cons : (f : A → Bool) (x : A) (xs : List A) → allOf f (x ∷ xs) ≡ (f x && allOf f xs)
-    unfolding allOf
-    all-cons f x xs = refl
-
     first-here : (f : A → Bool) (x : A) (xs : List A) → f x ≡ true → firstThat f (x ∷ xs) ≡ some x
     unfolding firstThat
     first-here f x xs t = rw (t, firstThat)

@@ -9,8 +9,8 @@ use denote.RattleType.{RattleType}
 use denote.Memory.{pointee}
 use denote.Exit.{yes}
 use denote.Struct.Laws as L
-use borrow.Fn.Kinds.{PK, RK}
-use borrow.Kind.Value.{Valued, ValuedLaws, tyV, pVal, rVal}
+use borrow.Fn.Kinds.{RK}
+use borrow.Kind.Value.{Valued, ValuedLaws, tyV, rVal}
 use borrow.Rule.Local.{InMem, OfMem, mem-whole, whole-mem, room-whole}
 use borrow.Rule.Yields.{Yields, yields-copy}
 use borrow.Table.Copies.{Cp, cStruct}
@@ -58,9 +58,6 @@ laws M 𝓤 H A W = record {
   in-mem = mem-whole 𝓤 H A W R;
   of-mem = whole-mem 𝓤 H A W R;
 }
-
-abbrev pub param : {n : ℕ} → PK n
-param = pVal valued laws
 
 abbrev pub result : {n : ℕ} → RK n
 result = rVal valued laws

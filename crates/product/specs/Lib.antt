@@ -5,7 +5,6 @@ pub mod Prices
 pub mod ProductGraph
 pub mod Codes
 pub mod Setting
-pub mod Pairs
 pub mod Best
 pub mod Sets
 pub mod Answering

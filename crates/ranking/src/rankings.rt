@@ -5,6 +5,7 @@ use refusals::tested;
 ghost use mathlib.Core.Path.{_≡_};
 ghost use mathlib.Core.List.{[], _∷_};
 ghost use Rattle.refusals.specs.Refusals.{refuse, firstOf, checkedNumber};
+ghost use lib.Dec.{eqb};
 ghost use Rattle.basics.specs.Search.{occurrences};
 ghost use Rattle.ranking.specs.Rankings.{isMachineCount, isRanking};
 
@@ -15,17 +16,20 @@ pub fn check_machine_count(machines: u8) -> Checked
     tested((1 <= machines) & (machines <= 6), Refusal::Counts)
 }
 
-// How often a machine stands in a list.
-fn occurrences(list: &[u8], machine: u8) -> usize
-    ensures { λ r. ⌜ r ≡ occurrences machine (now (list .entry)) ⌝ }
+// Whether a machine stands in a list once. It ends at a second time: a loop that only counts is laid out at great length by the compiler.
+fn stands_once(list: &[u8], machine: u8) -> bool
+    ensures { λ r. ⌜ r ≡ eqb (occurrences machine (now (list .entry))) 1 ⌝ }
 {
-    let mut count = 0;
+    let mut count: usize = 0;
     for at in 0..list.len() {
         if list[at] == machine {
+            if count == 1 {
+                return false;
+            }
             count += 1;
         }
     }
-    count
+    count == 1
 }
 
 // Refusal 7: whether a list has each machine once and nothing else.
@@ -36,7 +40,7 @@ pub fn check_ranking(machines: u8, ranking: &[u8]) -> Checked
         return Checked::Refused(Refusal::Ranking);
     }
     for machine in 0..machines {
-        if occurrences(ranking, machine) != 1 {
+        if !stands_once(ranking, machine) {
             return Checked::Refused(Refusal::Ranking);
         }
     }

@@ -5,13 +5,14 @@ use mathlib.Core.Bool.{Bool, false}
 use mathlib.Core.Option.{none, some}
 use mathlib.Core.List.{List}
 use Prim.Native.Nat.{ℕ, _+_, _*_, _/_, _%_, _^_, _≤_, _<_}
-use native.Mathlib.Nat.{mod-lt, mul-add-div-right, mul-add-mod-self-right, div-eq-of-lt, mod-eq-of-lt, suc-mul, div-lt-iff-lt-mul}
+use native.Mathlib.Nat.{add-zero, mod-lt, mul-add-div-right, mul-add-mod-self-right, div-eq-of-lt, mod-eq-of-lt, suc-mul, div-lt-iff-lt-mul}
 use native.Mathlib.Decide.{decLt}
 use native.Mathlib.Omega.{arith}
 use lib.ListN.{length, getD}
 use borrow.Author.Tests.{lt-ltb, le-ltb}
 use Rattle.machine.specs.declared.Pair.{Pair}
 use Rattle.cells.specs.Cells.{nowhere}
+use Rattle.insertions.specs.Tables.{LanesPre}
 use Rattle.stage_entering.specs.declared.Site.{Site}
 use Rattle.stage.specs.StageLabels.{stageLabel}
 use Rattle.stage_entering.specs.Relaxation.{relaxes-nothing, relaxes-then}
@@ -86,9 +87,6 @@ lanes-next {xs} {ys} {zs} {high} {low} {a} {b} {u} {t} {k} {n} L T = record {
     pick p w q z (yes h) = inl (z .0, (z .1 .0, h, z .1 .2))
     pick p w q z (no h) = let e : z .1 .0 ≡ n = omega (arith, z .1 .1) in inr (z .0, z .1 .2 ∙ ap p e)
 
-pub lanes-end : {xs ys high low : List ℕ} {a b u t k i n : ℕ} → LanesTried xs ys high low a b u t k i → i ≡ n → LanesTried xs ys high low a b u t k n
-lanes-end {xs} {ys} {high} {low} {a} {b} {u} {t} {k} L q = subst (λ (j : ℕ). LanesTried xs ys high low a b u t k j) q L
-
 pub targets-kept : {xs ys : List ℕ} {u t P k : ℕ} → length ys ≡ length xs → ((w : ℕ) → w ≢ u → stageLabel ys k w ≡ stageLabel xs k w) → TargetsPre xs u t P k → TargetsPre ys u t P k
 targets-kept e f Q = record { apart = Q .apart; targets = omega (arith, e, Q .targets); few = Q .few; stage = Q .stage; fits = λ v d a b l. Q .fits v d a b (sym (f v (omega (arith, Q .apart))) ∙ l) }
 
@@ -107,6 +105,16 @@ lane-ready {xs} {j = j} Q G L h = record {
   others = L .others;
   falls = L .falls;
 }
+
+-- the first lane, whose places are those of the four
+pub lane-first : {xs ahead high low : List ℕ} {a b u t k goal : ℕ} → CodePre xs ahead high low a b u t k → FrontCounts xs k u goal → LanePre xs ahead (getD high a 0 + getD high b 0) (getD low a 0 + getD low b 0) goal u t k
+lane-first {a = a} {b = b} Q F = rw (add-zero a, add-zero b) at (lane-ready {j = 0} Q F lanes-start (omega arith))
+
+pub lanes-first : {xs ys high low : List ℕ} {a b u t k : ℕ} → LaneTried xs ys (getD high a 0 + getD high b 0) (getD low a 0 + getD low b 0) u t k → LanesTried xs ys high low a b u t k 1
+lanes-first {a = a} {b = b} T = lanes-next {n = 0} lanes-start (rw (add-zero a, add-zero b) T)
+
+pub first-sum : {table : List ℕ} {a b : ℕ} → LanesPre table a b → getD table a 0 + getD table b 0 < 2 ^ 64
+first-sum {a = a} {b = b} P = rw (add-zero a, add-zero b) at (P .sums 0 (omega arith))
 
 -- ---- the codes of a position
 

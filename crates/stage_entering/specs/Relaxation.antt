@@ -41,9 +41,6 @@ module _ {costs : Costs} {alphabet : Alphabet} (S : Graph costs alphabet) where
           let m = a .falls (e .target) d (atmost-is l) in
           atmost-upto total (b .tried u p e (m .val) x h (m .is)) (shift-left-upto costs (e .cost) (m .upto))
 
-  pub relaxes-some : {L M : Labels costs} {D : ℕ → Letter → Type 0} → Relaxes L M D → (E : ℕ → Letter → Type 0) → ((u : ℕ) (p : Letter) → E u p → D u p) → Relaxes L M E
-  relaxes-some a E f = record { attained = a .attained; falls = a .falls; tried = λ u p e d x h l. a .tried u p e d (f u p x) h l }
-
   module _ {L : Labels costs} (A : Attained S L) (u : ℕ) (p : Letter) where
     here : (w : ℕ) (q : Letter) (e : Edge Cost) → Only u p w q → edge w q ≡ some e → edge u p ≡ some e
     here w q e x h = rw (← (x .0), ← (x .1)) h

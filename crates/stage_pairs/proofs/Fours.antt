@@ -112,7 +112,7 @@ module _ {card counts ws steps : List ℕ} {g : Groups} (T : ListPre card counts
 
   module _ {steps′ four high low : List ℕ} {x W kept : ℕ} (X : Prepared (machinesOf card) x W steps′ kept) (outputs : (j : ℕ) → getD four j 0 ≤ 64) (eh : length high ≡ 264) (el : length low ≡ 264) where
     pub join-ready : joining.FourPre steps′ four counts ws high low W g
-    join-ready = subst (λ (l : List ℕ). joining.FourPre steps′ four l ws high low W g) (sym (T .counts-are)) (four-pre machines (X .columns) weights-are groups-are (T .few) four high low outputs eh el)
+    join-ready = subst (λ (l : List ℕ). joining.FourPre steps′ four l ws high low W g) (sym (T .counts-are)) (four-pre machines (X .columns) weights-are groups-are four high low outputs (omega (arith, T .few)) (omega (arith, T .few)))
 
     module _ (J : FourJoined steps′ four counts ws high low W g) where
       cells-are : (c j : ℕ) → c < g .front * g .back → j < 4 → JointCell ws (product (stateCounts (machinesOf card))) (codeStep (machinesOf card) c (lanePair x four j)) (laneSum high g c j) (laneSum low g c j)

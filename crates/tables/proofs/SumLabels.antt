@@ -1,5 +1,5 @@
 -- Laws of labels as numbers. Assumes nothing.
-use mathlib.Core.Path.{_≡_, _∙_, ap}
+use mathlib.Core.Path.{_≡_, ap}
 use mathlib.Core.Bool.{Bool, cond}
 use mathlib.Core.Option.{some, none}
 use mathlib.Core.List.{List}
@@ -24,6 +24,3 @@ module _ (x : ℕ) where
 
 pub label-at : (xs : List ℕ) (u : ℕ) → u < length xs → labelOf xs u ≡ labelFrom (getD xs u 0)
 label-at xs u h = ap labelFrom (any-default xs u noLabel 0 h)
-
-pub labelled-at : (xs : List ℕ) (u : ℕ) → u < length xs → getD xs u 0 < noLabel → labelOf xs u ≡ some (costOf (getD xs u 0))
-labelled-at xs u h k = label-at xs u h ∙ label-some (getD xs u 0) k

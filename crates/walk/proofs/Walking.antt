@@ -20,6 +20,7 @@ use Rattle.tables.proofs.Machines.{counts-length}
 use Rattle.cells.specs.declared.Cell.{Cell}
 use Rattle.cells.specs.Cells.{places}
 use Rattle.columns.specs.Filling.{FillPre}
+use Rattle.columns.specs.Laws.Places.{places-small}
 use Rattle.tight.specs.Labels.{cellOf, HasLabel}
 use Rattle.walk.specs.WalkLabels.{WalkLabels, WalkPre}
 use Rattle.walk.proofs.Nodes.{Ground, Reached}
@@ -35,6 +36,9 @@ module _ {ranked sums card counts ws sets : List ℕ} {size room : ℕ} (pre : W
 
   pub counts-ok : CountsOfSome counts
   counts-ok = card-counts card (ground-there .labelled .setting .accepted) (pre .counts-are)
+
+  pub places-of-few : size ≤ 16 → places counts ≤ 21
+  places-of-few h = places-small counts-ok (omega (arith, pre .size-is))
 
   -- one to six machines
   pub machines-are : length counts ≡ length (machinesOf card)
@@ -83,9 +87,9 @@ module _ {ranked sums card counts ws sets : List ℕ} {size room : ℕ} (pre : W
         let K = pre .walk-labels in
         starts-reached G first initial its before (K .cost) (G .stored (cardStart card) start-node ∙ sym (ground-there .stored (cardStart card) start-node) ∙ K .cost-is) (omega (arith, K .answer-fits))
 
--- the front of 2,600 numbers
-pub front-length : (n : ℕ) → n ≤ 2600 → n ≡ length {A = ℕ} (take n (replicate 2600 65535))
-front-length n h = sym (length-take-le n (replicate 2600 65535) (rw (length-replicate {A = ℕ} 2600 65535) h))
+-- the front of a new array for columns
+pub front-length : (room n : ℕ) → n ≤ room → n ≡ length {A = ℕ} (take n (replicate room 65535))
+front-length room n h = sym (length-take-le n (replicate room 65535) (rw (length-replicate {A = ℕ} room 65535) h))
 
-pub front-room : (counts : List ℕ) (W n : ℕ) → W ≡ places counts → W ≤ 40 → n ≡ 65 * W → 65 * places counts ≤ length {A = ℕ} (take n (replicate 2600 65535))
-front-room counts W n w h e = omega (arith, front-length n (omega arith))
+pub front-room : (room : ℕ) (counts : List ℕ) (W n : ℕ) → W ≡ places counts → n ≤ room → n ≡ 65 * W → 65 * places counts ≤ length {A = ℕ} (take n (replicate room 65535))
+front-room room counts W n w h e = omega (arith, front-length room n h)

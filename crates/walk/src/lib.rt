@@ -145,9 +145,37 @@ fn walk_by(
     Written { pairs, profile }
 }
 
-// Writes the pairs of the best candidate into the front of the answer. The labels of all nodes, of which there are size to a position, are in one of two
-// slices: by counts, or by sums.
-pub fn walk(
+// Walks where a position has at most 16 codes.
+fn walk_few(
+    ranked: &[u16],
+    sums: &[u64],
+    card: &[u8],
+    counts: &[u8],
+    weights: &[u64],
+    sets: &[u64],
+    size: usize,
+    answer: &mut [u8],
+) -> Written
+    requires { ⌜ WalkPre (now ranked) (now sums) (now card) (now counts) (now weights) (now sets) size (length (now answer)) × (size ≤ 16) ⌝ }
+    ensures { λ r. ⌜ ((L : Labels (rankedCosts 1)) → WalkLabels (now (ranked .entry)) (now (sums .entry)) (now (card .entry)) (now (counts .entry)) (now (weights .entry)) (now (sets .entry)) (length (now (answer .entry))) L → Walked (now (card .entry)) (now (weights .entry)) (now (sets .entry)) (now (answer .entry)) (now (answer .exit)) L r) ⌝ }
+{
+    let room = 65 * columns::width_of(counts);
+    let mut insertions = [65535u16; 1365];
+    walk_by(
+        ranked,
+        sums,
+        card,
+        counts,
+        weights,
+        sets,
+        size,
+        &mut insertions[..room],
+        answer,
+    )
+}
+
+// Walks where a position has any number of codes.
+fn walk_many(
     ranked: &[u16],
     sums: &[u64],
     card: &[u8],
@@ -173,4 +201,26 @@ pub fn walk(
         &mut insertions[..room],
         answer,
     )
+}
+
+// Writes the pairs of the best candidate into the front of the answer. The labels of all nodes, of which there are size to a position, are in one of two
+// slices: by counts, or by sums. Few codes take a small array for the columns, since it has to be written whole when it is made.
+pub fn walk(
+    ranked: &[u16],
+    sums: &[u64],
+    card: &[u8],
+    counts: &[u8],
+    weights: &[u64],
+    sets: &[u64],
+    size: usize,
+    answer: &mut [u8],
+) -> Written
+    requires { ⌜ WalkPre (now ranked) (now sums) (now card) (now counts) (now weights) (now sets) size (length (now answer)) ⌝ }
+    ensures { λ r. ⌜ ((L : Labels (rankedCosts 1)) → WalkLabels (now (ranked .entry)) (now (sums .entry)) (now (card .entry)) (now (counts .entry)) (now (weights .entry)) (now (sets .entry)) (length (now (answer .entry))) L → Walked (now (card .entry)) (now (weights .entry)) (now (sets .entry)) (now (answer .entry)) (now (answer .exit)) L r) ⌝ }
+{
+    if size <= 16 {
+        walk_few(ranked, sums, card, counts, weights, sets, size, answer)
+    } else {
+        walk_many(ranked, sums, card, counts, weights, sets, size, answer)
+    }
 }

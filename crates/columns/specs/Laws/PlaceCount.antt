@@ -1,4 +1,4 @@
--- The places of a column: at most 40, where one to six machines of at most 32 states have at most 128 joint states.
+-- The places of a column: at most 40, where one to six machines of at most 32 states have at most 128 joint states; at most 21, where these are at most 16.
 use mathlib.Core.Path.{_≡_, refl}
 use mathlib.Core.Bool.{Bool, true, false, cond}
 use mathlib.Core.List.{List, [], _∷_}
@@ -7,7 +7,7 @@ use native.Mathlib.Nat.{le-div-iff-mul-le, mul-comm, mul-le-mul-right}
 use native.Mathlib.Omega.{arith}
 use lib.Dec.{leb, ltb}
 use lib.ListN.{length, getD}
-use borrow.Author.Tests.{leb-true, ltb-true}
+use borrow.Author.Tests.{leb-true, ltb-true, ltb-false}
 use Rattle.basics.specs.Search.{everyBelow}
 use Rattle.basics.specs.Products.{product}
 use Rattle.basics.proofs.Below.{every-at}
@@ -55,3 +55,14 @@ places-most (q ∷ qs) p f h =
 
 pub few-places : (counts : List ℕ) → Positive counts → length counts ≤ 6 → ((m : ℕ) → getD counts m 0 ≤ 32) → product counts ≤ 128 → places counts ≤ 40
 few-places counts p k f h = omega (arith, places-most counts p f h, most-few (product counts) h)
+
+most-small : (p : ℕ) → p ≤ 16 → most p ≤ 15
+unfolding most
+most-small p h = go (ltb p 33) refl
+  where
+    go : (b : Bool) → ltb p 33 ≡ b → cond b (p - 1) (30 + (p + 31) / 32) ≤ 15
+    go true t = omega arith
+    go false t = absurd (omega (arith, ltb-false p 33 t))
+
+pub small-places : (counts : List ℕ) → Positive counts → length counts ≤ 6 → ((m : ℕ) → getD counts m 0 ≤ 32) → product counts ≤ 16 → places counts ≤ 21
+small-places counts p k f h = omega (arith, places-most counts p f (omega arith), most-small (product counts) h)

@@ -1,4 +1,4 @@
--- The places of columns: at most 40 for an accepted card.
+-- The places of columns: at most 40 for an accepted card, and at most 21 if it has at most 16 joint states.
 use mathlib.Core.Path.{_≡_, ap}
 use mathlib.Core.List.{List, [], _∷_}
 use Prim.Native.Nat.{ℕ, zero, suc, _+_, _*_, _<_, _≤_}
@@ -6,10 +6,11 @@ use native.Mathlib.Nat.{mul-le-mul-right, suc-mul}
 use native.Mathlib.Decide.{decLt}
 use native.Mathlib.Omega.{arith}
 use lib.ListN.{length, getD, take}
+use Rattle.basics.specs.Products.{product}
 use Rattle.tables.specs.Tables.{CountsOfSome}
 use Rattle.tables.proofs.Counts.{few-counts, all-positive, few-states, count-few}
 use Rattle.cells.specs.Cells.{places}
-use Rattle.columns.specs.Laws.PlaceCount.{few-places}
+use Rattle.columns.specs.Laws.PlaceCount.{few-places, small-places}
 
 -- the places of a machine come before those of the later ones
 pub places-before : (counts : List ℕ) (m n : ℕ) → m < n → n ≤ length counts → places (take m counts) + getD counts m 0 ≤ places (take n counts)
@@ -21,6 +22,9 @@ places-before (q ∷ qs) (suc m) (suc n) h l = omega (arith, places-before qs m 
 
 pub places-few : {counts : List ℕ} → CountsOfSome counts → places counts ≤ 40
 places-few {counts} C = few-places counts (all-positive C) (few-counts C) (count-few C) (few-states C)
+
+pub places-small : {counts : List ℕ} → CountsOfSome counts → product counts ≤ 16 → places counts ≤ 21
+places-small {counts} C h = small-places counts (all-positive C) (few-counts C) (count-few C) h
 
 -- a place of a column is in no other column
 pub another-output : (W y z p q : ℕ) → p < W → q < W → (y ≡ z → ⊥) → y * W + p ≡ z * W + q → ⊥

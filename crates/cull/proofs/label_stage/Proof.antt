@@ -1,30 +1,42 @@
--- `label_stage` meets its contract.
+-- `label_stage` meets its contract. The loop's invariant: the positions from `position` on are done.
 use mathlib.Core.Path.{_≡_, refl, _∙_}
-use Prim.Native.Nat.{_+_, _≤_}
+use Prim.Native.Nat.{_-_, _≤_}
 use native.Mathlib.Omega.{arith}
 use lib.ListN.{length}
 use Rattle.product.specs.Laws.Setting.{few-nodes}
-use Rattle.cull.specs.Culling.{PositionDone}
-use Rattle.cull.proofs.Culling.{lent-kept, stage-begun, stage-start, position-ready, position-passed, stage-end}
+use Rattle.cull.proofs.Positions.{position-there}
+use Rattle.cull.proofs.Culling.{PositionDone, lent-kept, last-pre, last-entered, last-ready, last-labelled, symbols-pre, position-entered, settle-ready, position-labelled, position-ready, position-begun, position-passed, stage-end}
 use Rattle.cull.proofs.label_stage.Statement.{statement}
 use Rattle.cull.proofs.label_stage.Tie as tie
 
 abbrev Inv-loop : tie.InvT-loop
-Inv-loop work₀ card ranking sets counts weights entries ends steps₀ high₀ low₀ g size stage left₀ work steps high low left =
-    (left ≤ length sets + 1) × PositionDone card ranking sets work₀ work left stage × (length steps ≡ length steps₀) × (length high ≡ length high₀) × (length low ≡ length low₀)
+Inv-loop work₀ card ranking sets counts weights entries ends steps₀ high₀ low₀ g size stage position₀ last work steps high low position =
+    (position ≤ length sets) × PositionDone card ranking sets work₀ work position stage × (length steps ≡ length steps₀) × (length high ≡ length high₀) × (length low ≡ length low₀)
 
 abbrev μ-loop : tie.MeasureT-loop
-μ-loop work₀ card ranking sets counts weights entries ends steps₀ high₀ low₀ g size stage left₀ work steps high low left = left
+μ-loop work₀ card ranking sets counts weights entries ends steps₀ high₀ low₀ g size stage position₀ last work steps high low position = position
 
--- ---- the places on the way: the call, the labels taken, the turn of the loop
+-- ---- the places on the way, from the last to the first
 
 abbrev start : tie.After-blank Inv-loop μ-loop → tie.Start Inv-loop μ-loop
-start b = b .before .before .before .before .before .before .before .before .before .before .before .before
+start c = c .before .before .before .before .before .before .before .before .before .before .before .before
 
-abbrev blanked : tie.At-loop Inv-loop μ-loop → tie.After-blank Inv-loop μ-loop
-blanked l = l .before .before .before
+abbrev blanked : tie.After-enter-last Inv-loop μ-loop → tie.After-blank Inv-loop μ-loop
+blanked c = c .before .before .before .before .before .before .before
 
--- ---- what each place asks for
+abbrev entered : tie.After-settle Inv-loop μ-loop → tie.After-enter-last Inv-loop μ-loop
+entered c = c .before .before .before .before .before .before .before .before .before .before
+
+abbrev first : tie.At-loop Inv-loop μ-loop → tie.After-settle Inv-loop μ-loop
+first c = c .before .before .before
+
+abbrev begun : tie.At-loop Inv-loop μ-loop → tie.Start Inv-loop μ-loop
+begun c = start (blanked (entered (first c)))
+
+abbrev loop : tie.After-enter-symbols Inv-loop μ-loop → tie.At-loop Inv-loop μ-loop
+loop c = c .before .before .before .before .before .before .before
+
+-- ---- before the loop
 
 add-blank : tie.Need-add-blank Inv-loop μ-loop
 add-blank c = omega (arith, c .before .before .before .before .before .before .before .before .before .before .before .pre .0 .given .setting .few)
@@ -35,55 +47,112 @@ mul-blank c = omega (arith, few-nodes (c .before .before .before .before .before
 blank-requires : tie.Need-blank-requires Inv-loop μ-loop
 blank-requires c κs = omega (arith, c .before .before .before .before .before .before .before .before .before .before .before .pre .0 .given .room)
 
-add-left : tie.Need-add-left Inv-loop μ-loop
-add-left c = omega (arith, start (c .before .before) .pre .0 .given .setting .few)
+mul-base : tie.Need-mul-base Inv-loop μ-loop
+mul-base c =
+    let t = start (c .before .before) in
+    let q = t .pre .0 .given .setting in
+    omega (arith, few-nodes q, position-there q (length (t .args .sets .now)) (omega arith))
+
+enter-last-requires : tie.Need-enter-last-requires Inv-loop μ-loop
+enter-last-requires c κs =
+    let b = c .before .before .before .before .before .before in
+    let t = start b in
+    last-pre (last-ready (t .pre .0) (b .blank .ensures)) (t .pre .1)
+
+settle-requires : tie.Need-settle-requires Inv-loop μ-loop
+settle-requires c κs =
+    let e = c .before .before .before .before .before .before .before .before .before in
+    let b = blanked e in
+    let t = start b in
+    let q = last-ready (t .pre .0) (b .blank .ensures) in
+    settle-ready q (last-entered q (t .pre .1) (e .enter-last .ensures))
 
 loop-holds : tie.Need-loop-holds Inv-loop μ-loop
-loop-holds c = let b = c .before .before in (omega arith, stage-start (start b .pre .0) (b .blank .ensures), refl, refl, refl)
+loop-holds c =
+    let s = c .before .before in
+    let e = entered s in
+    let b = blanked e in
+    let t = start b in
+    (omega arith, position-begun (last-labelled (t .pre .0) (t .pre .1) (b .blank .ensures) (e .enter-last .ensures) (s .settle .ensures)), refl, refl, refl)
 
-sub-left : tie.Need-sub-left Inv-loop μ-loop
-sub-left c = omega arith
+-- ---- in the loop
 
-label-position-requires : tie.Need-label-position-requires Inv-loop μ-loop
-label-position-requires c κs =
-    let l = c .before .before .before .before .before in
+-- the positions from `position` on are done, from the call on
+since : (l : tie.At-loop Inv-loop μ-loop) → let t = begun l .args in PositionDone (t .card .now) (t .ranking .now) (t .sets .now) (t .work .now) (l .loop .work) (l .loop .position) (t .stage)
+since l =
+    let s = first l in
+    let e = entered s in
+    let b = blanked e in
+    let t = start b in
+    position-passed (last-labelled (t .pre .0) (t .pre .1) (b .blank .ensures) (e .enter-last .ensures) (s .settle .ensures) .size) (l .loop .inv .1)
+
+sub-position : tie.Need-sub-position Inv-loop μ-loop
+sub-position c = omega arith
+
+mul-base-2 : tie.Need-mul-base-2 Inv-loop μ-loop
+mul-base-2 c =
+    let l = c .before in
+    let q = begun l .pre .0 .given .setting in
+    omega (arith, few-nodes q, position-there q (l .loop .position - 1) (omega (arith, l .loop .inv .0)))
+
+mul-enter-symbols : tie.Need-mul-enter-symbols Inv-loop μ-loop
+mul-enter-symbols c = let l = c .before .before in omega (arith, l .loop .inv .0, begun l .pre .0 .given .setting .few)
+
+shared-slice-read-enter-symbols : tie.Need-shared-slice-read-enter-symbols Inv-loop μ-loop
+shared-slice-read-enter-symbols c = omega (arith, c .before .before .before .loop .inv .0, c .before .before .loop-test .taken)
+
+enter-symbols-requires : tie.Need-enter-symbols-requires Inv-loop μ-loop
+enter-symbols-requires c κs =
+    let l = c .before .before .before .before .before .before in
     let v = l .loop .inv in
-    let b = blanked l in
-    let t = start b in (
-      position-ready (t .pre .0) (l .loop .left) (c .before .before .before .before .loop-test .taken) (v .0) (position-passed (stage-begun (t .pre .0) (b .blank .ensures)) (v .1)),
-      lent-kept (t .pre .1) (v .2) (v .3) (v .4),
-    )
+    let i = c .before .before .before .before .before .loop-test .taken in
+    let Q = begun l .pre in
+    let k = entered (first l) .enter-last .kept .1 .1 .1 .1 in
+    symbols-pre (position-ready (Q .0) (l .loop .position) (omega (arith, i)) (v .0) (since l)) (lent-kept (Q .1) (v .2 ∙ k .0) (v .3 ∙ k .1 .0) (v .4 ∙ k .1 .1 .0)) (omega (arith, v .0, i))
+
+settle-requires-2 : tie.Need-settle-requires-2 Inv-loop μ-loop
+settle-requires-2 c κs =
+    let n = c .before .before .before .before .before .before .before .before .before in
+    let l = loop n in
+    let v = l .loop .inv in
+    let i = n .before .before .before .before .before .before .loop-test .taken in
+    let Q = begun l .pre in
+    let q = position-ready (Q .0) (l .loop .position) (omega (arith, i)) (v .0) (since l) in
+    settle-ready q (position-entered q (Q .1) (omega (arith, v .0, i)) (n .enter-symbols .ensures))
 
 loop-less : tie.Need-loop-less Inv-loop μ-loop
 loop-less c = omega arith
 
 loop-again : tie.Need-loop-again Inv-loop μ-loop
 loop-again c =
-    let v = c .before .before .before .before .before .before .before .before .before .before .before .before .before .before .loop .inv in
-    let p = c .before .before .before .before .before .before .before .before .label-position in
-    let kept = p .kept .1 .1 .1 .1 .1 .1 .1 .1 in
-    (omega (arith, v .0), position-passed (v .1) (p .ensures), kept .0 ∙ v .2, kept .1 .0 ∙ v .3, kept .1 .1 .0 ∙ v .4)
+    let n = c .before .before .before .before .before .before .before .before .before .before .before .before in
+    let l = loop n in
+    let v = l .loop .inv in
+    let i = n .before .before .before .before .before .before .loop-test .taken in
+    let Q = begun l .pre in
+    let k = n .enter-symbols .kept .1 .1 .1 .1 .1 in
+    let q = position-ready (Q .0) (l .loop .position) (omega (arith, i)) (v .0) (since l) in (
+      omega (arith, v .0),
+      position-passed (v .1 .size) (position-labelled q (position-entered q (Q .1) (omega (arith, v .0, i)) (n .enter-symbols .ensures)) (c .before .before .settle2 .ensures)),
+      k .0 ∙ v .2,
+      k .1 .0 ∙ v .3,
+      k .1 .1 .0 ∙ v .4,
+    )
 
 same-length : tie.Need-same-length Inv-loop μ-loop
-same-length c =
-    let l = c .before in
-    let b = blanked l in
-    position-passed (stage-begun (start b .pre .0) (b .blank .ensures)) (l .loop .inv .1) .size
+same-length c = since (c .before) .size
 
 same-length-2 : tie.Need-same-length-2 Inv-loop μ-loop
-same-length-2 c = c .before .loop .inv .2
+same-length-2 c = let l = c .before in l .loop .inv .2 ∙ entered (first l) .enter-last .kept .1 .1 .1 .1 .0
 
 same-length-3 : tie.Need-same-length-3 Inv-loop μ-loop
-same-length-3 c = c .before .loop .inv .3
+same-length-3 c = let l = c .before in l .loop .inv .3 ∙ entered (first l) .enter-last .kept .1 .1 .1 .1 .1 .0
 
 same-length-4 : tie.Need-same-length-4 Inv-loop μ-loop
-same-length-4 c = c .before .loop .inv .4
+same-length-4 c = let l = c .before in l .loop .inv .4 ∙ entered (first l) .enter-last .kept .1 .1 .1 .1 .1 .1 .0
 
 returns : tie.Need-returns Inv-loop μ-loop
-returns c =
-    let l = c .before in
-    let b = blanked l in
-    stage-end (position-passed (stage-begun (start b .pre .0) (b .blank .ensures)) (l .loop .inv .1)) (omega arith)
+returns c = stage-end (since (c .before)) (omega arith)
 
 pub label-stage-spec : {M : Type 1} → statement M
 label-stage-spec =
@@ -94,10 +163,16 @@ label-stage-spec =
     add-blank
     mul-blank
     blank-requires
-    add-left
+    mul-base
+    enter-last-requires
+    settle-requires
     loop-holds
-    sub-left
-    label-position-requires
+    sub-position
+    mul-base-2
+    mul-enter-symbols
+    shared-slice-read-enter-symbols
+    enter-symbols-requires
+    settle-requires-2
     loop-less
     loop-again
     same-length

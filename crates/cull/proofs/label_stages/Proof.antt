@@ -1,7 +1,7 @@
 -- `label_stages` meets its contract.
 use mathlib.Core.Path.{_≡_, refl, _∙_}
 use mathlib.Core.List.{List}
-use Prim.Native.Nat.{ℕ, _-_, _≤_}
+use Prim.Native.Nat.{ℕ, _-_, _≤_, _<_}
 use native.Mathlib.Omega.{arith}
 use lib.ListN.{length}
 use Rattle.product.specs.Laws.Setting.{few-nodes}
@@ -11,10 +11,10 @@ use Rattle.cull.proofs.label_stages.Tie as tie
 
 abbrev Inv-loop : tie.InvT-loop
 Inv-loop work₀ card ranking sets counts weights entries ends steps₀ high₀ low₀ g size stage₀ work steps high low stage =
-    (stage ≤ length counts) × StagesGone card ranking sets work₀ work stage × (length steps ≡ length steps₀) × (length high ≡ length high₀) × (length low ≡ length low₀)
+    (stage ≤ 6) × StagesGone card ranking sets work₀ work stage × (length steps ≡ length steps₀) × (length high ≡ length high₀) × (length low ≡ length low₀)
 
 abbrev μ-loop : tie.MeasureT-loop
-μ-loop work₀ card ranking sets counts weights entries ends steps₀ high₀ low₀ g size stage₀ work steps high low stage = length counts - stage
+μ-loop work₀ card ranking sets counts weights entries ends steps₀ high₀ low₀ g size stage₀ work steps high low stage = 6 - stage
 
 abbrev Inv-loop2 : tie.InvT-loop2
 Inv-loop2 work₀ card ranking sets counts weights entries ends steps high low size stage₀ work stage =
@@ -42,21 +42,25 @@ label-stage-requires c κs =
       lent-kept (t .pre .1) (v .2) (v .3) (v .4),
     )
 
+-- one stage more
+one-more : (c : tie.After-label-stage Inv-loop μ-loop Inv-loop2 μ-loop2) → c .before .before .before .before .before .before .loop .stage < 6
+one-more c = omega (arith, c .before .before .before .before .before .loop-test .taken, counts-few (start (c .before .before .before .before .before .before) .pre .0))
+
 add-stage : tie.Need-add-stage Inv-loop μ-loop Inv-loop2 μ-loop2
-add-stage c = omega (arith, c .before .before .before .before .before .before .before .before .before .before .before .before .before .loop-test .taken, counts-few (start (c .before .before .before .before .before .before .before .before .before .before .before .before .before .before) .pre .0))
+add-stage c = omega (arith, one-more (c .before .before .before .before .before .before .before .before))
 
 loop-less : tie.Need-loop-less Inv-loop μ-loop Inv-loop2 μ-loop2
-loop-less c = omega (arith, c .before .before .before .before .before .before .before .before .before .before .before .before .before .loop-test .taken)
+loop-less c = omega (arith, one-more (c .before .before .before .before .before .before .before .before))
 
 loop-again : tie.Need-loop-again Inv-loop μ-loop Inv-loop2 μ-loop2
 loop-again c =
-    let v = c .before .before .before .before .before .before .before .before .before .before .before .before .before .before .loop .inv in
-    let s = c .before .before .before .before .before .before .before .before .label-stage in
-    let kept = s .kept .1 .1 .1 .1 .1 .1 .1 .1 in
-    (omega (arith, c .before .before .before .before .before .before .before .before .before .before .before .before .before .loop-test .taken), stages-next (v .1) (s .ensures), kept .0 ∙ v .2, kept .1 .0 ∙ v .3, kept .1 .1 .0 ∙ v .4)
+    let s = c .before .before .before .before .before .before .before .before in
+    let v = s .before .before .before .before .before .before .loop .inv in
+    let kept = s .label-stage .kept .1 .1 .1 .1 .1 .1 .1 .1 in
+    (omega (arith, one-more s), stages-next (v .1) (s .label-stage .ensures), kept .0 ∙ v .2, kept .1 .0 ∙ v .3, kept .1 .1 .0 ∙ v .4)
 
 loop2-holds : tie.Need-loop2-holds Inv-loop μ-loop Inv-loop2 μ-loop2
-loop2-holds c = (omega (arith, c .before .loop .inv .0, counts-few (start (c .before) .pre .0)), omega (arith, c .loop-test .left), refl, λ xs A. A)
+loop2-holds c = (c .before .loop .inv .0, omega (arith, c .loop-test .left), refl, λ xs A. A)
 
 add-clear-place : tie.Need-add-clear-place Inv-loop μ-loop Inv-loop2 μ-loop2
 add-clear-place c = omega (arith, start (c .before .before .before .before) .pre .0 .setting .few)

@@ -1,5 +1,5 @@
 use borrow.Author.Needs.{needs}
-use mathlib.Core.Path.{_≡_, sym, _∙_}
+use mathlib.Core.Path.{_≡_, refl, sym, _∙_}
 use Prim.Native.Nat.{_^_, _<_}
 use native.Mathlib.Omega.{arith}
 use lib.ListN.{length}
@@ -9,7 +9,7 @@ use Rattle.entering.proofs.enter_input.Statement.{statement}
 use Rattle.entering.proofs.enter_input.Tie as tie
 
 abbrev Inv-loop : tie.InvT-loop
-Inv-loop own₀ next steps card counts weights g input high₀ low₀ width outputs₀ own high low outputs = FoursTried card weights own₀ own next input outputs₀ outputs × (outputs < 2 ^ 64) × (length high ≡ 264) × (length low ≡ 264)
+Inv-loop own₀ next steps card counts weights g input high₀ low₀ width outputs₀ own high low outputs = FoursTried card weights own₀ own next input outputs₀ outputs × (outputs < 2 ^ 64) × (length high ≡ length high₀) × (length low ≡ length low₀)
 
 abbrev μ-loop : tie.MeasureT-loop
 μ-loop own₀ next steps card counts weights g input high₀ low₀ width outputs₀ own high low outputs = outputs
@@ -21,7 +21,7 @@ prepare-requires : tie.Need-prepare-requires Inv-loop μ-loop
 prepare-requires c κs = let s = c .before .before .before .before .before .before .before .before .before in fill-ready (of-width (s .pre .0) (c .before .width-of .ensures .0)) (s .pre .4)
 
 loop-holds : tie.Need-loop-holds Inv-loop μ-loop
-loop-holds c = let s = c .before .before .before .before .before .before .before .before .before .before .before .before in (fours-start (s .pre .1), omega (arith, c .before .before .prepare .ok), s .pre .5, s .pre .6)
+loop-holds c = let s = c .before .before .before .before .before .before .before .before .before .before .before .before in (fours-start (s .pre .1), omega (arith, c .before .before .prepare .ok), refl, refl)
 
 join-four-requires : tie.Need-join-four-requires Inv-loop μ-loop
 join-four-requires c κs =
@@ -31,7 +31,7 @@ join-four-requires c κs =
     let at-width-of = c .before .before .before .before .before .before .before .before .before .before .before .width-of in
     let entry = c .before .before .before .before .before .before .before .before .before .before .before .before .before .before .before .before .before .before .before in
     let l = at-loop in
-    four-ready (of-width (entry .pre .0) (at-width-of .ensures .0)) (at-prepare .ensures) (four-few (l .outputs) (at-next-four .ensures)) (l .inv .2) (l .inv .3)
+    four-ready (of-width (entry .pre .0) (at-width-of .ensures .0)) (at-prepare .ensures) (four-few (l .outputs) (at-next-four .ensures)) (omega (arith, entry .pre .5, l .inv .2)) (omega (arith, entry .pre .6, l .inv .3))
 
 try-four-requires : tie.Need-try-four-requires Inv-loop μ-loop
 try-four-requires c κs =
@@ -43,7 +43,7 @@ try-four-requires c κs =
     let s = c .before .before .before .before .before .before .before .before .before .before .before .before .before .before .before .before .before .before .before .before .before .before .before .before .before .before .before in
     let l = at-loop in
     let j = at-join-four in
-    try-ready (of-width (s .pre .0) (at-width-of .ensures .0)) (at-prepare .ensures) (four-few (l .outputs) (at-next-four .ensures)) (j .kept .1 .1 .1 .1 .1 .1 .0 ∙ l .inv .2) (j .kept .1 .1 .1 .1 .1 .1 .1 .0 ∙ l .inv .3) (s .pre .2) (l .inv .0 .position) (j .ensures)
+    try-ready (of-width (s .pre .0) (at-width-of .ensures .0)) (at-prepare .ensures) (four-few (l .outputs) (at-next-four .ensures)) (omega (arith, s .pre .5, j .kept .1 .1 .1 .1 .1 .1 .0, l .inv .2)) (omega (arith, s .pre .6, j .kept .1 .1 .1 .1 .1 .1 .1 .0, l .inv .3)) (s .pre .2) (l .inv .0 .position) (j .ensures)
 
 loop-less : tie.Need-loop-less Inv-loop μ-loop
 loop-less c =
@@ -65,7 +65,7 @@ loop-again c =
     let f = at-next-four .ensures in
     let eh = j .kept .1 .1 .1 .1 .1 .1 .0 ∙ l .inv .2 in
     let el = j .kept .1 .1 .1 .1 .1 .1 .1 .0 ∙ l .inv .3 in (
-      fours-next (of-width (s .pre .0) (at-width-of .ensures .0)) (at-prepare .ensures) (four-few (l .outputs) f) eh el (s .pre .2) (l .inv .0 .position) (j .ensures) (s .pre .3) (at-try-four .ensures) (four-or-after (l .outputs) (l .inv .1) f (c .without-four .ensures)) (l .inv .0),
+      fours-next (of-width (s .pre .0) (at-width-of .ensures .0)) (at-prepare .ensures) (four-few (l .outputs) f) (omega (arith, s .pre .5, eh)) (omega (arith, s .pre .6, el)) (s .pre .2) (l .inv .0 .position) (j .ensures) (s .pre .3) (at-try-four .ensures) (four-or-after (l .outputs) (l .inv .1) f (c .without-four .ensures)) (l .inv .0),
       omega (arith, c .without-four .ok),
       eh,
       el,
@@ -78,10 +78,10 @@ same-length-2 : tie.Need-same-length-2 Inv-loop μ-loop
 same-length-2 c = c .before .before .before .before .prepare .kept .0
 
 same-length-3 : tie.Need-same-length-3 Inv-loop μ-loop
-same-length-3 c = c .before .loop .inv .2 ∙ sym (c .before .before .before .before .before .before .before .before .before .before .before .before .before .before .pre .5)
+same-length-3 c = c .before .loop .inv .2
 
 same-length-4 : tie.Need-same-length-4 Inv-loop μ-loop
-same-length-4 c = c .before .loop .inv .3 ∙ sym (c .before .before .before .before .before .before .before .before .before .before .before .before .before .before .pre .6)
+same-length-4 c = c .before .loop .inv .3
 
 returns : tie.Need-returns Inv-loop μ-loop
 returns c = let s = c .before .before .before .before .before .before .before .before .before .before .before .before .before .before in fours-end (s .pre .0 .accepted) (s .pre .3) (c .before .before .before .before .prepare .ensures) (omega (arith, c .loop-test .left)) (c .before .loop .inv .0)

@@ -11,13 +11,13 @@ use Rattle.entering.proofs.enter_symbols.Statement.{statement}
 use Rattle.entering.proofs.enter_symbols.Tie as tie
 
 abbrev Inv-loop : tie.InvT-loop
-Inv-loop own₀ next steps₀ card counts weights g symbols high₀ low₀ left₀ own steps high low left = SymbolsTried card weights own₀ own next symbols left × (length steps ≡ length steps₀) × (length high ≡ 264) × (length low ≡ 264)
+Inv-loop own₀ next steps₀ card counts weights g symbols high₀ low₀ left₀ own steps high low left = SymbolsTried card weights own₀ own next symbols left × (length steps ≡ length steps₀) × (length high ≡ length high₀) × (length low ≡ length low₀)
 
 abbrev μ-loop : tie.MeasureT-loop
 μ-loop own₀ next steps₀ card counts weights g symbols high₀ low₀ left₀ own steps high low left = left
 
 loop-holds : tie.Need-loop-holds Inv-loop μ-loop
-loop-holds c = let s = c .before .before .before .before .before .before .before in (symbols-start (blank-position (s .pre .0 .size) (blank-codes (s .pre .0) (s .pre .1))), refl, s .pre .4, s .pre .5)
+loop-holds c = let s = c .before .before .before .before .before .before .before in (symbols-start (blank-position (s .pre .0 .size) (blank-codes (s .pre .0) (s .pre .1))), refl, refl, refl)
 
 cast-symbol : tie.Need-cast-symbol Inv-loop μ-loop
 cast-symbol c = omega (arith, c .least .ensures .1)
@@ -27,7 +27,7 @@ enter-input-requires c κs = let s = c .before .before .before .before .before .
     let l = c .before .before .before .before .before .before .loop in
     let x = c .before .before .before .before .least in
     let b = s .pre .3 (x .result) (l .inv .0 .inside (x .result) (x .ensures .2)) in
-    (still-ready (s .pre .0) (l .inv .0 .position .size) (l .inv .1), l .inv .0 .position, s .pre .2, b .0, b .1, l .inv .2, l .inv .3)
+    (still-ready (s .pre .0) (l .inv .0 .position .size) (l .inv .1), l .inv .0 .position, s .pre .2, b .0, b .1, omega (arith, s .pre .4, l .inv .2), omega (arith, s .pre .5, l .inv .3))
 
 loop-less : tie.Need-loop-less Inv-loop μ-loop
 loop-less c = c .without-least .ensures .0
@@ -50,10 +50,10 @@ same-length-2 : tie.Need-same-length-2 Inv-loop μ-loop
 same-length-2 c = c .before .loop .inv .1
 
 same-length-3 : tie.Need-same-length-3 Inv-loop μ-loop
-same-length-3 c = c .before .loop .inv .2 ∙ sym (c .before .before .before .before .before .before .before .before .before .pre .4)
+same-length-3 c = c .before .loop .inv .2
 
 same-length-4 : tie.Need-same-length-4 Inv-loop μ-loop
-same-length-4 c = c .before .loop .inv .3 ∙ sym (c .before .before .before .before .before .before .before .before .before .pre .5)
+same-length-4 c = c .before .loop .inv .3
 
 returns : tie.Need-returns Inv-loop μ-loop
 returns c = let s = c .before .before .before .before .before .before .before .before .before in symbols-end (s .args .card .now) (s .pre .0 .accepted) (omega (arith, c .loop-test .left)) (blank-codes (s .pre .0) (s .pre .1)) (c .before .loop .inv .0)

@@ -12,7 +12,7 @@ use Rattle.insertions.proofs.count.Statement.{statement}
 use Rattle.insertions.proofs.count.Tie as tie
 
 abbrev Inv-loop : tie.InvT-loop
-Inv-loop ends₀ steps kept width counts weights g high₀ low₀ front back left₀ ends high low left = CountTo steps counts weights width kept ends left × (length high ≡ 264) × (length low ≡ 264)
+Inv-loop ends₀ steps kept width counts weights g high₀ low₀ front back left₀ ends high low left = CountTo steps counts weights width kept ends left × (length high ≡ length high₀) × (length low ≡ length low₀)
 
 abbrev μ-loop : tie.MeasureT-loop
 μ-loop ends₀ steps kept width counts weights g high₀ low₀ front back left₀ ends high low left = left
@@ -24,17 +24,18 @@ clear-requires : tie.Need-clear-requires Inv-loop μ-loop
 clear-requires c κs = c .before .before .before .before .before .before .pre .0
 
 loop-holds : tie.Need-loop-holds Inv-loop μ-loop
-loop-holds c = let s = c .before .before .before .before .before .before .before in (count-start (zeros-of (s .args .ends .now) (s .pre .0) (c .clear .ensures)), s .pre .2, s .pre .3)
+loop-holds c = let s = c .before .before .before .before .before .before .before in (count-start (zeros-of (s .args .ends .now) (s .pre .0) (c .clear .ensures)), refl, refl)
 
 join-four-requires : tie.Need-join-four-requires Inv-loop μ-loop
 join-four-requires c κs = let l = c .before .before .before .before .before .loop in
-    asks-four (c .before .before .before .before .before .before .before .before .before .before .before .before .before .pre .1) (l .left) _ _ (c .before .before .before .next-four .ensures) (l .inv .1) (l .inv .2)
+    let s = c .before .before .before .before .before .before .before .before .before .before .before .before .before in
+    asks-four (s .pre .1) (l .left) _ _ (c .before .before .before .next-four .ensures) (omega (arith, s .pre .2, l .inv .1)) (omega (arith, s .pre .3, l .inv .2))
 
 count-four-requires : tie.Need-count-four-requires Inv-loop μ-loop
 count-four-requires c κs = let s = c .before .before .before .before .before .before .before .before .before .before .before .before .before .before .before .before .before .before .before .before in
     let l = c .before .before .before .before .before .before .before .before .before .before .before .before .loop in
     let j = c .before .before .before .before .before .before .join-four in
-    (room-for-four (s .pre .1) (small s) (l .inv .0), high-pre (s .pre .1) (l .inv .0 .fours) (c .before .before .before .before .before .before .before .before .before .before .next-four .ensures ∙ ap nextFour (l .inv .0 .fours-to .left-is)) (j .ensures) (j .kept .1 .1 .1 .1 .1 .1 .0 ∙ l .inv .1))
+    (room-for-four (s .pre .1) (small s) (l .inv .0), high-pre (s .pre .1) (l .inv .0 .fours) (c .before .before .before .before .before .before .before .before .before .before .next-four .ensures ∙ ap nextFour (l .inv .0 .fours-to .left-is)) (j .ensures) (omega (arith, s .pre .2, j .kept .1 .1 .1 .1 .1 .1 .0, l .inv .1)))
 
 loop-less : tie.Need-loop-less Inv-loop μ-loop
 loop-less c =
@@ -79,10 +80,10 @@ cast-result c = let s = c .before .before .before .before .before .before .befor
     omega (arith, C .few, codes-few (s .pre .1))
 
 same-length : tie.Need-same-length Inv-loop μ-loop
-same-length c = omega (arith, c .before .before .before .before .before .before .loop .inv .1, c .before .before .before .before .before .before .before .before .before .before .before .before .before .before .pre .2)
+same-length c = c .before .before .before .before .before .before .loop .inv .1
 
 same-length-2 : tie.Need-same-length-2 Inv-loop μ-loop
-same-length-2 c = omega (arith, c .before .before .before .before .before .before .loop .inv .2, c .before .before .before .before .before .before .before .before .before .before .before .before .before .before .pre .3)
+same-length-2 c = c .before .before .before .before .before .before .loop .inv .2
 
 returns : tie.Need-returns Inv-loop μ-loop
 returns c = let s = c .before .before .before .before .before .before .before .before .before .before .before .before .before .before in

@@ -1,5 +1,5 @@
 use borrow.Author.Needs.{needs}
-use mathlib.Core.Path.{_≡_, _∙_, ap}
+use mathlib.Core.Path.{_≡_, refl, _∙_, ap}
 use Prim.Native.Nat.{_*_, _^_, _<_}
 use native.Mathlib.Omega.{arith}
 use lib.ListN.{length}
@@ -16,7 +16,7 @@ use Rattle.insertions.proofs.list.Statement.{statement}
 use Rattle.insertions.proofs.list.Tie as tie
 
 abbrev Inv-loop : tie.InvT-loop
-Inv-loop entries₀ ends₀ steps kept width counts weights g high₀ low₀ front back left₀ entries ends high low left = ListTo steps counts weights width kept entries₀ ends₀ entries ends left × (length high ≡ 264) × (length low ≡ 264)
+Inv-loop entries₀ ends₀ steps kept width counts weights g high₀ low₀ front back left₀ entries ends high low left = ListTo steps counts weights width kept entries₀ ends₀ entries ends left × (length high ≡ length high₀) × (length low ≡ length low₀)
 
 abbrev μ-loop : tie.MeasureT-loop
 μ-loop entries₀ ends₀ steps kept width counts weights g high₀ low₀ front back left₀ entries ends high low left = left
@@ -25,11 +25,12 @@ small : (s : tie.Start Inv-loop μ-loop) → s .args .kept < 2 ^ 64
 small s = search needs
 
 loop-holds : tie.Need-loop-holds Inv-loop μ-loop
-loop-holds c = let s = c .before .before .before .before .before .before in (list-start, s .pre .3, s .pre .4)
+loop-holds c = (list-start, refl, refl)
 
 join-four-requires : tie.Need-join-four-requires Inv-loop μ-loop
 join-four-requires c κs = let l = c .before .before .before .before .before .loop in
-    asks-four (c .before .before .before .before .before .before .before .before .before .before .before .before .pre .0) (l .left) _ _ (c .before .before .before .next-four .ensures) (l .inv .1) (l .inv .2)
+    let s = c .before .before .before .before .before .before .before .before .before .before .before .before in
+    asks-four (s .pre .0) (l .left) _ _ (c .before .before .before .next-four .ensures) (omega (arith, s .pre .3, l .inv .1)) (omega (arith, s .pre .4, l .inv .2))
 
 list-four-requires : tie.Need-list-four-requires Inv-loop μ-loop
 list-four-requires c κs = let s = c .before .before .before .before .before .before .before .before .before .before .before .before .before .before .before .before .before .before .before .before .before in
@@ -39,8 +40,8 @@ list-four-requires c κs = let s = c .before .before .before .before .before .be
     let q = l .inv .0 .fours in
     let d = e ∙ ap nextFour (l .inv .0 .fours-to .left-is) in (
       room-to-list (s .pre .0) (s .pre .1) (s .pre .2) (l .inv .0) (omega (arith, c .before .before .before .before .before .before .before .before .before .before .before .before .before .loop-test .taken)) e (j .ensures),
-      high-pre (s .pre .0) q d (j .ensures) (j .kept .1 .1 .1 .1 .1 .1 .0 ∙ l .inv .1),
-      low-pre (s .pre .0) q d (j .ensures) (j .kept .1 .1 .1 .1 .1 .1 .1 .0 ∙ l .inv .2),
+      high-pre (s .pre .0) q d (j .ensures) (omega (arith, s .pre .3, j .kept .1 .1 .1 .1 .1 .1 .0, l .inv .1)),
+      low-pre (s .pre .0) q d (j .ensures) (omega (arith, s .pre .4, j .kept .1 .1 .1 .1 .1 .1 .1 .0, l .inv .2)),
     )
 
 loop-less : tie.Need-loop-less Inv-loop μ-loop
@@ -72,10 +73,10 @@ same-length c = let s = c .before .before .before .before .before .before .befor
     ap length (l .inv .0 .entries-are) ∙ placed-size (keptLane (s .args .steps .now) (s .args .weights .now) (s .args .counts .now) (s .args .width) (s .args .kept)) (s .args .entries .now) (s .args .ends .now) (l .inv .0 .fours * product (s .args .counts .now) * 4)
 
 same-length-2 : tie.Need-same-length-2 Inv-loop μ-loop
-same-length-2 c = omega (arith, c .before .loop .inv .1, c .before .before .before .before .before .before .before .before .pre .3)
+same-length-2 c = c .before .loop .inv .1
 
 same-length-3 : tie.Need-same-length-3 Inv-loop μ-loop
-same-length-3 c = omega (arith, c .before .loop .inv .2, c .before .before .before .before .before .before .before .before .pre .4)
+same-length-3 c = c .before .loop .inv .2
 
 returns : tie.Need-returns Inv-loop μ-loop
 returns c = let s = c .before .before .before .before .before .before .before .before in

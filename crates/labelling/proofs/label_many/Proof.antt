@@ -16,13 +16,18 @@ array-borrow-prefix-steps : tie.Need-array-borrow-prefix-steps
 array-borrow-prefix-steps c = let s = c .before .before .before .before .before .before .before .before .before in omega (arith, states-few (s .pre .setting .accepted) (s .pre .grid-of), length-replicate {A = ℕ} 2600 65535)
 
 slice-aggregate-label-with : tie.Need-slice-aggregate-label-with
-slice-aggregate-label-with c = let s = c .before .before .before .before .before .before .before .before .before .before in sym (columns-length (65 * s .args .grid .states) (omega (arith, states-few (s .pre .setting .accepted) (s .pre .grid-of))))
+slice-aggregate-label-with c = let s = c .before .before .before .before .before .before .before .before .before .before in sym (columns-length 2600 (65 * s .args .grid .states) (omega (arith, states-few (s .pre .setting .accepted) (s .pre .grid-of))))
 
 label-with-requires : tie.Need-label-with-requires
 label-with-requires c κs =
-    let s = c .before .before .before .before .before .before .before .before .before .before .before in
-    let w = columns-length (65 * s .args .grid .states) (omega (arith, states-few (s .pre .setting .accepted) (s .pre .grid-of))) in
-    (s .pre, omega (arith, w), omega (arith, length-replicate {A = ℕ} 8064 0, few-codes (s .pre .setting)))
+    let s = c .before .before .before .before .before .before .before .before .before .before .before .before .before in
+    let w = columns-length 2600 (65 * s .args .grid .states) (omega (arith, states-few (s .pre .setting .accepted) (s .pre .grid-of))) in (
+      s .pre,
+      omega (arith, w),
+      omega (arith, length-replicate {A = ℕ} 8064 0, few-codes (s .pre .setting)),
+      record { room = λ n a b. omega (arith, length-replicate {A = ℕ} 264 0) },
+      record { room = λ n a b. omega (arith, length-replicate {A = ℕ} 264 0) },
+    )
 
 pub label-many-spec : {M : Type 1} → statement M
 label-many-spec =
@@ -31,6 +36,8 @@ label-many-spec =
     mul-places
     array-borrow-prefix-steps
     slice-aggregate-label-with
+    (λ c. search needs)
+    (λ c. search needs)
     (λ c. search needs)
     label-with-requires
     (λ c. search needs)

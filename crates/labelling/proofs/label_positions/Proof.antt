@@ -12,7 +12,7 @@ use Rattle.labelling.proofs.label_positions.Tie as tie
 abbrev Inv-loop : tie.InvT-loop
 Inv-loop ranked₀ sums₀ card numbers highs sets steps₀ entries ends g high₀ low₀ machines size counts own₀ next₀ position₀ ranked sums steps high low own next position =
     (position ≤ length sets) × PositionClosed card numbers sets ranked sums own next (length counts) size position × (length ranked ≡ length ranked₀) × (length sums ≡ length sums₀)
-    × (length steps ≡ length steps₀) × (length high ≡ 264) × (length low ≡ 264)
+    × (length steps ≡ length steps₀) × (length high ≡ length high₀) × (length low ≡ length low₀)
 
 abbrev μ-loop : tie.MeasureT-loop
 μ-loop ranked₀ sums₀ card numbers highs sets steps₀ entries ends g high₀ low₀ machines size counts own₀ next₀ position₀ ranked sums steps high low own next position = position
@@ -61,9 +61,7 @@ loop-holds : tie.Need-loop-holds Inv-loop μ-loop
 loop-holds c =
     let f = c .before .before .before .before in
     let e = entered f in
-    let q = start e .pre in
-    let k = e .enter-endings .kept .1 .1 .1 .1 .1 .1 .1 in
-    (omega arith, last-closed (q .0) (e .enter-endings .ensures) zeros-fit (f .finish .ensures), refl, refl, refl, k .0 ∙ q .3, k .1 .0 ∙ q .4)
+    (omega arith, last-closed (start e .pre .0) (e .enter-endings .ensures) zeros-fit (f .finish .ensures), refl, refl, refl, refl, refl)
 
 -- ---- in the loop
 
@@ -85,13 +83,14 @@ enter-symbols-requires c κs =
     let q = begun a .pre in
     let p = q .0 in
     let l = a .loop .inv in
+    let k = entered (first a) .enter-endings .kept .1 .1 .1 .1 .1 .1 .1 in
     let B = one-before (omega arith) (l .1) in (
       enter-ready p refl (l .4 ∙ entered (first a) .enter-endings .kept .1 .0) (l .1 .own-size) (q .1, q .2),
       blank-there p (omega (arith, l .0)) B,
       next-there p (omega (arith, l .0)) B,
       p .search .setting .symbols _,
-      l .5,
-      l .6,
+      omega (arith, q .3, k .0, l .5),
+      omega (arith, q .4, k .1 .0, l .6),
     )
 
 mul-finish-2 : tie.Need-mul-finish-2 Inv-loop μ-loop
@@ -135,10 +134,10 @@ same-length-3 : tie.Need-same-length-3 Inv-loop μ-loop
 same-length-3 c = let a = c .before in a .loop .inv .4 ∙ entered (first a) .enter-endings .kept .1 .0
 
 same-length-4 : tie.Need-same-length-4 Inv-loop μ-loop
-same-length-4 c = let a = c .before in a .loop .inv .5 ∙ sym (begun a .pre .3)
+same-length-4 c = let a = c .before in a .loop .inv .5 ∙ entered (first a) .enter-endings .kept .1 .1 .1 .1 .1 .1 .1 .0
 
 same-length-5 : tie.Need-same-length-5 Inv-loop μ-loop
-same-length-5 c = let a = c .before in a .loop .inv .6 ∙ sym (begun a .pre .4)
+same-length-5 c = let a = c .before in a .loop .inv .6 ∙ entered (first a) .enter-endings .kept .1 .1 .1 .1 .1 .1 .1 .1 .0
 
 returns : tie.Need-returns Inv-loop μ-loop
 returns c =

@@ -17,17 +17,16 @@ use Rattle.cells.specs.Labels.{cellAt, OwnCell, nextCell, NextFits}
 use Rattle.cells.specs.Laws.Groups.{all-codes, joint-sum}
 use Rattle.lanes.specs.Trying.{TryPre, SkipPre}
 
-module _ {S : ℕ} {ms : List Machine} {x W : ℕ} {steps ws : List ℕ} {g : Groups} (M : CardMachines S ms) (H : HoldsColumns ms x W steps) (Z : WeightsOf (stateCounts ms) ws) (G : GroupsOf (stateCounts ms) g)
-    (few : g .front + g .back ≤ 66) where
-  pub try-pre : {four high low own next : List ℕ} → FourJoined steps four (stateCounts ms) ws high low W g → ((j : ℕ) → getD four j 0 ≤ 64) → length high ≡ 264 → length low ≡ 264 → length own ≡ 256 → NextFits next
+module _ {S : ℕ} {ms : List Machine} {x W : ℕ} {steps ws : List ℕ} {g : Groups} (M : CardMachines S ms) (H : HoldsColumns ms x W steps) (Z : WeightsOf (stateCounts ms) ws) (G : GroupsOf (stateCounts ms) g) where
+  pub try-pre : {four high low own next : List ℕ} → FourJoined steps four (stateCounts ms) ws high low W g → ((j : ℕ) → getD four j 0 ≤ 64) → (g .front + g .back) * 4 ≤ length high → (g .front + g .back) * 4 ≤ length low → length own ≡ 256 → NextFits next
       → TryPre own next high low (g .front) (g .back)
-  try-pre J outputs eh el eo N = record {
+  try-pre J outputs rh rl eo N = record {
     size = eo;
     fits = N;
     few = omega (arith, all-codes G, M .joint-states);
     some = (positive (g .front) (g .back) codes-some, positive (g .back) (g .front) (rw (mul-comm (g .back) (g .front)) codes-some));
-    high-room = omega arith;
-    low-room = omega arith;
+    high-room = rh;
+    low-room = rl;
     high-few = λ a b j h k l. joint-sum M H Z G J a b j h k l (outputs j) .high-most;
     low-few = λ a b j h k l. joint-sum M H Z G J a b j h k l (outputs j) .low-most;
   }

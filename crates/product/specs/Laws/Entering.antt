@@ -68,18 +68,6 @@ module _ {costs : Costs} {G : Graph costs pairs} {card sets : List ℕ} {P : ℕ
             node (inl h) = at h (decLt w (i * P + z))
             node (inr h) = absurd (omega (arith, h .1))
 
-    -- a symbol more: from its first node on, and after its last one
-    pub symbol-begun : (x : ℕ) → Entering G (placeOf card) K L i (λ _. ⊥) (NotLeft left) → Entering G (placeOf card) K L i (λ _. ⊥) (TriedBefore left x (i * P) 0)
-    symbol-begun x S = entering-skip G (placeOf card) S (λ _. ⊥) (TriedBefore left x (i * P) 0) (λ u c a t e. t) (λ w q f c a b t e l. first w q a t)
-      where
-        first : (w : ℕ) (q : Pair) → placeOf card w ≡ i → TriedBefore left x (i * P) 0 w q → member left (q .input) ≡ false
-        first w q a (inl t) = t
-        first w q a (inr t) = absurd (never (t .1))
-          where
-            never : (w < i * P) ⊎ ((w ≡ i * P) × (q .output < 0)) → ⊥
-            never (inl h) = omega (arith, place-low s w i a)
-            never (inr h) = omega (arith, h .1)
-
     pub symbol-tried : (x after : ℕ) → ((n : ℕ) → member after n ≡ (member left n && not (eqb n x))) → Entering G (placeOf card) K L i (λ _. ⊥) (TriedBefore left x (i * P + P) 0) → Entering G (placeOf card) K L i (λ _. ⊥) (NotLeft after)
     symbol-tried x after f S = entering-skip G (placeOf card) S (λ _. ⊥) (NotLeft after) (λ u c a t e. t) (λ w q g c a b t e l. last w q a t)
       where

@@ -5,15 +5,13 @@ use mathlib.Core.Option.{some}
 use mathlib.Core.List.{List, [], _∷_, _++_, append-assoc}
 use Prim.Native.Nat.{ℕ, suc, _+_, _*_, _<_, _≤_}
 use native.Mathlib.Omega.{arith}
-use lib.ListN.{length, getD, drop, set, length-set, length-append}
+use lib.ListN.{length, getD, drop, set, length-append}
 use lib.Seq.{set-at, drop-cons}
 use Rattle.machine.specs.declared.Pair.{Pair}
 use Rattle.candidate.specs.Candidates.{bytesOf}
 use Rattle.paths.specs.Costs.{Costs, Labels}
-use Rattle.paths.specs.Graph.{Graph, pathCost}
-use Rattle.paths.specs.Labels.{Closed, Attained}
-use Rattle.paths.specs.Best.{IsBest}
-use Rattle.paths.specs.Walk.{LeastTight, SizedLabels, Walk, Walking, walking-start, walking-next, walking-end, walk-best, walk-cost, tight-size}
+use Rattle.paths.specs.Graph.{Graph}
+use Rattle.paths.specs.Walk.{LeastTight, SizedLabels, Walking, tight-size}
 use Rattle.product.specs.ProductGraph.{pairs}
 use Rattle.product.specs.Laws.Preference.{length-bytes}
 
@@ -64,43 +62,8 @@ pub record Following {costs : Costs} (G : Graph costs pairs) (L : Labels costs) 
   pub rest : costs .Cost
   pub walking : Walking G L size start cost written u rest
 
--- a best path fills the front of the answer, and the other bytes keep their values
-pub record Followed {costs : Costs} (G : Graph costs pairs) (L : Labels costs) (start : ℕ) (before after : List ℕ) (n : ℕ) : Type 0 where
-  pub best : List Pair
-  pub count : n ≡ length best
-  pub written : after ≡ bytesOf best ++ drop (2 * length best) before
-  pub is-best : IsBest G start best
-  pub costs-label : pathCost G start best ≡ L start
-
 module _ {costs : Costs} (G : Graph costs pairs) (L : Labels costs) {size : costs .Cost → ℕ} (start : ℕ) (before : List ℕ) where
-  pub following-start : (cost : costs .Cost) → L start ≡ some cost → 2 * size cost ≤ length before → Following G L size start before before start 0
-  unfolding bytesOf
-  following-start cost l h = record {
-    cost = cost;
-    cost-is = l;
-    fits = h;
-    written = [];
-    count = refl;
-    bytes = refl;
-    answer-size = refl;
-    rest = cost;
-    walking = walking-start G L size start cost l;
-  }
-
   module _ (Z : SizedLabels G L size) {answer : List ℕ} {u n : ℕ} (F : Following G L size start before answer u n) where
-    -- where no pair is left, the walk is the best path
-    pub following-end : Closed G L → Attained G L → size (F .rest) ≡ 0 → Followed G L start before answer n
-    following-end K A z = record {
-      best = F .written;
-      count = F .count;
-      written = F .bytes;
-      is-best = walk-best G L Z K A start (F .cost) (F .written) (F .cost-is) walk;
-      costs-label = walk-cost G L Z K A start (F .cost) (F .written) (F .cost-is) walk ∙ sym (F .cost-is);
-    }
-      where
-        walk : Walk G L (size (F .cost)) start (F .written)
-        walk = walking-end G L (F .walking) z
-
     module _ {p : Pair} (t : LeastTight G L u p) where
       -- by the least pair that keeps to the labels one pair less is left
       pub following-falls : size (F .rest) ≡ suc (size (t .tight .rest))
@@ -109,16 +72,3 @@ module _ {costs : Costs} (G : Graph costs pairs) (L : Labels costs) {size : cost
       -- there is room for its bytes
       pub following-room : 2 * n + 1 < length answer
       following-room = omega (arith, following-falls, F .walking .written, F .fits, F .answer-size, F .count)
-
-      pub following-next : (answer′ : List ℕ) → answer′ ≡ set (set answer (2 * n) (p .input)) (2 * n + 1) (p .output) → Following G L size start before answer′ (t .tight .to .target) (n + 1)
-      following-next answer′ w = record {
-        cost = F .cost;
-        cost-is = F .cost-is;
-        fits = F .fits;
-        written = F .written ++ p ∷ [];
-        count = omega (arith, F .count, length-append (F .written) (p ∷ []));
-        bytes = w ∙ pair-more (F .written) p before answer n (F .count) (omega (arith, following-room, F .answer-size)) (F .bytes);
-        answer-size = ap length w ∙ simp length-set (F .answer-size);
-        rest = t .tight .rest;
-        walking = walking-next G L Z start (F .cost) (F .written) u (F .rest) p (F .walking) t;
-      }

@@ -1,33 +1,25 @@
 -- Finding the least of the pairs at a position that pass a test: in by in, the empty symbol first, and out by out. The test of an engine is that a
 -- pair keeps to its labels.
-use mathlib.Core.Path.{_≡_, refl, sym, _∙_, ap, subst}
+use mathlib.Core.Path.{_≡_, refl, sym, _∙_, ap}
 use mathlib.Core.Logic.{_⊎_, inl, inr, _≢_}
-use mathlib.Core.Bool.{Bool, true, false, not, _&&_, _||_, cond}
+use mathlib.Core.Bool.{Bool, true, false, not, _&&_, _||_}
 use mathlib.Core.List.{List}
-use Prim.Native.Nat.{ℕ, _+_, _<_, _≤_}
+use Prim.Native.Nat.{ℕ, _<_}
 use native.Mathlib.Decide.{ℕ-discrete}
 use native.Mathlib.Omega.{arith}
 use lib.Dec.{eqb}
 use lib.ListN.{getD}
-use borrow.Author.Tests.{eqb-true, eq-eqb, ne-eqb}
+use borrow.Author.Tests.{eqb-true, eq-eqb}
 use Rattle.basics.specs.Sets.{member}
 use Rattle.basics.proofs.Bools.{left as left-passes, either, left-fails, right-fails, clash}
 use Rattle.basics.proofs.Sets.{no-member}
 use Rattle.machine.specs.declared.Pair.{Pair}
-use Rattle.machine.specs.Symbols.{emptySymbol, firstSymbol}
+use Rattle.machine.specs.Symbols.{emptySymbol}
 use Rattle.machine.specs.SymbolSets.{leastSymbol}
 use Rattle.machine.proofs.SymbolSets.{below-least}
 use Rattle.machine.proofs.SetLoops.{with-true}
-use Rattle.card.specs.Layout.{symbolCount}
-use Rattle.product.specs.ProductGraph.{pairs, same-bytes}
-use Rattle.product.specs.Pairs.{firstOutput}
+use Rattle.product.specs.ProductGraph.{pairs}
 use Rattle.product.specs.Laws.Letters.{PairAt}
-
--- no pair with the in x and an out before y passes
-pub record Passing (card : List ℕ) (Passes : Pair → Type 0) (x y : ℕ) : Type 0 where
-  pub from : x ≡ emptySymbol → firstSymbol ≤ y
-  pub upto : y ≤ symbolCount card + 1
-  pub passed : (q : Pair) → q .input ≡ x → q .output < y → ¬ (Passes q)
 
 -- no pair whose in is not left passes, and some pair does
 pub record Finding (sets : List ℕ) (Passes : Pair → Type 0) (i left : ℕ) : Type 0 where
@@ -38,24 +30,6 @@ pub record Finding (sets : List ℕ) (Passes : Pair → Type 0) (i left : ℕ) :
 
 module _ {card sets : List ℕ} {i : ℕ} {Passes : Pair → Type 0} (there : (q : Pair) → Passes q → PairAt card sets i q) where
   -- ---- out by out
-
-  pub passing-start : (x first : ℕ) → first ≡ firstOutput x → Passing card Passes x first
-  passing-start x first e = go (ℕ-discrete x emptySymbol)
-    where
-      go : Dec (x ≡ emptySymbol) → Passing card Passes x first
-      go (yes z) =
-          let one : first ≡ 1 = e ∙ ap (λ (b : Bool). cond b 1 0) (eq-eqb x 0 z) in
-          record {
-            from = λ q. omega arith;
-            upto = omega arith;
-            passed = λ q a b t. clash (there q t .is-pair) (rw (eq-eqb (q .input) 0 (a ∙ z), eq-eqb (q .output) 0 (omega arith)));
-          }
-      go (no n) =
-          let none : first ≡ 0 = e ∙ ap (λ (b : Bool). cond b 1 0) (ne-eqb x 0 n) in
-          record { from = λ q. absurd (n q); upto = omega arith; passed = λ q a b t. omega arith }
-
-  pub passing-end : {x y : ℕ} → Passing card Passes x y → symbolCount card < y → (q : Pair) → q .input ≡ x → ¬ (Passes q)
-  passing-end P h q a t = P .passed q a (omega (arith, there q t .output-there)) t
 
   -- ---- in by in
 
@@ -74,13 +48,6 @@ module _ {card sets : List ℕ} {i : ℕ} {Passes : Pair → Type 0} (there : (q
       not-passed : (q : Pair) → member left (q .input) ≡ false → (q .input ≡ emptySymbol) ⊎ ((q .input ≢ emptySymbol) × (member (getD sets i 0) (q .input) ≡ true)) → ⊥
       not-passed q m (inl e) = clash (eq-eqb (q .input) emptySymbol e) (left-fails (eqb (q .input) emptySymbol) (member (getD sets i 0) (q .input)) (sym (f (q .input)) ∙ m))
       not-passed q m (inr k) = clash (k .1) (right-fails (eqb (q .input) emptySymbol) (member (getD sets i 0) (q .input)) (sym (f (q .input)) ∙ m))
-
-pub passing-next : {card : List ℕ} {Passes : Pair → Type 0} {x y : ℕ} → Passing card Passes x y → y ≤ symbolCount card → ¬ (Passes (record { input = x; output = y })) → Passing card Passes x (y + 1)
-passing-next {Passes = Passes} {x = x} {y = y} P h n = record { from = λ e. omega arith; upto = omega arith; passed = λ q a b t. at q a b t (ℕ-discrete (q .output) y) }
-  where
-    at : (q : Pair) → q .input ≡ x → q .output < y + 1 → Passes q → Dec (q .output ≡ y) → ⊥
-    at q a b t (yes e) = n (subst Passes (same-bytes q (record { input = x; output = y }) (λ j. (a j, e j))) t)
-    at q a b t (no e) = P .passed q a (omega arith) t
 
 module _ {sets : List ℕ} {Passes : Pair → Type 0} {i left : ℕ} (F : Finding sets Passes i left) where
   -- some in is left

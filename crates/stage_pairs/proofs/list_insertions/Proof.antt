@@ -16,14 +16,14 @@ prepare-requires c κs =
     record { accepted = Q .accepted; counts-are = Q .counts-are; input = omega arith; width = w; room = omega (arith, Q .room, w) }
 
 count-requires : tie.Need-count-requires
-count-requires c κs = let q = c .before .before .before .before .before .before .before .before .before .before .before .before .before .before .before .before .pre in (q .1, count-ready (q .0) (c .before .before .before .before .before .before .prepare .ensures), q .3, q .4)
+count-requires c κs = let q = c .before .before .before .before .before .before .before .before .before .before .before .before .before .before .before .before .pre in (q .1, count-ready (q .0) (c .before .before .before .before .before .before .prepare .ensures), omega (arith, q .0 .few, q .3), omega (arith, q .0 .few, q .4))
 
 list-requires : tie.Need-list-requires
 list-requires c κs =
     let q = c .before .before .before .before .before .before .before .before .before .before .before .before .before .before .before .before .before .before .before .before .before .before .before .before .before .before .pre in
     let n = c .before .before .before .before .before .before .before .before .before .count .ensures .0 in
     let k = c .before .before .before .before .before .before .before .before .before .count .kept .1 .1 .1 .1 .1 .1 .1 in
-    (count-ready (q .0) (c .before .before .before .before .before .before .before .before .before .before .before .before .before .before .before .before .prepare .ensures), n, omega (arith, n .few, codes-few (q .0), q .2), k .0 ∙ q .3, k .1 .0 ∙ q .4)
+    (count-ready (q .0) (c .before .before .before .before .before .before .before .before .before .before .before .before .before .before .before .before .prepare .ensures), n, omega (arith, n .few, codes-few (q .0), q .2), omega (arith, q .0 .few, k .0, q .3), omega (arith, q .0 .few, k .1 .0, q .4))
 
 same-length : tie.Need-same-length
 same-length c = c .before .before .before .before .before .before .list .kept .0

@@ -1,5 +1,5 @@
 -- Marks as one number: what it stands for is their ranked cost.
-use mathlib.Core.Path.{_≡_, refl, ap}
+use mathlib.Core.Path.{_≡_}
 use mathlib.Core.List.{List, [], _∷_}
 use Prim.Native.Nat.{ℕ, zero, suc, _+_, _*_, _^_, _<_, _≤_}
 use native.Mathlib.Omega.{arith}
@@ -28,14 +28,6 @@ module _ (marks : List ℕ) (few : (i : ℕ) → getD marks i 0 ≤ 15) where
 
   pub six-below : (ranking : List ℕ) → markNumber (sixPlaces ranking) marks < 16 ^ 6
   six-below ranking = number-below (sixPlaces ranking)
-
--- only the counts matter
-pub number-same : (places xs ys : List ℕ) → ((i : ℕ) → getD xs i 0 ≡ getD ys i 0) → markNumber places xs ≡ markNumber places ys
-number-same places xs ys h = ap (fromNibbles (length places)) (same places)
-  where
-    same : (places : List ℕ) → ranked places xs 1 ≡ ranked places ys 1
-    same [] = refl
-    same (m ∷ places) = let r = same places in λ i. (h m i, r i)
 
 -- the number, place by place
 pub six-number : (places marks : List ℕ) → length places ≡ 6

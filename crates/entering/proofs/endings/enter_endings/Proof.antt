@@ -1,5 +1,5 @@
 use borrow.Author.Needs.{needs}
-use mathlib.Core.Path.{_∙_}
+use native.Mathlib.Omega.{arith}
 use Rattle.entering.proofs.LastPosition.{fill-ready, join-ready, write-ready, last-entered}
 use Rattle.entering.proofs.endings.enter_endings.Statement.{statement}
 use Rattle.entering.proofs.endings.enter_endings.Tie as tie
@@ -29,7 +29,7 @@ write-endings-requires c κs =
     let j = joined c in
     let f = filled (j .before) in
     let s = start f in
-    write-ready (s .pre .0) (s .pre .1) (f .fill-endings .ensures) (j .join-four .ensures) (j .join-four .kept .1 .1 .1 .1 .1 .1 .0 ∙ s .pre .2) (j .join-four .kept .1 .1 .1 .1 .1 .1 .1 .0 ∙ s .pre .3)
+    write-ready (s .pre .0) (s .pre .1) (f .fill-endings .ensures) (j .join-four .ensures) (omega (arith, s .pre .2, j .join-four .kept .1 .1 .1 .1 .1 .1 .0)) (omega (arith, s .pre .3, j .join-four .kept .1 .1 .1 .1 .1 .1 .1 .0))
 
 returns : tie.Need-returns
 returns c =

@@ -1,9 +1,9 @@
-use mathlib.Core.Path.{_≡_, sym}
+use mathlib.Core.Path.{_≡_, sym, _∙_}
 use mathlib.Core.Bool.{true}
 use Prim.Native.Nat.{_≤_, _-_}
 use native.Mathlib.Omega.{arith}
 use borrow.Author.Needs.{needs}
-use borrow.Author.Tests.{eq-eqb}
+use borrow.Author.Tests.{eqb-false, not-true, not-false}
 use lib.Dec.{eqb}
 use lib.ListN.{length}
 use Rattle.basics.specs.Search.{occurrences, everyBelow}
@@ -34,18 +34,18 @@ returns-2 c =
     let k = c .before .before .before in
     let a = k .before .before .before .args in
     let m = k .loop .machine in
-    let e = c .before .occurrences .ensures in
-    sym (refuses-with 7 (not-once (a .machines) (a .ranking .now) m (c .before .before .loop-test .taken) (λ o. omega (arith, c .if2 .taken))))
+    let e = c .before .stands-once .ensures in
+    sym (refuses-with 7 (not-once (a .machines) (a .ranking .now) m (c .before .before .loop-test .taken) (eqb-false (occurrences m (a .ranking .now)) 1 (sym e ∙ not-true _ (c .if2 .taken)))))
 
 loop-again : tie.Need-loop-again Inv-loop μ-loop
 loop-again c =
     let k = c .before .before .before in
     let a = k .before .before .before .args in
     let m = k .loop .machine in
-    let e = c .before .occurrences .ensures in (
+    let e = c .before .stands-once .ensures in (
       omega arith,
       omega arith,
-      every-next (λ m. eqb (occurrences m (a .ranking .now)) 1) m (k .loop .inv .2) (eq-eqb (occurrences m (a .ranking .now)) 1 (omega (arith, c .if2 .left))),
+      every-next (λ m. eqb (occurrences m (a .ranking .now)) 1) m (k .loop .inv .2) (sym e ∙ not-false _ (c .if2 .left)),
     )
 
 returns-3 : tie.Need-returns-3 Inv-loop μ-loop
