@@ -1,10 +1,5 @@
 -- Cells: a machine's step as two numbers that add up, over the machines, to the numbers of the joint step.
-use mathlib.Core.Bool.{cond}
-use mathlib.Core.List.{List, [], _∷_}
-use Prim.Native.Nat.{ℕ, suc, _+_, _*_, _/_, _%_}
-use lib.Dec.{eqb}
-use lib.ListN.{getD}
-use Rattle.basics.specs.Products.{product}
+use Rattle.basics.specs.Words.{cond, List, [], _∷_, ℕ, suc, _+_, _*_, _/_, _%_, getD, eqb, product}
 
 -- a high number from here on stands for nothing: 2 ^ 60
 abbrev pub nowhere : ℕ

@@ -1,8 +1,6 @@
 // Cells added up. A cell is a machine's step as two numbers, high and low; the cells of some machines that follow one another add up to their joint
 // step.
-ghost use mathlib.Core.Path.{_≡_};
-ghost use Prim.Native.Nat.{ℕ, _^_, _<_, _≤_};
-ghost use lib.ListN.{length, getD};
+ghost use Rattle.basics.specs.Words.{_≡_, ℕ, _^_, _<_, _≤_, length, getD};
 ghost use Rattle.adding.specs.Cells.{highCell, lowCell};
 ghost use Rattle.adding.specs.Joining.{CellsPre, CellsAt, AddCellsPre, CellsAdded, AddStatePre, StateAdded, MachinePre, MachineJoined, JoinPre, Joined};
 use basics::index;

@@ -1,3 +1,4 @@
+pub mod Words
 pub mod Search
 pub mod Products
 pub mod Sets

@@ -1,10 +1,5 @@
 -- What evaluation answers, by the checks that it passes. Assumes nothing.
-use mathlib.Core.Path.{_≡_}
-use mathlib.Core.Bool.{true, false}
-use mathlib.Core.List.{List}
-use Prim.Native.Nat.{ℕ, zero, suc, _<_}
-use native.Mathlib.Omega.{arith}
-use lib.ListN.{length}
+use Rattle.basics.specs.Words.{_≡_, true, false, List, ℕ, zero, suc, _<_, arith, length}
 use Rattle.card.specs.Layout.{symbolCount}
 use Rattle.card.specs.Card.{cardRefusal, machinesOf}
 use Rattle.candidate.specs.Candidates.{pairsOf, spelled, isComplete, profileOf}

@@ -1,15 +1,5 @@
 -- How the pairs of a byte string go on from a place. Assumes nothing.
-use mathlib.Core.Path.{_≡_, refl}
-use mathlib.Core.Bool.{Bool, true, false, _&&_}
-use mathlib.Core.List.{List, [], _∷_}
-use Prim.Native.Nat.{ℕ, suc, _+_, _/_, _%_, _<_, _≤_}
-use native.Mathlib.Omega.{arith}
-use lib.ListN.{length, getD, drop, drop-of-length-le}
-use lib.Seq.{drop-cons}
-use lib.Dec.{leb, eqb}
-use borrow.Author.Tests.{leb-true, eqb-true, eq-eqb, ne-eqb, le-leb, lt-leb}
-use Rattle.basics.specs.Search.{allOf}
-use Rattle.basics.proofs.Bools.{left, right, clash}
+use Rattle.basics.proofs.Words.{_≡_, refl, Bool, true, false, _&&_, List, [], _∷_, ℕ, suc, _+_, _/_, _%_, _<_, _≤_, arith, length, getD, drop, drop-of-length-le, leb, eqb, drop-cons, allOf, leb-true, eqb-true, eq-eqb, ne-eqb, le-leb, lt-leb, left, right, clash}
 use Rattle.machine.specs.declared.Pair.{Pair}
 use Rattle.machine.specs.Symbols.{emptySymbol, isPair, withinSymbols}
 use Rattle.candidate.specs.Candidates.{pairAt, pairsOf, spelled}

@@ -1,9 +1,5 @@
 -- How a machine goes on through a candidate. Assumes nothing.
-use mathlib.Core.Path.{_≡_, refl, sym, ap}
-use mathlib.Core.List.{List, [], _∷_}
-use mathlib.Core.Option.{Option, some, none}
-use Prim.Native.Nat.{ℕ, _+_}
-use native.Mathlib.Nat.{add-assoc, zero-add}
+use Rattle.basics.specs.Words.{_≡_, refl, sym, ap, List, [], _∷_, Option, some, none, ℕ, _+_, add-assoc, zero-add}
 use Rattle.machine.specs.declared.Pair.{Pair}
 use Rattle.machine.specs.Machine.{Machine, stepOf, endingOf}
 use Rattle.candidate.specs.Candidates.{addMarks, marksFrom}

@@ -1,23 +1,11 @@
 -- The machines of an accepted card by their numbers, and a profile by its places. Assumes nothing.
-use mathlib.Core.Path.{_≡_, refl, sym, ap, _∙_}
-use mathlib.Core.Bool.{Bool, true, false}
-use mathlib.Core.List.{List, [], _++_}
-use mathlib.Core.Option.{Option, some, none}
-use Prim.Native.Nat.{ℕ, _+_, _-_, _<_, _≤_}
-use native.Mathlib.Decide.{decLt, ℕ-discrete}
-use native.Mathlib.Omega.{arith}
-use lib.ListN.{length, getD, set, replicate, length-set, length-append, length-replicate, length-map, getD-replicate, List·getD-append, List·getD-eq-default}
-use lib.Seq.{ext-getD, getD-append-add, getD-set-same, getD-set-other}
-use Rattle.basics.specs.Search.{allOf}
-use Rattle.basics.proofs.Bools.{clash, fails}
-use Rattle.basics.proofs.Search.{all-at, each-at}
+use Rattle.basics.proofs.Words.{_≡_, refl, sym, ap, _∙_, Bool, true, false, List, [], _++_, Option, some, none, ℕ, _+_, _-_, _<_, _≤_, arith, length, getD, set, replicate, length-set, length-append, length-replicate, length-map, getD-replicate, List·getD-append, List·getD-eq-default, ext-getD, getD-append-add, getD-set-same, getD-set-other, decLt, ℕ-discrete, allOf, clash, fails, all-at, each-at, map-at}
 use Rattle.machine.specs.declared.Pair.{Pair}
 use Rattle.machine.specs.Machine.{Machine}
 use Rattle.machine.specs.Part.{machineOf}
 use Rattle.ranking.specs.declared.Profile.{Profile}
 use Rattle.card.specs.Layout.{machineCount, partOf}
 use Rattle.card.specs.Card.{machinesOf}
-use Rattle.basics.proofs.Search.{map-at, all-at, each-at}
 use Rattle.card.specs.Laws.Machines.{length-machines, machine-at}
 use Rattle.candidate.specs.Candidates.{marksOf, isSome, countOf, isComplete, profileOf}
 use Rattle.candidate.specs.Evaluating.{profileWith}

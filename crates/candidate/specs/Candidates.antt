@@ -1,12 +1,5 @@
 -- Candidates: lists of pairs, what they spell, when they are complete, their profiles.
-use mathlib.Core.Path.{_≡_}
-use mathlib.Core.Bool.{Bool, true, false}
-use mathlib.Core.List.{List, [], _∷_, map}
-use mathlib.Core.Option.{Option, some, none}
-use Prim.Native.Nat.{ℕ, _+_}
-use lib.ListN.{getD}
-use lib.Dec.{eqb}
-use Rattle.basics.specs.Search.{allOf}
+use Rattle.basics.specs.Words.{_≡_, Bool, true, false, List, [], _∷_, map, Option, some, none, ℕ, _+_, getD, eqb, allOf}
 use Rattle.machine.specs.declared.Pair.{Pair}
 use Rattle.machine.specs.Symbols.{emptySymbol, isPair}
 use Rattle.machine.specs.Machine.{Machine, startState, stepOf, endingOf}

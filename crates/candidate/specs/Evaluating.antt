@@ -1,11 +1,5 @@
 -- Evaluation of a candidate, given as bytes, on a card.
-use mathlib.Core.Bool.{Bool, _&&_}
-use mathlib.Core.List.{List, [], _∷_, _++_}
-use mathlib.Core.Option.{Option, some, none}
-use Prim.Native.Nat.{ℕ, _-_, _*_, _%_}
-use lib.ListN.{length, replicate}
-use lib.Dec.{eqb, leb}
-use Rattle.basics.specs.Search.{allOf}
+use Rattle.basics.specs.Words.{Bool, _&&_, List, [], _∷_, _++_, Option, some, none, ℕ, _-_, _*_, _%_, length, replicate, eqb, leb, allOf}
 use Rattle.refusals.specs.Refusals.{refuse, firstOf, unlessRefused}
 use Rattle.machine.specs.declared.Pair.{Pair}
 use Rattle.machine.specs.Symbols.{isPair, withinSymbols}

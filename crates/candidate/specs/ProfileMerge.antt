@@ -1,12 +1,6 @@
 -- A candidate's profile is the merge of its pairs' marks: what its pairs cost in the violation semiring, one after another, and its ending, is
 -- the profile of a complete candidate, and infinite of any other. Assumes nothing.
-use mathlib.Core.Path.{_≡_, refl, _∙_, ap}
-use mathlib.Core.Bool.{true, false, _&&_}
-use mathlib.Core.List.{List, [], _∷_, map}
-use mathlib.Core.Option.{Option, some, none}
-use Prim.Native.Nat.{ℕ}
-use Rattle.basics.specs.Search.{allOf}
-use Rattle.basics.proofs.Bools.{clash}
+use Rattle.basics.proofs.Words.{_≡_, refl, _∙_, ap, true, false, _&&_, List, [], _∷_, map, Option, some, none, ℕ, allOf, clash}
 use Rattle.machine.specs.declared.Pair.{Pair}
 use Rattle.machine.specs.Machine.{Machine, startState, stepOf, endingOf}
 use Rattle.ranking.specs.Profiles.{merge}

@@ -1,7 +1,5 @@
 -- What scoring a candidate gives: whether it is complete, and its profile where it is.
-use mathlib.Core.Path.{_≡_}
-use mathlib.Core.Bool.{true}
-use mathlib.Core.List.{List}
+use Rattle.basics.specs.Words.{_≡_, true, List}
 use Rattle.refusals.specs.Refusals.{refuse, checkedNumber}
 use Rattle.machine.specs.declared.Pair.{Pair}
 use Rattle.machine.specs.Machine.{Machine}

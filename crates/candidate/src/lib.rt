@@ -1,10 +1,5 @@
 // Candidates: their evaluation. What a candidate is, and which is the best, stands in specs/.
-ghost use mathlib.Core.Path.{_≡_};
-ghost use mathlib.Core.Bool.{true};
-ghost use Prim.Native.Nat.{_+_, _%_, _<_, _≤_};
-ghost use lib.ListN.{length};
-ghost use lib.Dec.{eqb};
-ghost use Rattle.basics.specs.Search.{allOf};
+ghost use Rattle.basics.specs.Words.{_≡_, true, _+_, _%_, _<_, _≤_, length, eqb, allOf};
 ghost use Rattle.machine.specs.Symbols.{emptySymbol};
 ghost use Rattle.machine.specs.Part.{machineOf, partRefusal};
 ghost use Rattle.refusals.specs.Refusals.{refuse, checkedNumber};

@@ -1,10 +1,5 @@
 -- The answers of reading and packing by the number of their refusal. Assumes nothing.
-use mathlib.Core.Path.{_≡_, refl, ap, ap₂, sym, _∙_}
-use mathlib.Core.List.{List, [], _∷_, _++_}
-use Prim.Native.Nat.{ℕ, zero, suc, _+_, _*_, _<_}
-use native.Mathlib.Omega.{arith}
-use lib.ListN.{length, take, drop}
-use lib.Seq.{take-at, drop-at, drop-drop}
+use Rattle.basics.specs.Words.{_≡_, refl, ap, ap₂, sym, _∙_, List, [], _∷_, _++_, ℕ, zero, suc, _+_, _*_, _<_, arith, length, take, drop, take-at, drop-at, drop-drop}
 use Rattle.refusals.specs.Refusals.{firstOf}
 use Rattle.layout.specs.Layout.{offsetOf, lengthOf}
 use Rattle.card.specs.declared.PartPlace.{PartPlace}

@@ -1,11 +1,5 @@
 -- How the reading of the lengths goes on. Assumes nothing.
-use mathlib.Core.Path.{_≡_, _∙_}
-use mathlib.Core.List.{List}
-use Prim.Native.Nat.{ℕ, suc, _<_}
-use native.Mathlib.Decide.{ℕ-discrete}
-use native.Mathlib.Omega.{arith}
-use lib.ListN.{length, getD, set}
-use lib.Seq.{getD-set-same, getD-set-other}
+use Rattle.basics.specs.Words.{_≡_, _∙_, List, ℕ, suc, _<_, arith, length, getD, set, getD-set-same, getD-set-other, ℕ-discrete}
 
 -- a list that agrees below i, with element i stored
 pub stored : (l : List ℕ) (i v : ℕ) (f : ℕ → ℕ) → i < length l → ((k : ℕ) → k < i → getD l k 0 ≡ f k) → v ≡ f i → (k : ℕ) → k < suc i → getD (set l i v) k 0 ≡ f k

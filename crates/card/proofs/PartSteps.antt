@@ -1,14 +1,5 @@
 -- How the check of parts in turn goes on and ends. Assumes nothing.
-use mathlib.Core.Path.{_≡_, refl, ap, sym, _∙_}
-use mathlib.Core.List.{List, [], _∷_, map}
-use Prim.Native.Nat.{ℕ, zero, suc, _+_, _*_, _-_, _^_, _<_, _≤_}
-use native.Mathlib.Nat.{one-mul, mul-one, mul-assoc, mul-le-mul, pow-suc, pow-le-pow-right}
-use native.Mathlib.Numerals.{add-one}
-use native.Mathlib.Omega.{arith}
-use lib.Dec.{leb, lit<}
-use lib.ListN.{length, getD, take, drop, drop-of-length-le}
-use lib.Seq.{drop-cons, drop-drop}
-use Rattle.basics.specs.Products.{product}
+use Rattle.basics.specs.Words.{_≡_, refl, ap, sym, _∙_, List, [], _∷_, map, ℕ, zero, suc, _+_, _*_, _-_, _^_, _<_, _≤_, arith, length, getD, take, drop, drop-of-length-le, leb, lit<, drop-cons, drop-drop, one-mul, mul-one, mul-assoc, mul-le-mul, pow-suc, pow-le-pow-right, add-one, product}
 use Rattle.refusals.specs.Refusals.{refuse, firstOf}
 use Rattle.refusals.proofs.Refusals.{last-one}
 use Rattle.machine.specs.Part.{stateCount, partRefusal}

@@ -1,12 +1,6 @@
 -- What an accepted card promises. Assumes nothing.
-use mathlib.Core.Path.{_≡_, refl}
-use mathlib.Core.List.{List, [], _∷_, map}
-use Prim.Native.Nat.{ℕ, _+_, _*_, _<_, _≤_}
-use native.Mathlib.Omega.{arith}
-use lib.Dec.{lit<}
-use lib.ListN.{length, drop, length-map, length-drop}
+use Rattle.basics.specs.Words.{_≡_, refl, List, [], _∷_, map, ℕ, _+_, _*_, _<_, _≤_, arith, length, drop, length-map, length-drop, lit<, product}
 use borrow.Author.Tests.{leb-true}
-use Rattle.basics.specs.Products.{product}
 use Rattle.refusals.specs.Refusals.{refuse}
 use Rattle.refusals.proofs.Refusals.{passed}
 use Rattle.machine.specs.Part.{stateCount, partRefusal}
@@ -14,7 +8,7 @@ use Rattle.layout.specs.Layout.{Bytes, laidOut, partOf}
 use Rattle.card.specs.Layout.{machineCount, symbolCount, counted, partsOf}
 use Rattle.card.specs.Card.{partsRefusal, fewStates, cardRefusal}
 use Rattle.card.specs.Laws.Search.{first-passed, rest-passed}
-use Rattle.card_bytes.specs.Laws.Bytes.{bytes-drop}
+use Rattle.layout.specs.Laws.Bytes.{bytes-drop}
 use Rattle.layout.specs.LaidOut.{LaidOut, PartWithin, layout-told, part-within}
 use Rattle.card.specs.Laws.Layout.{Headed, head-told, length-parts, part-at}
 use Rattle.card.specs.Laws.Repacked.{table-parts, table-total}

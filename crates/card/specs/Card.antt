@@ -1,9 +1,5 @@
 -- A card's machines, and its refusal.
-use mathlib.Core.Bool.{Bool}
-use mathlib.Core.List.{List, [], _∷_, map}
-use Prim.Native.Nat.{ℕ}
-use lib.Dec.{leb}
-use Rattle.basics.specs.Products.{product}
+use Rattle.basics.specs.Words.{Bool, List, [], _∷_, map, ℕ, leb, product}
 use Rattle.refusals.specs.Refusals.{refuse, firstOf}
 use Rattle.machine.specs.Machine.{Machine}
 use Rattle.machine.specs.Part.{machineOf, stateCount, partRefusal}

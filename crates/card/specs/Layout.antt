@@ -1,9 +1,5 @@
 -- The layout of a card: machine count, symbol count, the machine parts.
-use mathlib.Core.Bool.{Bool, _&&_}
-use mathlib.Core.List.{List}
-use Prim.Native.Nat.{ℕ}
-use lib.ListN.{length, getD}
-use lib.Dec.{leb}
+use Rattle.basics.specs.Words.{Bool, _&&_, List, ℕ, length, getD, leb}
 use Rattle.layout.specs.Layout.{partsIn}
 pub use Rattle.layout.specs.Layout.{partOf}
 

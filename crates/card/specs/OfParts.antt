@@ -1,16 +1,11 @@
 -- A card made of parts: where they pass it is accepted, and they are its parts. Assumes nothing.
-use mathlib.Core.Path.{_≡_, _∙_, ap}
-use mathlib.Core.List.{List, [], _∷_, map}
-use Prim.Native.Nat.{ℕ, suc, _<_}
-use native.Mathlib.Omega.{arith}
-use lib.ListN.{length, getD, length-map}
-use Rattle.basics.specs.Search.{joined}
+use Rattle.basics.specs.Words.{_≡_, _∙_, ap, List, [], _∷_, map, ℕ, suc, _<_, arith, length, getD, length-map, joined}
 use Rattle.machine.specs.Part.{machineOf}
 use Rattle.layout.specs.Layout.{Bytes}
 use Rattle.card.specs.Layout.{machineCount, symbolCount, partsOf}
 use Rattle.card.specs.Card.{machinesOf, cardRefusal}
 use Rattle.card.specs.Packing.{packed, packingRefusal}
-use Rattle.card_bytes.specs.Laws.Bytes.{bytes-none, bytes-append}
+use Rattle.layout.specs.Laws.Bytes.{bytes-none, bytes-append}
 use Rattle.card.specs.Laws.Parts.{joined-split}
 use Rattle.card.specs.Laws.Packed.{packed-machines}
 use Rattle.card.specs.Laws.Packable.{PartsPass, parts-pack}

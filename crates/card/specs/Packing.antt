@@ -1,14 +1,11 @@
 -- Packing machine parts into a card.
-use mathlib.Core.List.{List, [], _∷_, _++_}
-use Prim.Native.Nat.{ℕ}
-use lib.ListN.{length, drop}
-use lib.Dec.{eqb, leb}
+use Rattle.basics.specs.Words.{List, [], _∷_, _++_, ℕ, length, drop, eqb, leb}
 use Rattle.refusals.specs.Refusals.{refuse, firstOf, unlessRefused}
 use Rattle.card.specs.declared.Packed.{Packed}
 use Rattle.card.specs.Layout.{soundCounts}
 use Rattle.card.specs.Card.{partsRefusal, fewStates}
-pub use Rattle.card_bytes.specs.Packing.{table}
-unfoldable pub use Rattle.card_bytes.specs.Packing.{total, split, places, packed}
+pub use Rattle.layout.specs.Packing.{table}
+unfoldable pub use Rattle.layout.specs.Packing.{total, split, places, packed}
 
 -- 0 where the input is accepted for a target of a length, else the first refusal: 1, 17, 3 to 6, 18
 unfoldable pub packingRefusal : ℕ → List ℕ → List ℕ → ℕ → ℕ

@@ -1,7 +1,5 @@
 -- Reading a part: its offset and length in the card.
-use mathlib.Core.List.{List, [], _∷_}
-use Prim.Native.Nat.{ℕ}
-use lib.Dec.{ltb}
+use Rattle.basics.specs.Words.{List, [], _∷_, ℕ, ltb}
 use Rattle.refusals.specs.Refusals.{refuse, firstOf, unlessRefused}
 use Rattle.card.specs.declared.PartPlace.{PartPlace}
 use Rattle.layout.specs.Layout.{offsetOf, lengthOf}

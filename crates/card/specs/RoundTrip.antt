@@ -1,20 +1,14 @@
 -- Packing and reading undo one another. Assumes nothing.
-use mathlib.Core.Path.{_≡_, refl, ap, sym, _∙_}
-use mathlib.Core.List.{List, [], _∷_, _++_, map}
-use Prim.Native.Nat.{ℕ, _+_, _*_, _<_, _≤_}
-use native.Mathlib.Omega.{arith}
-use lib.ListN.{length, getD, take, drop}
-use lib.Seq.{take-at, drop-at}
+use Rattle.basics.specs.Words.{_≡_, refl, ap, sym, _∙_, List, [], _∷_, _++_, map, ℕ, _+_, _*_, _<_, _≤_, arith, length, getD, take, drop, take-at, drop-at, joined}
 use borrow.Author.Tests.{lt-ltb, le-leb}
-use Rattle.basics.specs.Search.{joined}
 use Rattle.machine.specs.Part.{machineOf}
 use Rattle.layout.specs.Layout.{Bytes, offsetOf, lengthOf}
 use Rattle.card.specs.Layout.{machineCount, symbolCount, counted, partsOf}
 use Rattle.card.specs.Card.{machinesOf, cardRefusal}
 use Rattle.card.specs.Reading.{reading}
 use Rattle.card.specs.Packing.{split, places, packed, packingRefusal, packing, packedTarget}
-use Rattle.card_bytes.specs.Laws.Bytes.{bytes-cons, bytes-append}
-use Rattle.card_bytes.specs.Laws.Places.{places-bytes}
+use Rattle.layout.specs.Laws.Bytes.{bytes-cons, bytes-append}
+use Rattle.layout.specs.Laws.Places.{places-bytes}
 use Rattle.card.specs.Laws.Parts.{split-lengths, split-joined}
 use Rattle.layout.specs.LaidOut.{layout-holds}
 use Rattle.card.specs.Laws.Layout.{counts-told, part-at, length-parts}

@@ -1,8 +1,5 @@
 // The front of a card: K, S and the lengths of the parts.
-ghost use mathlib.Core.Path.{_≡_};
-ghost use mathlib.Core.Bool.{true};
-ghost use Prim.Native.Nat.{ℕ, _+_, _*_, _<_, _≤_};
-ghost use lib.ListN.{length, getD};
+ghost use Rattle.basics.specs.Words.{_≡_, true, ℕ, _+_, _*_, _<_, _≤_, length, getD};
 ghost use Rattle.refusals.specs.Refusals.{refuse, checkedNumber};
 ghost use Rattle.layout.specs.Layout.{lengthOf, laidOut};
 ghost use Rattle.card.specs.Layout.{machineCount, soundCounts, counted};

@@ -1,6 +1,5 @@
 // Grammar cards: the layout, the check of a card, reading a part, packing.
-ghost use mathlib.Core.Path.{_≡_};
-ghost use Prim.Native.Nat.{_<_};
+ghost use Rattle.basics.specs.Words.{_≡_, _<_};
 ghost use Rattle.refusals.specs.Refusals.{checkedNumber};
 ghost use Rattle.layout.specs.Layout.{partOf};
 ghost use Rattle.card.specs.Layout.{machineCount, symbolCount};
@@ -12,7 +11,7 @@ mod head; // head.rt: K, S and the lengths of the parts
 mod parts; // parts.rt: the check of the machine parts
 
 use basics::index;
-pub use card_bytes::packing;
+pub use layout::packing;
 use refusals::Checked;
 use refusals::Refusal;
 use refusals::tested;

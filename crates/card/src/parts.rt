@@ -1,8 +1,5 @@
 // The check of machine parts that lie one after another in a card, or joined.
-ghost use mathlib.Core.Path.{_≡_};
-ghost use mathlib.Core.Bool.{true};
-ghost use Prim.Native.Nat.{_+_, _<_, _≤_};
-ghost use lib.ListN.{length, drop};
+ghost use Rattle.basics.specs.Words.{_≡_, true, _+_, _<_, _≤_, length, drop};
 ghost use Rattle.refusals.specs.Refusals.{checkedNumber};
 ghost use Rattle.layout.specs.Layout.{laidOut};
 ghost use Rattle.card.specs.Layout.{machineCount, symbolCount, counted, partsOf};
@@ -10,7 +7,7 @@ ghost use Rattle.card.specs.Card.{machinesRefusal};
 ghost use Rattle.card.specs.Packing.{total, split};
 use crate::head::read_lengths;
 use basics::index;
-use card_bytes::wide;
+use layout::packing::wide;
 use refusals::Checked;
 use refusals::Refusal;
 use refusals::tested;

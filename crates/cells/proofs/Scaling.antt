@@ -1,13 +1,5 @@
 -- Writing the scales, from the last machine to the first. Assumes nothing.
-use mathlib.Core.Path.{_≡_, refl, sym, _∙_}
-use mathlib.Core.List.{List}
-use Prim.Native.Nat.{ℕ, suc, _*_, _<_, _≤_}
-use native.Mathlib.Nat.{mul-comm}
-use native.Mathlib.Decide.{ℕ-discrete}
-use native.Mathlib.Omega.{arith}
-use lib.ListN.{length, getD, set, drop, length-set}
-use lib.Seq.{getD-set-same, getD-set-other}
-use Rattle.basics.specs.Products.{product}
+use Rattle.basics.specs.Words.{_≡_, refl, sym, _∙_, List, ℕ, suc, _*_, _<_, _≤_, arith, length, getD, set, drop, length-set, getD-set-same, getD-set-other, mul-comm, ℕ-discrete, product}
 use Rattle.tables.specs.Tables.{CountsOfSome}
 use Rattle.tables.proofs.Counts.{product-next, product-last, all-positive, few-states}
 use Rattle.cells.specs.Cells.{scaleOf}

@@ -1,6 +1,5 @@
 -- A set of outputs four by four, the least first.
-use mathlib.Core.List.{List, [], _∷_}
-use Prim.Native.Nat.{ℕ, _-_}
+use Rattle.basics.specs.Words.{List, [], _∷_, ℕ, _-_}
 use lib.Bits.{bitAnd}
 use Rattle.machine.specs.SymbolSets.{leastSymbol}
 

@@ -1,10 +1,5 @@
 -- The scales of machines: what a state counts in a code.
-use mathlib.Core.Path.{_≡_}
-use mathlib.Core.Logic.{_≢_}
-use mathlib.Core.List.{List}
-use Prim.Native.Nat.{ℕ, suc, _%_, _<_, _≤_}
-use lib.ListN.{length, getD, drop}
-use Rattle.basics.specs.Products.{product}
+use Rattle.basics.specs.Words.{_≡_, List, _≢_, ℕ, suc, _%_, _<_, _≤_, length, getD, drop, product}
 use Rattle.cells.specs.Cells.{scaleOf}
 
 -- ys is xs with the scales of the machines from m on

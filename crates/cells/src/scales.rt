@@ -1,6 +1,5 @@
 // What a state of each machine counts in a code.
-ghost use Prim.Native.Nat.{_*_, _≤_};
-ghost use lib.ListN.{length};
+ghost use Rattle.basics.specs.Words.{_*_, _≤_, length};
 ghost use Rattle.tables.specs.Tables.{CountsOfSome};
 ghost use Rattle.cells.specs.Scales.{ScalesWritten};
 use basics::index;

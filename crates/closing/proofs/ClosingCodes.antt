@@ -1,11 +1,5 @@
 -- What closing a position does: labels taken apart into counts and written, code by code.
-use mathlib.Core.Path.{_≡_, refl, sym, _∙_, ap, subst}
-use mathlib.Core.List.{List}
-use mathlib.Core.Option.{Option, some, none, Option·none-ne-some}
-use Prim.Native.Nat.{ℕ, _+_, _*_, _/_, _%_, _^_, _<_, _≤_}
-use native.Mathlib.Omega.{arith}
-use lib.ListN.{length, set, length-set}
-use lib.Seq.{getD-set-same, getD-set-other}
+use Rattle.basics.specs.Words.{_≡_, refl, sym, _∙_, ap, subst, List, Option, some, none, Option·none-ne-some, ℕ, _+_, _*_, _/_, _%_, _^_, _<_, _≤_, arith, length, set, length-set, getD-set-same, getD-set-other}
 use Rattle.paths.specs.Ranked.{Ranked}
 use Rattle.tables.specs.Work.{labelOf, AlikeAt, Stored}
 use Rattle.tables.specs.LabelCost.{AllShort}

@@ -1,13 +1,5 @@
 -- Writing labels as numbers, code by code. Assumes nothing.
-use mathlib.Core.Path.{_≡_, refl, sym, _∙_, ap}
-use mathlib.Core.List.{List}
-use mathlib.Core.Option.{some}
-use Prim.Native.Nat.{ℕ, _+_, _*_, _/_, _%_, _^_, _<_, _≤_}
-use native.Mathlib.Decide.{decLt}
-use native.Mathlib.Omega.{arith}
-use borrow.Author.Tests.{le-ltb, lt-ltb}
-use lib.ListN.{set, length-set}
-use lib.Seq.{getD-set-same, getD-set-other}
+use Rattle.basics.proofs.Words.{_≡_, refl, sym, _∙_, ap, List, some, ℕ, _+_, _*_, _/_, _%_, _^_, _<_, _≤_, arith, set, length-set, getD-set-same, getD-set-other, decLt, le-ltb, lt-ltb}
 use Rattle.paths.specs.Ranked.{Ranked}
 use Rattle.cells.specs.declared.Cell.{Cell}
 use Rattle.cells.specs.Cells.{nowhere}

@@ -1,11 +1,5 @@
 -- Labels passed on to the next position: a label or none, one code, and the loop over the codes. Assumes nothing.
-use mathlib.Core.Path.{_≡_, refl, sym, _∙_, ap, subst}
-use mathlib.Core.List.{List}
-use Prim.Native.Nat.{ℕ, _+_, _-_, _*_, _%_, _^_, _<_, _≤_}
-use native.Mathlib.Decide.{decLt, ℕ-discrete}
-use native.Mathlib.Omega.{arith}
-use borrow.Author.Tests.{le-ltb, lt-ltb}
-use lib.ListN.{length, getD, length-set}
+use Rattle.basics.proofs.Words.{_≡_, refl, sym, _∙_, ap, subst, List, ℕ, _+_, _-_, _*_, _%_, _^_, _<_, _≤_, arith, length, getD, length-set, decLt, ℕ-discrete, le-ltb, lt-ltb}
 use Rattle.cells.specs.declared.Cell.{Cell}
 use Rattle.cells.specs.Cells.{nowhere}
 use Rattle.cells.specs.Labels.{noLabel, cellAt, OwnCell, nextCell, NextFits}

@@ -1,11 +1,5 @@
 -- Labels written code by code, whatever tells the labels of nodes. Assumes nothing.
-use mathlib.Core.Path.{_≡_, sym, subst}
-use mathlib.Core.Logic.{_⊎_, inl, inr, _≢_}
-use mathlib.Core.List.{List}
-use mathlib.Core.Option.{Option}
-use Prim.Native.Nat.{ℕ, _+_, _<_, _≤_}
-use native.Mathlib.Decide.{ℕ-discrete}
-use native.Mathlib.Omega.{arith}
+use Rattle.basics.specs.Words.{_≡_, sym, subst, List, Option, _⊎_, inl, inr, _≢_, ℕ, _+_, _<_, _≤_, arith, ℕ-discrete}
 use Rattle.paths.specs.Ranked.{Ranked}
 use Rattle.cells.specs.Labels.{cellAt}
 use Rattle.cells.specs.Trying.{labelFrom}

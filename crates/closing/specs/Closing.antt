@@ -1,12 +1,5 @@
 -- Closing a position: its labels are written into a work slice, and become those of the next position; then no code has a label.
-use mathlib.Core.Path.{_≡_}
-use mathlib.Core.Logic.{_⊎_, _≢_}
-use mathlib.Core.Bool.{cond}
-use mathlib.Core.List.{List}
-use mathlib.Core.Option.{Option, some}
-use Prim.Native.Nat.{ℕ, _+_, _*_, _/_, _%_, _^_, _<_, _≤_}
-use lib.Dec.{ltb}
-use lib.ListN.{length}
+use Rattle.basics.specs.Words.{_≡_, cond, List, Option, some, _⊎_, _≢_, ℕ, _+_, _*_, _/_, _%_, _^_, _<_, _≤_, length, ltb}
 use Rattle.paths.specs.Ranked.{Ranked}
 use Rattle.tables.specs.Work.{HasNodes, labelOf}
 use Rattle.tables.specs.LabelCost.{AllShort}

@@ -1,8 +1,5 @@
 -- Ranked costs as two numbers: the three highest counts in the first, 16 bits each, and the other three and the pairs in the second.
-use mathlib.Core.Path.{_≡_}
-use mathlib.Core.Logic.{inl, inr}
-use Prim.Native.Nat.{ℕ, zero, suc, _+_, _*_}
-use native.Mathlib.Omega.{arith}
+use Rattle.basics.specs.Words.{_≡_, inl, inr, ℕ, zero, suc, _+_, _*_, arith}
 use Rattle.paths.specs.Ranked.{Ranked, add, Less, rankedCosts}
 use Rattle.tables.specs.LabelCost.{AllShort}
 use Rattle.settling.specs.Packing.{Packing}

@@ -1,6 +1,5 @@
 // Closing a position: its labels are written into a work slice, as ranked counts or as one number, and become those of the next position.
-ghost use mathlib.Core.Path.{_≡_};
-ghost use Prim.Native.Nat.{_^_, _<_};
+ghost use Rattle.basics.specs.Words.{_≡_, _^_, _<_};
 ghost use Rattle.tables.specs.Work.{HasNode};
 ghost use Rattle.cells.specs.Cells.{nowhere};
 ghost use Rattle.closing.specs.Closing.{orNone, numberOf, CountsPre, CountsClosed, NumbersPre, NumbersClosed, CountsStored, PassPre, Passed, PassAllPre, AllPassed};

@@ -1,19 +1,6 @@
 -- Filling the columns of the states at hand: one arc more, and machine by machine. Assumes nothing.
-use mathlib.Core.Path.{_≡_, refl, sym, _∙_, ap}
-use mathlib.Core.Logic.{_⊎_, inl, inr}
-use mathlib.Core.Bool.{Bool, true, false, cond, _&&_}
-use mathlib.Core.List.{List, _∷_}
-use mathlib.Core.Option.{some, none}
-use Prim.Native.Nat.{ℕ, suc, _+_, _*_, _<_, _≤_}
-use native.Mathlib.Decide.{ℕ-discrete}
-use native.Mathlib.Omega.{arith}
+use Rattle.basics.proofs.Words.{_≡_, refl, sym, _∙_, ap, Bool, true, false, cond, _&&_, List, _∷_, some, none, _⊎_, inl, inr, ℕ, suc, _+_, _*_, _<_, _≤_, arith, length, getD, drop, replicate, getD-replicate, length-replicate, drop-cons, drop-length, ℕ-discrete, member, eq-eqb, ne-eqb, left-fails, right-fails, no-member, member-or, member-and}
 use lib.Bits.{bitAnd, bitOr}
-use lib.ListN.{length, getD, drop, replicate, getD-replicate, length-replicate}
-use lib.Seq.{drop-cons, drop-length}
-use borrow.Author.Tests.{eq-eqb, ne-eqb}
-use Rattle.basics.specs.Sets.{member}
-use Rattle.basics.proofs.Bools.{left-fails, right-fails}
-use Rattle.basics.proofs.Sets.{no-member, member-or, member-and}
 use Rattle.machine.specs.declared.Arc.{Arc}
 use Rattle.machine.specs.Machine.{takes, takesFrom, stepAmong, stepOf}
 use Rattle.machine.specs.Part.{stateCount, arcCount, arcsOf, machineOf}

@@ -1,12 +1,5 @@
 -- The steps of an input from one state of each machine, the states at hand: columns with a place for each machine.
-use mathlib.Core.Path.{_≡_}
-use mathlib.Core.Logic.{_⊎_}
-use mathlib.Core.Bool.{false, cond}
-use mathlib.Core.List.{List}
-use mathlib.Core.Option.{some, none}
-use Prim.Native.Nat.{ℕ, _*_, _<_, _≤_}
-use lib.ListN.{length, getD}
-use Rattle.basics.specs.Sets.{member}
+use Rattle.basics.specs.Words.{_≡_, false, cond, List, some, none, _⊎_, ℕ, _*_, _<_, _≤_, length, getD, member}
 use Rattle.machine.specs.declared.Arc.{Arc}
 use Rattle.machine.specs.Machine.{Machine, stateCountOf, takesFrom, stepOf}
 use Rattle.card.specs.Card.{machinesOf, cardRefusal}

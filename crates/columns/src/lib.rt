@@ -1,7 +1,5 @@
 // The columns of an input: the steps of all states of all machines with one output, a number each; the outputs worth trying; the endings.
-ghost use mathlib.Core.Path.{_≡_};
-ghost use Prim.Native.Nat.{ℕ, _+_, _*_, _^_, _<_, _≤_};
-ghost use lib.ListN.{length, replicate};
+ghost use Rattle.basics.specs.Words.{_≡_, ℕ, _+_, _*_, _^_, _<_, _≤_, length, replicate};
 ghost use Rattle.machine.specs.Part.{machineOf};
 ghost use Rattle.card.specs.Card.{machinesOf};
 ghost use Rattle.tables.specs.Tables.{CountsOfSome};

@@ -1,11 +1,5 @@
 -- The front of a new array of columns. Assumes nothing.
-use mathlib.Core.Path.{_≡_}
-use mathlib.Core.List.{List, [], _∷_}
-use Prim.Native.Nat.{ℕ, zero, suc, _<_, _≤_}
-use native.Mathlib.Decide.{decLt}
-use native.Mathlib.Omega.{arith}
-use lib.ListN.{length, getD, take, replicate, length-replicate, getD-replicate, List·getD-eq-default}
-use lib.Seq.{length-take-le}
+use Rattle.basics.specs.Words.{_≡_, List, [], _∷_, ℕ, zero, suc, _<_, _≤_, arith, length, getD, take, replicate, length-replicate, getD-replicate, List·getD-eq-default, length-take-le, decLt}
 use Rattle.columns.specs.Filling.{Small}
 
 small-take : (n : ℕ) (l : List ℕ) → Small l → Small (take n l)

@@ -1,15 +1,5 @@
 -- The loops over the positions of a stage, and over the stages.
-use mathlib.Core.Path.{_≡_, refl, sym, _∙_, ap, subst}
-use mathlib.Core.Logic.{inr, _≢_}
-use mathlib.Core.Bool.{true, not, _&&_}
-use mathlib.Core.Option.{Option, none, some, Option·map}
-use mathlib.Core.List.{List}
-use Prim.Native.Nat.{ℕ, zero, suc, _+_, _*_, _-_, _≤_, _<_}
-use native.Mathlib.Omega.{arith}
-use native.Mathlib.Decide.{ℕ-discrete, decLt}
-use lib.Dec.{eqb}
-use lib.ListN.{length, getD, set, length-set, length-map, List·getD-eq-default}
-use lib.Seq.{getD-set-same, getD-set-other}
+use Rattle.basics.proofs.Words.{_≡_, refl, sym, _∙_, ap, subst, true, not, _&&_, List, Option, none, some, Option·map, inr, _≢_, ℕ, zero, suc, _+_, _*_, _-_, _≤_, _<_, arith, length, getD, set, length-set, length-map, List·getD-eq-default, eqb, getD-set-same, getD-set-other, ℕ-discrete, decLt, member, left as left-passes}
 use Rattle.card.specs.Card.{machinesOf}
 use Rattle.tables.specs.Work.{stateOf}
 use Rattle.paths.specs.Labels.{Closed}
@@ -19,8 +9,6 @@ use Rattle.paths.specs.Ranked.{Ranked, countAt, rankedCosts}
 use Rattle.paths.specs.Positions.{Done, Entering, done-start}
 use Rattle.product.specs.Nodes.{stateCountOf}
 use Rattle.tables.specs.Laws.Cards.{card-machines}
-use Rattle.basics.specs.Sets.{member}
-use Rattle.basics.proofs.Bools.{left as left-passes}
 use Rattle.product.specs.ProductGraph.{pairs}
 use Rattle.product.specs.Setting.{placeOf, Setting}
 use Rattle.product.specs.Laws.Setting.{symbols-few, few-nodes}
@@ -38,8 +26,8 @@ use Rattle.stage.specs.StageLabels.{countOf, pairCountOf, stageLabel}
 use Rattle.cull.specs.FewestTold.{fewestIn}
 use Rattle.stage_entering.specs.declared.Site.{Site}
 use Rattle.stage_entering.specs.Entering.{codesAt, NodesPre, AheadOf}
-use Rattle.stage_pairs.specs.Tables.{ListPre}
-use Rattle.stage_pairs.specs.Inputs.{InputPre, InputTried}
+use Rattle.stage_entering.specs.Tables.{ListPre}
+use Rattle.stage_entering.specs.Inputs.{InputPre, InputTried}
 use Rattle.stage_settling.specs.Settling.{SettlePre, SettledBy}
 use Rattle.cull.specs.Culling.{pairsCounted, stageGraph, leftBy, Culled, StageAt, CullPre, LentTables, SymbolsAt, SymbolsPre, PositionEntered, SymbolsEntered, EndsTried, LastPre, LastTried, StagePre, StageDone, Blanked, PlaceCleared}
 use Rattle.cull.specs.Survivors.{counts-fewest}

@@ -1,11 +1,5 @@
 -- What the theory of paths asks of the engine's graph, and its edges by position and code.
-use mathlib.Core.Path.{_≡_}
-use mathlib.Core.Bool.{true}
-use mathlib.Core.List.{List}
-use Prim.Native.Nat.{ℕ, _+_, _*_, _<_}
-use native.Mathlib.Omega.{arith}
-use lib.ListN.{length, getD}
-use Rattle.basics.specs.Sets.{member}
+use Rattle.basics.specs.Words.{_≡_, true, List, ℕ, _+_, _*_, _<_, arith, length, getD, member}
 use Rattle.card.specs.Card.{machinesOf}
 use Rattle.paths.specs.Graph.{Within}
 use Rattle.product.specs.Prices.{byRanking}

@@ -1,12 +1,5 @@
 -- Trying the endings of the last position in a stage.
-use mathlib.Core.Path.{_≡_, refl, sym, _∙_, ap, subst}
-use mathlib.Core.Bool.{Bool, true, false}
-use mathlib.Core.Option.{Option, none, some}
-use mathlib.Core.List.{List, [], _∷_}
-use Prim.Native.Nat.{ℕ, zero, suc, _+_, _*_, _/_, _%_, _≤_, _<_}
-use native.Mathlib.Nat.{mod-lt, div-lt-iff-lt-mul, div-add-mod', mul-le-mul-right}
-use native.Mathlib.Omega.{arith}
-use lib.ListN.{length, getD}
+use Rattle.basics.specs.Words.{_≡_, refl, sym, _∙_, ap, subst, Bool, true, false, List, [], _∷_, Option, none, some, ℕ, zero, suc, _+_, _*_, _/_, _%_, _≤_, _<_, arith, length, getD, mod-lt, div-lt-iff-lt-mul, div-add-mod', mul-le-mul-right}
 use Rattle.machine.specs.Machine.{Machine, endingOf}
 use Rattle.card.specs.Layout.{symbolCount}
 use Rattle.card.specs.Card.{machinesOf}
@@ -49,7 +42,7 @@ use Rattle.cull.specs.Stages.{stage-no-ending}
 use Rattle.stage.specs.StageLabels.{countOf, stageLabel}
 use Rattle.stage_entering.specs.Entering.{codesAt, laneEnding, EndingTried, not-final, dropped-ending, lowered-ending}
 use Rattle.cull.specs.Entering.{endSum, EndingsPre}
-use Rattle.stage_pairs.specs.Inputs.{InOrder}
+use Rattle.stage_entering.specs.Inputs.{InOrder}
 use Rattle.stage_entering.specs.declared.Site.{Site}
 use Rattle.stage.specs.Relaxing.{noCounts, LeftTold, Lowered}
 use Rattle.cull.specs.Culling.{pairsCounted, stageGraph, Culled, EndsTried, CodesEnded, LastPre, LastTried}

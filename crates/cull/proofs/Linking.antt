@@ -1,11 +1,5 @@
 -- The arcs and the endings that the tests on the counts keep are those of the stage's graph.
-use mathlib.Core.Path.{_≡_, refl, sym, _∙_, ap, subst}
-use mathlib.Core.Bool.{true, false}
-use mathlib.Core.Option.{Option, none, some, map-eq-some-iff}
-use mathlib.Core.List.{List, [], _∷_}
-use Prim.Native.Nat.{ℕ, zero, suc, _+_, _<_}
-use native.Mathlib.Omega.{arith}
-use borrow.Author.Tests.{ne-eqb}
+use Rattle.basics.proofs.Words.{_≡_, refl, sym, _∙_, ap, subst, true, false, List, [], _∷_, Option, none, some, map-eq-some-iff, ℕ, zero, suc, _+_, _<_, arith, ne-eqb}
 use Rattle.machine.specs.declared.Pair.{Pair}
 use Rattle.paths.specs.Bounds.{Sized}
 use Rattle.paths.specs.Ranked.{Ranked, letterCount, countAt, rankedCosts, countAt-add}

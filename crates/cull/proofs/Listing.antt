@@ -1,10 +1,5 @@
 -- What listing the insertions and the stages are given.
-use mathlib.Core.Path.{_≡_, refl, sym, _∙_, ap, subst}
-use mathlib.Core.Bool.{true}
-use mathlib.Core.List.{List}
-use Prim.Native.Nat.{ℕ, _+_, _*_, _≤_}
-use native.Mathlib.Omega.{arith}
-use lib.ListN.{length, length-map}
+use Rattle.basics.specs.Words.{_≡_, refl, sym, _∙_, ap, subst, true, List, ℕ, _+_, _*_, _≤_, arith, length, length-map}
 use Rattle.ranking.specs.Rankings.{isRanking}
 use Rattle.ranking.specs.Lemmas.Rankings.{ranking-facts}
 use Rattle.card.specs.Layout.{machineCount}
@@ -17,9 +12,9 @@ use Rattle.cells.specs.declared.Groups.{Groups}
 use Rattle.cells.specs.Laws.Groups.{all-codes}
 use Rattle.insertions.specs.RankedWeights.{RankedWeights}
 use Rattle.cull.specs.Tables.{TablesPre}
-use Rattle.stage_pairs.specs.Tables.{ListPre, ListsOf}
+use Rattle.stage_entering.specs.Tables.{ListPre, ListsOf}
 use Rattle.cull.specs.Culling.{CullPre, LentTables}
-use Rattle.stage_pairs.proofs.Listing.{codes-few}
+use Rattle.stage_entering.proofs.Listing.{codes-few}
 
 module _ {work card counts ws sets steps : List ℕ} {g : Groups} (Q : TablesPre work card counts ws sets steps g) where
   pub size-is : g .front * g .back ≡ product counts

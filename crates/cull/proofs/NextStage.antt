@@ -1,11 +1,5 @@
 -- From stage to stage, and from the last one to the labels for the whole cost.
-use mathlib.Core.Path.{_≡_, refl, sym, _∙_, ap, subst}
-use mathlib.Core.Option.{Option, none, some, Option·none-ne-some, Option·map}
-use mathlib.Core.List.{List}
-use Prim.Native.Nat.{ℕ, zero, suc, _+_, _*_, _<_}
-use native.Mathlib.Omega.{arith}
-use native.Mathlib.Decide.{ℕ-discrete}
-use lib.ListN.{getD}
+use Rattle.basics.specs.Words.{_≡_, refl, sym, _∙_, ap, subst, List, Option, none, some, Option·none-ne-some, Option·map, ℕ, zero, suc, _+_, _*_, _<_, arith, getD, ℕ-discrete}
 use Rattle.paths.specs.Costs.{atmost-none}
 use Rattle.paths.specs.Bounds.{Sized}
 use Rattle.paths.specs.Ranked.{Ranked, letterCount, countAt, rankedCosts, countAt-add}

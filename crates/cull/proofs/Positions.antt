@@ -1,16 +1,5 @@
 -- A position in a stage: its symbol's arcs are tried, its insertions until nothing changes, and it is done.
-use mathlib.Core.Path.{_≡_, refl, sym, _∙_, ap, subst, subst₂}
-use mathlib.Core.Logic.{_⊎_, inl, inr, _≢_}
-use mathlib.Core.Bool.{Bool, true, false, not, _&&_}
-use mathlib.Core.Option.{Option, none, some, Option·none-ne-some}
-use mathlib.Core.List.{List}
-use Prim.Native.Nat.{ℕ, zero, suc, _+_, _-_, _*_, _≤_, _<_}
-use native.Mathlib.Nat.{mul-le-mul-right, suc-mul}
-use native.Mathlib.Omega.{arith}
-use native.Mathlib.Decide.{ℕ-discrete, decLt}
-use lib.Dec.{eqb}
-use lib.ListN.{length, getD}
-use borrow.Author.Tests.{eqb-true, ne-eqb}
+use Rattle.basics.proofs.Words.{_≡_, refl, sym, _∙_, ap, subst, subst₂, Bool, true, false, not, _&&_, List, Option, none, some, Option·none-ne-some, _⊎_, inl, inr, _≢_, ℕ, zero, suc, _+_, _-_, _*_, _≤_, _<_, arith, length, getD, eqb, mul-le-mul-right, suc-mul, ℕ-discrete, decLt, member, eqb-true, ne-eqb, clash}
 use Rattle.machine.specs.declared.Pair.{Pair}
 use Rattle.card.specs.Card.{machinesOf}
 use Rattle.paths.specs.Costs.{Labels, AtMost}
@@ -26,8 +15,6 @@ use Rattle.product.specs.ProductGraph.{pairs, Move}
 use Rattle.product.specs.Codes.{codeStep}
 use Rattle.tables.specs.Places.{sixPlaces, markNumber}
 use Rattle.tables.specs.JointNumbers.{numbered, jointFrom}
-use Rattle.basics.specs.Sets.{member}
-use Rattle.basics.proofs.Bools.{clash}
 use Rattle.machine.proofs.SetLoops.{with-true}
 use Rattle.product.specs.Laws.Entering.{NotLeft}
 use Rattle.machine.specs.Symbols.{emptySymbol, isPair}
@@ -45,9 +32,9 @@ use Rattle.cull.specs.Stages.{stage-alike-edges, stage-within, stage-siz
 use Rattle.stage.specs.StageLabels.{countOf, stageLabel}
 use Rattle.stage_entering.specs.Relaxation.{Relaxes}
 use Rattle.stage.specs.Relaxing.{Makes, countsOf, Fits}
-use Rattle.stage_pairs.specs.Tables.{ListsOf}
+use Rattle.stage_entering.specs.Tables.{ListsOf}
 use Rattle.stage_entering.specs.Entering.{NodesPre}
-use Rattle.stage_pairs.specs.Inputs.{InOrder, SymbolLinked, Among, InputTried}
+use Rattle.stage_entering.specs.Inputs.{InOrder, SymbolLinked, Among, InputTried}
 use Rattle.stage_settling.specs.Settling.{Kept, wayBy, marksOf, fromOf, ArcsOf, SettlePre, SettledBy}
 use Rattle.cull.specs.Culling.{pairsCounted, stageGraph, Culled}
 use Rattle.cull.proofs.Linking.{linked-entry, kept as kept-edge, edge-kept, whole-edge, whole-ending}

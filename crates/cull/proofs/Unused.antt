@@ -1,10 +1,5 @@
 -- The places of the ranking past its last machine: no way has a mark there.
-use mathlib.Core.Path.{_≡_, refl, sym, _∙_, ap}
-use mathlib.Core.List.{List, [], _∷_}
-use mathlib.Core.Option.{Option, some, none, Option·none-ne-some}
-use Prim.Native.Nat.{ℕ, zero, suc, _≤_, _<_}
-use native.Mathlib.Omega.{arith}
-use lib.ListN.{length, getD, length-map, List·getD-eq-default}
+use Rattle.basics.specs.Words.{_≡_, refl, sym, _∙_, ap, List, [], _∷_, Option, some, none, Option·none-ne-some, ℕ, zero, suc, _≤_, _<_, arith, length, getD, length-map, List·getD-eq-default}
 use Rattle.machine.specs.declared.Pair.{Pair}
 use Rattle.machine.specs.Machine.{Machine, endingOf, stepOf}
 use Rattle.card.specs.Card.{machinesOf}

@@ -1,9 +1,5 @@
 -- The stages of the cull on a card: what holds in one, position by position, and between them.
-use mathlib.Core.Path.{_≡_}
-use mathlib.Core.Option.{Option, some}
-use mathlib.Core.List.{List}
-use Prim.Native.Nat.{ℕ, suc, _+_, _*_, _≤_, _<_}
-use lib.ListN.{length, getD}
+use Rattle.basics.specs.Words.{_≡_, List, Option, some, ℕ, suc, _+_, _*_, _≤_, _<_, length, getD}
 use Rattle.card.specs.Card.{machinesOf}
 use Rattle.paths.specs.Bounds.{Sized}
 use Rattle.paths.specs.Graph.{Graph}
@@ -19,8 +15,8 @@ use Rattle.product.specs.Setting.{placeOf, Setting}
 use Rattle.tables.specs.Engine.{engineGraph}
 use Rattle.tables.specs.JointNumbers.{endingFrom}
 use Rattle.cells.specs.declared.Groups.{Groups}
-use Rattle.stage_pairs.specs.Tables.{ListPre, ListsOf}
-use Rattle.stage_pairs.specs.Inputs.{InOrder}
+use Rattle.stage_entering.specs.Tables.{ListPre, ListsOf}
+use Rattle.stage_entering.specs.Inputs.{InOrder}
 use Rattle.cull.specs.Entering.{endSum}
 use Rattle.stage_entering.specs.declared.Site.{Site}
 use Rattle.stage_entering.specs.Entering.{codesAt, laneEnding}

@@ -1,7 +1,5 @@
 -- Entering the last position in a stage by its endings.
-use mathlib.Core.List.{List}
-use Prim.Native.Nat.{ℕ, _+_, _*_, _/_, _%_, _^_, _≤_, _<_}
-use lib.ListN.{length, getD}
+use Rattle.basics.specs.Words.{List, ℕ, _+_, _*_, _/_, _%_, _^_, _≤_, _<_, length, getD}
 use Rattle.stage_entering.specs.declared.Site.{Site}
 use Rattle.stage_entering.specs.Entering.{codesAt}
 

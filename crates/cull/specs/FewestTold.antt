@@ -1,7 +1,5 @@
 -- The fewest marks that the work slice tells after a stage.
-use mathlib.Core.Option.{Option}
-use mathlib.Core.List.{List}
-use Prim.Native.Nat.{ℕ}
+use Rattle.basics.specs.Words.{List, Option, ℕ}
 use Rattle.stage.specs.StageLabels.{stageLabel}
 use Rattle.cull.specs.OneConstraint.{stageMarks}
 

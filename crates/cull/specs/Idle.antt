@@ -1,10 +1,5 @@
 -- A constraint of which no way has a mark: for its stage the labels of the stage before do, with no marks in them.
-use mathlib.Core.Path.{_≡_, sym, _∙_, ap}
-use mathlib.Core.Logic.{inl, inr, _↔_}
-use mathlib.Core.Option.{Option, some, Option·map, map-eq-some-iff}
-use mathlib.Core.List.{List}
-use Prim.Native.Nat.{ℕ, suc}
-use native.Mathlib.Omega.{arith}
+use Rattle.basics.specs.Words.{_≡_, sym, _∙_, ap, List, Option, some, Option·map, map-eq-some-iff, inl, inr, _↔_, ℕ, suc, arith}
 use Rattle.paths.specs.Total.{Upto}
 use Rattle.paths.specs.Costs.{Labels, AtMost}
 use Rattle.paths.specs.Ranked.{Ranked, Less, countAt, rankedCosts, countAt-add}

@@ -1,10 +1,5 @@
 -- What is left after the first k constraints, told by the graph's own edges and endings and the labels of the k stages alone.
-use mathlib.Core.Path.{_≡_, refl, ap, subst}
-use mathlib.Core.Logic.{_↔_}
-use mathlib.Core.Bool.{Bool, true, false}
-use mathlib.Core.Option.{Option, none, some}
-use Prim.Native.Nat.{ℕ, zero, suc, _<_}
-use native.Mathlib.Omega.{arith}
+use Rattle.basics.specs.Words.{_≡_, refl, ap, subst, Bool, true, false, Option, none, some, _↔_, ℕ, zero, suc, _<_, arith}
 use Rattle.paths.specs.Costs.{Costs}
 use Rattle.paths.specs.Graph.{Alphabet, Edge, Graph}
 use Rattle.stage.specs.Below.{Below, below-none, below-next}

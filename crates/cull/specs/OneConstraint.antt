@@ -1,10 +1,5 @@
 -- A ranked graph as the stage of one constraint sees it: of each cost the marks of the constraint k and the number of letters, and no more.
-use mathlib.Core.Path.{_≡_, refl, sym, _∙_, ap}
-use mathlib.Core.Logic.{inl, inr}
-use mathlib.Core.Option.{Option, some, Option·map, map-eq-some-iff}
-use mathlib.Core.List.{List}
-use Prim.Native.Nat.{ℕ, suc, _≤_, _<_}
-use native.Mathlib.Omega.{arith}
+use Rattle.basics.specs.Words.{_≡_, refl, sym, _∙_, ap, List, Option, some, Option·map, map-eq-some-iff, inl, inr, ℕ, suc, _≤_, _<_, arith}
 use Rattle.paths.specs.Total.{Upto}
 use Rattle.paths.specs.Costs.{Labels, AtMost}
 use Rattle.paths.specs.Ranked.{Ranked, add, Less, letterCount, countAt, rankedCosts, letterCount-add, countAt-add}

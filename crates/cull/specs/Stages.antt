@@ -1,9 +1,6 @@
 -- The cull of a ranked graph, as an engine does it: constraint by constraint it labels what is left by the marks of that constraint, and then
 -- the number of letters; and it walks along the labels of the last.
-use mathlib.Core.Path.{_≡_, ap}
-use mathlib.Core.Bool.{true, false}
-use mathlib.Core.Option.{Option, none, some, Option·map}
-use Prim.Native.Nat.{ℕ, suc, _<_}
+use Rattle.basics.specs.Words.{_≡_, ap, true, false, Option, none, some, Option·map, ℕ, suc, _<_}
 use Rattle.paths.specs.Costs.{Labels}
 use Rattle.paths.specs.Ranked.{Ranked, letterCount, countAt, rankedCosts}
 use Rattle.paths.specs.Graph.{Alphabet, Edge, Graph, Within}

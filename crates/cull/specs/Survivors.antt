@@ -3,12 +3,7 @@
 -- gone down so far, the stage's own among them. A way is a list of pairs of any length, so that loops of free insertions are among them, and its
 -- marks are those of its pairs and of its ending. What is left is told by the slice alone: a stage drops the arcs and the endings whose marks, with
 -- the count of the node that they lead to, are more than the count of their own node.
-use mathlib.Core.Path.{_≡_, refl, subst}
-use mathlib.Core.Logic.{_↔_}
-use mathlib.Core.Option.{some}
-use mathlib.Core.List.{List}
-use Prim.Native.Nat.{ℕ, suc}
-use lib.ListN.{length}
+use Rattle.basics.specs.Words.{_≡_, refl, subst, List, some, _↔_, ℕ, suc, length}
 use Rattle.machine.specs.declared.Pair.{Pair}
 use Rattle.card.specs.Card.{machinesOf, cardRefusal}
 use Rattle.candidate.specs.Candidates.{profileOf}

@@ -1,8 +1,5 @@
 -- The tables of a card's machines that every stage works with.
-use mathlib.Core.Path.{_≡_}
-use mathlib.Core.List.{List}
-use Prim.Native.Nat.{ℕ, _+_, _*_, _≤_}
-use lib.ListN.{length}
+use Rattle.basics.specs.Words.{_≡_, List, ℕ, _+_, _*_, _≤_, length}
 use Rattle.card.specs.Card.{machinesOf}
 use Rattle.product.specs.Nodes.{stateCounts, product}
 use Rattle.product.specs.Setting.{Setting}

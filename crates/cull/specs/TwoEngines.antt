@@ -1,10 +1,7 @@
 -- Theorem: for every input the cull and the optimizer give the same result and the same answer slice. Both calls have the contract `Optimizes`, so what
 -- `Demand3.demand-3` says of the one it says of the other. The work slices may differ: at entry in their contents, and in their length where both pass 9
 -- (`TwoCalls.two-calls`, which also says what holds where they do not); at exit in any way.
-use mathlib.Core.Path.{_≡_}
-use mathlib.Core.List.{List}
-use Prim.Native.Nat.{ℕ}
-use lib.ListN.{length}
+use Rattle.basics.specs.Words.{_≡_, List, ℕ, length}
 use Rattle.candidate.specs.declared.Evaluation.{Evaluation}
 use Rattle.optimizer.specs.Optimizes.{Optimizes, OptimizesSets}
 use Rattle.optimizer.specs.TwoCalls.{two-calls, two-calls-sets}

@@ -1,11 +1,9 @@
 // Ellison's cull as an engine: constraint by constraint, the fewest marks from each node to an end are found, and the arcs and the endings that
 // cost more are dropped.
-ghost use mathlib.Core.Path.{_≡_};
-ghost use Prim.Native.Nat.{_<_};
+ghost use Rattle.basics.specs.Words.{_≡_, true, _<_};
 ghost use Rattle.tables.specs.Work.{HasNodes};
 ghost use Rattle.tables.specs.Places.{sixPlaces};
 ghost use Rattle.insertions.specs.RankedWeights.{RankedWeights};
-ghost use mathlib.Core.Bool.{true};
 ghost use Rattle.ranking.specs.Rankings.{isRanking};
 ghost use Rattle.card.specs.Layout.{machineCount};
 ghost use Rattle.labelling.specs.Labelling.{LabelPre, PositionsDone};
@@ -25,9 +23,9 @@ use grid::Grid;
 use refusals::Checked;
 use stage_entering::Site;
 use stage_entering::look_ahead;
+use stage_entering::pairs::enter_input;
+use stage_entering::pairs::list_insertions;
 use stage_entering::try_ending;
-use stage_pairs::enter_input;
-use stage_pairs::list_insertions;
 use stage_settling::settle;
 
 // ---- the positions of a stage

@@ -1,16 +1,5 @@
 -- Trying the pairs of one input, four kept outputs after the other.
-use mathlib.Core.Path.{_≡_, refl, sym, _∙_, ap, subst}
-use mathlib.Core.Logic.{_⊎_, inl, inr}
-use mathlib.Core.Bool.{Bool, true, false}
-use mathlib.Core.List.{List, [], _∷_}
-use mathlib.Core.Option.{Option, some, Option·none-ne-some}
-use Prim.Native.Nat.{ℕ, _+_, _-_, _*_, _^_, _<_, _≤_}
-use native.Mathlib.Omega.{arith}
-use lib.ListN.{length, getD}
-use borrow.Author.Tests.{eq-eqb}
-use Rattle.basics.specs.Sets.{member}
-use Rattle.basics.proofs.Bools.{clash}
-use Rattle.basics.proofs.Sets.{no-member, member-one}
+use Rattle.basics.proofs.Words.{_≡_, refl, sym, _∙_, ap, subst, Bool, true, false, List, [], _∷_, Option, some, Option·none-ne-some, _⊎_, inl, inr, ℕ, _+_, _-_, _*_, _^_, _<_, _≤_, arith, length, getD, member, eq-eqb, clash, no-member, member-one}
 use Rattle.machine.specs.declared.Pair.{Pair}
 use Rattle.card.specs.Layout.{symbolCount}
 use Rattle.card.specs.Card.{machinesOf, cardRefusal}

@@ -1,14 +1,5 @@
 -- Entering the last position: its labels are its endings. Assumes nothing.
-use mathlib.Core.Path.{_≡_, refl, sym, _∙_, ap, subst}
-use mathlib.Core.Logic.{_≢_}
-use mathlib.Core.List.{List, [], _∷_}
-use mathlib.Core.Option.{Option, some, none, Option·none-ne-some}
-use Prim.Native.Nat.{ℕ, zero, suc, _+_, _-_, _*_, _/_, _%_, _^_, _<_, _≤_}
-use native.Mathlib.Nat.{mod-lt, div-lt-iff-lt-mul, div-add-mod', mul-comm, mul-le-mul-right}
-use native.Mathlib.Decide.{decLt, ℕ-discrete}
-use native.Mathlib.Omega.{arith}
-use lib.ListN.{length, getD, length-set}
-use borrow.Author.Tests.{lt-ltb, le-ltb}
+use Rattle.basics.proofs.Words.{_≡_, refl, sym, _∙_, ap, subst, List, [], _∷_, Option, some, none, Option·none-ne-some, _≢_, ℕ, zero, suc, _+_, _-_, _*_, _/_, _%_, _^_, _<_, _≤_, arith, length, getD, length-set, mod-lt, div-lt-iff-lt-mul, div-add-mod', mul-comm, mul-le-mul-right, decLt, ℕ-discrete, lt-ltb, le-ltb}
 use Rattle.machine.specs.Machine.{Machine}
 use Rattle.card.specs.Layout.{symbolCount}
 use Rattle.card.specs.Card.{machinesOf}

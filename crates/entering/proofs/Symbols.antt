@@ -1,15 +1,5 @@
 -- Entering a position, a symbol of its set after the other.
-use mathlib.Core.Path.{_≡_, refl, sym, _∙_, ap, subst}
-use mathlib.Core.Bool.{true, not, _&&_}
-use mathlib.Core.List.{List}
-use mathlib.Core.Option.{none}
-use Prim.Native.Nat.{ℕ, suc, _+_, _-_, _*_, _<_, _≤_}
-use native.Mathlib.Decide.{decLt}
-use native.Mathlib.Omega.{arith}
-use lib.Dec.{eqb}
-use lib.ListN.{length, getD}
-use Rattle.basics.specs.Sets.{member}
-use Rattle.basics.proofs.Bools.{left as left-passes}
+use Rattle.basics.proofs.Words.{_≡_, refl, sym, _∙_, ap, subst, true, not, _&&_, List, none, ℕ, suc, _+_, _-_, _*_, _<_, _≤_, arith, length, getD, eqb, decLt, member, left as left-passes}
 use Rattle.card.specs.Card.{cardRefusal}
 use Rattle.paths.specs.Costs.{Labels}
 use Rattle.paths.specs.Ranked.{rankedCosts}

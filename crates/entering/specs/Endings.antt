@@ -1,10 +1,5 @@
 -- The labels of the last position: its endings.
-use mathlib.Core.Path.{_≡_}
-use mathlib.Core.Bool.{cond}
-use mathlib.Core.List.{List}
-use Prim.Native.Nat.{ℕ, _+_, _*_, _/_, _%_, _<_, _≤_}
-use lib.Dec.{ltb}
-use lib.ListN.{length, getD}
+use Rattle.basics.specs.Words.{_≡_, cond, List, ℕ, _+_, _*_, _/_, _%_, _<_, _≤_, length, getD, ltb}
 use Rattle.cells.specs.declared.Cell.{Cell}
 use Rattle.cells.specs.Cells.{nowhere}
 use Rattle.cells.specs.Labels.{noLabel, cellAt}

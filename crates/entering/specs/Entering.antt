@@ -1,9 +1,5 @@
 -- Entering a position: by the symbols of its set, or, at the last one, by the endings.
-use mathlib.Core.Path.{_≡_}
-use mathlib.Core.List.{List}
-use mathlib.Core.Option.{none}
-use Prim.Native.Nat.{ℕ, suc, _+_, _*_, _<_, _≤_}
-use lib.ListN.{length, getD, replicate}
+use Rattle.basics.specs.Words.{_≡_, List, none, ℕ, suc, _+_, _*_, _<_, _≤_, length, getD, replicate}
 use Rattle.card.specs.Card.{machinesOf, cardRefusal}
 use Rattle.paths.specs.Costs.{Labels}
 use Rattle.paths.specs.Ranked.{rankedCosts}

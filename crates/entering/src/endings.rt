@@ -1,7 +1,5 @@
 // The labels of the last position: the endings, joined as a column of their own.
-ghost use mathlib.Core.Path.{_≡_};
-ghost use Prim.Native.Nat.{_+_, _*_, _≤_};
-ghost use lib.ListN.{length};
+ghost use Rattle.basics.specs.Words.{_≡_, _+_, _*_, _≤_, length};
 ghost use Rattle.columns.specs.Filling.{Small};
 ghost use Rattle.entering.specs.Entering.{Ready, EndingsEntered};
 ghost use Rattle.entering.specs.Endings.{endingCell, WritePre, EndingsWritten};

@@ -1,10 +1,5 @@
 // Entering a position: by the symbols of its set, or, at the last one, by the endings.
-ghost use mathlib.Core.Path.{_≡_};
-ghost use mathlib.Core.Bool.{true};
-ghost use Prim.Native.Nat.{ℕ, _+_, _*_, _≤_};
-ghost use lib.ListN.{length};
-ghost use Rattle.basics.specs.Sets.{member};
-ghost use Rattle.basics.specs.Products.{product};
+ghost use Rattle.basics.specs.Words.{_≡_, true, ℕ, _+_, _*_, _≤_, length, member, product};
 ghost use Rattle.card.specs.Layout.{symbolCount};
 ghost use Rattle.cells.specs.Cells.{places};
 ghost use Rattle.entering.specs.Entering.{Ready, Blank, NextRoom, Position, SymbolsEntered};

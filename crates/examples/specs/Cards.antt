@@ -1,6 +1,5 @@
 -- The cards of the worked examples, as bytes.
-use mathlib.Core.List.{List, [], _∷_, _++_}
-use Prim.Native.Nat.{ℕ}
+use Rattle.basics.specs.Words.{List, [], _∷_, _++_, ℕ}
 
 -- a set of symbols 0 to 7 as eight bytes, and an arc as twenty
 abbrev pub setBytes : ℕ → List ℕ

@@ -1,10 +1,5 @@
 -- The ten examples, in one joint proof from the definitions alone; and those of the change requests.
-use mathlib.Core.Path.{_≡_, refl}
-use mathlib.Core.List.{List, [], _∷_}
-use Prim.Native.Nat.{ℕ}
-use Rattle.basics.specs.Search.{allOf, pairwise, those, firstThat, joined, everyBelow, someBelow, numbersBelow, occurrences}
-use Rattle.basics.specs.Sets.{setOf}
-use Rattle.basics.specs.Products.{product}
+use Rattle.basics.specs.Words.{_≡_, refl, List, [], _∷_, ℕ, allOf, pairwise, those, firstThat, joined, everyBelow, someBelow, numbersBelow, occurrences, setOf, product}
 use Rattle.machine.specs.Machine.{ofKind, takes, stepAmong, endingOf, takeOnePair, clash}
 use Rattle.machine.specs.Part.{arcAt, arcsAt, machineOf, soundArc, shaped, partRefusal}
 use Rattle.layout.specs.Layout.{dueOffset, laidOut, partsIn}

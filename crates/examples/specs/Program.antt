@@ -1,9 +1,5 @@
 -- The program on card B: what it prints for a line, and its whole output for an input.
-use mathlib.Core.Path.{_≡_, refl}
-use mathlib.Core.List.{[]}
-use Rattle.basics.specs.Search.{allOf, pairwise, those, joined, everyBelow, someBelow, numbersBelow, occurrences}
-use Rattle.basics.specs.Sets.{setOf}
-use Rattle.basics.specs.Products.{product}
+use Rattle.basics.specs.Words.{_≡_, refl, [], allOf, pairwise, those, joined, everyBelow, someBelow, numbersBelow, occurrences, setOf, product}
 use Rattle.machine.specs.Machine.{ofKind, takes, stepAmong, endingOf, takeOnePair, clash}
 use Rattle.machine.specs.Part.{arcAt, arcsAt, machineOf, soundArc, shaped, partRefusal}
 use Rattle.layout.specs.Layout.{dueOffset, laidOut, partsIn}

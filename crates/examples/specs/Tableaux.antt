@@ -1,11 +1,7 @@
 -- Tableaux of card B under ranking 021, word 2, judged by the definition: example 4's answer claimed, not claimed, and lacking.
-use mathlib.Core.Path.{_≡_, refl}
-use mathlib.Core.List.{List, [], _∷_, _++_}
-use Prim.Native.Nat.{ℕ}
-use Rattle.basics.specs.Search.{allOf, pairwise, those, firstThat, joined, everyBelow, someBelow, numbersBelow, occurrences}
+use Rattle.basics.specs.Words.{_≡_, refl, List, [], _∷_, _++_, ℕ, allOf, pairwise, those, firstThat, joined, everyBelow, someBelow, numbersBelow, occurrences, product}
 use Rattle.machine.specs.Machine.{ofKind, takes, stepAmong, endingOf, takeOnePair, clash}
 use Rattle.machine.specs.Part.{arcAt, arcsAt, machineOf, soundArc, shaped, partRefusal}
-use Rattle.basics.specs.Products.{product}
 use Rattle.layout.specs.Layout.{dueOffset, laidOut, partsIn}
 use Rattle.card.specs.Layout.{counted, partsOf}
 use Rattle.card.specs.Card.{cardRefusal, partsRefusal, machinesOf}

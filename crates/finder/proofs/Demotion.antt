@@ -1,21 +1,6 @@
 -- Recursive constraint demotion gives the smallest ranking that fits: at each place the smallest machine that is left and that no open condition has in its L.
 -- Assumes nothing.
-use mathlib.Core.Path.{_≡_, refl, sym, _∙_, ap}
-use mathlib.Core.Bool.{Bool, true, false, not, _&&_, _||_}
-use mathlib.Core.List.{List, [], _∷_, List·Memᴰ}
-use mathlib.Core.Option.{Option, some, none, Option·map}
-use Prim.Native.Nat.{ℕ, zero, suc, _^_, _<_}
-use native.Mathlib.Omega.{arith}
-use lib.Dec.{eqb}
-use lib.ListN.{length}
-use borrow.Author.Tests.{eqb-true, eqb-false, not-true}
-use Rattle.basics.proofs.Bools.{clash}
-use Rattle.basics.proofs.Search.{all-member, each-member, first-passes, first-member, first-misses, those-member, joined-member}
-use Rattle.basics.proofs.Sets.{no-member, its-member}
-use Rattle.basics.proofs.Occurrences.{member-occurs}
-use Rattle.basics.proofs.Below.{length-numbers}
-use Rattle.basics.specs.Search.{allOf, those, firstThat, joined, numbersBelow, occurrences}
-use Rattle.basics.specs.Sets.{member}
+use Rattle.basics.proofs.Words.{_≡_, refl, sym, _∙_, ap, Bool, true, false, not, _&&_, _||_, List, [], _∷_, List·Memᴰ, Option, some, none, Option·map, ℕ, zero, suc, _^_, _<_, arith, length, eqb, allOf, those, firstThat, joined, numbersBelow, occurrences, member, eqb-true, eqb-false, not-true, clash, all-member, each-member, first-passes, first-member, first-misses, those-member, joined-member, length-numbers, member-occurs, no-member, its-member}
 use Rattle.ranking.specs.declared.Condition.{Condition}
 use Rattle.ranking.specs.Rankings.{arrangements, rankings}
 use Rattle.ranking.specs.Conditions.{highest, inFewer, fits}

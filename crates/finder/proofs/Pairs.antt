@@ -1,19 +1,5 @@
 -- How the conditions of a list of byte pairs begin at a place. Assumes nothing.
-use mathlib.Core.Path.{_≡_, refl, sym, ap, _∙_}
-use mathlib.Core.Bool.{Bool, true, false, _&&_}
-use mathlib.Core.List.{List, [], _∷_, List·Memᴰ}
-use Prim.Native.Nat.{ℕ, suc, _+_, _%_, _^_, _<_, _≤_}
-use native.Mathlib.Numerals.{add-one, add-two}
-use native.Mathlib.Omega.{arith}
-use lib.ListN.{length, getD, drop, drop-of-length-le}
-use lib.Seq.{drop-cons}
-use borrow.Author.Tests.{eqb-true, eq-eqb, ne-eqb, le-leb, lt-leb, ltb-true, ltb-false}
-use lib.Dec.{eqb, leb, ltb}
-use Rattle.basics.specs.Search.{allOf, numbersBelow}
-use Rattle.basics.specs.Sets.{member}
-use Rattle.basics.proofs.Bools.{left, right}
-use Rattle.basics.proofs.Search.{all-next, all-fails, all-none, all-member}
-use Rattle.basics.proofs.Sets.{member-beyond}
+use Rattle.basics.proofs.Words.{_≡_, refl, sym, ap, _∙_, Bool, true, false, _&&_, List, [], _∷_, List·Memᴰ, ℕ, suc, _+_, _%_, _^_, _<_, _≤_, arith, length, getD, drop, drop-of-length-le, eqb, leb, ltb, drop-cons, add-one, add-two, allOf, numbersBelow, member, eqb-true, eq-eqb, ne-eqb, le-leb, lt-leb, ltb-true, ltb-false, left, right, all-next, all-fails, all-none, all-member, member-beyond}
 use Rattle.ranking.specs.declared.Condition.{Condition}
 use Rattle.finder.specs.Steps.{conditionAt}
 use Rattle.finder.specs.Finder.{disjoint, conditionsOf, soundCondition, soundList, smallest}

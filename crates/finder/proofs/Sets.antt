@@ -1,18 +1,7 @@
 -- Sets of machines in a byte, as the code tests and grows them. Assumes nothing.
-use mathlib.Core.Path.{_≡_, sym, _∙_, ap}
-use mathlib.Core.Bool.{Bool, true, false, not, _&&_, _||_}
-use Prim.Native.Nat.{ℕ, _*_, _/_, _%_, _^_, _<_}
-use native.Mathlib.Nat.{div-lt-iff-lt-mul, div-eq-of-lt, one-mul}
-use native.Mathlib.Omega.{arith}
-use lib.Dec.{eqb, ltb}
+use Rattle.basics.proofs.Words.{_≡_, sym, _∙_, ap, Bool, true, false, not, _&&_, _||_, ℕ, _*_, _/_, _%_, _^_, _<_, arith, eqb, ltb, div-lt-iff-lt-mul, div-eq-of-lt, one-mul, everyBelow, member, eqb-true, eqb-false, eq-eqb, ltb-true, lt-ltb, not-true, same, clash, every-at, each-below, no-member, its-member, member-one, member-and, member-or}
 use lib.Bits.{bitAnd, bitOr, and-lt}
 use lib.Pow.{pow-pos, shl-exact}
-use borrow.Author.Tests.{eqb-true, eqb-false, eq-eqb, ltb-true, lt-ltb, not-true}
-use Rattle.basics.specs.Search.{everyBelow}
-use Rattle.basics.specs.Sets.{member}
-use Rattle.basics.proofs.Bools.{same, clash}
-use Rattle.basics.proofs.Below.{every-at, each-below}
-use Rattle.basics.proofs.Sets.{no-member, its-member, member-one, member-and, member-or}
 use Rattle.finder.specs.Finder.{disjoint}
 use Rattle.ranking.specs.Lemmas.Searches.{split}
 

@@ -1,25 +1,9 @@
 -- How the finder goes on from place to place. Assumes nothing.
-use mathlib.Core.Path.{_≡_, refl, sym, _∙_, ap, ap₂}
-use mathlib.Core.Bool.{Bool, true, false, not, _&&_, _||_}
-use mathlib.Core.List.{List, [], _∷_, _++_, append-nil}
-use mathlib.Core.Option.{Option, some, none, Option·map}
-use Prim.Native.Nat.{ℕ, suc, _+_, _-_, _<_, _≤_}
-use native.Mathlib.Numerals.{add-one}
-use native.Mathlib.Omega.{arith}
-use lib.Dec.{eqb, lit<}
-use lib.ListN.{length, take, drop, set, replicate, length-set, take-append-drop}
-use lib.Seq.{append-snoc, take-suc-set, drop-set-lt, drop-drop}
-use borrow.Author.Tests.{eq-eqb, ne-eqb, not-true}
-use Rattle.basics.specs.Search.{those, firstThat, numbersBelow}
-use Rattle.basics.specs.Sets.{member}
+use Rattle.basics.proofs.Words.{_≡_, refl, sym, _∙_, ap, ap₂, Bool, true, false, not, _&&_, _||_, List, [], _∷_, _++_, append-nil, Option, some, none, Option·map, ℕ, suc, _+_, _-_, _<_, _≤_, arith, length, take, drop, set, replicate, length-set, take-append-drop, eqb, lit<, append-snoc, take-suc-set, drop-set-lt, drop-drop, add-one, those, firstThat, numbersBelow, member, eq-eqb, ne-eqb, not-true, clash, fails, both, left, right, neither, left-fails, right-fails, same, first-member, numbers-member, no-member}
 use Rattle.refusals.specs.Refusals.{numberOf, checkedNumber, refuse, firstOf}
 use Rattle.refusals.specs.declared.Refusal.{Refusal}
 use Rattle.refusals.specs.declared.Checked.the-variants.{Passed, Refused}
 use Rattle.refusals.proofs.Refusals.{passed, none-first, number-positive}
-use Rattle.basics.proofs.Bools.{clash, fails, both, left, right, neither, left-fails, right-fails, same}
-use Rattle.basics.proofs.Search.{first-member}
-use Rattle.basics.proofs.Below.{numbers-member}
-use Rattle.basics.proofs.Sets.{no-member}
 use Rattle.ranking.specs.declared.Condition.{Condition}
 use Rattle.ranking.specs.declared.Finding.{Finding}
 use Rattle.ranking.specs.Rankings.{isMachineCount}

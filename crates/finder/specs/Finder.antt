@@ -1,12 +1,5 @@
 -- The smallest ranking that fits a list of conditions.
-use mathlib.Core.Bool.{Bool, _&&_, not}
-use mathlib.Core.List.{List, [], _∷_, _++_}
-use mathlib.Core.Option.{Option, some, none}
-use Prim.Native.Nat.{ℕ, _-_, _^_, _%_}
-use lib.ListN.{length, replicate}
-use lib.Dec.{eqb, ltb, leb}
-use Rattle.basics.specs.Search.{allOf, everyBelow, firstThat}
-use Rattle.basics.specs.Sets.{member}
+use Rattle.basics.specs.Words.{Bool, _&&_, not, List, [], _∷_, _++_, Option, some, none, ℕ, _-_, _^_, _%_, length, replicate, eqb, ltb, leb, allOf, everyBelow, firstThat, member}
 use Rattle.refusals.specs.Refusals.{refuse, firstOf, unlessRefused}
 use Rattle.ranking.specs.declared.Condition.{Condition}
 use Rattle.ranking.specs.declared.Finding.{Finding}

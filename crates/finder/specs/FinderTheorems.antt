@@ -1,14 +1,6 @@
 -- What the finder's definition means: the rankings that it goes through are all there are, and the one that it gives is the smallest that fits.
 -- Assumes nothing.
-use mathlib.Core.Path.{_≡_, refl, sym, _∙_, ap}
-use mathlib.Core.Logic.{_↔_}
-use mathlib.Core.Bool.{Bool, true, false}
-use mathlib.Core.List.{List, [], _∷_, _++_, List·Memᴰ}
-use mathlib.Core.Option.{Option, some, none}
-use Prim.Native.Nat.{ℕ, _-_}
-use native.Mathlib.Omega.{arith}
-use lib.ListN.{replicate}
-use Rattle.basics.specs.Search.{allOf, pairwise}
+use Rattle.basics.proofs.Words.{_≡_, refl, sym, _∙_, ap, Bool, true, false, List, [], _∷_, _++_, List·Memᴰ, Option, some, none, _↔_, ℕ, _-_, arith, replicate, allOf, pairwise, first-passes, first-member, first-misses, length-numbers}
 use Rattle.ranking.specs.declared.Condition.{Condition}
 use Rattle.ranking.specs.declared.Finding.{Finding}
 use Rattle.ranking.specs.Rankings.{isRanking, rankings, isMachineCount}
@@ -17,8 +9,6 @@ use Rattle.ranking.specs.ByteStrings.{smaller}
 use Rattle.finder.specs.Finder.{conditionsOf, soundList, smallest, refusedFinding, findingOf, finding}
 use Rattle.refusals.specs.Refusals.{refuse, firstOf}
 use Rattle.refusals.proofs.Refusals.{accepted}
-use Rattle.basics.proofs.Search.{first-passes, first-member, first-misses}
-use Rattle.basics.proofs.Below.{length-numbers}
 use Rattle.ranking.specs.Lemmas.Searches.{none-first}
 use Rattle.ranking.specs.Lemmas.Arrangements.{numbers-distinct, permuted-arranged, arranged-permuted, ranking-permuted, permuted-ranking}
 use Rattle.finder.specs.Order.{rankings-ordered, first-before-others, before-others-first, smaller-asymmetric}

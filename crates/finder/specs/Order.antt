@@ -1,17 +1,6 @@
 -- The order of the rankings listed, and what is first in it. Assumes nothing.
-use mathlib.Core.Path.{_≡_, refl, sym, _∙_, ap}
-use mathlib.Core.Logic.{⊎-elim}
-use mathlib.Core.Bool.{Bool, true, false, not, false≢true}
-use mathlib.Core.List.{List, [], _∷_, _++_, map, List·Memᴰ, List·Memᴰ·head, List·Memᴰ·tail, List·Memᴰ·not-nil, List·Memᴰ·cases-cons, List·Memᴰ·append-cases, List·Memᴰ·eq-of-singleton}
-use mathlib.Core.Option.{some}
-use Prim.Native.Nat.{ℕ, zero, suc, _<_}
-use native.Mathlib.Omega.{arith}
-use lib.Dec.{eqb, ltb}
+use Rattle.basics.proofs.Words.{_≡_, refl, sym, _∙_, ap, Bool, true, false, not, false≢true, List, [], _∷_, _++_, map, List·Memᴰ, List·Memᴰ·head, List·Memᴰ·tail, List·Memᴰ·not-nil, List·Memᴰ·cases-cons, List·Memᴰ·append-cases, List·Memᴰ·eq-of-singleton, some, ⊎-elim, ℕ, zero, suc, _<_, arith, eqb, ltb, allOf, pairwise, those, firstThat, joined, numbersBelow, both, left, right, clash, all-member, each-member, those-member, joined-member, numbers-member}
 use borrow.Author.Tests.{ltb-true, ltb-false, lt-ltb, le-ltb, eq-eqb, ne-eqb}
-use Rattle.basics.specs.Search.{allOf, pairwise, those, firstThat, joined, numbersBelow}
-use Rattle.basics.proofs.Bools.{both, left, right, clash}
-use Rattle.basics.proofs.Search.{all-member, each-member, those-member, joined-member}
-use Rattle.basics.proofs.Below.{numbers-member}
 use Rattle.ranking.specs.Rankings.{arrangements, rankings}
 use Rattle.ranking.specs.ByteStrings.{smaller}
 use Rattle.ranking.specs.Lemmas.Searches.{split, those-in, those-out, first-here, first-on, mem-map}

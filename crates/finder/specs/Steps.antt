@@ -1,11 +1,5 @@
 -- What the finder's inner functions answer. The finder's own contract rests on none of it.
-use mathlib.Core.Bool.{Bool, _&&_, not}
-use mathlib.Core.List.{List}
-use mathlib.Core.Option.{Option, some, none}
-use Prim.Native.Nat.{ℕ, _+_}
-use lib.ListN.{getD}
-use Rattle.basics.specs.Search.{allOf, firstThat, numbersBelow}
-use Rattle.basics.specs.Sets.{member}
+use Rattle.basics.specs.Words.{Bool, _&&_, not, List, Option, some, none, ℕ, _+_, getD, allOf, firstThat, numbersBelow, member}
 use Rattle.ranking.specs.declared.Condition.{Condition}
 use Rattle.finder.specs.declared.Next.{Next}
 use Rattle.refusals.specs.declared.Checked.the-variants.{Passed, Refused}

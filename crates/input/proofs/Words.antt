@@ -1,18 +1,5 @@
 -- A word as sets of one symbol each: filling them, and what an accepted word's are. Assumes nothing.
-use mathlib.Core.Path.{_≡_, refl}
-use mathlib.Core.Bool.{true, _&&_}
-use mathlib.Core.List.{List, [], _∷_}
-use Prim.Native.Nat.{ℕ, suc, _+_, _^_, _<_, _≤_}
-use native.Mathlib.Decide.{ℕ-discrete}
-use native.Mathlib.Omega.{arith}
-use lib.Dec.{leb, ltb}
-use lib.ListN.{length, getD, take, set, length-set}
-use lib.Seq.{getD-set-same, getD-set-other}
-use borrow.Author.Tests.{leb-true, ltb-true}
-use Rattle.basics.specs.Search.{allOf}
-use Rattle.basics.specs.Sets.{member}
-use Rattle.basics.proofs.Bools.{left, right}
-use Rattle.basics.proofs.Search.{all-at}
+use Rattle.basics.proofs.Words.{_≡_, refl, true, _&&_, List, [], _∷_, ℕ, suc, _+_, _^_, _<_, _≤_, arith, length, getD, take, set, length-set, leb, ltb, getD-set-same, getD-set-other, ℕ-discrete, allOf, member, leb-true, ltb-true, left, right, all-at}
 use Rattle.card.specs.Layout.{symbolCount}
 use Rattle.card.specs.Card.{cardRefusal}
 use Rattle.card.specs.Accepted.{accepted}

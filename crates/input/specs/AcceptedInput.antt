@@ -1,10 +1,5 @@
 -- What input promises that the checks before a search accept, with a word or with sets.
-use mathlib.Core.Path.{_≡_}
-use mathlib.Core.Bool.{true}
-use mathlib.Core.List.{List, [], _∷_}
-use Prim.Native.Nat.{ℕ, _*_, _≤_}
-use lib.ListN.{length}
-use lib.Dec.{leb, lit<}
+use Rattle.basics.specs.Words.{_≡_, true, List, [], _∷_, ℕ, _*_, _≤_, length, leb, lit<}
 use borrow.Author.Tests.{leb-true, le-leb}
 use Rattle.refusals.specs.Refusals.{refuse}
 use Rattle.refusals.proofs.Refusals.{passed, none-first}

@@ -1,7 +1,5 @@
 -- What the checks before a search answer: what they found and, where they passed, the card's sizes.
-use mathlib.Core.Path.{_≡_}
-use mathlib.Core.List.{List}
-use Prim.Native.Nat.{ℕ, _<_, _≤_}
+use Rattle.basics.specs.Words.{_≡_, List, ℕ, _<_, _≤_}
 use Rattle.refusals.specs.Refusals.{checkedNumber}
 use Rattle.grid.specs.declared.Grid.{Grid}
 use Rattle.grid.specs.Grids.{GridOf}

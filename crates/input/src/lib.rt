@@ -1,12 +1,6 @@
 // The input that every search shares: its checks, 1 to 9 (card, ranking, word, or sets in its place, work slice), which make the card's sizes, and a
 // word as sets.
-ghost use mathlib.Core.Path.{_≡_};
-ghost use mathlib.Core.Bool.{true};
-ghost use mathlib.Core.List.{[], _∷_};
-ghost use Prim.Native.Nat.{_+_, _*_, _≤_};
-ghost use lib.Dec.{leb, ltb};
-ghost use lib.ListN.{length, take};
-ghost use Rattle.basics.specs.Search.{allOf};
+ghost use Rattle.basics.specs.Words.{_≡_, true, [], _∷_, _+_, _*_, _≤_, length, take, leb, ltb, allOf};
 ghost use Rattle.refusals.specs.Refusals.{refuse, firstOf, checkedNumber};
 ghost use Rattle.ranking.specs.Rankings.{isRanking};
 ghost use Rattle.product.specs.Sets.{singletons};

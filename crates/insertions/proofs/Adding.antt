@@ -1,12 +1,5 @@
 -- Adding up the counts.
-use mathlib.Core.Path.{_≡_, refl, sym, _∙_, ap}
-use mathlib.Core.List.{List}
-use Prim.Native.Nat.{ℕ, zero, suc, _+_, _-_, _<_, _≤_}
-use native.Mathlib.Decide.{ℕ-discrete, decLt}
-use native.Mathlib.Numerals.{add-one}
-use native.Mathlib.Omega.{arith}
-use lib.ListN.{length, getD, set, length-set}
-use lib.Seq.{getD-set-same, getD-set-other}
+use Rattle.basics.specs.Words.{_≡_, refl, sym, _∙_, ap, List, ℕ, zero, suc, _+_, _-_, _<_, _≤_, arith, length, getD, set, length-set, getD-set-same, getD-set-other, ℕ-discrete, decLt, add-one}
 use Rattle.insertions.specs.Listing.{sumTo, AddPre, AddedUp, FilledOn}
 
 pub sum-none : (xs : List ℕ) → sumTo xs 0 ≡ 0

@@ -1,11 +1,5 @@
 -- Four outputs at a time: what their tables ask and give.
-use mathlib.Core.Path.{_≡_, sym, _∙_, ap, subst}
-use mathlib.Core.List.{List}
-use Prim.Native.Nat.{ℕ, zero, suc, _+_, _*_, _/_, _%_, _^_, _<_, _≤_}
-use native.Mathlib.Nat.{mul-comm, mod-lt, div-lt-iff-lt-mul, div-add-mod'}
-use native.Mathlib.Omega.{arith}
-use lib.ListN.{length, getD}
-use Rattle.basics.specs.Products.{product}
+use Rattle.basics.specs.Words.{_≡_, sym, _∙_, ap, subst, List, ℕ, zero, suc, _+_, _*_, _/_, _%_, _^_, _<_, _≤_, arith, length, getD, mul-comm, mod-lt, div-lt-iff-lt-mul, div-add-mod', product}
 use Rattle.product.specs.Nodes.{stateCounts}
 use Rattle.product.specs.Laws.Nodes.{product-positive}
 use Rattle.product.specs.Laws.JointStep.{counts-positive}

@@ -1,17 +1,5 @@
 -- The kept outputs four by four: which are there, and how many.
-use mathlib.Core.Path.{_≡_, refl, sym, _∙_, ap}
-use mathlib.Core.Logic.{_⊎_, inl, inr, _≢_}
-use mathlib.Core.Bool.{true, false, cond}
-use Prim.Native.Nat.{ℕ, zero, suc, _+_, _^_, _<_, _≤_}
-use native.Mathlib.Decide.{ℕ-discrete, decLt}
-use native.Mathlib.Numerals.{add-one}
-use native.Mathlib.Omega.{arith}
-use lib.Dec.{eqb}
-use lib.ListN.{getD}
-use borrow.Author.Tests.{ne-eqb}
-use Rattle.basics.specs.Sets.{member}
-use Rattle.basics.proofs.Bools.{clash}
-use Rattle.basics.proofs.Sets.{no-member, has-member}
+use Rattle.basics.proofs.Words.{_≡_, refl, sym, _∙_, ap, true, false, cond, _⊎_, inl, inr, _≢_, ℕ, zero, suc, _+_, _^_, _<_, _≤_, arith, getD, eqb, ℕ-discrete, decLt, add-one, member, ne-eqb, clash, no-member, has-member}
 use Rattle.machine.specs.SymbolSets.{leastSymbol}
 use Rattle.machine.proofs.SymbolSets.{least-at}
 use Rattle.cells.specs.Fours.{afterLeast, nextFour, withoutFour}

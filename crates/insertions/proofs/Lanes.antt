@@ -1,15 +1,5 @@
 -- Laws of lanes: what the first n of them do to the ends of the lists and to the entries.
-use mathlib.Core.Path.{_≡_, refl, sym, _∙_, ap, subst}
-use mathlib.Core.Bool.{Bool, true, false, cond, _&&_}
-use mathlib.Core.List.{List}
-use Prim.Native.Nat.{ℕ, zero, suc, _+_, _-_, _<_, _≤_}
-use native.Mathlib.Decide.{ℕ-discrete}
-use native.Mathlib.Numerals.{add-one}
-use native.Mathlib.Omega.{arith}
-use lib.Dec.{eqb}
-use lib.ListN.{length, getD, set, length-set}
-use lib.Seq.{getD-set-same, getD-set-other}
-use borrow.Author.Tests.{eq-eqb, ne-eqb}
+use Rattle.basics.proofs.Words.{_≡_, refl, sym, _∙_, ap, subst, Bool, true, false, cond, _&&_, List, ℕ, zero, suc, _+_, _-_, _<_, _≤_, arith, length, getD, set, length-set, eqb, getD-set-same, getD-set-other, ℕ-discrete, add-one, eq-eqb, ne-eqb}
 use Rattle.insertions.specs.Lanes.{Lane, isMove, listOf, entryOf, bump, put, bumped, placed, hit, countTo}
 use Rattle.insertions.specs.Tables.{CountRoom, EntryRoom}
 

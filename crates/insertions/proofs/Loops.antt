@@ -1,13 +1,5 @@
 -- The loops over the kept outputs, four at a time: the fours so far are counted, or written.
-use mathlib.Core.Path.{_≡_, sym, _∙_, ap, subst}
-use mathlib.Core.List.{List, []}
-use Prim.Native.Nat.{ℕ, zero, suc, _+_, _-_, _*_, _/_, _^_, _<_, _≤_}
-use native.Mathlib.Decide.{ℕ-discrete, decLt}
-use native.Mathlib.Nat.{mod-lt, suc-mul, mul-le-mul-right}
-use native.Mathlib.Numerals.{add-one}
-use native.Mathlib.Omega.{arith}
-use lib.ListN.{length, getD, replicate, length-replicate, getD-replicate, List·getD-eq-default}
-use Rattle.basics.specs.Products.{product}
+use Rattle.basics.specs.Words.{_≡_, sym, _∙_, ap, subst, List, [], ℕ, zero, suc, _+_, _-_, _*_, _/_, _^_, _<_, _≤_, arith, length, getD, replicate, length-replicate, getD-replicate, List·getD-eq-default, mod-lt, suc-mul, mul-le-mul-right, ℕ-discrete, decLt, add-one, product}
 use Rattle.cells.specs.declared.Groups.{Groups}
 use Rattle.cells.specs.Groups.{FourJoined}
 use Rattle.cells.specs.Fours.{nextFour, withoutFour}

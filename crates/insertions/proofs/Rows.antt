@@ -1,9 +1,5 @@
 -- The lanes of a front code, and of one code.
-use mathlib.Core.Path.{_≡_, _∙_, ap}
-use mathlib.Core.List.{List}
-use Prim.Native.Nat.{ℕ, suc, _+_, _*_, _/_, _%_, _<_, _≤_}
-use native.Mathlib.Nat.{add-mul, suc-mul, mul-le-mul-left, mul-le-mul-right, mul-add-mod-self-right, mod-eq-of-lt}
-use native.Mathlib.Omega.{arith}
+use Rattle.basics.specs.Words.{_≡_, _∙_, ap, List, ℕ, suc, _+_, _*_, _/_, _%_, _<_, _≤_, arith, add-mul, suc-mul, mul-le-mul-left, mul-le-mul-right, mul-add-mod-self-right, mod-eq-of-lt}
 use Rattle.paths.specs.Numbering.{position-is}
 use Rattle.insertions.specs.Tables.{codeLane, lanesFrom, LanesPre, TablePre}
 

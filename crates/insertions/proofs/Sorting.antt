@@ -1,17 +1,5 @@
 -- The lists in their places: each starts where those before it end, and a lane that is listed stands behind those of its list that come before it.
-use mathlib.Core.Path.{_≡_, refl, sym, _∙_, ap}
-use mathlib.Core.Logic.{_≢_}
-use mathlib.Core.Bool.{Bool, true, false}
-use mathlib.Core.List.{List}
-use Prim.Native.Nat.{ℕ, zero, suc, _+_, _-_, _*_, _<_, _≤_}
-use native.Mathlib.Decide.{ℕ-discrete, decLt}
-use native.Mathlib.Numerals.{add-one}
-use native.Mathlib.Omega.{arith}
-use lib.Dec.{leb, ltb}
-use lib.ListN.{length, getD, set, List·getD-eq-default}
-use lib.Seq.{getD-set-same, getD-set-other}
-use borrow.Author.Tests.{leb-true, ltb-true, le-leb, lt-ltb}
-use Rattle.basics.proofs.Bools.{clash, both, left as left-of, right as right-of}
+use Rattle.basics.proofs.Words.{_≡_, refl, sym, _∙_, ap, Bool, true, false, List, _≢_, ℕ, zero, suc, _+_, _-_, _*_, _<_, _≤_, arith, length, getD, set, List·getD-eq-default, leb, ltb, getD-set-same, getD-set-other, ℕ-discrete, decLt, add-one, leb-true, ltb-true, le-leb, lt-ltb, clash, both, left as left-of, right as right-of}
 use Rattle.settling.specs.Insertions.{isListed}
 use Rattle.insertions.specs.Lanes.{Lane, isMove, listOf, entryOf, put, bumped, placed, hit, countTo, startOf}
 use Rattle.insertions.proofs.Lanes.{put-moves, put-stays, hit-here, hit-other, hit-stays, list-few, bumped-size, bumped-at, bumped-before, placed-size, count-mono}

@@ -1,15 +1,5 @@
 -- The lanes of the columns are the insertions: their lists, their entries.
-use mathlib.Core.Path.{_≡_, refl, sym, _∙_, ap}
-use mathlib.Core.Logic.{_≢_}
-use mathlib.Core.Bool.{Bool, true, false, not}
-use mathlib.Core.List.{List, [], _∷_}
-use mathlib.Core.Option.{Option, some, none, Option·none-ne-some}
-use Prim.Native.Nat.{ℕ, suc, _+_, _*_, _/_, _%_, _<_, _≤_, min}
-use native.Mathlib.Omega.{arith}
-use lib.Dec.{eqb, leb, ltb}
-use lib.ListN.{length, getD}
-use borrow.Author.Tests.{leb-true, ltb-true, lt-ltb, eqb-false, ne-eqb, not-true}
-use Rattle.basics.proofs.Bools.{both, left as left-of, right as right-of}
+use Rattle.basics.proofs.Words.{_≡_, refl, sym, _∙_, ap, Bool, true, false, not, List, [], _∷_, Option, some, none, Option·none-ne-some, _≢_, ℕ, suc, _+_, _*_, _/_, _%_, _<_, _≤_, min, arith, length, getD, eqb, leb, ltb, leb-true, ltb-true, lt-ltb, eqb-false, ne-eqb, not-true, both, left as left-of, right as right-of}
 use Rattle.machine.specs.declared.Pair.{Pair}
 use Rattle.machine.specs.Symbols.{emptySymbol}
 use Rattle.machine.specs.Machine.{Machine, stepOf}

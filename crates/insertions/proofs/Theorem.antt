@@ -1,16 +1,5 @@
 -- The lanes in their places are the insertions in their lists.
-use mathlib.Core.Path.{_≡_, sym, _∙_, ap, subst}
-use mathlib.Core.Logic.{_≢_}
-use mathlib.Core.Bool.{true}
-use mathlib.Core.List.{List}
-use mathlib.Core.Option.{some}
-use Prim.Native.Nat.{ℕ, _+_, _*_, _/_, _%_, _^_, _<_, _≤_, min}
-use native.Mathlib.Decide.{decLt}
-use native.Mathlib.Nat.{mod-lt, suc-mul, mul-le-mul-right}
-use native.Mathlib.Omega.{arith}
-use lib.ListN.{length, getD}
-use Rattle.basics.specs.Sets.{member}
-use Rattle.basics.proofs.Bools.{clash}
+use Rattle.basics.proofs.Words.{_≡_, sym, _∙_, ap, subst, true, List, some, _≢_, ℕ, _+_, _*_, _/_, _%_, _^_, _<_, _≤_, min, arith, length, getD, mod-lt, suc-mul, mul-le-mul-right, decLt, member, clash}
 use Rattle.machine.specs.Machine.{Machine}
 use Rattle.machine.specs.Symbols.{emptySymbol}
 use Rattle.product.specs.Nodes.{stateCounts, product}

@@ -1,13 +1,5 @@
 -- How many lanes are listed, in all.
-use mathlib.Core.Path.{_≡_, refl, _∙_, ap}
-use mathlib.Core.Bool.{Bool, true, false, cond}
-use mathlib.Core.List.{List}
-use Prim.Native.Nat.{ℕ, zero, suc, _+_, _*_, _/_, _%_, _^_, _<_, _≤_}
-use native.Mathlib.Decide.{ℕ-discrete}
-use native.Mathlib.Nat.{suc-mul, mul-add, mul-le-mul-left, mul-add-mod-self-right, mod-eq-of-lt}
-use native.Mathlib.Omega.{arith}
-use lib.ListN.{length, getD}
-use Rattle.basics.specs.Sets.{member}
+use Rattle.basics.specs.Words.{_≡_, refl, _∙_, ap, Bool, true, false, cond, List, ℕ, zero, suc, _+_, _*_, _/_, _%_, _^_, _<_, _≤_, arith, length, getD, suc-mul, mul-add, mul-le-mul-left, mul-add-mod-self-right, mod-eq-of-lt, ℕ-discrete, member}
 use Rattle.machine.specs.SymbolSets.{leastSymbol}
 use Rattle.machine.specs.Machine.{Machine}
 use Rattle.machine.specs.Symbols.{emptySymbol}

@@ -1,9 +1,5 @@
 -- Joint steps one after the other, each with the code that it leads from, a lane each: which are listed, in which list, as which entry.
-use mathlib.Core.Bool.{Bool, cond, not, _&&_}
-use mathlib.Core.List.{List, []}
-use Prim.Native.Nat.{ℕ, zero, suc, _+_, _*_, _/_, _%_, min}
-use lib.Dec.{eqb, ltb}
-use lib.ListN.{getD, set}
+use Rattle.basics.specs.Words.{Bool, cond, not, _&&_, List, [], ℕ, zero, suc, _+_, _*_, _/_, _%_, min, getD, set, eqb, ltb}
 use Rattle.cells.specs.Cells.{nowhere}
 
 -- the code that a step leads from, and its two numbers

@@ -1,12 +1,5 @@
 -- Insertions in lists by the code that they lead to.
-use mathlib.Core.Path.{_≡_}
-use mathlib.Core.Logic.{_≢_}
-use mathlib.Core.Bool.{true}
-use mathlib.Core.List.{List}
-use mathlib.Core.Option.{Option, some}
-use Prim.Native.Nat.{ℕ, _+_, _*_, _<_, _≤_}
-use lib.ListN.{length, getD}
-use Rattle.basics.specs.Sets.{member}
+use Rattle.basics.specs.Words.{_≡_, true, List, Option, some, _≢_, ℕ, _+_, _*_, _<_, _≤_, length, getD, member}
 use Rattle.machine.specs.Symbols.{emptySymbol}
 use Rattle.machine.specs.Machine.{Machine}
 use Rattle.product.specs.Nodes.{stateCounts, product}

@@ -1,11 +1,5 @@
 -- Counting the insertions by their lists, and writing them.
-use mathlib.Core.Path.{_≡_}
-use mathlib.Core.Bool.{false}
-use mathlib.Core.List.{List}
-use Prim.Native.Nat.{ℕ, zero, suc, _+_, _-_, _*_, _<_, _≤_}
-use lib.ListN.{length, getD}
-use Rattle.basics.specs.Sets.{member}
-use Rattle.basics.specs.Products.{product}
+use Rattle.basics.specs.Words.{_≡_, false, List, ℕ, zero, suc, _+_, _-_, _*_, _<_, _≤_, length, getD, member, product}
 use Rattle.machine.specs.Symbols.{emptySymbol}
 use Rattle.machine.specs.Machine.{Machine}
 use Rattle.product.specs.Nodes.{stateCounts}

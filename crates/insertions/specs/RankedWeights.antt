@@ -1,9 +1,5 @@
 -- The weights of machines in ranked order.
-use mathlib.Core.Path.{_≡_}
-use mathlib.Core.Bool.{cond}
-use mathlib.Core.List.{List, [], _∷_}
-use Prim.Native.Nat.{ℕ, _+_, _<_}
-use lib.Dec.{eqb}
+use Rattle.basics.specs.Words.{_≡_, cond, List, [], _∷_, ℕ, _+_, _<_, eqb}
 use Rattle.cells.specs.Cells.{highOf, lowOf}
 use Rattle.settling.specs.Prices.{rankedHighs, rankedLows}
 

@@ -1,9 +1,5 @@
 -- The lanes of tables of joint steps, four outputs at a time, and of all the kept outputs.
-use mathlib.Core.Path.{_≡_}
-use mathlib.Core.List.{List}
-use Prim.Native.Nat.{ℕ, zero, suc, _+_, _*_, _/_, _%_, _^_, _<_, _≤_}
-use lib.ListN.{length, getD}
-use Rattle.basics.specs.Products.{product}
+use Rattle.basics.specs.Words.{_≡_, List, ℕ, zero, suc, _+_, _*_, _/_, _%_, _^_, _<_, _≤_, length, getD, product}
 use Rattle.cells.specs.Cells.{highAt, lowAt, cellSum}
 use Rattle.cells.specs.Groups.{sumAt}
 use Rattle.cells.specs.Fours.{nextFour, withoutFour}

@@ -1,8 +1,5 @@
 // The insertions of the outputs worth trying, in lists by the code that they lead to: counted first, then written, both times in the same order.
-ghost use mathlib.Core.Path.{_≡_};
-ghost use mathlib.Core.List.{[]};
-ghost use Prim.Native.Nat.{_+_, _*_, _^_, _<_, _≤_};
-ghost use lib.ListN.{length, getD, replicate};
+ghost use Rattle.basics.specs.Words.{_≡_, [], _+_, _*_, _^_, _<_, _≤_, length, getD, replicate};
 ghost use Rattle.insertions.specs.Lanes.{laneOf, isMove, listOf, narrowed, entryOf, bump, put, bumped, placed};
 ghost use Rattle.insertions.specs.Tables.{codeLane, fourLane, lanesFrom, CountRoom, EntryRoom, LanesPre, TablePre};
 ghost use Rattle.insertions.specs.Listing.{AddPre, AddedUp, FilledOn, ListPre, Counted, ListedBy};

@@ -1,16 +1,7 @@
 -- The checks of joining and its answer, by their numbers. Assumes nothing.
-use mathlib.Core.Path.{_≡_, refl, ap, ap₂, sym, _∙_}
-use mathlib.Core.Logic.{_⊎_, inl, inr}
-use mathlib.Core.Bool.{Bool, true, false, not, _&&_, _||_}
-use mathlib.Core.List.{List, [], _∷_}
-use Prim.Native.Nat.{ℕ, zero, suc, _<_, _≤_, min, max}
-use native.Mathlib.Omega.{arith}
-use lib.Dec.{eqb, ltb, leb, lit<}
-use lib.ListN.{length}
-use borrow.Author.Tests.{eqb-false, ne-eqb, lt-ltb, le-ltb, le-leb, leb-true, leb-false}
+use Rattle.basics.proofs.Words.{_≡_, refl, ap, ap₂, sym, _∙_, Bool, true, false, not, _&&_, _||_, List, [], _∷_, _⊎_, inl, inr, ℕ, zero, suc, _<_, _≤_, min, max, arith, length, eqb, ltb, leb, lit<, eqb-false, ne-eqb, lt-ltb, le-ltb, le-leb, leb-true, leb-false, either, left-fails, right-fails}
 use Rattle.refusals.specs.Refusals.{refuse, firstOf}
 use Rattle.refusals.proofs.Refusals.{passed, first-up, first-on, last-one}
-use Rattle.basics.proofs.Bools.{either, left-fails, right-fails}
 use Rattle.card.specs.declared.Packed.{Packed}
 use Rattle.layout.specs.Layout.{partOf}
 use Rattle.machine.specs.Machine.{Machine, noMachine}

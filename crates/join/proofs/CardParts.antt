@@ -1,16 +1,5 @@
 -- The new card's parts: which old parts they are, how long they are, and the card that they make. Assumes nothing.
-use mathlib.Core.Path.{_≡_, refl, ap, ap₂, sym, subst, _∙_}
-use mathlib.Core.Logic.{_⊎_, inl, inr}
-use mathlib.Core.Bool.{Bool, true, false, cond}
-use mathlib.Core.List.{List, [], _++_, map}
-use Prim.Native.Nat.{ℕ, suc, _+_, _*_, _-_, _<_, _≤_}
-use native.Mathlib.Omega.{arith}
-use lib.Dec.{ltb}
-use lib.ListN.{length, getD, take, drop, length-map}
-use lib.Seq.{ext-getD, getD-take, length-take-le}
-use borrow.Author.Tests.{ltb-true, ltb-false, lt-ltb, le-ltb}
-use Rattle.basics.specs.Search.{joined}
-use Rattle.basics.proofs.Search.{map-at}
+use Rattle.basics.proofs.Words.{_≡_, refl, ap, ap₂, sym, subst, _∙_, Bool, true, false, cond, List, [], _++_, map, _⊎_, inl, inr, ℕ, suc, _+_, _*_, _-_, _<_, _≤_, arith, length, getD, take, drop, length-map, ltb, ext-getD, getD-take, length-take-le, joined, ltb-true, ltb-false, lt-ltb, le-ltb, map-at}
 use Rattle.machine.specs.Machine.{Machine, noMachine}
 use Rattle.machine.specs.Part.{stateCount, arcsOf, machineOf, shaped}
 use Rattle.machine.specs.Accepted.{accepted as part-accepted}

@@ -1,15 +1,6 @@
 -- The best candidate with two machines joined, one of them without marks: it is the best candidate of the old card, under the ranking in which the
 -- joined machine stands in the place of the one with marks. Assumes nothing.
-use mathlib.Core.Path.{_≡_, refl, sym, ap, _∙_}
-use mathlib.Core.Logic.{_⊎_, inl, inr, _↔_}
-use mathlib.Core.Bool.{Bool, true, false}
-use mathlib.Core.List.{List}
-use mathlib.Core.Option.{Option, some, none}
-use Prim.Native.Nat.{ℕ, suc, _+_, _*_, _<_}
-use native.Mathlib.Omega.{arith}
-use lib.Dec.{eqb}
-use lib.ListN.{length, getD}
-use lib.Seq.{ext-getD}
+use Rattle.basics.proofs.Words.{_≡_, refl, sym, ap, _∙_, Bool, true, false, List, Option, some, none, _⊎_, inl, inr, _↔_, ℕ, suc, _+_, _*_, _<_, arith, length, getD, eqb, ext-getD, map-at}
 use borrow.Author.Tests.{eqb-true, eqb-false}
 use Rattle.machine.specs.declared.Pair.{Pair}
 use Rattle.machine.specs.Machine.{Machine, startState}
@@ -18,7 +9,6 @@ use Rattle.ranking.specs.Harmony.{worse}
 use Rattle.card.specs.Layout.{machineCount, symbolCount, partsOf}
 use Rattle.card.specs.Card.{machinesOf, cardRefusal}
 use Rattle.card.specs.Accepted.{accepted}
-use Rattle.basics.proofs.Search.{map-at}
 use Rattle.candidate.specs.Candidates.{marksOf, countOf, profileOf, IsCandidate}
 use Rattle.product.specs.Nodes.{nodeCount}
 use Rattle.product.specs.Best.{Contender, ProfileOrder, harmonic}

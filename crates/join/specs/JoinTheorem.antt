@@ -1,16 +1,6 @@
 -- The theorem on joined machines, over decoded machines: a candidate is complete with the two joined exactly when it was, and its profile is the
 -- old one with the two counts added; and the joined machines are sound, with as many joint states. Assumes nothing.
-use mathlib.Core.Path.{_≡_, refl, sym, ap, _∙_}
-use mathlib.Core.Logic.{_↔_}
-use mathlib.Core.Bool.{true, _&&_}
-use mathlib.Core.List.{List}
-use mathlib.Core.Option.{Option, some, none}
-use Prim.Native.Nat.{ℕ, _+_, _*_, _<_}
-use native.Mathlib.Omega.{arith}
-use lib.ListN.{length, length-map}
-use Rattle.basics.specs.Search.{allOf}
-use Rattle.basics.proofs.Bools.{clash}
-use Rattle.basics.proofs.Search.{all-at}
+use Rattle.basics.proofs.Words.{_≡_, refl, sym, ap, _∙_, true, _&&_, List, Option, some, none, _↔_, ℕ, _+_, _*_, _<_, arith, length, length-map, allOf, clash, all-at}
 use Rattle.machine.specs.declared.Pair.{Pair}
 use Rattle.machine.specs.Symbols.{isPair}
 use Rattle.machine.specs.Machine.{Machine}

@@ -1,11 +1,5 @@
 -- The card with two of its machines joined.
-use mathlib.Core.Path.{_≡_}
-use mathlib.Core.Logic.{_⊎_}
-use mathlib.Core.Bool.{Bool, true, not, _&&_, _||_}
-use mathlib.Core.List.{List, [], _∷_, _++_}
-use Prim.Native.Nat.{ℕ, _<_, min, max}
-use lib.Dec.{eqb, ltb, leb}
-use lib.ListN.{length, drop}
+use Rattle.basics.specs.Words.{_≡_, Bool, true, not, _&&_, _||_, List, [], _∷_, _++_, _⊎_, ℕ, _<_, min, max, length, drop, eqb, ltb, leb}
 use Rattle.refusals.specs.Refusals.{refuse, firstOf, unlessRefused}
 use Rattle.machine.specs.Machine.{Machine}
 use Rattle.card.specs.declared.Packed.{Packed}

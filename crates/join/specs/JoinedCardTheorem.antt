@@ -1,19 +1,8 @@
 -- The card with two of its machines joined is accepted; its machines are the old ones with the two joined; and so candidates, profiles and the
 -- best candidate are what the change promises. Assumes nothing.
-use mathlib.Core.Path.{_≡_, refl, sym, ap, ap₂, subst, _∙_}
-use mathlib.Core.Logic.{_⊎_, inl, inr}
-use mathlib.Core.Bool.{true}
-use mathlib.Core.List.{List, [], _∷_, _++_, map}
-use Prim.Native.Nat.{ℕ, zero, suc, _<_, _≤_}
-use native.Mathlib.Omega.{arith}
-use lib.Dec.{leb, lit<}
-use lib.ListN.{length, getD, take, drop, length-map}
-use lib.Seq.{take-at}
+use Rattle.basics.proofs.Words.{_≡_, refl, sym, ap, ap₂, subst, _∙_, true, List, [], _∷_, _++_, map, _⊎_, inl, inr, ℕ, zero, suc, _<_, _≤_, arith, length, getD, take, drop, length-map, leb, lit<, take-at, allOf, both, left, right, all-at, map-at}
 use borrow.Author.Tests.{eqb-true, leb-true, eq-eqb}
-use Rattle.basics.specs.Search.{allOf}
 use Rattle.refusals.specs.Refusals.{refuse, firstOf}
-use Rattle.basics.proofs.Bools.{both, left, right}
-use Rattle.basics.proofs.Search.{all-at, map-at}
 use Rattle.refusals.proofs.Refusals.{passed, none-first, last-one}
 use Rattle.machine.specs.declared.Pair.{Pair}
 use Rattle.machine.specs.Symbols.{isPair}

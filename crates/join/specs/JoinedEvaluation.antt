@@ -1,14 +1,5 @@
 -- Evaluation of a candidate, given as bytes, on a card and on the one with two of its machines joined. Assumes nothing.
-use mathlib.Core.Path.{_≡_, refl, sym, ap, _∙_}
-use mathlib.Core.Bool.{Bool, true, false, _&&_}
-use mathlib.Core.List.{List, _++_, append-assoc}
-use Prim.Native.Nat.{ℕ, suc, _+_, _-_, _*_, _%_, _<_, _≤_}
-use native.Mathlib.Omega.{arith}
-use lib.Dec.{eqb, leb}
-use lib.ListN.{length, replicate, length-append, length-replicate, replicate-append-replicate}
-use Rattle.basics.specs.Search.{allOf}
-use Rattle.basics.proofs.Bools.{left, right}
-use Rattle.basics.proofs.Search.{all-at, each-at}
+use Rattle.basics.proofs.Words.{_≡_, refl, sym, ap, _∙_, Bool, true, false, _&&_, List, _++_, append-assoc, ℕ, suc, _+_, _-_, _*_, _%_, _<_, _≤_, arith, length, replicate, length-append, length-replicate, replicate-append-replicate, eqb, leb, allOf, left, right, all-at, each-at}
 use Rattle.machine.specs.declared.Pair.{Pair}
 use Rattle.machine.specs.Symbols.{isPair}
 use Rattle.ranking.specs.declared.Profile.{Profile}

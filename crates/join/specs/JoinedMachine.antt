@@ -1,7 +1,5 @@
 -- The machines of a card with two of them joined to one.
-use mathlib.Core.List.{List}
-use Prim.Native.Nat.{ℕ}
-use lib.ListN.{getD}
+use Rattle.basics.specs.Words.{List, ℕ, getD}
 use Rattle.machine.specs.Machine.{Machine, noMachine}
 use Rattle.join.specs.Merged.{mergedAt}
 pub use Rattle.joined.specs.JoinedMachine.{joinedState, joinedKind, joinedArc, arcsWith, joinedArcs, bothMarks, crossed, endsFree}

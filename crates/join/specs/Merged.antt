@@ -1,8 +1,5 @@
 -- Lists in which one place takes in another: for machines, parts, state counts and profile counts alike.
-use mathlib.Core.List.{List, [], _∷_}
-use Prim.Native.Nat.{ℕ, zero, suc, _+_}
-use lib.ListN.{getD}
-use Rattle.basics.specs.Search.{without}
+use Rattle.basics.specs.Words.{List, [], _∷_, ℕ, zero, suc, _+_, getD, without}
 
 module _ {A : Type 0} where
   -- place i holds what f makes of the places i and j, for i < j, and place j is gone

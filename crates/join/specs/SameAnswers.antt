@@ -1,15 +1,6 @@
 -- Both engines answer alike on a card and on the one with two of its machines joined, one of them without marks. It is said of the calls' contracts,
 -- `Optimizes` for a word and `OptimizesSets` for sets, which both engines have: either call may be either engine's. Assumes nothing.
-use mathlib.Core.Path.{_≡_, sym, ap, subst, _∙_}
-use mathlib.Core.Logic.{_↔_}
-use mathlib.Core.Bool.{true}
-use mathlib.Core.List.{List}
-use mathlib.Core.Option.{Option, some}
-use Prim.Native.Nat.{ℕ, _*_}
-use native.Mathlib.Decide.{ℕ-discrete}
-use native.Mathlib.Omega.{arith}
-use lib.ListN.{length}
-use lib.Dec.{lit<}
+use Rattle.basics.specs.Words.{_≡_, sym, ap, subst, _∙_, true, List, Option, some, _↔_, ℕ, _*_, arith, length, lit<, ℕ-discrete}
 use Rattle.refusals.specs.Refusals.{refuse}
 use Rattle.refusals.proofs.Refusals.{passed, passes-with}
 use Rattle.machine.specs.declared.Pair.{Pair}

@@ -1,11 +1,5 @@
 -- The new card: what the functions that write it put where.
-use mathlib.Core.Path.{_≡_}
-use mathlib.Core.Bool.{cond}
-use mathlib.Core.List.{List}
-use Prim.Native.Nat.{ℕ, _+_, _*_, _-_}
-use lib.Dec.{ltb}
-use lib.ListN.{length}
-use Rattle.basics.specs.Search.{joined}
+use Rattle.basics.specs.Words.{_≡_, cond, List, ℕ, _+_, _*_, _-_, length, ltb, joined}
 use Rattle.machine.specs.Part.{stateCount, arcsOf}
 use Rattle.layout.specs.Layout.{partOf}
 use Rattle.card.specs.Layout.{machineCount, partsOf}

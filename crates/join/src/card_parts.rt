@@ -1,8 +1,5 @@
 // The parts of the new card: their lengths, and the writing of the card.
-ghost use mathlib.Core.Path.{_≡_};
-ghost use mathlib.Core.List.{[], map};
-ghost use Prim.Native.Nat.{_+_, _-_, _<_, _≤_};
-ghost use lib.ListN.{length, getD, take};
+ghost use Rattle.basics.specs.Words.{_≡_, [], map, _+_, _-_, _<_, _≤_, length, getD, take};
 ghost use Rattle.card.specs.Layout.{machineCount, partsOf};
 ghost use Rattle.join.specs.JoinedCard.{joinedParts, joinedCard};
 ghost use Rattle.join.specs.Writing.{placed, tableLength, joinedBytes, oldNumber, CardJoins, JoinedArcCount};
@@ -68,7 +65,7 @@ fn write_part(stretch: &mut [u8], card: &[u8], lower: usize, other: usize, arcs:
     ensures { λ _. ⌜ now (stretch .exit) ≡ getD (joinedParts lower other (partsOf (now (card .entry)))) i [] ⌝ }
 {
     if i == lower {
-        joined_part::write_joined(
+        joined::writing::write_joined(
             stretch,
             card::part(card, lower),
             card::part(card, other),

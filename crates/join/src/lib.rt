@@ -1,7 +1,5 @@
 // Joining two machines of a card, by Ellison's product.
-ghost use mathlib.Core.Path.{_≡_};
-ghost use Prim.Native.Nat.{_<_, min, max};
-ghost use lib.ListN.{length};
+ghost use Rattle.basics.specs.Words.{_≡_, _<_, min, max, length};
 ghost use Rattle.refusals.specs.Refusals.{checkedNumber};
 ghost use Rattle.layout.specs.Layout.{partOf};
 ghost use Rattle.machine.specs.Part.{machineOf};

@@ -1,17 +1,5 @@
 -- Two parts that may be joined: their state bytes and arcs, and what fits. Assumes nothing.
-use mathlib.Core.Path.{_≡_, refl, ap, ap₂, sym, subst, _∙_}
-use mathlib.Core.Bool.{true, false, _&&_}
-use mathlib.Core.List.{List, [], _∷_, _++_, map}
-use Prim.Native.Nat.{ℕ, zero, suc, _+_, _*_, _<_, _≤_}
-use native.Mathlib.Nat.{suc-mul, mul-le-mul-right}
-use native.Mathlib.Omega.{arith}
-use lib.Dec.{eqb, leb}
-use lib.ListN.{length, getD, take, set, length-append, length-set}
-use lib.Seq.{getD-drop, getD-take, length-slice}
-use borrow.Author.Tests.{leb-true, ne-eqb}
-use Rattle.basics.specs.Search.{allOf}
-use Rattle.basics.proofs.Bools.{left, right}
-use Rattle.basics.proofs.Search.{all-at}
+use Rattle.basics.proofs.Words.{_≡_, refl, ap, ap₂, sym, subst, _∙_, true, false, _&&_, List, [], _∷_, _++_, map, ℕ, zero, suc, _+_, _*_, _<_, _≤_, arith, length, getD, take, set, length-append, length-set, eqb, leb, getD-drop, getD-take, length-slice, suc-mul, mul-le-mul-right, allOf, leb-true, ne-eqb, left, right, all-at}
 use Rattle.machine.specs.declared.Arc.{Arc}
 use Rattle.machine.specs.Machine.{stateCountOf}
 use Rattle.machine.specs.Part.{stateCount, arcCount, stateBytes, endingByte, arcsOf, machineOf, shaped, soundArc, soundStates}

@@ -1,12 +1,5 @@
 -- How loops over a list go on: a test of all that is left, and bytes that are still to be written. Assumes nothing.
-use mathlib.Core.Path.{_≡_, refl, ap, sym, _∙_}
-use mathlib.Core.Bool.{Bool, true, false}
-use mathlib.Core.List.{List, [], _∷_, map}
-use Prim.Native.Nat.{ℕ, _+_, _-_, _/_, _%_, _<_, _≤_}
-use native.Mathlib.Omega.{arith}
-use lib.ListN.{length, getD, drop, set, length-append}
-use Rattle.basics.specs.Search.{allOf, joined}
-use Rattle.basics.proofs.Search.{left-at, left-none, all-none, all-next, all-fails}
+use Rattle.basics.proofs.Words.{_≡_, refl, ap, sym, _∙_, Bool, true, false, List, [], _∷_, map, ℕ, _+_, _-_, _/_, _%_, _<_, _≤_, arith, length, getD, drop, set, length-append, allOf, joined, left-at, left-none, all-none, all-next, all-fails}
 use Rattle.joined.specs.MachineBytes.{littleEndian}
 use Rattle.joined.specs.Writing.{placed}
 use Rattle.joined.specs.Laws.Placed.{placed-none, placed-length, placed-next, placed-step}

@@ -1,11 +1,6 @@
 -- Two machines joined to one by Ellison's product.
-use mathlib.Core.Bool.{Bool, true, _&&_}
-use mathlib.Core.List.{List, map}
-use mathlib.Core.Option.{Option, some, none}
-use Prim.Native.Nat.{ℕ, zero, suc, _+_, _*_}
+use Rattle.basics.specs.Words.{Bool, true, _&&_, List, map, Option, some, none, ℕ, zero, suc, _+_, _*_, eqb, allOf, those, joined}
 use lib.Bits.{bitAnd}
-use lib.Dec.{eqb}
-use Rattle.basics.specs.Search.{allOf, those, joined}
 use Rattle.machine.specs.declared.Arc.{Arc}
 use Rattle.machine.specs.Machine.{Machine, stateCountOf, takeOnePair}
 

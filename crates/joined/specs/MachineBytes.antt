@@ -1,11 +1,5 @@
 -- The bytes of a machine as a part, and two parts as one.
-use mathlib.Core.Bool.{Bool, _&&_}
-use mathlib.Core.List.{List, [], _∷_, _++_, map}
-use mathlib.Core.Option.{Option, some, none}
-use Prim.Native.Nat.{ℕ, zero, suc, _/_, _%_}
-use lib.Dec.{leb}
-use lib.ListN.{length}
-use Rattle.basics.specs.Search.{joined}
+use Rattle.basics.specs.Words.{Bool, _&&_, List, [], _∷_, _++_, map, Option, some, none, ℕ, zero, suc, _/_, _%_, length, leb, joined}
 use Rattle.machine.specs.declared.Arc.{Arc}
 use Rattle.machine.specs.Machine.{Machine, stateCountOf}
 use Rattle.machine.specs.Part.{machineOf}

@@ -1,11 +1,5 @@
 -- The joined part byte by byte: what the functions that write it put where.
-use mathlib.Core.Path.{_≡_}
-use mathlib.Core.Logic.{_⊎_}
-use mathlib.Core.Bool.{true, cond}
-use mathlib.Core.List.{List, [], _++_}
-use Prim.Native.Nat.{ℕ, _+_, _<_}
-use lib.ListN.{length, getD, take, drop}
-use Rattle.basics.specs.Search.{joined}
+use Rattle.basics.specs.Words.{_≡_, true, cond, List, [], _++_, _⊎_, ℕ, _+_, _<_, length, getD, take, drop, joined}
 use Rattle.machine.specs.declared.Arc.{Arc}
 use Rattle.machine.specs.Machine.{takeOnePair}
 use Rattle.machine.specs.Part.{stateCount, arcCount, endingByte, arcsOf, machineOf, shaped, partRefusal}

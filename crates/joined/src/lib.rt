@@ -1,10 +1,5 @@
 // What two arcs and two parts have in common, and what they are as one, by Ellison's product.
-ghost use mathlib.Core.Path.{_≡_};
-ghost use mathlib.Core.Bool.{true};
-ghost use Prim.Native.Nat.{_+_, _*_, _<_, _≤_};
-ghost use lib.Dec.{eqb};
-ghost use lib.ListN.{length, getD};
-ghost use Rattle.basics.specs.Search.{allOf};
+ghost use Rattle.basics.specs.Words.{_≡_, true, _+_, _*_, _<_, _≤_, length, getD, eqb, allOf};
 ghost use Rattle.machine.specs.Machine.{takeOnePair};
 ghost use Rattle.machine.specs.Part.{stateCount, stateBytes, endingByte, arcsOf, machineOf, shaped};
 ghost use Rattle.joined.specs.JoinedMachine.{joinedKind, joinedArc, arcsWith, joinedArcs, endsFree, markless};
@@ -12,6 +7,8 @@ ghost use Rattle.joined.specs.CommonPairs.{kindsClash, HasPair};
 ghost use Rattle.joined.specs.Writing.{joinedByte, ArcsFit};
 use machine::Arc;
 use machine::sets;
+
+pub mod writing; // writing.rt: the joined part, written
 
 // The byte of a state of a part.
 pub fn state_byte(part: &[u8], state: usize) -> u8

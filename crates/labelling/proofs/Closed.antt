@@ -1,8 +1,5 @@
 -- A position closed in counts, or in numbers, is closed in the slice that is there. Assumes nothing.
-use mathlib.Core.Path.{_≡_, refl, sym, _∙_}
-use mathlib.Core.List.{List}
-use Prim.Native.Nat.{ℕ}
-use lib.ListN.{length}
+use Rattle.basics.specs.Words.{_≡_, refl, sym, _∙_, List, ℕ, length}
 use Rattle.closing.specs.Closing.{CountsClosed, NumbersClosed, AllPassed, ClosedAt}
 
 module _ {ranked sums own own′ next next′ : List ℕ} {base P : ℕ} where

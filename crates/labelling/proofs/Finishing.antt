@@ -1,12 +1,5 @@
 -- A position that was entered, settled and closed: one position more is labelled.
-use mathlib.Core.Path.{_≡_, sym, _∙_, subst}
-use mathlib.Core.Bool.{Bool}
-use mathlib.Core.List.{List}
-use Prim.Native.Nat.{ℕ, suc, _+_, _*_, _/_, _%_, _<_, _≤_}
-use native.Mathlib.Nat.{suc-mul, mul-le-mul-right}
-use native.Mathlib.Omega.{arith}
-use borrow.Author.Tests.{eq-eqb, ne-eqb}
-use lib.ListN.{length}
+use Rattle.basics.proofs.Words.{_≡_, sym, _∙_, subst, Bool, List, ℕ, suc, _+_, _*_, _/_, _%_, _<_, _≤_, arith, length, suc-mul, mul-le-mul-right, eq-eqb, ne-eqb}
 use Rattle.card.specs.Card.{machinesOf}
 use Rattle.paths.specs.Costs.{Labels}
 use Rattle.paths.specs.Ranked.{rankedCosts}

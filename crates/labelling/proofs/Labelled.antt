@@ -1,13 +1,5 @@
 -- The labels of the positions that are done, as the work slices and the labels of the next position have them.
-use mathlib.Core.Path.{_≡_, refl, sym, _∙_, ap, subst}
-use mathlib.Core.Logic.{inr}
-use mathlib.Core.List.{List}
-use mathlib.Core.Option.{Option, none, Option·none-ne-some}
-use Prim.Native.Nat.{ℕ, suc, _+_, _*_, _-_, _<_, _≤_}
-use native.Mathlib.Nat.{suc-mul, mul-le-mul-right}
-use native.Mathlib.Decide.{ℕ-discrete}
-use native.Mathlib.Omega.{arith}
-use lib.ListN.{length, List·getD-eq-default}
+use Rattle.basics.specs.Words.{_≡_, refl, sym, _∙_, ap, subst, List, Option, none, Option·none-ne-some, inr, ℕ, suc, _+_, _*_, _-_, _<_, _≤_, arith, length, List·getD-eq-default, suc-mul, mul-le-mul-right, ℕ-discrete}
 use Rattle.paths.specs.Costs.{Labels}
 use Rattle.paths.specs.Ranked.{Ranked, rankedCosts}
 use Rattle.paths.specs.Positions.{Done, done-start}

@@ -1,13 +1,5 @@
 -- One position after the other.
-use mathlib.Core.Path.{_≡_, refl, sym, _∙_, ap, subst}
-use mathlib.Core.List.{List}
-use mathlib.Core.Option.{none}
-use Prim.Native.Nat.{ℕ, suc, _+_, _-_, _*_, _<_, _≤_}
-use native.Mathlib.Nat.{mul-le-mul-right}
-use native.Mathlib.Decide.{decLt}
-use native.Mathlib.Omega.{arith}
-use lib.Dec.{eqb}
-use lib.ListN.{length, getD, take, replicate, getD-replicate, length-replicate, List·getD-eq-default}
+use Rattle.basics.specs.Words.{_≡_, refl, sym, _∙_, ap, subst, List, none, ℕ, suc, _+_, _-_, _*_, _<_, _≤_, arith, length, getD, take, replicate, getD-replicate, length-replicate, List·getD-eq-default, eqb, mul-le-mul-right, decLt}
 use Rattle.card.specs.Card.{machinesOf}
 use Rattle.paths.specs.Positions.{Entered}
 use Rattle.product.specs.Nodes.{stateCounts, product}

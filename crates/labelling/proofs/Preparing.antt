@@ -1,12 +1,5 @@
 -- What the search is given, from the call's parts: the order, columns and lists.
-use mathlib.Core.Path.{_≡_, refl, sym, _∙_, subst}
-use mathlib.Core.Bool.{true, true≢false}
-use mathlib.Core.List.{List, []}
-use Prim.Native.Nat.{ℕ, zero, suc, _+_, _*_, _<_, _≤_}
-use native.Mathlib.Nat.{mul-le-mul-left, mul-zero, suc-mul}
-use native.Mathlib.Omega.{arith}
-use lib.ListN.{length, take, replicate, length-replicate}
-use lib.Seq.{length-take-le}
+use Rattle.basics.specs.Words.{_≡_, refl, sym, _∙_, subst, true, true≢false, List, [], ℕ, zero, suc, _+_, _*_, _<_, _≤_, arith, length, take, replicate, length-replicate, length-take-le, mul-le-mul-left, mul-zero, suc-mul}
 use Rattle.ranking.specs.Rankings.{isRanking}
 use Rattle.card.specs.Layout.{symbolCount}
 use Rattle.card.specs.Card.{machinesOf}

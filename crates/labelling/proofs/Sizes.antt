@@ -1,10 +1,5 @@
 -- The sizes of an accepted card: the state counts of its machines stand in front of six numbers. Assumes nothing.
-use mathlib.Core.Path.{_≡_, sym, _∙_, ap, subst}
-use mathlib.Core.List.{List}
-use Prim.Native.Nat.{ℕ, _*_, _≤_}
-use native.Mathlib.Omega.{arith}
-use lib.ListN.{length, take}
-use lib.Seq.{length-take-le}
+use Rattle.basics.specs.Words.{_≡_, sym, _∙_, ap, subst, List, ℕ, _*_, _≤_, arith, length, take, length-take-le}
 use Rattle.card.specs.Card.{machinesOf, cardRefusal}
 use Rattle.product.specs.Nodes.{stateCounts, product}
 use Rattle.tables.specs.Tables.{CountsOfSome}

@@ -1,9 +1,5 @@
 -- The two kinds of labels: ranked counts, where the slice of sums is empty, and sums.
-use mathlib.Core.Bool.{Bool, cond}
-use mathlib.Core.List.{List}
-use Prim.Native.Nat.{ℕ}
-use lib.Dec.{eqb}
-use lib.ListN.{length}
+use Rattle.basics.specs.Words.{Bool, cond, List, ℕ, length, eqb}
 use Rattle.settling.specs.Prices.{rankedLows, noLows}
 use Rattle.settling.specs.Insertions.{Lists, listsOf}
 

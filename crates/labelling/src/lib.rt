@@ -1,8 +1,6 @@
 // The labels of all nodes, position by position, from the last to the first. Labels are two numbers while a position is at hand; then they stand in one
 // of two work slices, the other being empty: as ranked counts, or as one number by weights.
-ghost use mathlib.Core.Path.{_≡_};
-ghost use Prim.Native.Nat.{_+_, _*_, _≤_};
-ghost use lib.ListN.{length, take};
+ghost use Rattle.basics.specs.Words.{_≡_, _+_, _*_, _≤_, length, take};
 ghost use Rattle.cells.specs.Groups.{GroupsOf};
 ghost use Rattle.grid.specs.Grids.{GridOf};
 ghost use Rattle.labelling.specs.Labelling.{LabelPre, PositionsDone, FinishPre, Finished, PositionsPre, SearchPre, JointRoom, AllLabelled};

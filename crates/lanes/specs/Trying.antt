@@ -1,11 +1,5 @@
 -- Trying a step with the label that it leads to: of a code, of the codes of a front code, of all codes of a position.
-use mathlib.Core.Path.{_≡_}
-use mathlib.Core.Logic.{_⊎_, _≢_}
-use mathlib.Core.Bool.{Bool, cond, _||_, _&&_}
-use mathlib.Core.List.{List}
-use Prim.Native.Nat.{ℕ, zero, suc, _+_, _*_, _/_, _%_, _^_, _<_, _≤_}
-use lib.Dec.{eqb, ltb}
-use lib.ListN.{length, getD}
+use Rattle.basics.specs.Words.{_≡_, Bool, cond, _||_, _&&_, List, _⊎_, _≢_, ℕ, zero, suc, _+_, _*_, _/_, _%_, _^_, _<_, _≤_, length, getD, eqb, ltb}
 use Rattle.cells.specs.declared.Cell.{Cell}
 use Rattle.cells.specs.Cells.{nowhere}
 use Rattle.cells.specs.Groups.{sumAt}

@@ -1,9 +1,6 @@
 // Trying four outputs at a time, a lane each: the labels of a position are lowered to the least that their joint steps and the labels of the next
 // position give.
-ghost use mathlib.Core.Path.{_≡_};
-ghost use mathlib.Core.Bool.{false};
-ghost use Prim.Native.Nat.{ℕ, _+_, _*_, _<_, _≤_};
-ghost use lib.ListN.{length, getD};
+ghost use Rattle.basics.specs.Words.{_≡_, false, ℕ, _+_, _*_, _<_, _≤_, length, getD};
 ghost use Rattle.cells.specs.Cells.{nowhere};
 ghost use Rattle.lanes.specs.Trying.{lesser, wayOf, LanePre, CodePre, CodeTried, TryPre, TriedIn, SkipPre};
 use cells::Cell;

@@ -1,14 +1,5 @@
 -- How the check of a layout goes on and ends. Assumes nothing.
-use mathlib.Core.Path.{_≡_, refl}
-use mathlib.Core.Bool.{Bool, true, false, _&&_}
-use mathlib.Core.List.{List}
-use Prim.Native.Nat.{ℕ, _+_, _*_, _<_, _≤_}
-use native.Mathlib.Numerals.{add-one}
-use lib.Dec.{eqb, leb}
-use lib.ListN.{length}
-use borrow.Author.Tests.{le-leb, lt-leb}
-use Rattle.basics.specs.Search.{everyBelow}
-use Rattle.basics.proofs.Below.{one-below-fails}
+use Rattle.basics.proofs.Words.{_≡_, refl, Bool, true, false, _&&_, List, ℕ, _+_, _*_, _<_, _≤_, length, eqb, leb, add-one, everyBelow, le-leb, lt-leb, one-below-fails}
 use Rattle.layout.specs.Layout.{offsetOf, lengthOf, dueOffset, inPlace, laidOut}
 
 -- the next part has to start where part i ends

@@ -1,17 +1,6 @@
 -- What a layout promises: each part lies within the bytes, behind the one before it. Assumes nothing.
-use mathlib.Core.Path.{_≡_, ap, _∙_}
-use mathlib.Core.Bool.{true, _&&_}
-use mathlib.Core.List.{List}
-use Prim.Native.Nat.{ℕ, zero, suc, _+_, _*_, _-_, _<_, _≤_}
-use native.Mathlib.Omega.{arith}
-use lib.Dec.{eqb, leb}
-use lib.ListN.{length, getD, drop, length-drop, length-map}
-use lib.Seq.{length-take-le}
+use Rattle.basics.proofs.Words.{_≡_, ap, _∙_, true, _&&_, List, ℕ, zero, suc, _+_, _*_, _-_, _<_, _≤_, arith, length, getD, drop, length-drop, length-map, eqb, leb, length-take-le, everyBelow, numbersBelow, left, right, both, map-at, every-at, each-below, length-numbers, number-at}
 use borrow.Author.Tests.{leb-true, eqb-true, le-leb, eq-eqb}
-use Rattle.basics.specs.Search.{everyBelow, numbersBelow}
-use Rattle.basics.proofs.Bools.{left, right, both}
-use Rattle.basics.proofs.Below.{every-at, each-below, length-numbers, number-at}
-use Rattle.basics.proofs.Search.{map-at}
 use Rattle.layout.specs.Layout.{offsetOf, lengthOf, dueOffset, inPlace, laidOut, partOf, partsIn}
 
 -- there is room for the table, each part starts where it has to, and the last ends at the end

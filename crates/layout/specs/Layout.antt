@@ -1,11 +1,6 @@
 -- The layout of parts in a byte string: from byte 2 on, a table with the place of each part, its 16-bit offset and its 16-bit length; then
 -- the parts, one after another. How many there are is handed in.
-use mathlib.Core.Bool.{Bool, _&&_}
-use mathlib.Core.List.{List, map}
-use Prim.Native.Nat.{ℕ, zero, suc, _+_, _*_, _<_}
-use lib.ListN.{length, getD, take, drop}
-use lib.Dec.{eqb, leb}
-use Rattle.basics.specs.Search.{everyBelow, numbersBelow}
+use Rattle.basics.specs.Words.{Bool, _&&_, List, map, ℕ, zero, suc, _+_, _*_, _<_, length, getD, take, drop, eqb, leb, everyBelow, numbersBelow}
 
 -- every element is a byte
 abbrev pub Bytes : List ℕ → Type 0

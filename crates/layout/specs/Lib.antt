@@ -1,2 +1,4 @@
 pub mod Layout
 pub mod LaidOut
+pub mod Packing
+pub mod Laws

@@ -1,11 +1,11 @@
 // The layout of parts: byte strings that start with a table of the places of their parts, one part after another to the end. A card's
 // machines lie so.
-ghost use mathlib.Core.Path.{_≡_};
-ghost use Prim.Native.Nat.{_+_, _*_, _<_, _≤_};
-ghost use lib.ListN.{length};
+ghost use Rattle.basics.specs.Words.{_≡_, _+_, _*_, _<_, _≤_, length};
 ghost use Rattle.layout.specs.Layout.{shortAt, offsetOf, lengthOf, laidOut, partOf};
 ghost use Rattle.layout.specs.LaidOut.{PartWithin};
 use basics::index;
+
+pub mod packing; // packing.rt: the lengths of parts, their sum, and the writing of a card
 
 // The number of two bytes from a place, little-endian.
 fn short(bytes: &[u8], at: usize) -> usize

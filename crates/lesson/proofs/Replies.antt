@@ -1,15 +1,5 @@
 -- How a line's reply follows from what parsing and the optimizer answer. Assumes nothing.
-use mathlib.Core.Path.{_≡_, refl, ap, _∙_}
-use mathlib.Core.List.{List, _++_}
-use mathlib.Core.Bool.{Bool}
-use mathlib.Core.Option.{Option, some, none}
-use Prim.Native.Nat.{ℕ, zero, suc}
-use native.Mathlib.Nat.{suc-ne-zero}
-use native.Mathlib.Omega.{arith}
-use lib.ListN.{length, take, drop, replicate, length-append, length-drop}
-use lib.Seq.{take-append-seam}
-use lib.Dec.{eqb}
-use borrow.Author.Tests.{ne-eqb}
+use Rattle.basics.proofs.Words.{_≡_, refl, ap, _∙_, Bool, List, _++_, Option, some, none, ℕ, zero, suc, arith, length, take, drop, replicate, length-append, length-drop, eqb, take-append-seam, suc-ne-zero, ne-eqb}
 use Rattle.candidate.specs.declared.Evaluation.{Evaluation}
 use Rattle.card.specs.Layout.{machineCount}
 use Rattle.product.specs.Optimizing.{optimized, optimizedAnswer}

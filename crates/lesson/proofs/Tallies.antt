@@ -1,10 +1,5 @@
 -- A lesson that is not full, and how many totals are shown. Assumes nothing.
-use mathlib.Core.Path.{_≡_, refl}
-use mathlib.Core.Bool.{false}
-use mathlib.Core.List.{List}
-use Prim.Native.Nat.{ℕ, zero, suc, _+_, _<_}
-use native.Mathlib.Omega.{arith}
-use borrow.Author.Tests.{leb-false}
+use Rattle.basics.proofs.Words.{_≡_, refl, false, List, ℕ, zero, suc, _+_, _<_, arith, leb-false}
 use Rattle.card.specs.Layout.{machineCount}
 use Rattle.card.specs.Card.{cardRefusal}
 use Rattle.tally.specs.declared.Tally.{Tally}

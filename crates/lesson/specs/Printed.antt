@@ -1,9 +1,5 @@
 -- What the program prints for a line.
-use mathlib.Core.Path.{_≡_}
-use mathlib.Core.List.{List}
-use mathlib.Core.Option.{Option, some, none}
-use Prim.Native.Nat.{ℕ, _≤_}
-use lib.ListN.{length, replicate}
+use Rattle.basics.specs.Words.{_≡_, List, Option, some, none, ℕ, _≤_, length, replicate}
 use Rattle.card.specs.Layout.{machineCount}
 use Rattle.product.specs.Optimizing.{optimized, optimizedAnswer}
 use Rattle.writing.specs.Buffers.{atFront}

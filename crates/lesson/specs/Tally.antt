@@ -1,9 +1,5 @@
 -- A lesson's lines counted one after another, and what is then printed.
-use mathlib.Core.Bool.{Bool, true, false}
-use mathlib.Core.List.{List, [], _∷_, _++_}
-use mathlib.Core.Option.{Option, some, none}
-use Prim.Native.Nat.{ℕ, zero, suc}
-use lib.ListN.{take}
+use Rattle.basics.specs.Words.{Bool, true, false, List, [], _∷_, _++_, Option, some, none, ℕ, zero, suc, take}
 use Rattle.card.specs.Layout.{machineCount}
 use Rattle.card.specs.Card.{cardRefusal}
 use Rattle.candidate.specs.declared.Evaluation.{Evaluation}

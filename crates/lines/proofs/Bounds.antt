@@ -1,13 +1,5 @@
 -- The bounds of what parsing and the next line answer, for whoever calls them. Assumes nothing.
-use mathlib.Core.Path.{_≡_, refl}
-use mathlib.Core.Bool.{Bool, true, false}
-use mathlib.Core.List.{List, _++_}
-use mathlib.Core.Option.{Option, some, none}
-use Prim.Native.Nat.{ℕ, _+_, _<_, _≤_}
-use native.Mathlib.Omega.{arith}
-use lib.Dec.{leb}
-use lib.ListN.{length, drop, length-map, length-take, length-drop}
-use borrow.Author.Tests.{leb-true, leb-false}
+use Rattle.basics.proofs.Words.{_≡_, refl, Bool, true, false, List, _++_, Option, some, none, ℕ, _+_, _<_, _≤_, arith, length, drop, length-map, length-take, length-drop, leb, leb-true, leb-false}
 use Rattle.lines.specs.declared.Parsed.{Parsed}
 use Rattle.lines.specs.declared.Next.{Next}
 use Rattle.writing.specs.Text.{space, lineEnd, before, after}

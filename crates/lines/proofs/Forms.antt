@@ -1,22 +1,11 @@
 -- Laws of the forms of a line's parts. Assumes nothing.
-use mathlib.Core.Path.{_≡_, refl, ap, sym, _∙_}
-use mathlib.Core.Bool.{Bool, true, false, _&&_, and-false}
-use mathlib.Core.List.{List, [], _∷_, map}
-use mathlib.Core.Option.{some, none}
-use Prim.Native.Nat.{ℕ, _+_, _-_, _*_, _<_, _≤_, zero-le}
-use native.Mathlib.Nat.{suc-ne-zero}
-use native.Mathlib.Omega.{arith}
-use lib.ListN.{length, length-map, take, drop}
-use lib.Dec.{leb}
-use borrow.Author.Tests.{leb-true, le-leb, lt-leb}
-use Rattle.basics.specs.Search.{allOf}
+use Rattle.basics.proofs.Words.{_≡_, refl, ap, sym, _∙_, Bool, true, false, _&&_, and-false, List, [], _∷_, map, some, none, ℕ, _+_, _-_, _*_, _<_, _≤_, zero-le, arith, length, length-map, take, drop, leb, suc-ne-zero, allOf, leb-true, le-leb, lt-leb, left, right}
 use Rattle.lines.specs.declared.Parsed.the-variants.{BadLine, Line}
 use Rattle.lines.specs.declared.Parsed.{Parsed}
 use Rattle.writing.specs.Text.{space, comma, before, after, segments}
 use Rattle.writing.specs.Decimal.{isDigit, digitValue, valueOf}
 use Rattle.writing.specs.Buffers.{atFront}
 use Rattle.lines.specs.Parsing.{isRankingText, isSymbolText, symbolsIn, isWordText, requestOf, parsedParts, parsedLine, parsedAnswer, rankingOf, wordOf}
-use Rattle.basics.proofs.Bools.{left, right}
 use Rattle.writing.proofs.Lists.{all-first, all-rest}
 use Rattle.writing.proofs.Cutting.{take-before, after-none, after-some, part-rest, lengths, segments-lengths}
 

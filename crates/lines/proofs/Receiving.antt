@@ -1,13 +1,5 @@
 -- Laws of the bytes that are kept of a line, and of the next line. Assumes nothing.
-use mathlib.Core.Path.{_≡_, refl, ap, sym, _∙_}
-use mathlib.Core.Bool.{Bool, true, false}
-use mathlib.Core.List.{List, _++_}
-use Prim.Native.Nat.{ℕ, _+_, _-_, _≤_, min}
-use native.Mathlib.Omega.{arith}
-use lib.Dec.{leb}
-use lib.ListN.{length, take, length-take, length-append}
-use lib.Seq.{take-all, take-take, take-append-add, length-take-le, sets-eq}
-use borrow.Author.Tests.{leb-true, leb-false}
+use Rattle.basics.proofs.Words.{_≡_, refl, ap, sym, _∙_, Bool, true, false, List, _++_, ℕ, _+_, _-_, _≤_, min, arith, length, take, length-take, length-append, leb, take-all, take-take, take-append-add, length-take-le, sets-eq, leb-true, leb-false}
 use Rattle.lines.specs.declared.Next.the-variants.{Line, Open}
 use Rattle.writing.specs.Text.{lineEnd, before}
 use Rattle.writing.specs.Buffers.{Written, atFront}

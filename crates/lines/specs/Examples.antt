@@ -1,8 +1,5 @@
 -- The fourth example of the ten, as the program reads and prints it, and lines of the empty word.
-use mathlib.Core.Path.{_≡_, refl}
-use mathlib.Core.List.{[], _∷_}
-use mathlib.Core.Option.{some, none}
-use Rattle.basics.specs.Search.{joined, allOf}
+use Rattle.basics.specs.Words.{_≡_, refl, [], _∷_, some, none, joined, allOf}
 use Rattle.candidate.specs.Candidates.{pairsOf}
 use Rattle.writing.specs.Text.{before, after, segments, textOf}
 use Rattle.writing.specs.Decimal.{digitsWithin, decimal, valueFrom}

@@ -1,10 +1,5 @@
 -- The lines of an input, and what is taken of them from its segments.
-use mathlib.Core.Bool.{true, false}
-use mathlib.Core.List.{List, [], _∷_, _++_}
-use mathlib.Core.Option.{some, none}
-use Prim.Native.Nat.{ℕ, _+_}
-use lib.ListN.{length, take}
-use lib.Dec.{eqb}
+use Rattle.basics.specs.Words.{true, false, List, [], _∷_, _++_, some, none, ℕ, _+_, length, take, eqb}
 use Rattle.lines.specs.declared.Next.{Next}
 use Rattle.lines.specs.declared.Next.the-variants.{Line, Open}
 use Rattle.writing.specs.Text.{lineEnd, toFirst, before, after}

@@ -1,15 +1,6 @@
 -- However the input is cut into pieces, the lines taken are its lines; and each call for the next line takes them in turn.
-use mathlib.Core.Path.{_≡_, refl, ap, sym, _∙_}
-use mathlib.Core.Bool.{Bool, true, false}
-use mathlib.Core.List.{List, [], _∷_, _++_, map, append-nil}
-use mathlib.Core.Option.{some, none}
-use Prim.Native.Nat.{ℕ, zero, suc, _≤_}
-use native.Mathlib.Omega.{arith}
-use lib.ListN.{length, take, length-take}
-use lib.Seq.{take-all, append-snoc}
-use lib.Dec.{eqb, leb}
+use Rattle.basics.specs.Words.{_≡_, refl, ap, sym, _∙_, Bool, true, false, List, [], _∷_, _++_, map, append-nil, some, none, ℕ, zero, suc, _≤_, arith, length, take, length-take, eqb, leb, take-all, append-snoc, joined}
 use borrow.Author.Tests.{leb-true, leb-false, lt-leb}
-use Rattle.basics.specs.Search.{joined}
 use Rattle.writing.specs.Text.{lineEnd, toFirst, before, after}
 use Rattle.lines.specs.Parsing.{parsedLine}
 use Rattle.lines.specs.Input.{linesOf, kept}

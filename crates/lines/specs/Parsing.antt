@@ -1,11 +1,5 @@
 -- An input line: ranking digits, a space, symbols in decimal with commas, or none.
-use mathlib.Core.Bool.{Bool, true, false, _&&_}
-use mathlib.Core.List.{List, [], _∷_, map}
-use mathlib.Core.Option.{Option, some, none}
-use Prim.Native.Nat.{ℕ}
-use lib.ListN.{length}
-use lib.Dec.{leb}
-use Rattle.basics.specs.Search.{allOf}
+use Rattle.basics.specs.Words.{Bool, true, false, _&&_, List, [], _∷_, map, Option, some, none, ℕ, length, leb, allOf}
 use Rattle.lines.specs.declared.Parsed.{Parsed}
 use Rattle.lines.specs.declared.Parsed.the-variants.{BadLine, Line}
 use Rattle.writing.specs.Text.{space, comma, before, after, segments}

@@ -1,8 +1,5 @@
 -- What is taken of an input that comes in pieces, byte by byte.
-use mathlib.Core.Bool.{true, false}
-use mathlib.Core.List.{List, [], _∷_, _++_}
-use Prim.Native.Nat.{ℕ}
-use lib.Dec.{eqb}
+use Rattle.basics.specs.Words.{true, false, List, [], _∷_, _++_, ℕ, eqb}
 use Rattle.writing.specs.Text.{lineEnd}
 use Rattle.lines.specs.Input.{kept}
 

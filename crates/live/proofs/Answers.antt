@@ -1,11 +1,5 @@
 -- From the numbers of the checks and from what is done to the rows to the answers of the calls. Assumes nothing.
-use mathlib.Core.Path.{_≡_, refl, sym, ap, _∙_}
-use mathlib.Core.Bool.{Bool, true, false, not}
-use mathlib.Core.List.{List}
-use Prim.Native.Nat.{ℕ, _+_, _-_, _<_}
-use native.Mathlib.Omega.{arith}
-use lib.Dec.{lit<}
-use lib.ListN.{length, take}
+use Rattle.basics.specs.Words.{_≡_, refl, sym, ap, _∙_, Bool, true, false, not, List, ℕ, _+_, _-_, _<_, arith, length, take, lit<}
 use Rattle.refusals.specs.Refusals.{refuse, unlessRefused}
 use Rattle.refusals.proofs.Refusals.{passed, accepted, not-accepted}
 use Rattle.ranking.specs.Rankings.{isMachineCount, isRanking}

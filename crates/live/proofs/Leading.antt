@@ -1,12 +1,5 @@
 -- Going down the rows with the better of two finds the first row that none beats. Assumes nothing.
-use mathlib.Core.Path.{_≡_, refl, sym, ap, _∙_}
-use mathlib.Core.Bool.{Bool, true, false, not}
-use mathlib.Core.List.{List, [], _∷_}
-use mathlib.Core.Option.{Option, some}
-use Prim.Native.Nat.{ℕ}
-use borrow.Author.Tests.{not-true}
-use Rattle.basics.specs.Search.{allOf, firstThat}
-use Rattle.basics.proofs.Bools.{same, both, left, right, clash, fails}
+use Rattle.basics.proofs.Words.{_≡_, refl, sym, ap, _∙_, Bool, true, false, not, List, [], _∷_, Option, some, ℕ, allOf, firstThat, not-true, same, both, left, right, clash, fails}
 use Rattle.ranking.specs.Harmony.{better, isBetter}
 use Rattle.ranking.specs.HarmonicInequality.{itself, transitive, not-better}
 use Rattle.live.specs.declared.Row.{Row}

@@ -1,10 +1,5 @@
 -- What the outcome of a test in code says. Assumes nothing.
-use mathlib.Core.Path.{_≡_, refl}
-use mathlib.Core.Bool.{Bool, true, false, not}
-use Prim.Native.Nat.{ℕ, _<_}
-use native.Mathlib.Omega.{arith}
-use lib.Dec.{T as Holds, eqb}
-use borrow.Author.Tests.{eqb-false}
+use Rattle.basics.proofs.Words.{_≡_, refl, Bool, true, false, not, ℕ, _<_, arith, T as Holds, eqb, eqb-false}
 
 pub is-true : (b : Bool) → Holds b → b ≡ true
 is-true true h = refl

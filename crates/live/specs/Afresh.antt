@@ -1,9 +1,5 @@
 -- Adds and removals that were run on one list of records, as their contracts tell them; and the rows worked out afresh from the accepted calls alone.
-use mathlib.Core.Path.{_≡_}
-use mathlib.Core.Bool.{Bool, true, false, _||_}
-use mathlib.Core.List.{List, [], _∷_, _++_}
-use Prim.Native.Nat.{ℕ, _<_}
-use lib.Dec.{eqb}
+use Rattle.basics.specs.Words.{_≡_, Bool, true, false, _||_, List, [], _∷_, _++_, ℕ, _<_, eqb}
 use Rattle.live.specs.declared.Row.{Row}
 use Rattle.live.specs.declared.Counted.{Counted}
 use Rattle.live.specs.Calls.{Adds, Removes}

@@ -1,9 +1,5 @@
 -- What add, remove and the leader's call answer, and what the first two leave in the lent list.
-use mathlib.Core.Path.{_≡_}
-use mathlib.Core.Bool.{not}
-use mathlib.Core.List.{List, [], _∷_}
-use Prim.Native.Nat.{ℕ, _+_, _-_}
-use lib.ListN.{length, take}
+use Rattle.basics.specs.Words.{_≡_, not, List, [], _∷_, ℕ, _+_, _-_, length, take}
 use Rattle.refusals.specs.Refusals.{refuse, firstOf, unlessRefused}
 use Rattle.ranking.specs.Rankings.{isMachineCount, isRanking}
 use Rattle.live.specs.declared.Row.{Row}

@@ -1,18 +1,8 @@
 -- For every list of adds and removals from an empty table, rows and leader are those worked out afresh from the ids added and not since removed.
 -- Assumes nothing.
-use mathlib.Core.Path.{_≡_, refl, sym, ap, _∙_, subst}
-use mathlib.Core.Bool.{true, false, not}
-use mathlib.Core.List.{List, [], _∷_, _++_, append-nil, append-assoc}
-use Prim.Native.Nat.{ℕ, zero, suc, _+_, _-_, _<_, _≤_}
-use native.Mathlib.Omega.{arith}
-use lib.Dec.{ltb, lit<}
-use lib.ListN.{length, set, take, drop, length-append, length-drop, length-set}
-use lib.Seq.{length-take-le, take-suc-set, take-at}
+use Rattle.basics.proofs.Words.{_≡_, refl, sym, ap, _∙_, subst, true, false, not, List, [], _∷_, _++_, append-nil, append-assoc, ℕ, zero, suc, _+_, _-_, _<_, _≤_, arith, length, set, take, drop, length-append, length-drop, length-set, ltb, lit<, length-take-le, take-suc-set, take-at, pairwise, both, left, right, pairwise-those}
 use borrow.Author.Tests.{ltb-true, le-leb, not-true}
 use Rattle.refusals.specs.Refusals.{refuse, firstOf, unlessRefused}
-use Rattle.basics.specs.Search.{pairwise}
-use Rattle.basics.proofs.Bools.{both, left, right}
-use Rattle.basics.proofs.Search.{pairwise-those}
 use Rattle.refusals.proofs.Refusals.{passed, passes-with, none-first, not-accepted}
 use Rattle.refusals.proofs.Refusals as by-number
 use Rattle.ranking.specs.Rankings.{isMachineCount, isRanking}

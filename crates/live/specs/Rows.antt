@@ -1,11 +1,5 @@
 -- The rows of a live tableau, in order of arrival, and what a list of records is after a row is added or removed: its first records are the rows.
-use mathlib.Core.Bool.{Bool, true, false, not, _||_}
-use mathlib.Core.List.{List, [], _∷_, _++_}
-use mathlib.Core.Option.{Option, some, none}
-use Prim.Native.Nat.{ℕ}
-use lib.Dec.{eqb}
-use lib.ListN.{set, take, drop}
-use Rattle.basics.specs.Search.{allOf, firstThat}
+use Rattle.basics.specs.Words.{Bool, true, false, not, _||_, List, [], _∷_, _++_, Option, some, none, ℕ, set, take, drop, eqb, allOf, firstThat}
 use Rattle.ranking.specs.Profiles.{zeroProfile}
 use Rattle.ranking.specs.Harmony.{better}
 use Rattle.live.specs.declared.Row.{Row}

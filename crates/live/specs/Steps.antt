@@ -1,8 +1,5 @@
 -- The steps by which the code finds, moves and compares rows.
-use mathlib.Core.Bool.{Bool, true, false}
-use mathlib.Core.List.{List, [], _∷_}
-use Prim.Native.Nat.{ℕ, zero, suc, _+_, _-_}
-use lib.ListN.{getD, set, take}
+use Rattle.basics.specs.Words.{Bool, true, false, List, [], _∷_, ℕ, zero, suc, _+_, _-_, getD, set, take}
 use Rattle.ranking.specs.Harmony.{better}
 use Rattle.live.specs.declared.Row.{Row}
 use Rattle.live.specs.declared.Lead.{Lead}

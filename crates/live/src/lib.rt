@@ -1,8 +1,5 @@
 // The live tableau: rows proposed and withdrawn in class, kept in a lent list of records in order of arrival, and the leader among them.
-ghost use mathlib.Core.Path.{_≡_};
-ghost use mathlib.Core.Bool.{true, not};
-ghost use Prim.Native.Nat.{_+_, _-_, _<_, _≤_};
-ghost use lib.ListN.{length, take};
+ghost use Rattle.basics.specs.Words.{_≡_, true, not, _+_, _-_, _<_, _≤_, length, take};
 ghost use Rattle.refusals.specs.Refusals.{checkedNumber, refuse, unlessRefused};
 ghost use Rattle.ranking.specs.Rankings.{isRanking};
 ghost use Rattle.live.specs.Rows.{zeroRow, hasId, present, counted, refusedCount, unled, led};

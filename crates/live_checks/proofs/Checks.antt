@@ -1,14 +1,6 @@
 -- What the numbers of the checks say, and how they make up the number of a call. Assumes nothing.
-use mathlib.Core.Path.{_≡_, refl, sym, _∙_}
-use mathlib.Core.Bool.{Bool, true}
-use mathlib.Core.List.{List, [], _∷_}
-use Prim.Native.Nat.{ℕ, zero, suc, _<_, _≤_}
-use native.Mathlib.Omega.{arith}
-use lib.Dec.{lit<, leb, ltb}
-use borrow.Author.Tests.{leb-true, ltb-true}
-use lib.ListN.{length}
+use Rattle.basics.proofs.Words.{_≡_, refl, sym, _∙_, Bool, true, List, [], _∷_, ℕ, zero, suc, _<_, _≤_, arith, length, lit<, leb, ltb, leb-true, ltb-true, left, right}
 use Rattle.refusals.specs.Refusals.{refuse, firstOf, checkedNumber}
-use Rattle.basics.proofs.Bools.{left, right}
 use Rattle.refusals.proofs.Refusals.{passed, none-first, last-one, passed-number, refused-number}
 use Rattle.ranking.specs.Rankings.{isMachineCount, isRanking}
 use Rattle.refusals.specs.declared.Refusal.{Refusal}

@@ -1,7 +1,5 @@
 -- Refusal 23: the row counts that a list of records can have.
-use mathlib.Core.Bool.{Bool, _&&_}
-use Prim.Native.Nat.{ℕ}
-use lib.Dec.{leb, ltb}
+use Rattle.basics.specs.Words.{Bool, _&&_, ℕ, leb, ltb}
 
 -- 23: a row count that a list can have; on an add, one more fits
 abbrev pub fits : ℕ → ℕ → Bool

@@ -1,10 +1,5 @@
 // The checks of the live tableau's calls, and whether a row takes the lead.
-ghost use mathlib.Core.Path.{_≡_};
-ghost use mathlib.Core.Bool.{true, not};
-ghost use mathlib.Core.List.{[], _∷_};
-ghost use Prim.Native.Nat.{_≤_};
-ghost use lib.Dec.{eqb};
-ghost use lib.ListN.{length};
+ghost use Rattle.basics.specs.Words.{_≡_, true, not, [], _∷_, _≤_, length, eqb};
 ghost use Rattle.refusals.specs.Refusals.{checkedNumber, refuse, firstOf};
 ghost use Rattle.ranking.specs.Rankings.{isMachineCount, isRanking};
 ghost use Rattle.ranking.specs.Harmony.{better};

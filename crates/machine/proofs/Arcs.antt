@@ -1,16 +1,5 @@
 -- The arcs of a part: the tests of one arc, and how a loop over them goes on. Assumes nothing.
-use mathlib.Core.Path.{_≡_, refl, sym, ap, _∙_}
-use mathlib.Core.Bool.{Bool, true, false}
-use mathlib.Core.List.{List, [], _∷_}
-use mathlib.Core.Option.{Option, some, none}
-use Prim.Native.Nat.{ℕ, zero, suc, _+_, _-_, _*_, _<_, _≤_}
-use native.Mathlib.Omega.{arith}
-use lib.ListN.{length, getD}
-use native.Mathlib.Nat.{not-suc-le-zero}
-use native.Mathlib.Numerals.{sub-one}
-use borrow.Author.Tests.{eq-eqb, ne-eqb}
-use Rattle.basics.specs.Search.{allOf}
-use Rattle.basics.proofs.Search.{all-none, all-next, all-fails}
+use Rattle.basics.proofs.Words.{_≡_, refl, sym, ap, _∙_, Bool, true, false, List, [], _∷_, Option, some, none, ℕ, zero, suc, _+_, _-_, _*_, _<_, _≤_, arith, length, getD, not-suc-le-zero, sub-one, allOf, eq-eqb, ne-eqb, all-none, all-next, all-fails}
 use Rattle.machine.specs.declared.Arc.{Arc}
 use Rattle.machine.specs.declared.Pair.{Pair}
 use Rattle.machine.specs.Machine.{takes, takesFrom, stepAmong}

@@ -1,13 +1,6 @@
 -- The symbols of a set that make a pair of an arc's kind with a symbol. Assumes nothing.
-use mathlib.Core.Path.{_≡_, refl, sym, _∙_, ap, ap₂}
-use mathlib.Core.Bool.{Bool, true, false, not, _&&_, and-true, and-false, and-self, and-comm, and-assoc}
-use Prim.Native.Nat.{ℕ, zero, suc, _^_}
-use lib.Dec.{eqb}
+use Rattle.basics.proofs.Words.{_≡_, refl, sym, _∙_, ap, ap₂, Bool, true, false, not, _&&_, and-true, and-false, and-self, and-comm, and-assoc, ℕ, zero, suc, _^_, eqb, member, eqb-true, eq-eqb, same, member-one, member-and}
 use lib.Bits.{bitAnd}
-use borrow.Author.Tests.{eqb-true, eq-eqb}
-use Rattle.basics.specs.Sets.{member}
-use Rattle.basics.proofs.Bools.{same}
-use Rattle.basics.proofs.Sets.{member-one, member-and}
 use Rattle.symbols.proofs.Partners.{without-symbol}
 use Rattle.machine.specs.Symbols.{emptySymbol, pairOf}
 use Rattle.machine.specs.SymbolSets.{partners}

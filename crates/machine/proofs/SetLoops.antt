@@ -1,14 +1,5 @@
 -- Going through a set, the least symbol first, with one number for each symbol: what is new at the symbols passed. Assumes nothing.
-use mathlib.Core.Path.{_≡_, refl, _∙_, ap}
-use mathlib.Core.Bool.{Bool, true, false, cond, not, _&&_}
-use Prim.Native.Nat.{ℕ, _≤_}
-use native.Mathlib.Decide.{ℕ-discrete}
-use native.Mathlib.Omega.{arith}
-use lib.Dec.{eqb}
-use borrow.Author.Tests.{eq-eqb, ne-eqb}
-use Rattle.basics.specs.Sets.{member}
-use Rattle.basics.proofs.Bools.{clash}
-use Rattle.basics.proofs.Sets.{no-member}
+use Rattle.basics.proofs.Words.{_≡_, refl, _∙_, ap, Bool, true, false, cond, not, _&&_, ℕ, _≤_, arith, eqb, ℕ-discrete, member, eq-eqb, ne-eqb, clash, no-member}
 
 -- the symbols of the set that are not left have their new numbers, and all others the old ones
 pub record Passed (old new now : ℕ → ℕ) (set left : ℕ) : Type 0 where

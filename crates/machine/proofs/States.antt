@@ -1,13 +1,5 @@
 -- The state bytes of a part. Assumes nothing.
-use mathlib.Core.Path.{_≡_, refl, sym, ap, _∙_}
-use mathlib.Core.Bool.{true}
-use mathlib.Core.List.{List, _∷_, map}
-use mathlib.Core.Option.{Option, some, none}
-use Prim.Native.Nat.{ℕ, zero, suc, _+_, _-_, _<_, _≤_}
-use native.Mathlib.Numerals.{add-one}
-use native.Mathlib.Omega.{arith}
-use lib.ListN.{length, getD, take, List·getD-map, List·getD-eq-default}
-use lib.Seq.{slice, slice-cons, getD-drop, getD-take}
+use Rattle.basics.specs.Words.{_≡_, refl, sym, ap, _∙_, true, List, _∷_, map, Option, some, none, ℕ, zero, suc, _+_, _-_, _<_, _≤_, arith, length, getD, take, List·getD-map, List·getD-eq-default, slice, slice-cons, getD-drop, getD-take, add-one}
 use Rattle.machine.specs.Machine.{endingOf}
 use Rattle.machine.specs.Part.{stateCount, stateBytes, endingByte, machineOf, shaped}
 use Rattle.machine.specs.Accepted.{state-count}

@@ -1,17 +1,7 @@
 -- What the checks of a part promise: its shape, the verdict of each, the fields of its arcs. Assumes nothing.
-use mathlib.Core.Path.{_≡_, refl, _∙_}
-use mathlib.Core.Bool.{Bool, true, false, not, _&&_}
-use mathlib.Core.List.{List, [], _∷_}
-use Prim.Native.Nat.{ℕ, _+_, _*_, _^_, _<_, _≤_}
-use native.Mathlib.Omega.{arith}
-use lib.Dec.{eqb, ltb, leb}
-use lib.ListN.{length, length-map}
-use lib.Seq.{length-slice}
+use Rattle.basics.proofs.Words.{_≡_, refl, _∙_, Bool, true, false, not, _&&_, List, [], _∷_, ℕ, _+_, _*_, _^_, _<_, _≤_, arith, length, length-map, eqb, ltb, leb, length-slice, member, clash as never, left, right, member-beyond}
 use borrow.Author.Tests.{ltb-true, leb-true, leb-false, eqb-true}
 use Rattle.refusals.specs.Refusals.{refuse, firstOf}
-use Rattle.basics.specs.Sets.{member}
-use Rattle.basics.proofs.Bools.{clash as never, left, right}
-use Rattle.basics.proofs.Sets.{member-beyond}
 use Rattle.machine.specs.declared.Arc.{Arc}
 use Rattle.machine.specs.declared.Pair.{Pair}
 use Rattle.machine.specs.Machine.{stateCountOf, ofKind, takes}

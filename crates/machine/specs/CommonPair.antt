@@ -1,10 +1,5 @@
 -- Two arcs take one pair exactly when there is a pair, of the symbols that a set can have, that both take. Assumes nothing.
-use mathlib.Core.Path.{_≡_}
-use mathlib.Core.Bool.{true, _&&_}
-use Prim.Native.Nat.{_<_}
-use Rattle.basics.specs.Search.{someBelow}
-use Rattle.basics.proofs.Bools.{both, left, right}
-use Rattle.basics.proofs.Below.{found-below, finds-below}
+use Rattle.basics.proofs.Words.{_≡_, true, _&&_, _<_, someBelow, both, left, right, found-below, finds-below}
 use Rattle.machine.specs.declared.Arc.{Arc}
 use Rattle.machine.specs.declared.Pair.{Pair}
 use Rattle.machine.specs.Symbols.{isPair}

@@ -1,12 +1,5 @@
 -- Constraint machines: arcs, the pairs that they take, steps, endings.
-use mathlib.Core.Bool.{Bool, true, false, not, _&&_}
-use mathlib.Core.List.{List, [], _∷_}
-use mathlib.Core.Option.{Option, some, none}
-use Prim.Native.Nat.{ℕ, zero, suc}
-use lib.ListN.{length, getD}
-use lib.Dec.{eqb}
-use Rattle.basics.specs.Sets.{member}
-use Rattle.basics.specs.Search.{someBelow}
+use Rattle.basics.specs.Words.{Bool, true, false, not, _&&_, List, [], _∷_, Option, some, none, ℕ, zero, suc, length, getD, eqb, someBelow, member}
 use Rattle.machine.specs.declared.Arc.{Arc}
 use Rattle.machine.specs.declared.Pair.{Pair}
 use Rattle.machine.specs.declared.Ending.{Ending}

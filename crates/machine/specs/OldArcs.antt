@@ -1,16 +1,7 @@
 -- Arcs from before kinds, with 0 in the place of the kind, mean what they meant. Assumes nothing.
-use mathlib.Core.Path.{_≡_, refl, _∙_, ap, ap₂}
-use mathlib.Core.Bool.{Bool, true, false, not, _&&_, and-true}
-use mathlib.Core.List.{List, [], _∷_}
-use mathlib.Core.Option.{Option, some, none}
-use Prim.Native.Nat.{ℕ, zero, suc}
-use native.Mathlib.Omega.{arith}
-use lib.Dec.{eqb, ltb, leb}
+use Rattle.basics.proofs.Words.{_≡_, refl, _∙_, ap, ap₂, Bool, true, false, not, _&&_, and-true, List, [], _∷_, Option, some, none, ℕ, zero, suc, arith, eqb, ltb, leb, allOf, pairwise, someBelow, member, left, right}
 use borrow.Author.Tests.{eqb-true}
-use Rattle.basics.specs.Search.{allOf, pairwise, someBelow}
-use Rattle.basics.specs.Sets.{member}
 use Rattle.refusals.specs.Refusals.{refuse, firstOf}
-use Rattle.basics.proofs.Bools.{left, right}
 use Rattle.machine.specs.declared.Arc.{Arc}
 use Rattle.machine.specs.declared.Pair.{Pair}
 use Rattle.machine.specs.Symbols.{isPair, pairOf}

@@ -1,16 +1,7 @@
 -- Parts from before ending marks, whose state bytes are 0 and 1, as they were read then. Assumes nothing.
-use mathlib.Core.Path.{_≡_, refl, sym, _∙_, ap}
-use mathlib.Core.Bool.{Bool, true, false}
-use mathlib.Core.List.{List, [], _∷_, map}
-use mathlib.Core.Option.{Option, some, none}
-use Prim.Native.Nat.{ℕ, zero, suc}
-use native.Mathlib.Omega.{arith}
-use lib.Dec.{eqb, leb}
-use lib.ListN.{getD}
+use Rattle.basics.proofs.Words.{_≡_, refl, sym, _∙_, ap, Bool, true, false, List, [], _∷_, map, Option, some, none, ℕ, zero, suc, arith, getD, eqb, leb, allOf, both, left, right}
 use borrow.Author.Tests.{leb-true, le-leb}
-use Rattle.basics.specs.Search.{allOf}
 use Rattle.refusals.specs.Refusals.{refuse, firstOf}
-use Rattle.basics.proofs.Bools.{both, left, right}
 use Rattle.machine.specs.declared.Arc.{Arc}
 use Rattle.machine.specs.Machine.{endingOf}
 use Rattle.machine.specs.Part.{stateBytes, arcsOf, endingByte, machineOf, shaped, soundArcs, noClash, partRefusal}

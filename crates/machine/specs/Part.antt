@@ -1,12 +1,5 @@
 -- A machine part of a card: the machine that its bytes are, and its refusal.
-use mathlib.Core.Bool.{Bool, _&&_, not}
-use mathlib.Core.List.{List, [], _∷_, map}
-use mathlib.Core.Option.{Option, some, none}
-use Prim.Native.Nat.{ℕ, zero, suc, _+_, _*_, _^_}
-use lib.ListN.{length, getD}
-use lib.Seq.{slice}
-use lib.Dec.{eqb, ltb, leb}
-use Rattle.basics.specs.Search.{allOf, pairwise}
+use Rattle.basics.specs.Words.{Bool, _&&_, not, List, [], _∷_, map, Option, some, none, ℕ, zero, suc, _+_, _*_, _^_, length, getD, eqb, ltb, leb, slice, allOf, pairwise}
 use Rattle.refusals.specs.Refusals.{refuse, firstOf}
 use Rattle.machine.specs.declared.Arc.{Arc}
 use Rattle.machine.specs.Machine.{Machine, clash}

@@ -1,12 +1,6 @@
 -- What an arc's kind says of the pairs that it takes; arcs of kinds 1 and 2 never clash. Assumes nothing.
-use mathlib.Core.Path.{_≡_}
-use mathlib.Core.Bool.{true, false, _&&_}
-use Prim.Native.Nat.{ℕ, zero, suc}
-use native.Mathlib.Omega.{arith}
-use lib.Dec.{eqb}
+use Rattle.basics.proofs.Words.{_≡_, true, false, _&&_, ℕ, zero, suc, arith, eqb, member, fails, left, right}
 use borrow.Author.Tests.{eqb-true, eqb-false, not-true}
-use Rattle.basics.specs.Sets.{member}
-use Rattle.basics.proofs.Bools.{fails, left, right}
 use Rattle.machine.specs.declared.Arc.{Arc}
 use Rattle.machine.specs.declared.Pair.{Pair}
 use Rattle.machine.specs.Symbols.{isPair}

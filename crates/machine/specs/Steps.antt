@@ -1,15 +1,6 @@
 -- Steps and endings of an accepted part: at most one arc of a state takes a pair, and the bounds of what is handed back. Assumes nothing.
-use mathlib.Core.Path.{_≡_, refl, sym, ap, _∙_}
-use mathlib.Core.Bool.{Bool, true, false}
-use mathlib.Core.List.{List, [], _∷_, map}
-use mathlib.Core.Option.{some, none, Option·none-ne-some}
-use Prim.Native.Nat.{ℕ, zero, suc, _<_, _≤_}
-use native.Mathlib.Omega.{arith}
-use lib.Dec.{eqb, ltb, leb}
-use lib.ListN.{length, getD, length-map, List·getD-map, List·getD-eq-default}
+use Rattle.basics.proofs.Words.{_≡_, refl, sym, ap, _∙_, Bool, true, false, List, [], _∷_, map, some, none, Option·none-ne-some, ℕ, zero, suc, _<_, _≤_, arith, length, getD, length-map, List·getD-map, List·getD-eq-default, eqb, ltb, leb, clash as never, both, left, right, all-at, pairwise-at}
 use borrow.Author.Tests.{ltb-true, ltb-false, leb-true, eqb-true, eq-eqb, not-true}
-use Rattle.basics.proofs.Bools.{clash as never, both, left, right}
-use Rattle.basics.proofs.Search.{all-at, pairwise-at}
 use Rattle.machine.specs.declared.Arc.{Arc}
 use Rattle.machine.specs.declared.Pair.{Pair}
 use Rattle.machine.specs.Symbols.{isPair}

@@ -1,7 +1,5 @@
 -- Symbols and pairs.
-use mathlib.Core.Bool.{Bool, _&&_, not}
-use Prim.Native.Nat.{ℕ}
-use lib.Dec.{eqb, leb}
+use Rattle.basics.specs.Words.{Bool, _&&_, not, ℕ, eqb, leb}
 use Rattle.machine.specs.declared.Pair.{Pair}
 pub use Rattle.symbols.specs.Symbols.{emptySymbol, firstSymbol}
 

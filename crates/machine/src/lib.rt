@@ -1,10 +1,5 @@
 // Constraint machines: pairs of symbols, arcs, steps and endings.
-ghost use mathlib.Core.Path.{_≡_};
-ghost use mathlib.Core.Bool.{true};
-ghost use Prim.Native.Nat.{ℕ, _<_, _^_};
-ghost use lib.Dec.{eqb};
-ghost use lib.ListN.{getD};
-ghost use Rattle.basics.specs.Sets.{member};
+ghost use Rattle.basics.specs.Words.{_≡_, true, ℕ, _<_, _^_, getD, eqb, member};
 ghost use Rattle.machine.specs.Symbols.{emptySymbol, pairOf, isPair, withinSymbols};
 ghost use Rattle.machine.specs.Machine.{startState, takes, stepOf, stepped, endingOf, ended};
 ghost use Rattle.machine.specs.Part.{stateCount, arcCount, arcsOf, machineOf, shaped, soundArc};

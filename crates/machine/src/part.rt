@@ -1,7 +1,5 @@
 // A machine part: its arcs.
-ghost use mathlib.Core.Path.{_≡_};
-ghost use Prim.Native.Nat.{_+_, _*_, _^_, _<_, _≤_};
-ghost use lib.ListN.{length};
+ghost use Rattle.basics.specs.Words.{_≡_, _+_, _*_, _^_, _<_, _≤_, length};
 ghost use Rattle.machine.specs.Machine.{takesFrom};
 ghost use Rattle.machine.specs.Part.{fourBytesAt, eightBytesAt, arcAt};
 use crate::Arc;

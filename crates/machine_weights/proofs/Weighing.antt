@@ -1,20 +1,5 @@
 -- The weights of machines in ranked order. Assumes nothing.
-use mathlib.Core.Path.{_≡_, refl, sym, _∙_, ap}
-use mathlib.Core.Logic.{_≢_}
-use mathlib.Core.Bool.{Bool, true, false, cond}
-use mathlib.Core.List.{List, [], _∷_, _++_}
-use Prim.Native.Nat.{ℕ, zero, suc, _+_, _-_, _*_, _%_, _^_, _<_, _≤_}
-use native.Mathlib.Nat.{mul-comm}
-use native.Mathlib.Numerals.{add-one}
-use native.Mathlib.Decide.{decLt, ℕ-discrete}
-use native.Mathlib.Omega.{arith}
-use lib.Dec.{eqb}
-use lib.ListN.{length, getD, take, drop, set, replicate, length-set, drop-of-length-le, List·getD-eq-default}
-use lib.Seq.{drop-cons, getD-take, length-take-le, getD-set-same, getD-set-other}
-use borrow.Author.Tests.{eq-eqb, ne-eqb}
-use Rattle.basics.specs.Search.{occurrences}
-use Rattle.basics.specs.Products.{product}
-use Rattle.basics.proofs.Occurrences.{its-place, occurs-here, occurs-later, occurrences-append}
+use Rattle.basics.proofs.Words.{_≡_, refl, sym, _∙_, ap, Bool, true, false, cond, List, [], _∷_, _++_, _≢_, ℕ, zero, suc, _+_, _-_, _*_, _%_, _^_, _<_, _≤_, arith, length, getD, take, drop, set, replicate, length-set, drop-of-length-le, List·getD-eq-default, eqb, drop-cons, getD-take, length-take-le, getD-set-same, getD-set-other, mul-comm, decLt, ℕ-discrete, add-one, occurrences, product, eq-eqb, ne-eqb, its-place, occurs-here, occurs-later, occurrences-append}
 use Rattle.ranking.specs.Rankings.{isRanking}
 use Rattle.ranking.specs.Lemmas.Rankings.{Ranking, ranking-facts}
 use Rattle.tables.specs.Tables.{CountsOfSome}

@@ -1,6 +1,5 @@
 -- What marks count in high.
-use mathlib.Core.List.{List, [], _∷_}
-use Prim.Native.Nat.{ℕ}
+use Rattle.basics.specs.Words.{List, [], _∷_, ℕ}
 use Rattle.cells.specs.Cells.{highOf}
 
 -- what a mark counts in high, for six machines in card order

@@ -1,8 +1,5 @@
 // What states and marks count in the numbers of joint steps and labels.
-ghost use mathlib.Core.Path.{_≡_};
-ghost use mathlib.Core.Bool.{true};
-ghost use Prim.Native.Nat.{_*_, _<_};
-ghost use lib.ListN.{length, take};
+ghost use Rattle.basics.specs.Words.{_≡_, true, _*_, _<_, length, take};
 ghost use Rattle.ranking.specs.Rankings.{isRanking};
 ghost use Rattle.tables.specs.Tables.{CountsOfSome};
 ghost use Rattle.tables.specs.Places.{sixPlaces};

@@ -1,11 +1,5 @@
 -- What the calls answer, by the checks that the input passes and by the best candidate: for every order, a word or sets. Assumes nothing.
-use mathlib.Core.Path.{_≡_, refl, _∙_, ap}
-use mathlib.Core.Logic.{_≢_}
-use mathlib.Core.List.{List, [], _∷_, _++_}
-use mathlib.Core.Option.{Option, some}
-use Prim.Native.Nat.{ℕ, zero, suc, _<_, _≤_}
-use native.Mathlib.Omega.{arith}
-use lib.ListN.{length, take, drop, length-append, length-drop}
+use Rattle.basics.specs.Words.{_≡_, refl, _∙_, ap, List, [], _∷_, _++_, Option, some, _≢_, ℕ, zero, suc, _<_, _≤_, arith, length, take, drop, length-append, length-drop}
 use Rattle.card.specs.Layout.{symbolCount}
 use Rattle.candidate.specs.declared.Evaluation.{Evaluation}
 use Rattle.candidate.specs.Evaluating.{refused}

@@ -1,11 +1,5 @@
 -- Counts in ranked order put in card order, place by place. Assumes nothing.
-use mathlib.Core.Path.{_≡_, refl, sym, _∙_, ap}
-use mathlib.Core.List.{List, [], _∷_, _++_}
-use Prim.Native.Nat.{ℕ, zero, suc, _+_, _-_, _<_, _≤_}
-use native.Mathlib.Decide.{decLt, ℕ-discrete}
-use native.Mathlib.Omega.{arith}
-use lib.ListN.{length, getD, set, replicate, length-set, length-append, length-replicate, getD-replicate, List·getD-append, List·getD-eq-default}
-use lib.Seq.{ext-getD, getD-append-add, getD-set-same, getD-set-other}
+use Rattle.basics.specs.Words.{_≡_, refl, sym, _∙_, ap, List, [], _∷_, _++_, ℕ, zero, suc, _+_, _-_, _<_, _≤_, arith, length, getD, set, replicate, length-set, length-append, length-replicate, getD-replicate, List·getD-append, List·getD-eq-default, ext-getD, getD-append-add, getD-set-same, getD-set-other, decLt, ℕ-discrete}
 use Rattle.ranking.specs.Profiles.{zeroProfile}
 use Rattle.ranking.specs.Lemmas.Rankings.{Ranking, ranking-facts, place-of, place-unique}
 use Rattle.paths.specs.Ranked.{countAt}

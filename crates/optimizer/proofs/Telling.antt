@@ -1,11 +1,5 @@
 -- What the label of the start tells of the best candidate's profile. Assumes nothing.
-use mathlib.Core.Path.{_≡_, refl, sym, _∙_, ap}
-use mathlib.Core.Bool.{true, false≢true}
-use mathlib.Core.List.{List}
-use mathlib.Core.Option.{Option, some, none}
-use Prim.Native.Nat.{ℕ}
-use native.Mathlib.Omega.{arith}
-use lib.ListN.{length}
+use Rattle.basics.specs.Words.{_≡_, refl, sym, _∙_, ap, true, false≢true, List, Option, some, none, ℕ, arith, length}
 use Rattle.ranking.specs.declared.Profile.{Profile}
 use Rattle.ranking.specs.Lemmas.Rankings.{ranking-facts}
 use Rattle.card.specs.Layout.{machineCount}

@@ -1,11 +1,6 @@
 -- Demand 3, of what the calls under a ranking answer: for every card, ranking, word or list of sets, and work slice that the checks before the search
 -- accept, and every answer slice. With sets the rivals are all lists of pairs, however long, that spell one of the words with one symbol from each set.
-use mathlib.Core.Path.{_≡_}
-use mathlib.Core.Logic.{_↔_}
-use mathlib.Core.Bool.{true}
-use mathlib.Core.List.{List}
-use Prim.Native.Nat.{ℕ}
-use lib.ListN.{length}
+use Rattle.basics.specs.Words.{_≡_, true, List, _↔_, ℕ, length}
 use Rattle.machine.specs.declared.Pair.{Pair}
 use Rattle.card.specs.Layout.{symbolCount}
 use Rattle.card.specs.Card.{machinesOf}

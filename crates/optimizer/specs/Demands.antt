@@ -1,13 +1,6 @@
 -- What demand 3 says of an answer, by the order on profiles and its price, by which candidates are meant, and by what it is for one to beat another; and
 -- that what a call answers meets it.
-use mathlib.Core.Path.{_≡_, refl, sym, _∙_, ap}
-use mathlib.Core.Logic.{_⊎_, inl, inr, _↔_, _≢_}
-use mathlib.Core.List.{List, _++_}
-use mathlib.Core.Option.{Option, some, none}
-use Prim.Native.Nat.{ℕ, zero, suc, _*_, _<_, _≤_}
-use native.Mathlib.Decide.{decLt}
-use native.Mathlib.Omega.{arith}
-use lib.ListN.{length, drop}
+use Rattle.basics.specs.Words.{_≡_, refl, sym, _∙_, ap, List, _++_, Option, some, none, _⊎_, inl, inr, _↔_, _≢_, ℕ, zero, suc, _*_, _<_, _≤_, arith, length, drop, decLt}
 use borrow.Author.Tests.{le-leb, lt-leb}
 use Rattle.machine.specs.declared.Pair.{Pair}
 use Rattle.machine.specs.Machine.{Machine}

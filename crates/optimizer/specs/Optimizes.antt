@@ -1,10 +1,5 @@
 -- The contract of the calls, one for words and sets, under a ranking and by weights.
-use mathlib.Core.Path.{_≡_}
-use mathlib.Core.Logic.{_≢_}
-use mathlib.Core.List.{List}
-use mathlib.Core.Option.{Option}
-use Prim.Native.Nat.{ℕ}
-use lib.ListN.{length}
+use Rattle.basics.specs.Words.{_≡_, List, Option, _≢_, ℕ, length}
 use Rattle.candidate.specs.declared.Evaluation.{Evaluation}
 use Rattle.product.specs.Best.{Contender, best}
 use Rattle.product.specs.Sets.{bestOfSets}

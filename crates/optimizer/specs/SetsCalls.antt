@@ -1,9 +1,5 @@
 -- Theorem on the calls for words heard only in part, of their contract, which every engine has.
-use mathlib.Core.Path.{_≡_, sym, _∙_, ap}
-use mathlib.Core.Bool.{true, false}
-use mathlib.Core.List.{List}
-use Prim.Native.Nat.{ℕ}
-use lib.ListN.{length}
+use Rattle.basics.specs.Words.{_≡_, sym, _∙_, ap, true, false, List, ℕ, length}
 use Rattle.candidate.specs.declared.Evaluation.{Evaluation}
 use Rattle.candidate.specs.Evaluating.{refused}
 use Rattle.product.specs.Sets.{singletons}

@@ -1,16 +1,7 @@
 -- How far the counts of an answer go, by how far those of the best candidate go.
-use mathlib.Core.Path.{_≡_, refl}
-use mathlib.Core.Bool.{Bool, true, false}
-use mathlib.Core.List.{List, [], _∷_, _++_}
-use mathlib.Core.Option.{Option, some, none}
-use Prim.Native.Nat.{ℕ, zero, suc, _*_, _-_, _≤_}
-use native.Mathlib.Omega.{arith}
-use lib.Dec.{leb}
-use lib.ListN.{length, replicate}
+use Rattle.basics.proofs.Words.{_≡_, refl, Bool, true, false, List, [], _∷_, _++_, Option, some, none, ℕ, zero, suc, _*_, _-_, _≤_, arith, length, replicate, leb, allOf, both, left, right}
 use borrow.Author.Tests.{le-leb}
-use Rattle.basics.specs.Search.{allOf}
 use Rattle.refusals.specs.Refusals.{refuse, firstOf, unlessRefused}
-use Rattle.basics.proofs.Bools.{both, left, right}
 use Rattle.candidate.specs.declared.Evaluation.{Evaluation}
 use Rattle.candidate.specs.Evaluating.{refused}
 use Rattle.product.specs.Best.{Contender}

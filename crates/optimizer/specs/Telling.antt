@@ -1,10 +1,5 @@
 -- What the search says of the best candidate without handing it back: its profile.
-use mathlib.Core.Path.{_≡_}
-use mathlib.Core.Bool.{true}
-use mathlib.Core.List.{List}
-use mathlib.Core.Option.{Option, some, none}
-use Prim.Native.Nat.{ℕ, _≤_}
-use lib.ListN.{length}
+use Rattle.basics.specs.Words.{_≡_, true, List, Option, some, none, ℕ, _≤_, length}
 use Rattle.ranking.specs.declared.Profile.{Profile}
 use Rattle.ranking.specs.Rankings.{isRanking}
 use Rattle.candidate.specs.Evaluating.{profileWith}

@@ -1,15 +1,7 @@
 -- Theorems on two calls with one card, ranking, word and answer slice and with work slices of their own, of any length and contents. They are of the
 -- calls' contract, so either call may be any engine's that has it. What the checks before 9 refuse is refused by both; otherwise 9 is each call's alone,
 -- by the length of its work slice; and two calls that pass 9 give one result and one answer slice.
-use mathlib.Core.Path.{_≡_, refl, sym, _∙_, ap}
-use mathlib.Core.Logic.{_≢_}
-use mathlib.Core.Bool.{Bool, true, false}
-use mathlib.Core.List.{List, [], _∷_, _++_}
-use mathlib.Core.Option.{Option, some, none}
-use Prim.Native.Nat.{ℕ, zero, suc, _*_, _<_, _≤_}
-use native.Mathlib.Omega.{arith}
-use lib.Dec.{leb}
-use lib.ListN.{length}
+use Rattle.basics.specs.Words.{_≡_, refl, sym, _∙_, ap, Bool, true, false, List, [], _∷_, _++_, Option, some, none, _≢_, ℕ, zero, suc, _*_, _<_, _≤_, arith, length, leb}
 use borrow.Author.Tests.{le-leb, lt-leb}
 use Rattle.refusals.specs.Refusals.{refuse, firstOf, unlessRefused}
 use Rattle.ranking.specs.Rankings.{isRanking}

@@ -1,7 +1,5 @@
 // The optimizer: from card, ranking and word to the best candidate.
-ghost use mathlib.Core.Path.{_≡_};
-ghost use lib.ListN.{length};
-ghost use mathlib.Core.Bool.{true};
+ghost use Rattle.basics.specs.Words.{_≡_, true, length};
 ghost use Rattle.product.specs.Best.{best};
 ghost use Rattle.product.specs.Sets.{bestOfSets};
 ghost use Rattle.candidate.specs.Candidates.{isSome};

@@ -1,9 +1,5 @@
 // The outputs worth trying: of outputs with the same column the first at least.
-ghost use mathlib.Core.Path.{_≡_};
-ghost use mathlib.Core.Bool.{true};
-ghost use Prim.Native.Nat.{ℕ, _<_, _≤_};
-ghost use lib.ListN.{length};
-ghost use Rattle.basics.specs.Sets.{member};
+ghost use Rattle.basics.specs.Words.{_≡_, true, ℕ, _<_, _≤_, length, member};
 ghost use Rattle.outputs.specs.Outputs.{SameColumn, Told, Worth, Wide};
 use basics::index;
 use machine::sets;

@@ -1,7 +1,5 @@
 // The check of a machine part.
-ghost use mathlib.Core.Path.{_≡_};
-ghost use mathlib.Core.Bool.{true};
-ghost use Prim.Native.Nat.{_<_};
+ghost use Rattle.basics.specs.Words.{_≡_, true, _<_};
 ghost use Rattle.refusals.specs.Refusals.{refuse, checkedNumber};
 ghost use Rattle.machine.specs.Part.{shaped, soundStates, soundArcs, partRefusal};
 use basics::index;
@@ -10,6 +8,8 @@ use machine::sets;
 use refusals::Checked;
 use refusals::Refusal;
 use refusals::tested;
+
+mod clashes; // clashes.rt: no two arcs of a state take one pair
 
 // Refusal 3: the length is what the first bytes say.
 fn check_length(part: &[u8]) -> Checked

@@ -1,12 +1,5 @@
 -- The marks of the machines' endings, machine by machine. Assumes nothing.
-use mathlib.Core.Path.{_≡_, refl, sym, _∙_, ap}
-use mathlib.Core.List.{List, [], _∷_}
-use mathlib.Core.Option.{Option, some, none, Option·none-ne-some}
-use Prim.Native.Nat.{ℕ, zero, suc, _+_, _<_, _≤_}
-use native.Mathlib.Decide.{ℕ-discrete, decLt}
-use native.Mathlib.Omega.{arith}
-use lib.ListN.{length, getD, set, length-set, List·getD-eq-default}
-use lib.Seq.{getD-set-same, getD-set-other}
+use Rattle.basics.specs.Words.{_≡_, refl, sym, _∙_, ap, List, [], _∷_, Option, some, none, Option·none-ne-some, ℕ, zero, suc, _+_, _<_, _≤_, arith, length, getD, set, length-set, List·getD-eq-default, getD-set-same, getD-set-other, ℕ-discrete, decLt}
 use Rattle.machine.specs.Machine.{Machine, endingOf}
 use Rattle.ranking.specs.declared.Profile.{Profile}
 use Rattle.card.specs.Layout.{machineCount}

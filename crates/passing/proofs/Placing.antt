@@ -1,13 +1,5 @@
 -- The places of states, the states moved on to and the marks passed, machine by machine. Assumes nothing.
-use mathlib.Core.Path.{_≡_, refl, sym, _∙_, ap}
-use mathlib.Core.List.{List, [], _∷_}
-use Prim.Native.Nat.{ℕ, zero, suc, _+_, _*_, _/_, _%_, _<_, _≤_}
-use native.Mathlib.Nat.{mul-le-mul-right}
-use native.Mathlib.Decide.{ℕ-discrete, decLt}
-use native.Mathlib.Omega.{arith}
-use lib.ListN.{length, getD, take, set, length-set, length-map, List·getD-eq-default}
-use lib.Seq.{ext-getD, getD-take, getD-set-same, getD-set-other, length-take-le}
-use Rattle.basics.proofs.Search.{map-at}
+use Rattle.basics.proofs.Words.{_≡_, refl, sym, _∙_, ap, List, [], _∷_, ℕ, zero, suc, _+_, _*_, _/_, _%_, _<_, _≤_, arith, length, getD, take, set, length-set, length-map, List·getD-eq-default, ext-getD, getD-take, getD-set-same, getD-set-other, length-take-le, mul-le-mul-right, ℕ-discrete, decLt, map-at}
 use Rattle.cells.specs.Cells.{places, stepAt}
 use Rattle.cells.specs.Laws.Sums.{places-next, places-few, places-none}
 use Rattle.passing.specs.Places.{placesFrom, marksAt, statesAt, PlacesPre, Placed, ColumnsPre, MarksPre, MarksAdded, MovedPre, Moved}

@@ -1,9 +1,5 @@
 -- Going on by a pair, and the ending.
-use mathlib.Core.Path.{_≡_}
-use mathlib.Core.List.{List}
-use mathlib.Core.Option.{some}
-use Prim.Native.Nat.{ℕ, _+_, _*_, _<_, _≤_}
-use lib.ListN.{length, getD, set}
+use Rattle.basics.specs.Words.{_≡_, List, some, ℕ, _+_, _*_, _<_, _≤_, length, getD, set}
 use Rattle.ranking.specs.declared.Profile.{Profile}
 use Rattle.card.specs.Card.{machinesOf, cardRefusal}
 use Rattle.product.specs.JointStep.{jointEnding}

@@ -1,8 +1,5 @@
 -- Places of a column, one for each machine, and what stands there: the marks, the states moved on to.
-use mathlib.Core.Path.{_≡_}
-use mathlib.Core.List.{List, [], _∷_, map}
-use Prim.Native.Nat.{ℕ, _+_, _*_, _/_, _%_, _<_, _≤_}
-use lib.ListN.{length, getD, take}
+use Rattle.basics.specs.Words.{_≡_, List, [], _∷_, map, ℕ, _+_, _*_, _/_, _%_, _<_, _≤_, length, getD, take}
 use Rattle.cells.specs.Cells.{stepAt, places}
 
 -- the places of some states: those of machines with these state counts start at a place

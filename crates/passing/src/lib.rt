@@ -1,9 +1,5 @@
 // Passing a pair: the places of the states at hand, the states that its steps lead to, their marks added, the pair written; the ending's marks.
-ghost use mathlib.Core.Path.{_≡_};
-ghost use mathlib.Core.Bool.{true};
-ghost use mathlib.Core.Option.{some};
-ghost use Prim.Native.Nat.{ℕ, _<_};
-ghost use lib.ListN.{length};
+ghost use Rattle.basics.specs.Words.{_≡_, true, some, ℕ, _<_, length};
 ghost use Rattle.machine.specs.Machine.{endingOf};
 ghost use Rattle.machine.specs.Part.{shaped, machineOf};
 ghost use Rattle.passing.specs.Places.{PlacesPre, Placed, MarksPre, MarksAdded, MovedPre, Moved};

@@ -1,16 +1,5 @@
 -- What is printed after the last piece, and the buffer that it is written to. Assumes nothing.
-use mathlib.Core.Path.{_≡_, refl, ap, sym, _∙_}
-use mathlib.Core.Bool.{Bool, true, false, not, _||_}
-use mathlib.Core.Logic.{_⊎_, inl, inr}
-use mathlib.Core.List.{List, [], _∷_, _++_, append-assoc, append-nil}
-use Prim.Native.Nat.{ℕ, suc, _+_, _-_, _≤_}
-use native.Mathlib.Nat.{suc-ne-zero}
-use native.Mathlib.Omega.{arith}
-use lib.Dec.{eqb}
-use lib.ListN.{length, take, drop, take-append-drop, length-append, length-take, length-drop}
-use lib.Seq.{drop-drop, take-at, drop-at, take-length, drop-length, drop-append-le, length-take-le}
-use borrow.Author.Tests.{ne-eqb}
-use Rattle.basics.proofs.Bools.{clash, either}
+use Rattle.basics.proofs.Words.{_≡_, refl, ap, sym, _∙_, Bool, true, false, not, _||_, List, [], _∷_, _++_, append-assoc, append-nil, _⊎_, inl, inr, ℕ, suc, _+_, _-_, _≤_, arith, length, take, drop, take-append-drop, length-append, length-take, length-drop, eqb, drop-drop, take-at, drop-at, take-length, drop-length, drop-append-le, length-take-le, suc-ne-zero, ne-eqb, clash, either}
 use Rattle.writing.specs.Buffers.{atFront}
 use Rattle.tally.specs.declared.Tally.{Tally}
 use Rattle.lesson.specs.Printed.{Prints}

@@ -1,11 +1,5 @@
 -- What ends in a piece of the input, and what is held after it, by the lines that are found in it. Assumes nothing.
-use mathlib.Core.Path.{_≡_, refl, ap, sym, _∙_}
-use mathlib.Core.List.{List, [], _∷_, _++_}
-use mathlib.Core.Option.{Option, some, none}
-use Prim.Native.Nat.{ℕ, _+_, _≤_}
-use native.Mathlib.Omega.{arith}
-use lib.ListN.{length, drop, take, length-take}
-use lib.Seq.{drop-drop, take-at}
+use Rattle.basics.specs.Words.{_≡_, refl, ap, sym, _∙_, List, [], _∷_, _++_, Option, some, none, ℕ, _+_, _≤_, arith, length, drop, take, length-take, drop-drop, take-at}
 use Rattle.lines.specs.declared.Next.the-variants as next
 use Rattle.writing.specs.Text.{lineEnd, before, after}
 use Rattle.lines.specs.Input.{kept, nextOf}

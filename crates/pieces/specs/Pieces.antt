@@ -1,9 +1,5 @@
 -- What is printed for the pieces of an input, and what a piece leaves.
-use mathlib.Core.Path.{_≡_}
-use mathlib.Core.Bool.{Bool, true, false}
-use mathlib.Core.List.{List, [], _∷_, _++_}
-use Prim.Native.Nat.{ℕ, _≤_}
-use lib.ListN.{take}
+use Rattle.basics.specs.Words.{_≡_, Bool, true, false, List, [], _∷_, _++_, ℕ, _≤_, take}
 use Rattle.lines.specs.Taking.{endedLines, heldAfter, lastLine}
 use Rattle.tally.specs.declared.Tally.{Tally}
 use Rattle.lesson.specs.Tally.{linesTally, linesText, closingText, Fits}

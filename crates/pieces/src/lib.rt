@@ -3,11 +3,7 @@
 use libc::STDOUT_FILENO;
 use lines::Next;
 use tally::Tally;
-ghost use mathlib.Core.Path.{_≡_};
-ghost use mathlib.Core.Bool.{true, false};
-ghost use mathlib.Core.List.{[]};
-ghost use Prim.Native.Nat.{_≤_};
-ghost use lib.ListN.{length, take};
+ghost use Rattle.basics.specs.Words.{_≡_, true, false, [], _≤_, length, take};
 ghost use Rattle.writing.specs.Buffers.{atFront};
 ghost use Rattle.lesson.specs.Printed.{Prints};
 ghost use Rattle.lesson.specs.Tally.{isFull, lineTally, lineText, Fits};

@@ -1,16 +1,7 @@
 -- How the check of sets ends. Assumes nothing.
-use mathlib.Core.Path.{_≡_}
-use mathlib.Core.Bool.{true, false}
-use mathlib.Core.List.{List}
-use Prim.Native.Nat.{ℕ, _+_, _<_, _≤_}
-use native.Mathlib.Numerals.{add-one}
-use lib.ListN.{length, getD, drop}
-use lib.Seq.{drop-cons, drop-length}
-use borrow.Author.Tests.{le-leb, lt-leb}
-use Rattle.basics.specs.Search.{allOf}
+use Rattle.basics.proofs.Words.{_≡_, true, false, List, ℕ, _+_, _<_, _≤_, length, getD, drop, drop-cons, drop-length, add-one, allOf, le-leb, lt-leb, all-next, all-fails, all-none}
 use Rattle.refusals.specs.Refusals.{refuse}
 use Rattle.refusals.proofs.Refusals.{last-one}
-use Rattle.basics.proofs.Search.{all-next, all-fails, all-none}
 use Rattle.product.specs.OptimizingSets.{symbolSet, setsRefusal}
 
 module _ (S : ℕ) (sets : List ℕ) where

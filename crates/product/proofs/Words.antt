@@ -1,15 +1,5 @@
 -- How the check of a word ends. Assumes nothing.
-use mathlib.Core.Path.{_≡_}
-use mathlib.Core.Bool.{Bool, true, false, _&&_}
-use mathlib.Core.List.{List}
-use Prim.Native.Nat.{ℕ, _+_, _<_, _≤_}
-use native.Mathlib.Numerals.{add-one}
-use lib.Dec.{leb}
-use lib.ListN.{length, getD, drop}
-use lib.Seq.{drop-cons, drop-length}
-use borrow.Author.Tests.{le-leb, lt-leb}
-use Rattle.basics.specs.Search.{allOf}
-use Rattle.basics.proofs.Search.{all-next, all-fails, all-none}
+use Rattle.basics.proofs.Words.{_≡_, Bool, true, false, _&&_, List, ℕ, _+_, _<_, _≤_, length, getD, drop, leb, drop-cons, drop-length, add-one, allOf, le-leb, lt-leb, all-next, all-fails, all-none}
 use Rattle.product.specs.Optimizing.{soundWord}
 
 abbrev pub symbol : ℕ → ℕ → Bool

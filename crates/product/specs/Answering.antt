@@ -1,11 +1,6 @@
 -- What a call answers, whichever order it compares profiles in and whether a word or sets are asked for: by the number of the checks before its search,
 -- the best candidate, and the word or the sets.
-use mathlib.Core.Bool.{Bool, true}
-use mathlib.Core.List.{List, [], _∷_, _++_}
-use mathlib.Core.Option.{Option, some, none}
-use Prim.Native.Nat.{ℕ, _*_}
-use lib.ListN.{length, drop}
-use lib.Dec.{leb}
+use Rattle.basics.specs.Words.{Bool, true, List, [], _∷_, _++_, Option, some, none, ℕ, _*_, length, drop, leb}
 use Rattle.refusals.specs.Refusals.{refuse, firstOf, unlessRefused}
 use Rattle.card.specs.Card.{cardRefusal}
 use Rattle.candidate.specs.declared.Evaluation.{Evaluation}

@@ -1,11 +1,5 @@
 -- The best candidate for a word: the order on candidates, and the least in that order.
-use mathlib.Core.Bool.{Bool, true, false, not, _&&_, _||_}
-use mathlib.Core.List.{List, [], _∷_, map}
-use mathlib.Core.Option.{Option, some, none}
-use Prim.Native.Nat.{ℕ, zero, suc, _+_}
-use lib.ListN.{length}
-use lib.Dec.{eqb, ltb}
-use Rattle.basics.specs.Search.{those, joined, numbersBelow}
+use Rattle.basics.specs.Words.{Bool, true, false, not, _&&_, _||_, List, [], _∷_, map, Option, some, none, ℕ, zero, suc, _+_, length, eqb, ltb, those, joined, numbersBelow}
 use Rattle.machine.specs.declared.Pair.{Pair}
 use Rattle.machine.specs.Symbols.{isPair}
 use Rattle.machine.specs.Machine.{Machine}

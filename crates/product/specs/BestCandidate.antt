@@ -1,11 +1,5 @@
 -- When a candidate is the best for a word, among candidates of any length; and when an answer is it.
-use mathlib.Core.Path.{_≡_}
-use mathlib.Core.Logic.{_≢_, _↔_}
-use mathlib.Core.Bool.{true, false}
-use mathlib.Core.List.{List}
-use mathlib.Core.Option.{Option, some, none}
-use Prim.Native.Nat.{ℕ, _<_, _≤_}
-use lib.ListN.{length}
+use Rattle.basics.specs.Words.{_≡_, true, false, List, Option, some, none, _≢_, _↔_, ℕ, _<_, _≤_, length}
 use Rattle.machine.specs.declared.Pair.{Pair}
 use Rattle.machine.specs.Machine.{Machine}
 use Rattle.ranking.specs.Harmony.{worse}

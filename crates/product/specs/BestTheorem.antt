@@ -1,10 +1,6 @@
 -- The theorem on the best candidate, over the definitions alone: the definition looks at lists of fewer pairs than there are nodes, and what it
 -- finds is the best of the lists of any length. It holds for every accepted card, every ranking and every word, the empty one too.
-use mathlib.Core.Path.{_≡_, refl, sym, _∙_, ap}
-use mathlib.Core.Bool.{true}
-use mathlib.Core.List.{List}
-use mathlib.Core.Option.{Option, some, none, Option·none-ne-some}
-use Prim.Native.Nat.{ℕ}
+use Rattle.basics.specs.Words.{_≡_, refl, sym, _∙_, ap, true, List, Option, some, none, Option·none-ne-some, ℕ}
 use Rattle.machine.specs.declared.Pair.{Pair}
 use Rattle.machine.specs.Machine.{Machine}
 use Rattle.ranking.specs.Rankings.{isRanking}

@@ -1,10 +1,6 @@
 -- The tie of candidates to the product, for accepted cards: from the start node a list of pairs has a cost exactly when it is a candidate for
 -- the word, and the cost is the price of its profile and its pair count. Under a ranking that is its profile in ranked order with its pair count.
-use mathlib.Core.Path.{_≡_}
-use mathlib.Core.List.{List}
-use mathlib.Core.Option.{some}
-use Prim.Native.Nat.{ℕ}
-use lib.ListN.{length}
+use Rattle.basics.specs.Words.{_≡_, List, some, ℕ, length}
 use Rattle.machine.specs.declared.Pair.{Pair}
 use Rattle.card.specs.Card.{machinesOf, cardRefusal}
 use Rattle.candidate.specs.Candidates.{profileOf, IsCandidate}

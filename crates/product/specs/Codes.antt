@@ -1,7 +1,5 @@
 -- The joint step and the joint ending by the codes of the states: what they are at every position.
-use mathlib.Core.List.{List, map}
-use mathlib.Core.Option.{Option, some, none}
-use Prim.Native.Nat.{ℕ, _+_}
+use Rattle.basics.specs.Words.{List, map, Option, some, none, ℕ, _+_}
 use Rattle.machine.specs.declared.Pair.{Pair}
 use Rattle.machine.specs.Machine.{Machine}
 use Rattle.product.specs.Nodes.{stateCounts, codeOf, statesOf}

@@ -1,15 +1,6 @@
 -- Counts that fit, over the definitions alone: a candidate that none beats by profile or pair count passes no node twice, so its pairs are few and its
 -- counts small. It holds for every accepted card, every order on profiles with a price that agrees with it, and at most 24 symbols or sets of symbols.
-use mathlib.Core.Path.{_≡_}
-use mathlib.Core.Bool.{true}
-use mathlib.Core.List.{List}
-use mathlib.Core.Option.{some}
-use Prim.Native.Nat.{ℕ, _+_, _*_, _<_, _≤_}
-use native.Mathlib.Nat.{mul-le-mul}
-use native.Mathlib.Omega.{arith}
-use lib.ListN.{length}
-use lib.Dec.{leb}
-use Rattle.basics.specs.Search.{allOf}
+use Rattle.basics.specs.Words.{_≡_, true, List, some, ℕ, _+_, _*_, _<_, _≤_, arith, length, leb, mul-le-mul, allOf}
 use Rattle.machine.specs.declared.Pair.{Pair}
 use Rattle.card.specs.Card.{machinesOf, cardRefusal}
 use Rattle.candidate.specs.Candidates.{profileOf, IsCandidate}

@@ -1,16 +1,7 @@
 -- Dominance: where each weight is more than c times the sum of those ranked below it and no count is above c, the sums compare as the profiles do
 -- under the ranking.
-use mathlib.Core.Path.{_≡_, refl, sym, _∙_, ap}
-use mathlib.Core.Bool.{true}
-use mathlib.Core.List.{List, [], _∷_}
-use Prim.Native.Nat.{ℕ, zero, suc, _+_, _*_, _<_, _≤_}
-use native.Mathlib.Nat.{mul-add, mul-suc, mul-comm, mul-le-mul-left}
-use native.Mathlib.Omega.{arith}
-use lib.ListN.{length, getD}
-use lib.Dec.{leb, ltb}
+use Rattle.basics.proofs.Words.{_≡_, refl, sym, _∙_, ap, true, List, [], _∷_, ℕ, zero, suc, _+_, _*_, _<_, _≤_, arith, length, getD, leb, ltb, mul-add, mul-suc, mul-comm, mul-le-mul-left, allOf, left, right}
 use borrow.Author.Tests.{leb-true, lt-ltb, le-ltb}
-use Rattle.basics.specs.Search.{allOf}
-use Rattle.basics.proofs.Bools.{left, right}
 use Rattle.ranking.specs.Rankings.{isRanking}
 use Rattle.ranking.specs.Harmony.{isBetter}
 use Rattle.ranking.specs.Lemmas.Harmony.{Standing, fewer, same, more, standing, harmony-end, at-fewer, at-same, at-more}

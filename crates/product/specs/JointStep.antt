@@ -1,7 +1,5 @@
 -- The joint step of all machines, and their joint ending.
-use mathlib.Core.List.{List, [], _∷_}
-use mathlib.Core.Option.{Option, some, none}
-use Prim.Native.Nat.{ℕ}
+use Rattle.basics.specs.Words.{List, [], _∷_, Option, some, none, ℕ}
 use Rattle.machine.specs.declared.Pair.{Pair}
 use Rattle.machine.specs.Machine.{Machine, stepOf, endingOf}
 

@@ -1,12 +1,6 @@
 -- What labels say of the best, for an order on profiles and a price that agrees with it: closed labels with none at the start say that there is no
 -- candidate, and closed and attained ones have there the price of the best.
-use mathlib.Core.Path.{_≡_, refl, sym, _∙_, ap}
-use mathlib.Core.Logic.{_⊎_, inl, inr, _≢_}
-use mathlib.Core.Bool.{true}
-use mathlib.Core.List.{List}
-use mathlib.Core.Option.{Option, some, none}
-use Prim.Native.Nat.{ℕ}
-use lib.ListN.{length}
+use Rattle.basics.specs.Words.{_≡_, refl, sym, _∙_, ap, true, List, Option, some, none, _⊎_, inl, inr, _≢_, ℕ, length}
 use Rattle.machine.specs.declared.Pair.{Pair}
 use Rattle.card.specs.Card.{machinesOf, cardRefusal}
 use Rattle.candidate.specs.Candidates.{profileOf}

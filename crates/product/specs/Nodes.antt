@@ -1,6 +1,5 @@
 -- Nodes of the product: an input position with one state per machine, as numbers.
-use mathlib.Core.List.{List, [], _∷_, map}
-use Prim.Native.Nat.{ℕ, _+_, _*_, _/_, _%_}
+use Rattle.basics.specs.Words.{List, [], _∷_, map, ℕ, _+_, _*_, _/_, _%_}
 unfoldable pub use Rattle.basics.specs.Products.{product}
 use Rattle.machine.specs.Machine.{Machine}
 pub use Rattle.machine.specs.Machine.{stateCountOf}

@@ -1,18 +1,9 @@
 -- Theorem, over the definitions alone: sets of one symbol each give the answer for the word, result and answer slice. It holds for every card, ranking,
 -- word and pair of slices, but for one case: where a symbol is out of range and the checks before the symbol test pass, the call for sets is refused by
 -- 25 and the one for the word by 8.
-use mathlib.Core.Path.{_≡_, refl, sym, _∙_}
-use mathlib.Core.Bool.{Bool, true, false, not, _&&_, false≢true}
-use mathlib.Core.List.{List, [], _∷_}
-use mathlib.Core.Option.{Option, some, none}
-use Prim.Native.Nat.{ℕ, zero, suc, _*_}
-use native.Mathlib.Omega.{arith}
-use lib.Dec.{leb, eqb}
-use lib.ListN.{length}
+use Rattle.basics.proofs.Words.{_≡_, refl, sym, _∙_, Bool, true, false, not, _&&_, false≢true, List, [], _∷_, Option, some, none, ℕ, zero, suc, _*_, arith, length, leb, eqb, allOf, clash}
 use borrow.Author.Tests.{ne-eqb}
-use Rattle.basics.specs.Search.{allOf}
 use Rattle.refusals.specs.Refusals.{refuse, firstOf}
-use Rattle.basics.proofs.Bools.{clash}
 use Rattle.ranking.specs.Rankings.{isRanking}
 use Rattle.card.specs.Layout.{machineCount, symbolCount}
 use Rattle.card.specs.Card.{cardRefusal, machinesOf}

@@ -1,10 +1,5 @@
 -- What the optimizer answers for a word under a ranking: the whole result, and the answer slice at exit.
-use mathlib.Core.Bool.{Bool, _&&_}
-use mathlib.Core.List.{List}
-use Prim.Native.Nat.{ℕ, _*_}
-use lib.ListN.{length}
-use lib.Dec.{leb}
-use Rattle.basics.specs.Search.{allOf}
+use Rattle.basics.specs.Words.{Bool, _&&_, List, ℕ, _*_, length, leb, allOf}
 use Rattle.refusals.specs.Refusals.{refuse}
 use Rattle.ranking.specs.Rankings.{isRanking}
 use Rattle.card.specs.Layout.{machineCount, symbolCount}

@@ -1,11 +1,5 @@
 -- What the optimizer answers for a word heard only in part, with a set of symbols at each position: the whole result, and the answer slice at exit.
-use mathlib.Core.Bool.{Bool, not, _&&_}
-use mathlib.Core.List.{List, [], _∷_}
-use Prim.Native.Nat.{ℕ, _*_}
-use lib.ListN.{length}
-use lib.Dec.{leb}
-use Rattle.basics.specs.Search.{allOf}
-use Rattle.basics.specs.Sets.{member}
+use Rattle.basics.specs.Words.{Bool, not, _&&_, List, [], _∷_, ℕ, _*_, length, leb, allOf, member}
 use Rattle.refusals.specs.Refusals.{refuse, firstOf}
 use Rattle.machine.specs.Symbols.{emptySymbol}
 use Rattle.machine.specs.Part.{soundSet}

@@ -1,12 +1,5 @@
 -- What the marks of all machines and a number of pairs cost.
-use mathlib.Core.Path.{_≡_, refl, sym, _∙_, ap}
-use mathlib.Core.Logic.{inl, inr}
-use mathlib.Core.Bool.{true, false}
-use mathlib.Core.List.{List, [], _∷_}
-use Prim.Native.Nat.{ℕ, _+_}
-use native.Mathlib.Omega.{arith}
-use lib.ListN.{length, getD}
-use Rattle.basics.proofs.Bools.{clash}
+use Rattle.basics.proofs.Words.{_≡_, refl, sym, _∙_, ap, true, false, List, [], _∷_, inl, inr, ℕ, _+_, arith, length, getD, clash}
 use Rattle.ranking.specs.Profiles.{merge}
 use Rattle.ranking.specs.Harmony.{isBetter}
 use Rattle.ranking.specs.HarmonicInequality.{merge-count}

@@ -1,13 +1,6 @@
 -- The product of the machines over a list of sets of symbols as a graph: its letters are the pairs, and its paths from the start are the candidates
 -- for the words with one symbol from each set. A word is the case of sets of one symbol.
-use mathlib.Core.Path.{_≡_}
-use mathlib.Core.Bool.{true, false, cond}
-use mathlib.Core.List.{List, map}
-use mathlib.Core.Option.{Option, some, none, Option·none-ne-some}
-use Prim.Native.Nat.{ℕ, _+_, _<_}
-use lib.ListN.{length, getD}
-use lib.Dec.{eqb, leb}
-use Rattle.basics.specs.Sets.{member}
+use Rattle.basics.specs.Words.{_≡_, true, false, cond, List, map, Option, some, none, Option·none-ne-some, ℕ, _+_, _<_, length, getD, eqb, leb, member}
 use Rattle.machine.specs.declared.Pair.{Pair}
 use Rattle.machine.specs.Symbols.{emptySymbol, isPair}
 use Rattle.machine.specs.Machine.{Machine, startState}

@@ -1,9 +1,5 @@
 -- What can be asked for, a word or the words of sets: which lists of pairs are meant, and the best of them, in every order on profiles.
-use mathlib.Core.Path.{_≡_}
-use mathlib.Core.Bool.{true}
-use mathlib.Core.List.{List}
-use mathlib.Core.Option.{Option}
-use Prim.Native.Nat.{ℕ}
+use Rattle.basics.specs.Words.{_≡_, true, List, Option, ℕ}
 use Rattle.machine.specs.declared.Pair.{Pair}
 use Rattle.machine.specs.Machine.{Machine}
 use Rattle.card.specs.Card.{machinesOf, cardRefusal}

@@ -1,11 +1,5 @@
 -- Words heard only in part: a set of symbols, a 64-bit number, at each position.
-use mathlib.Core.Path.{_≡_}
-use mathlib.Core.Bool.{Bool, true, false, _&&_}
-use mathlib.Core.List.{List, [], _∷_, map}
-use mathlib.Core.Option.{Option, some, none}
-use Prim.Native.Nat.{ℕ, _^_}
-use Rattle.basics.specs.Search.{those, joined, numbersBelow}
-use Rattle.basics.specs.Sets.{member}
+use Rattle.basics.specs.Words.{_≡_, Bool, true, false, _&&_, List, [], _∷_, map, Option, some, none, ℕ, _^_, those, joined, numbersBelow, member}
 use Rattle.machine.specs.declared.Pair.{Pair}
 use Rattle.machine.specs.Machine.{Machine}
 use Rattle.candidate.specs.Candidates.{IsCandidate}

@@ -1,14 +1,7 @@
 -- The theorem on the best over sets: what the definition finds is the best of the candidates, however long, for all words with one symbol from
 -- each set. It holds for every accepted card, every order on profiles with a price that agrees with it, and every list of 64-bit numbers as sets,
 -- the empty one too.
-use mathlib.Core.Path.{_≡_, refl, sym, _∙_, ap}
-use mathlib.Core.Logic.{inl, inr, _≢_}
-use mathlib.Core.Bool.{true}
-use mathlib.Core.List.{List}
-use mathlib.Core.Option.{Option, some, none, Option·none-ne-some}
-use Prim.Native.Nat.{ℕ}
-use lib.Dec.{ltb}
-use Rattle.basics.specs.Search.{allOf}
+use Rattle.basics.specs.Words.{_≡_, refl, sym, _∙_, ap, true, List, Option, some, none, Option·none-ne-some, inl, inr, _≢_, ℕ, ltb, allOf}
 use Rattle.machine.specs.declared.Pair.{Pair}
 use Rattle.machine.specs.Machine.{Machine}
 use Rattle.ranking.specs.Rankings.{isRanking}

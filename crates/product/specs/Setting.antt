@@ -1,10 +1,5 @@
 -- What an engine is given once the checks of the card and of the word or the sets are passed; a ranking, or weights, come to it.
-use mathlib.Core.Path.{_≡_}
-use mathlib.Core.Bool.{true}
-use mathlib.Core.List.{List}
-use Prim.Native.Nat.{ℕ, _≤_}
-use lib.ListN.{length, getD}
-use Rattle.basics.specs.Sets.{member}
+use Rattle.basics.specs.Words.{_≡_, true, List, ℕ, _≤_, length, getD, member}
 use Rattle.card.specs.Layout.{symbolCount}
 use Rattle.card.specs.Card.{machinesOf, cardRefusal}
 use Rattle.product.specs.Nodes.{product, stateCounts, positionAt}

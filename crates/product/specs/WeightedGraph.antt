@@ -1,14 +1,6 @@
 -- The product of an accepted card's machines at the price of weights, as the theory of paths and an engine ask for it.
-use mathlib.Core.Path.{_≡_, refl}
-use mathlib.Core.Bool.{true}
-use mathlib.Core.List.{List, map}
-use mathlib.Core.Option.{some}
-use Prim.Native.Nat.{ℕ, _*_, _≤_}
-use lib.ListN.{length, getD}
-use lib.Dec.{leb}
+use Rattle.basics.proofs.Words.{_≡_, refl, true, List, map, some, ℕ, _*_, _≤_, length, getD, leb, allOf, each-at}
 use borrow.Author.Tests.{le-leb}
-use Rattle.basics.specs.Search.{allOf}
-use Rattle.basics.proofs.Search.{each-at}
 use Rattle.machine.specs.declared.Pair.{Pair}
 use Rattle.card.specs.Card.{machinesOf, cardRefusal}
 use Rattle.paths.specs.Ranked.{Ranked, letterCount, countAt}

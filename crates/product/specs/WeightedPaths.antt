@@ -1,12 +1,6 @@
 -- The price of weights: the sum, then the number of pairs. So from the start node of the product a list of pairs has a cost exactly when it is a
 -- candidate for the word, and the cost is its sum with its pair count.
-use mathlib.Core.Path.{_≡_}
-use mathlib.Core.Logic.{inl}
-use mathlib.Core.List.{List}
-use mathlib.Core.Option.{some}
-use Prim.Native.Nat.{ℕ, _+_}
-use native.Mathlib.Omega.{arith}
-use lib.ListN.{length}
+use Rattle.basics.specs.Words.{_≡_, List, some, inl, ℕ, _+_, arith, length}
 use borrow.Author.Tests.{ltb-true, ltb-false}
 use Rattle.machine.specs.declared.Pair.{Pair}
 use Rattle.card.specs.Card.{machinesOf, cardRefusal}

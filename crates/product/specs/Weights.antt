@@ -1,11 +1,5 @@
 -- Weights, one per machine in card order, in whole thousandths: a profile's sum, the order of the sums, and the best candidate in that order.
-use mathlib.Core.Bool.{Bool, _&&_}
-use mathlib.Core.List.{List, [], _∷_}
-use mathlib.Core.Option.{Option}
-use Prim.Native.Nat.{ℕ, _+_, _*_}
-use lib.ListN.{length}
-use lib.Dec.{eqb, leb, ltb}
-use Rattle.basics.specs.Search.{allOf}
+use Rattle.basics.specs.Words.{Bool, _&&_, List, [], _∷_, Option, ℕ, _+_, _*_, length, eqb, leb, ltb, allOf}
 use Rattle.product.specs.Best.{Contender, ProfileOrder, bestIn}
 
 -- one weight per machine, 0 to 4,000,000,000

@@ -1,9 +1,6 @@
 // The product of a card's machines over a word, which every engine shares: its nodes, its joint step, and the theorem on the best candidate stand
 // in specs/. The code is the check of the word, and that of the sets in its place.
-ghost use mathlib.Core.Path.{_≡_};
-ghost use mathlib.Core.Bool.{_&&_};
-ghost use Prim.Native.Nat.{ℕ, _^_, _<_};
-ghost use lib.Dec.{leb};
+ghost use Rattle.basics.specs.Words.{_≡_, _&&_, ℕ, _^_, _<_, leb};
 ghost use Rattle.refusals.specs.Refusals.{refuse, checkedNumber};
 ghost use Rattle.product.specs.Optimizing.{soundWord};
 ghost use Rattle.product.specs.OptimizingSets.{symbolSet, setsRefusal};

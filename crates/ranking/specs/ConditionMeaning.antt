@@ -1,18 +1,7 @@
 -- What a ranking condition means: the rankings that fit the condition of two profiles are those under which the first is not worse than the
 -- second. Assumes nothing.
-use mathlib.Core.Path.{_≡_, refl, sym, _∙_}
-use mathlib.Core.Logic.{_⊎_, inl, inr, _↔_}
-use mathlib.Core.Bool.{Bool, true, false, or-true}
-use mathlib.Core.List.{List, [], _∷_}
-use Prim.Native.Nat.{ℕ, suc, _<_}
-use native.Mathlib.Nat.{le-of-lt, le-of-eq}
-use native.Mathlib.Omega.{arith}
-use lib.Dec.{eqb, ltb}
-use lib.ListN.{length, getD}
+use Rattle.basics.proofs.Words.{_≡_, refl, sym, _∙_, Bool, true, false, or-true, List, [], _∷_, _⊎_, inl, inr, _↔_, ℕ, suc, _<_, arith, length, getD, eqb, ltb, le-of-lt, le-of-eq, member, clash, fails, either, set-member, set-empty, empty-set}
 use borrow.Author.Tests.{lt-ltb, le-ltb, eqb-true, eq-eqb}
-use Rattle.basics.specs.Sets.{member}
-use Rattle.basics.proofs.Bools.{clash, fails, either}
-use Rattle.basics.proofs.Sets.{set-member, set-empty, empty-set}
 use Rattle.ranking.specs.Rankings.{isRanking}
 use Rattle.ranking.specs.Harmony.{harmony, better, worse}
 use Rattle.ranking.specs.Conditions.{fewerIn, conditionOf, highest, inFewer, fits}

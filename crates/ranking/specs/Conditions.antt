@@ -1,11 +1,5 @@
 -- Ranking conditions: where one of them comes from, and when a ranking fits it.
-use mathlib.Core.Bool.{Bool, true, false, _||_}
-use mathlib.Core.List.{List, [], _∷_}
-use mathlib.Core.Option.{Option, some, none}
-use Prim.Native.Nat.{ℕ}
-use lib.ListN.{getD}
-use lib.Dec.{eqb, ltb}
-use Rattle.basics.specs.Sets.{member, setOf}
+use Rattle.basics.specs.Words.{Bool, true, false, _||_, List, [], _∷_, Option, some, none, ℕ, getD, eqb, ltb, member, setOf}
 use Rattle.refusals.specs.Refusals.{refuse, unlessRefused, numberOf}
 use Rattle.ranking.specs.declared.Condition.{Condition}
 use Rattle.ranking.specs.declared.Derived.{Derived}

@@ -1,13 +1,5 @@
 -- What the machine that comparing answers means: it is ranked, the counts differ there, and agree at every machine ranked above it. Assumes nothing.
-use mathlib.Core.Path.{_≡_, refl, sym, _∙_, ap}
-use mathlib.Core.Logic.{_↔_}
-use mathlib.Core.Bool.{true}
-use mathlib.Core.List.{List, [], _∷_}
-use mathlib.Core.Option.{Option, some, none}
-use Prim.Native.Nat.{ℕ, zero, suc, _<_}
-use native.Mathlib.Omega.{arith}
-use lib.ListN.{length, getD}
-use Rattle.basics.proofs.Bools.{clash}
+use Rattle.basics.proofs.Words.{_≡_, refl, sym, _∙_, ap, true, List, [], _∷_, Option, some, none, _↔_, ℕ, zero, suc, _<_, arith, length, getD, clash}
 use Rattle.ranking.specs.declared.Order.{Order}
 use Rattle.ranking.specs.declared.Order.the-variants.{Better, Equal, Worse}
 use Rattle.ranking.specs.declared.Profile.{Profile}

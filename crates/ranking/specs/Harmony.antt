@@ -1,10 +1,5 @@
 -- Harmonic comparison of two profiles, by their counts in card order.
-use mathlib.Core.Bool.{Bool, true, false}
-use mathlib.Core.List.{List, [], _∷_}
-use mathlib.Core.Option.{Option, some, none}
-use Prim.Native.Nat.{ℕ}
-use lib.ListN.{getD}
-use lib.Dec.{ltb}
+use Rattle.basics.specs.Words.{Bool, true, false, List, [], _∷_, Option, some, none, ℕ, getD, ltb}
 use Rattle.refusals.specs.Refusals.{refuse, firstOf, unlessRefused, numberOf}
 use Rattle.ranking.specs.declared.Order.{Order}
 use Rattle.ranking.specs.declared.Order.the-variants.{Better, Equal, Worse}

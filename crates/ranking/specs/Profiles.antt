@@ -1,7 +1,5 @@
 -- Violation profiles: how often each machine's constraint is broken, in card order.
-use mathlib.Core.List.{List, [], _∷_}
-use Prim.Native.Nat.{ℕ, _+_}
-use lib.ListN.{replicate}
+use Rattle.basics.specs.Words.{List, [], _∷_, ℕ, _+_, replicate}
 use Rattle.ranking.specs.declared.Profile.{Profile}
 
 -- the profile of no violations

@@ -1,10 +1,5 @@
 -- Rankings of K machines, by their numbers in the card, highest first.
-use mathlib.Core.Bool.{Bool, not, _&&_}
-use mathlib.Core.List.{List, [], _∷_, map}
-use Prim.Native.Nat.{ℕ, zero, suc}
-use lib.ListN.{length}
-use lib.Dec.{eqb, leb}
-use Rattle.basics.specs.Search.{everyBelow, occurrences, those, joined, numbersBelow}
+use Rattle.basics.specs.Words.{Bool, not, _&&_, List, [], _∷_, map, ℕ, zero, suc, length, eqb, leb, everyBelow, occurrences, those, joined, numbersBelow}
 
 -- K is 1 to 6
 abbrev pub isMachineCount : ℕ → Bool

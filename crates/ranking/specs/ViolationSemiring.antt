@@ -1,9 +1,6 @@
 -- The violation semiring (Riggle, (2) and (4)), its infinite cost included: the better of two is its sum, with the infinite cost as identity;
 -- merge is its product, with the zero profile as identity and the infinite cost as annihilator. Assumes nothing.
-use mathlib.Core.Path.{_≡_, refl, sym, _∙_, ap}
-use mathlib.Core.List.{List}
-use mathlib.Core.Bool.{true}
-use Prim.Native.Nat.{ℕ}
+use Rattle.basics.specs.Words.{_≡_, refl, sym, _∙_, ap, true, List, ℕ}
 use Rattle.ranking.specs.Rankings.{isRanking}
 use Rattle.ranking.specs.Violations.{Violations, finite, infinite, noViolations, mergeCosts, betterCost, AgreeOnFirst, OfSix}
 use Rattle.ranking.specs.Lemmas.Profiles.{counts-associative, counts-commutative, zero-counts, merge-length, profile-idempotent, profile-associative, profile-commutative, counts-distribute}

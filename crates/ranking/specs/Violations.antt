@@ -1,8 +1,5 @@
 -- Violations as costs: those of a profile, and the infinite cost, which is that of no candidate (Riggle, section 3).
-use mathlib.Core.Path.{_≡_}
-use mathlib.Core.List.{List}
-use Prim.Native.Nat.{ℕ}
-use lib.ListN.{length}
+use Rattle.basics.specs.Words.{_≡_, List, ℕ, length}
 use Rattle.ranking.specs.Profiles.{zeroProfile, merge}
 use Rattle.ranking.specs.Harmony.{betterOf}
 use Rattle.ranking.specs.HarmonicInequality.{Agree}

@@ -4,8 +4,7 @@ use super::Derived;
 use super::Profile;
 use super::rankings;
 use refusals::Checked;
-ghost use mathlib.Core.Path.{_≡_};
-ghost use Prim.Native.Nat.{_≤_};
+ghost use Rattle.basics.specs.Words.{_≡_, _≤_};
 ghost use Rattle.ranking.specs.Conditions.{fewerIn, derived, derivedFrom};
 
 // The set of the machines where the first profile has fewer.

@@ -4,10 +4,7 @@ use super::Order;
 use super::Profile;
 use super::rankings;
 use refusals::Checked;
-ghost use mathlib.Core.Path.{_≡_};
-ghost use mathlib.Core.Bool.{true};
-ghost use Prim.Native.Nat.{_<_, _≤_};
-ghost use lib.ListN.{length, getD};
+ghost use Rattle.basics.specs.Words.{_≡_, true, _<_, _≤_, length, getD};
 ghost use Rattle.ranking.specs.Rankings.{isRanking};
 ghost use Rattle.ranking.specs.Harmony.{harmony, compared, comparing};
 

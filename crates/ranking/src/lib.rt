@@ -3,9 +3,7 @@ pub mod conditions;
 pub mod harmony;
 pub mod rankings;
 
-ghost use mathlib.Core.Path.{_≡_};
-ghost use Prim.Native.Nat.{_<_};
-ghost use lib.ListN.{getD};
+ghost use Rattle.basics.specs.Words.{_≡_, _<_, getD};
 ghost use Rattle.ranking.specs.Profiles.{zeroProfile};
 use refusals::Refusal;
 

@@ -2,11 +2,8 @@
 use refusals::Checked;
 use refusals::Refusal;
 use refusals::tested;
-ghost use mathlib.Core.Path.{_≡_};
-ghost use mathlib.Core.List.{[], _∷_};
+ghost use Rattle.basics.specs.Words.{_≡_, [], _∷_, eqb, occurrences};
 ghost use Rattle.refusals.specs.Refusals.{refuse, firstOf, checkedNumber};
-ghost use lib.Dec.{eqb};
-ghost use Rattle.basics.specs.Search.{occurrences};
 ghost use Rattle.ranking.specs.Rankings.{isMachineCount, isRanking};
 
 // Refusal 1: whether there are 1 to 6 machines.

@@ -1,11 +1,5 @@
 -- What a label of the start says of the best candidate. Assumes nothing.
-use mathlib.Core.Path.{_≡_, sym, _∙_, ap}
-use mathlib.Core.Bool.{true}
-use mathlib.Core.List.{List}
-use mathlib.Core.Option.{some, none}
-use Prim.Native.Nat.{ℕ, _≤_}
-use native.Mathlib.Omega.{arith}
-use lib.ListN.{length}
+use Rattle.basics.specs.Words.{_≡_, sym, _∙_, ap, true, List, some, none, ℕ, _≤_, arith, length}
 use Rattle.machine.specs.declared.Pair.{Pair}
 use Rattle.ranking.specs.Rankings.{isRanking}
 use Rattle.ranking.specs.Lemmas.Rankings.{ranking-facts}

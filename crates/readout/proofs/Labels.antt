@@ -1,11 +1,5 @@
 -- The checks 10 and 12 by the label of the start. Assumes nothing.
-use mathlib.Core.Path.{_≡_, refl, sym, _∙_, ap, subst}
-use mathlib.Core.List.{List}
-use mathlib.Core.Option.{Option, some, none}
-use Prim.Native.Nat.{ℕ, _*_, _<_, _≤_}
-use native.Mathlib.Omega.{arith}
-use lib.Dec.{leb, lit<}
-use borrow.Author.Tests.{leb-true}
+use Rattle.basics.proofs.Words.{_≡_, refl, sym, _∙_, ap, subst, List, Option, some, none, ℕ, _*_, _<_, _≤_, arith, leb, lit<, leb-true}
 use Rattle.refusals.specs.Refusals.{refuse}
 use Rattle.refusals.proofs.Refusals.{passed}
 use Rattle.candidate.specs.Candidates.{isSome}

@@ -1,9 +1,5 @@
 -- What a search answers: a refusal, 10 or 12, or the best. Assumes nothing.
-use mathlib.Core.Path.{_≡_, sym, _∙_, ap}
-use mathlib.Core.List.{List}
-use mathlib.Core.Option.{Option, some}
-use Prim.Native.Nat.{ℕ, _<_}
-use lib.ListN.{length}
+use Rattle.basics.specs.Words.{_≡_, sym, _∙_, ap, List, Option, some, ℕ, _<_, length}
 use Rattle.refusals.specs.Refusals.{unlessRefused}
 use Rattle.refusals.proofs.Refusals.{accepted as taken, not-accepted}
 use Rattle.candidate.specs.declared.Evaluation.{Evaluation}

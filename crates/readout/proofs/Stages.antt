@@ -1,11 +1,5 @@
 -- The search: what the labels say, and what is answered. Assumes nothing.
-use mathlib.Core.Path.{_≡_, refl, sym, _∙_, ap}
-use mathlib.Core.List.{List, _++_}
-use mathlib.Core.Option.{Option, some, none}
-use Prim.Native.Nat.{ℕ, _+_, _*_, _<_, _≤_}
-use native.Mathlib.Omega.{arith}
-use lib.Dec.{leb}
-use lib.ListN.{length, drop}
+use Rattle.basics.specs.Words.{_≡_, refl, sym, _∙_, ap, List, _++_, Option, some, none, ℕ, _+_, _*_, _<_, _≤_, arith, length, drop, leb}
 use Rattle.refusals.specs.Refusals.{refuse}
 use Rattle.refusals.proofs.Refusals.{last-one}
 use Rattle.machine.specs.declared.Pair.{Pair}

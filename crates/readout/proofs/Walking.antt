@@ -1,10 +1,5 @@
 -- What the walk of the best candidate is given, and what it writes. Assumes nothing.
-use mathlib.Core.Path.{_≡_, sym, _∙_, ap, subst}
-use mathlib.Core.List.{List}
-use Prim.Native.Nat.{ℕ, _+_, _*_, _≤_}
-use native.Mathlib.Omega.{arith}
-use lib.ListN.{length, take}
-use lib.Seq.{length-take-le}
+use Rattle.basics.specs.Words.{_≡_, sym, _∙_, ap, subst, List, ℕ, _+_, _*_, _≤_, arith, length, take, length-take-le}
 use Rattle.card.specs.Layout.{machineCount}
 use Rattle.card.specs.Card.{machinesOf}
 use Rattle.card.specs.Accepted.{accepted}

@@ -1,13 +1,5 @@
 -- What the search for a word's sets of one symbol each says of the word. Assumes nothing.
-use mathlib.Core.Path.{_≡_, _∙_, ap}
-use mathlib.Core.Bool.{true}
-use mathlib.Core.List.{List}
-use mathlib.Core.Option.{Option}
-use Prim.Native.Nat.{ℕ, _≤_}
-use native.Mathlib.Omega.{arith}
-use lib.Dec.{ltb}
-use lib.ListN.{length}
-use Rattle.basics.specs.Search.{allOf}
+use Rattle.basics.specs.Words.{_≡_, _∙_, ap, true, List, Option, ℕ, _≤_, arith, length, ltb, allOf}
 use Rattle.refusals.specs.Refusals.{unlessRefused}
 use Rattle.card.specs.Layout.{symbolCount}
 use Rattle.candidate.specs.declared.Evaluation.{Evaluation}

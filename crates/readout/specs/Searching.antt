@@ -1,11 +1,5 @@
 -- The search, for input that passed the checks 1 to 9.
-use mathlib.Core.Path.{_≡_}
-use mathlib.Core.Bool.{true}
-use mathlib.Core.List.{List}
-use mathlib.Core.Option.{Option, some, none}
-use Prim.Native.Nat.{ℕ, _+_, _*_, _≤_}
-use lib.Dec.{leb}
-use lib.ListN.{length}
+use Rattle.basics.specs.Words.{_≡_, true, List, Option, some, none, ℕ, _+_, _*_, _≤_, length, leb}
 use Rattle.refusals.specs.Refusals.{refuse}
 use Rattle.ranking.specs.Rankings.{isRanking}
 use Rattle.card.specs.Layout.{machineCount, symbolCount}

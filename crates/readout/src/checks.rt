@@ -1,7 +1,5 @@
 // The checks of the best candidate after the search, 10 and 12.
-ghost use mathlib.Core.Path.{_≡_};
-ghost use Prim.Native.Nat.{_*_};
-ghost use lib.Dec.{leb};
+ghost use Rattle.basics.specs.Words.{_≡_, _*_, leb};
 ghost use Rattle.refusals.specs.Refusals.{refuse, checkedNumber};
 ghost use Rattle.candidate.specs.Candidates.{isSome};
 ghost use Rattle.tables.specs.Work.{HasNode, labelOf};

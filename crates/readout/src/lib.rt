@@ -1,6 +1,5 @@
 // Reading the answer off the labels of all nodes: the checks 10 and 12, the walk, the result. Every engine that labels in ranked order ends with it.
-ghost use mathlib.Core.Path.{_≡_};
-ghost use lib.ListN.{length};
+ghost use Rattle.basics.specs.Words.{_≡_, length};
 ghost use Rattle.card.specs.Card.{cardRefusal};
 ghost use Rattle.product.specs.Sets.{bestOfSets};
 ghost use Rattle.product.specs.ProductGraph.{cardStart};

@@ -1,10 +1,5 @@
 -- The check of the layout, test by test. Assumes nothing.
-use mathlib.Core.Path.{_≡_}
-use mathlib.Core.Bool.{true, false}
-use mathlib.Core.List.{List}
-use Prim.Native.Nat.{ℕ, _<_, _≤_}
-use lib.ListN.{length}
-use borrow.Author.Tests.{le-leb, lt-leb}
+use Rattle.basics.proofs.Words.{_≡_, true, false, List, ℕ, _<_, _≤_, length, le-leb, lt-leb}
 use Rattle.layout.specs.Layout.{laidOut}
 use Rattle.rows.specs.Tableau.{rowCount, everyRow, soundRow, soundHead, soundTableau}
 

@@ -1,15 +1,5 @@
 -- How the checks of a row go on and end. Assumes nothing.
-use mathlib.Core.Path.{_≡_}
-use mathlib.Core.Bool.{Bool, true, false}
-use mathlib.Core.List.{List}
-use Prim.Native.Nat.{ℕ, _+_, _-_, _<_, _≤_}
-use native.Mathlib.Omega.{arith}
-use lib.Dec.{eqb}
-use lib.ListN.{length, getD, take, drop, length-drop}
-use lib.Seq.{take-all}
-use borrow.Author.Tests.{eq-eqb, ne-eqb, le-leb, lt-leb}
-use Rattle.basics.specs.Search.{allOf}
-use Rattle.basics.proofs.Search.{left-next, left-none, all-none, all-next, all-fails}
+use Rattle.basics.proofs.Words.{_≡_, Bool, true, false, List, ℕ, _+_, _-_, _<_, _≤_, arith, length, getD, take, drop, length-drop, eqb, take-all, allOf, eq-eqb, ne-eqb, le-leb, lt-leb, left-next, left-none, all-none, all-next, all-fails}
 use Rattle.card.specs.Layout.{symbolCount}
 use Rattle.card.specs.Card.{machinesOf}
 use Rattle.candidate.specs.Candidates.{pairsOf, spelled, isComplete}

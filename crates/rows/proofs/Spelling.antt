@@ -1,14 +1,5 @@
 -- How a candidate's word is compared with a word, from a place in each. Assumes nothing.
-use mathlib.Core.Path.{_≡_, sym, ap}
-use mathlib.Core.Bool.{Bool, false}
-use mathlib.Core.List.{List, [], _∷_}
-use Prim.Native.Nat.{ℕ, _+_, _<_, _≤_}
-use native.Mathlib.Decide.{decLt}
-use native.Mathlib.Omega.{arith}
-use lib.Dec.{leb}
-use lib.ListN.{length, getD, drop}
-use borrow.Author.Tests.{eq-eqb, ne-eqb, le-leb, lt-leb}
-use Rattle.basics.proofs.Search.{left-next, left-none}
+use Rattle.basics.proofs.Words.{_≡_, sym, ap, Bool, false, List, [], _∷_, ℕ, _+_, _<_, _≤_, arith, length, getD, drop, leb, decLt, eq-eqb, ne-eqb, le-leb, lt-leb, left-next, left-none}
 use Rattle.machine.specs.Symbols.{emptySymbol}
 use Rattle.candidate.specs.Candidates.{pairsOf, spelled}
 use Rattle.product.specs.Best.{sameWord}

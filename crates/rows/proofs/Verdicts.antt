@@ -1,10 +1,5 @@
 -- How the verdict is found: the claimed row first, then row by row. Assumes nothing.
-use mathlib.Core.Path.{_≡_, refl}
-use mathlib.Core.Bool.{Bool, true, false}
-use mathlib.Core.List.{List}
-use mathlib.Core.Option.{Option, none}
-use Prim.Native.Nat.{ℕ, _+_, _<_}
-use Rattle.basics.specs.Search.{firstThat, numbersBelow}
+use Rattle.basics.specs.Words.{_≡_, refl, Bool, true, false, List, Option, none, ℕ, _+_, _<_, firstThat, numbersBelow}
 use Rattle.ranking.specs.Lemmas.Searches.{count-on, count-found}
 use Rattle.rows.specs.declared.Verdict.the-variants.{Right, AnotherRow, NotInTable}
 use Rattle.rows.specs.Tableau.{rowCount, claimedRow, rowOf}

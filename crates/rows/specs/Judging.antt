@@ -1,11 +1,5 @@
 -- What is asked of each row, and the verdict for the rows that win.
-use mathlib.Core.Bool.{Bool, true, false, _&&_}
-use mathlib.Core.List.{List}
-use mathlib.Core.Option.{Option, some, none}
-use Prim.Native.Nat.{ℕ}
-use lib.ListN.{getD}
-use lib.Dec.{eqb}
-use Rattle.basics.specs.Search.{everyBelow, firstThat, numbersBelow}
+use Rattle.basics.specs.Words.{Bool, true, false, _&&_, List, Option, some, none, ℕ, getD, eqb, everyBelow, firstThat, numbersBelow}
 use Rattle.card.specs.Layout.{symbolCount}
 use Rattle.card.specs.Card.{machinesOf}
 use Rattle.candidate.specs.Candidates.{pairsOf, spelled, isComplete, profileOf}

@@ -1,14 +1,6 @@
 -- What a tableau promises that is not refused. Assumes nothing.
-use mathlib.Core.Path.{_≡_}
-use mathlib.Core.Bool.{true, _&&_}
-use mathlib.Core.List.{List}
-use Prim.Native.Nat.{ℕ, _≤_}
-use lib.Dec.{eqb, leb, ltb}
-use lib.ListN.{length, drop}
+use Rattle.basics.proofs.Words.{_≡_, true, _&&_, List, ℕ, _≤_, length, drop, eqb, leb, ltb, allOf, left, right, every-at}
 use borrow.Author.Tests.{leb-true, ltb-true}
-use Rattle.basics.specs.Search.{allOf}
-use Rattle.basics.proofs.Bools.{left, right}
-use Rattle.basics.proofs.Below.{every-at}
 use Rattle.layout.specs.Layout.{laidOut}
 use Rattle.layout.specs.LaidOut.{layout-told}
 use Rattle.card.specs.Layout.{symbolCount}

@@ -1,9 +1,5 @@
 -- What the functions that read rows ask of a tableau and of a row.
-use mathlib.Core.Path.{_≡_}
-use mathlib.Core.Bool.{true}
-use mathlib.Core.List.{List}
-use Prim.Native.Nat.{ℕ, _<_, _≤_}
-use lib.ListN.{length}
+use Rattle.basics.specs.Words.{_≡_, true, List, ℕ, _<_, _≤_, length}
 use Rattle.layout.specs.LaidOut.{LaidOut}
 use Rattle.card.specs.Layout.{symbolCount}
 use Rattle.card.specs.Card.{machinesOf}

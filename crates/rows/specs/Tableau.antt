@@ -1,10 +1,5 @@
 -- The layout of a tableau: rows, the row that is claimed to win, and of each row its counts and its candidate.
-use mathlib.Core.Bool.{Bool, _&&_}
-use mathlib.Core.List.{List, [], _∷_}
-use Prim.Native.Nat.{ℕ}
-use lib.ListN.{length, getD, drop}
-use lib.Dec.{eqb, leb, ltb}
-use Rattle.basics.specs.Search.{allOf, everyBelow}
+use Rattle.basics.specs.Words.{Bool, _&&_, List, [], _∷_, ℕ, length, getD, drop, eqb, leb, ltb, allOf, everyBelow}
 use Rattle.layout.specs.Layout.{shortAt, laidOut, partOf}
 
 -- R, rows, and the claimed winner's row, from 0

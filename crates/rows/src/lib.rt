@@ -1,8 +1,5 @@
 // A tableau's rows: their layout, their candidates and their counts, and the verdict for the best candidate's profile.
-ghost use mathlib.Core.Path.{_≡_};
-ghost use mathlib.Core.List.{[], _∷_};
-ghost use Prim.Native.Nat.{ℕ, _+_, _%_, _<_, _≤_};
-ghost use lib.ListN.{length};
+ghost use Rattle.basics.specs.Words.{_≡_, [], _∷_, ℕ, _+_, _%_, _<_, _≤_, length};
 ghost use Rattle.refusals.specs.Refusals.{refuse, firstOf, checkedNumber};
 ghost use Rattle.layout.specs.Layout.{shortAt};
 ghost use Rattle.layout.specs.LaidOut.{LaidOut};

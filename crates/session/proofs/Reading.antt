@@ -1,10 +1,5 @@
 -- What is read piece by piece, and what is printed after it. Assumes nothing.
-use mathlib.Core.Path.{_≡_, refl, ap, sym, _∙_}
-use mathlib.Core.Bool.{Bool, true, false, not, Bool·not-not}
-use mathlib.Core.List.{List, [], _∷_, _++_}
-use Prim.Native.Nat.{ℕ, _≤_}
-use lib.ListN.{take}
-use Rattle.basics.proofs.Bools.{clash}
+use Rattle.basics.proofs.Words.{_≡_, refl, ap, sym, _∙_, Bool, true, false, not, Bool·not-not, List, [], _∷_, _++_, ℕ, _≤_, take, clash}
 use Rattle.lines.specs.Taking.{endedLines, heldAfter}
 use Rattle.lines.specs.LinesOfPieces.{ended-append}
 use Rattle.tally.specs.declared.Tally.{Tally}

@@ -1,11 +1,5 @@
 -- What the program prints for an input.
-use mathlib.Core.Path.{_≡_}
-use mathlib.Core.Bool.{Bool, not}
-use mathlib.Core.List.{List, [], _∷_, _++_, map}
-use mathlib.Core.Option.{Option, some, none}
-use Prim.Native.Nat.{ℕ, _+_, _<_, _≤_}
-use lib.ListN.{length, getD, take, drop}
-use Rattle.basics.specs.Search.{joined, those, numbersBelow}
+use Rattle.basics.specs.Words.{_≡_, Bool, not, List, [], _∷_, _++_, map, Option, some, none, ℕ, _+_, _<_, _≤_, length, getD, take, drop, joined, those, numbersBelow}
 use Rattle.candidate.specs.Candidates.{isSome}
 use Rattle.lines.specs.Input.{linesOf}
 use Rattle.lines.specs.Taking.{endedLines, heldAfter}

@@ -1,16 +1,5 @@
 -- A lesson's totals, for every list of lines; and that the output is the same however the input is cut into pieces.
-use mathlib.Core.Path.{_≡_, refl, ap, sym, _∙_}
-use mathlib.Core.Bool.{Bool, true, false, not}
-use mathlib.Core.List.{List, [], _∷_, _++_, map, append-assoc, append-nil}
-use mathlib.Core.Option.{Option, some, none}
-use Prim.Native.Nat.{ℕ, zero, suc, _+_, _<_, _≤_}
-use native.Mathlib.Nat.{add-zero}
-use native.Mathlib.Omega.{arith}
-use lib.ListN.{length, getD, take, drop, length-map, length-take}
-use lib.Seq.{ext-getD, getD-take}
-use Rattle.basics.specs.Search.{joined, those, numbersBelow}
-use Rattle.basics.proofs.Below.{length-numbers, number-at}
-use Rattle.basics.proofs.Search.{map-at}
+use Rattle.basics.proofs.Words.{_≡_, refl, ap, sym, _∙_, Bool, true, false, not, List, [], _∷_, _++_, map, append-assoc, append-nil, Option, some, none, ℕ, zero, suc, _+_, _<_, _≤_, arith, length, getD, take, drop, length-map, length-take, ext-getD, getD-take, add-zero, joined, those, numbersBelow, map-at, length-numbers, number-at}
 use Rattle.lines.specs.Parsing.{Request, parsedLine}
 use Rattle.writing.specs.Writing.{refusedLine, closingLines}
 use Rattle.lines.specs.Input.{linesOf, kept}

@@ -1,8 +1,5 @@
 -- The marks of one constraint, by its place, in a number of six marks.
-use mathlib.Core.Path.{_≡_, refl, sym, _∙_, ap}
-use Prim.Native.Nat.{ℕ, _/_, _%_}
-use native.Mathlib.Omega.{arith}
-use native.Mathlib.Nat.{div-one}
+use Rattle.basics.specs.Words.{_≡_, refl, sym, _∙_, ap, ℕ, _/_, _%_, arith, div-one}
 use Rattle.paths.specs.Ranked.{countAt}
 use Rattle.tables.specs.Marks.{nibbles, marksCost}
 

@@ -1,16 +1,5 @@
 -- Laws of a stage's labels in the work slice: reading, comparing and writing one.
-use mathlib.Core.Path.{_≡_, refl, sym, _∙_, ap, subst}
-use mathlib.Core.Logic.{_⊎_, inl, inr, _≢_}
-use mathlib.Core.Bool.{Bool, true, false, cond, false≢true}
-use mathlib.Core.Option.{Option, none, some}
-use mathlib.Core.List.{List}
-use Prim.Native.Nat.{ℕ, _+_, _*_, _≤_, _<_}
-use native.Mathlib.Omega.{arith}
-use native.Mathlib.Decide.{ℕ-discrete, decLt}
-use lib.Dec.{eqb, ltb}
-use lib.ListN.{length, getD, set, length-set}
-use lib.Seq.{getD-set-same, getD-set-other}
-use borrow.Author.Tests.{eqb-true, eq-eqb, ne-eqb, ltb-true, ltb-false}
+use Rattle.basics.proofs.Words.{_≡_, refl, sym, _∙_, ap, subst, Bool, true, false, cond, false≢true, List, Option, none, some, _⊎_, inl, inr, _≢_, ℕ, _+_, _*_, _≤_, _<_, arith, length, getD, set, length-set, eqb, ltb, getD-set-same, getD-set-other, ℕ-discrete, decLt, eqb-true, eq-eqb, ne-eqb, ltb-true, ltb-false}
 use Rattle.paths.specs.Total.{Upto}
 use Rattle.paths.specs.Costs.{AtMost, Above, kept, lowered, above-none, above-some}
 use Rattle.paths.specs.Ranked.{Ranked, Less, countAt}

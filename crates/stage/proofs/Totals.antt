@@ -1,10 +1,5 @@
 -- The sum of the weights of a position's labels falls when one of them does: so a stage ends.
-use mathlib.Core.Path.{_≡_, refl, ap}
-use mathlib.Core.Logic.{inl, inr, _≢_}
-use mathlib.Core.Option.{Option, none, some}
-use Prim.Native.Nat.{ℕ, zero, suc, _+_, _≤_, _<_}
-use native.Mathlib.Omega.{arith}
-use native.Mathlib.Decide.{ℕ-discrete}
+use Rattle.basics.specs.Words.{_≡_, refl, ap, Option, none, some, inl, inr, _≢_, ℕ, zero, suc, _+_, _≤_, _<_, arith, ℕ-discrete}
 use Rattle.paths.specs.Costs.{Above}
 use Rattle.paths.specs.Ranked.{Ranked, Less}
 use Rattle.stage.specs.StageLabels.{weight, total}

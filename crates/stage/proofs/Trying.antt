@@ -1,10 +1,5 @@
 -- Laws of trying an arc.
-use mathlib.Core.Path.{_≡_, refl, sym, _∙_, subst}
-use mathlib.Core.Logic.{_≢_}
-use mathlib.Core.Bool.{Bool, true, false, false≢true}
-use mathlib.Core.List.{List}
-use Prim.Native.Nat.{ℕ, _+_, _≤_, _<_}
-use lib.ListN.{length}
+use Rattle.basics.specs.Words.{_≡_, refl, sym, _∙_, subst, Bool, true, false, false≢true, List, _≢_, ℕ, _+_, _≤_, _<_, length}
 use Rattle.paths.specs.Ranked.{Less, less-total}
 use Rattle.paths.specs.Improvement.{Falls, improves-falls}
 use Rattle.stage.specs.StageLabels.{countOf, stageLabel, total}

@@ -1,11 +1,5 @@
 -- Trying one arc in a stage: what the inner functions promise.
-use mathlib.Core.Path.{_≡_}
-use mathlib.Core.Logic.{_≢_}
-use mathlib.Core.Bool.{Bool, true, false}
-use mathlib.Core.Option.{Option, none, some}
-use mathlib.Core.List.{List}
-use Prim.Native.Nat.{ℕ, _+_, _^_, _≤_, _<_}
-use lib.ListN.{length}
+use Rattle.basics.specs.Words.{_≡_, Bool, true, false, List, Option, none, some, _≢_, ℕ, _+_, _^_, _≤_, _<_, length}
 use Rattle.machine.specs.declared.Pair.{Pair}
 use Rattle.paths.specs.Costs.{AtMost, Above}
 use Rattle.paths.specs.Ranked.{Ranked, Less, countAt, rankedCosts}

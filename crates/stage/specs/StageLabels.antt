@@ -1,11 +1,6 @@
 -- The labels of a stage in the work slice. Node u's numbers are its state, 0 where the stage has no label for it, six counts in ranked order, and the
 -- number of pairs. The stage k finds the counts k; the counts below k are the fewest marks that the stages before found.
-use mathlib.Core.Bool.{cond}
-use mathlib.Core.Option.{Option, none, some}
-use mathlib.Core.List.{List}
-use Prim.Native.Nat.{ℕ, zero, suc, _+_, _*_}
-use lib.Dec.{eqb}
-use lib.ListN.{getD}
+use Rattle.basics.specs.Words.{cond, List, Option, none, some, ℕ, zero, suc, _+_, _*_, getD, eqb}
 use Rattle.paths.specs.Ranked.{Ranked}
 use Rattle.tables.specs.Work.{stateOf}
 

@@ -1,11 +1,8 @@
 // A stage of the cull at one node: what the stages before kept of its arcs and of its ending, its label, and lowering that by an arc.
-ghost use mathlib.Core.Path.{_≡_};
-ghost use mathlib.Core.Bool.{true};
-ghost use Prim.Native.Nat.{_+_, _*_, _^_, _<_};
+ghost use Rattle.basics.specs.Words.{_≡_, true, _+_, _*_, _^_, _<_, eqb};
 ghost use Rattle.paths.specs.Ranked.{countAt};
 ghost use Rattle.tables.specs.Marks.{marksCost};
 ghost use Rattle.tables.specs.Work.{HasNode};
-ghost use lib.Dec.{eqb};
 ghost use Rattle.stage.specs.StageLabels.{countOf};
 ghost use Rattle.stage.specs.Relaxing.{countsOf, noCounts, LeftTold, NodePre, Compared, Written, Lowered, ArcPre, ArcTried};
 

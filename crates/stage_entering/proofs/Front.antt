@@ -1,15 +1,5 @@
 -- The first look at an arc: where its marks of the first constraints, with its target's counts, are more than its node's, it was dropped or gives no less.
-use mathlib.Core.Path.{_≡_, refl, sym, _∙_, ap, subst}
-use mathlib.Core.Logic.{_⊎_, inl, inr}
-use mathlib.Core.Bool.{false}
-use mathlib.Core.Option.{Option, none, some}
-use mathlib.Core.List.{List}
-use Prim.Native.Nat.{ℕ, zero, suc, _+_, _*_, _/_, _%_, _^_, _≤_, _<_}
-use native.Mathlib.Nat.{div-le-self}
-use native.Mathlib.Decide.{ℕ-discrete}
-use native.Mathlib.Omega.{arith}
-use lib.ListN.{length, getD, set}
-use lib.Seq.{getD-set-same, getD-set-other}
+use Rattle.basics.specs.Words.{_≡_, refl, sym, _∙_, ap, subst, false, List, Option, none, some, _⊎_, inl, inr, ℕ, zero, suc, _+_, _*_, _/_, _%_, _^_, _≤_, _<_, arith, length, getD, set, getD-set-same, getD-set-other, div-le-self, ℕ-discrete}
 use Rattle.paths.specs.Costs.{AtMost}
 use Rattle.paths.specs.Ranked.{Ranked, Less, countAt}
 use Rattle.tables.specs.Marks.{marksCost}

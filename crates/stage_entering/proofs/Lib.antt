@@ -1,3 +1,5 @@
 pub mod Relaxing
 pub mod Front
 pub mod Lanes
+pub mod Fours
+pub mod Listing

@@ -1,10 +1,5 @@
 -- Laws of trying one joint step.
-use mathlib.Core.Path.{_≡_, sym, subst}
-use mathlib.Core.Bool.{Bool}
-use mathlib.Core.Option.{Option, some}
-use mathlib.Core.List.{List}
-use Prim.Native.Nat.{ℕ, _+_, _<_}
-use native.Mathlib.Omega.{arith}
+use Rattle.basics.specs.Words.{_≡_, sym, subst, Bool, List, Option, some, ℕ, _+_, _<_, arith}
 use Rattle.machine.specs.declared.Pair.{Pair}
 use Rattle.paths.specs.Ranked.{Ranked, Less, countAt, rankedCosts}
 use Rattle.paths.specs.Graph.{Graph, pathCost, run→cost}

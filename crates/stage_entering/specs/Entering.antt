@@ -1,12 +1,5 @@
 -- Entering a position in a stage by joint steps: from its codes, four outputs at a time, and by endings.
-use mathlib.Core.Path.{_≡_}
-use mathlib.Core.Logic.{_⊎_, _≢_}
-use mathlib.Core.Bool.{Bool, true, false, cond}
-use mathlib.Core.List.{List}
-use mathlib.Core.Option.{Option, none, some}
-use Prim.Native.Nat.{ℕ, _+_, _*_, _/_, _%_, _^_, _≤_, _<_}
-use lib.Dec.{ltb}
-use lib.ListN.{length, getD}
+use Rattle.basics.specs.Words.{_≡_, Bool, true, false, cond, List, Option, none, some, _⊎_, _≢_, ℕ, _+_, _*_, _/_, _%_, _^_, _≤_, _<_, length, getD, ltb}
 use Rattle.machine.specs.declared.Pair.{Pair}
 use Rattle.paths.specs.Ranked.{Ranked, Less, countAt, rankedCosts}
 use Rattle.paths.specs.Improvement.{Falls}

@@ -1,2 +1,4 @@
 pub mod Relaxation
 pub mod Entering
+pub mod Tables
+pub mod Inputs

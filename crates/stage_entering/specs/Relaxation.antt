@@ -1,8 +1,5 @@
 -- Trying edges one after the other, in any order: each gives its node the lesser of its label and what the edge costs with its target's label.
-use mathlib.Core.Path.{_≡_, refl, sym, _∙_, ap}
-use mathlib.Core.Logic.{_⊎_, inl, inr}
-use mathlib.Core.Option.{none, some, Option·none-ne-some}
-use Prim.Native.Nat.{ℕ}
+use Rattle.basics.specs.Words.{_≡_, refl, sym, _∙_, ap, none, some, Option·none-ne-some, _⊎_, inl, inr, ℕ}
 use Rattle.paths.specs.Costs.{Costs, Labels, AtMost, atmost-is, atmost-upto, shift-left-upto}
 use Rattle.paths.specs.Graph.{Alphabet, Edge, Graph}
 use Rattle.paths.specs.Labels.{Attained}

@@ -1,7 +1,5 @@
 // Entering a position in a stage of the cull: trying its nodes by joint steps, four outputs at a time, and a node by its ending.
-ghost use mathlib.Core.Path.{_≡_};
-ghost use Prim.Native.Nat.{_+_, _*_, _^_, _≤_, _<_};
-ghost use lib.ListN.{length};
+ghost use Rattle.basics.specs.Words.{_≡_, _+_, _*_, _^_, _≤_, _<_, length};
 ghost use Rattle.tables.specs.Work.{HasNodes};
 ghost use Rattle.insertions.specs.Lanes.{narrowed};
 ghost use Rattle.stage.specs.Relaxing.{NodePre};
@@ -9,6 +7,8 @@ ghost use Rattle.stage.specs.StageLabels.{countOf, stageLabel};
 ghost use Rattle.stage_entering.specs.Entering.{marksBy, topOf, FrontCounts, BehindFront, AheadOf, LanePre, LaneTried, CodePre, LanesTried, codesAt, FourPre, CodesTried, laneEnding, EndingTried};
 use cells::Groups;
 use cells::NOWHERE;
+
+pub mod pairs; // pairs.rt: the pairs of a card with one input, the insertions in lists
 
 // ---- a first look at an arc
 

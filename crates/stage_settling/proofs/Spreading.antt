@@ -1,14 +1,5 @@
 -- Settling a position by its insertions: one entry, the entries to one code, code after code until none is open.
-use mathlib.Core.Path.{_≡_, refl, sym, _∙_, ap, subst}
-use mathlib.Core.Logic.{_⊎_, inl, inr, _≢_}
-use mathlib.Core.Bool.{Bool, true, false, cond}
-use mathlib.Core.Option.{some, Option·none-ne-some}
-use mathlib.Core.List.{List}
-use Prim.Native.Nat.{ℕ, zero, suc, _+_, _*_, _≤_, _<_}
-use native.Mathlib.Decide.{ℕ-discrete}
-use native.Mathlib.Omega.{arith}
-use lib.ListN.{length, getD}
-use Rattle.basics.proofs.Bools.{clash, fails}
+use Rattle.basics.proofs.Words.{_≡_, refl, sym, _∙_, ap, subst, Bool, true, false, cond, List, some, Option·none-ne-some, _⊎_, inl, inr, _≢_, ℕ, zero, suc, _+_, _*_, _≤_, _<_, arith, length, getD, ℕ-discrete, clash, fails}
 use Rattle.paths.specs.Costs.{AtMost, Lowers, kept, lowered}
 use Rattle.paths.specs.Ranked.{Ranked, Less, countAt, rankedCosts, less-total}
 use Rattle.paths.specs.Graph.{Graph, run→cost}

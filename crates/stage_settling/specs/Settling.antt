@@ -1,11 +1,5 @@
 -- Settling a position in a stage: its labels fall by insertions, in lists by the code that they lead to, until none falls.
-use mathlib.Core.Path.{_≡_}
-use mathlib.Core.Logic.{_⊎_}
-use mathlib.Core.Bool.{Bool, true, false, cond}
-use mathlib.Core.List.{List}
-use mathlib.Core.Option.{some}
-use Prim.Native.Nat.{ℕ, zero, suc, _+_, _*_, _≤_, _<_}
-use lib.ListN.{length, getD}
+use Rattle.basics.specs.Words.{_≡_, Bool, true, false, cond, List, some, _⊎_, ℕ, zero, suc, _+_, _*_, _≤_, _<_, length, getD, member}
 use Rattle.machine.specs.declared.Pair.{Pair}
 use Rattle.paths.specs.Costs.{Labels, AtMost}
 use Rattle.paths.specs.Ranked.{Ranked, Less, countAt, rankedCosts}
@@ -15,7 +9,6 @@ use Rattle.paths.specs.Improvement.{Falls}
 use Rattle.tables.specs.Marks.{marksCost}
 use Rattle.tables.specs.Work.{HasNode}
 use Rattle.product.specs.ProductGraph.{pairs}
-use Rattle.basics.specs.Sets.{member}
 use Rattle.settling.specs.Insertions.{codeIn, marksIn, isListed}
 use Rattle.settling.specs.OpenCodes.{isOpen, OneMore}
 use Rattle.stage.specs.Below.{Below}

@@ -1,7 +1,5 @@
 // Settling a position in a stage of the cull: its labels fall by insertions until none falls.
-ghost use mathlib.Core.Path.{_≡_};
-ghost use Prim.Native.Nat.{_^_, _<_};
-ghost use lib.ListN.{length};
+ghost use Rattle.basics.specs.Words.{_≡_, _^_, _<_, length};
 ghost use Rattle.tables.specs.Work.{HasNode};
 ghost use Rattle.settling.specs.OpenCodes.{OneIn, Chosen};
 ghost use Rattle.stage.specs.Relaxing.{NodePre};

@@ -1,12 +1,6 @@
 -- A set without a symbol, and the symbols of a set by kind. Assumes nothing.
-use mathlib.Core.Path.{_≡_, refl, _∙_, ap}
-use mathlib.Core.Bool.{Bool, not, _&&_, and-comm}
-use Prim.Native.Nat.{ℕ, zero, suc, _/_, _%_, _^_, _<_}
-use native.Mathlib.Omega.{arith}
-use lib.Dec.{eqb}
+use Rattle.basics.proofs.Words.{_≡_, refl, _∙_, ap, Bool, not, _&&_, and-comm, ℕ, zero, suc, _/_, _%_, _^_, _<_, arith, eqb, member, member-one, member-and}
 use lib.Bits.{bitAnd, bitXor, differ, xor-shr, xor-step}
-use Rattle.basics.specs.Sets.{member}
-use Rattle.basics.proofs.Sets.{member-one, member-and}
 use Rattle.symbols.specs.Symbols.{emptySymbol}
 use Rattle.symbols.specs.SymbolSets.{withoutSymbol, withoutEmpty, partners}
 

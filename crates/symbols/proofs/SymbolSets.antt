@@ -1,18 +1,8 @@
 -- Sets of symbols: the set of one symbol, sets with no bit over S. Assumes nothing.
-use mathlib.Core.Path.{_≡_, refl, sym, _∙_, ap}
-use mathlib.Core.Bool.{Bool, true, false, not, _&&_}
-use Prim.Native.Nat.{ℕ, zero, suc, _+_, _-_, _*_, _/_, _%_, _^_, _<_}
-use native.Mathlib.Nat.{div-one, pow-suc}
-use native.Mathlib.Numerals.{add-one}
-use native.Mathlib.Omega.{arith}
-use lib.Dec.{eqb, ltb}
+use Rattle.basics.proofs.Words.{_≡_, refl, sym, _∙_, ap, Bool, true, false, not, _&&_, ℕ, zero, suc, _+_, _-_, _*_, _/_, _%_, _^_, _<_, arith, eqb, ltb, div-one, pow-suc, add-one, member, ltb-true, lt-ltb, eqb-true, eqb-false, eq-eqb, ne-eqb, not-true, same, clash, both, left, right, has-member, its-member, member-one, member-and}
 use lib.Bits.{bitAnd, and-le-l}
 use lib.Count.{trailingZeros, under}
 use lib.Pow.{shr-shr}
-use borrow.Author.Tests.{ltb-true, lt-ltb, eqb-true, eqb-false, eq-eqb, ne-eqb, not-true}
-use Rattle.basics.specs.Sets.{member}
-use Rattle.basics.proofs.Bools.{same, clash, both, left, right}
-use Rattle.basics.proofs.Sets.{has-member, its-member, member-one, member-and}
 
 -- a set has a symbol where it meets the set of that symbol
 pub meets-one : (w n : ℕ) → w < 2 ^ 64 → not (eqb (bitAnd w (2 ^ n)) 0) ≡ member w n

@@ -1,7 +1,5 @@
 -- Sets of symbols: going through one from the least symbol on, and the symbols that make pairs of a kind.
-use mathlib.Core.Bool.{Bool, _&&_, not}
-use Prim.Native.Nat.{ℕ, zero, suc, _+_, _^_}
-use lib.Dec.{eqb, ltb}
+use Rattle.basics.specs.Words.{Bool, _&&_, not, ℕ, zero, suc, _+_, _^_, eqb, ltb}
 use lib.Bits.{bitAnd, bitXor}
 use lib.Count.{trailingZeros}
 use Rattle.symbols.specs.Symbols.{emptySymbol}

@@ -1,9 +1,5 @@
 // Sets of symbols as 64-bit numbers: bit n is symbol n, bit 0 the empty symbol.
-ghost use mathlib.Core.Path.{_≡_};
-ghost use mathlib.Core.Bool.{true, not, _&&_};
-ghost use Prim.Native.Nat.{ℕ, _<_, _^_};
-ghost use lib.Dec.{eqb};
-ghost use Rattle.basics.specs.Sets.{member};
+ghost use Rattle.basics.specs.Words.{_≡_, true, not, _&&_, ℕ, _<_, _^_, eqb, member};
 ghost use Rattle.symbols.specs.SymbolSets.{leastSymbol, withoutSymbol, withoutEmpty, soundSet, partners};
 
 // The set of the empty symbol.

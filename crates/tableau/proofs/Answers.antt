@@ -1,11 +1,5 @@
 -- What the call answers, by the checks that input and tableau pass and by the best candidate. Assumes nothing.
-use mathlib.Core.Path.{_≡_, sym, ap, _∙_}
-use mathlib.Core.Bool.{true}
-use mathlib.Core.List.{List, [], _∷_}
-use mathlib.Core.Option.{Option, some, none, Option·none-ne-some}
-use Prim.Native.Nat.{ℕ, zero, suc, _<_}
-use native.Mathlib.Omega.{arith}
-use lib.Dec.{lit<}
+use Rattle.basics.specs.Words.{_≡_, sym, ap, _∙_, true, List, [], _∷_, Option, some, none, Option·none-ne-some, ℕ, zero, suc, _<_, arith, lit<}
 use Rattle.refusals.specs.Refusals.{refuse, firstOf}
 use Rattle.refusals.proofs.Refusals.{passed, none-first, accepted}
 use Rattle.ranking.specs.declared.Profile.{Profile}

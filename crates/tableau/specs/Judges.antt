@@ -1,9 +1,5 @@
 -- The contract of the call.
-use mathlib.Core.Path.{_≡_}
-use mathlib.Core.Logic.{_≢_}
-use mathlib.Core.List.{List}
-use Prim.Native.Nat.{ℕ}
-use lib.ListN.{length}
+use Rattle.basics.specs.Words.{_≡_, List, _≢_, ℕ, length}
 use Rattle.product.specs.Optimizing.{inputRefusal}
 use Rattle.tableau.specs.declared.Judged.{Judged}
 use Rattle.tableau.specs.Judging.{judging}

@@ -1,8 +1,5 @@
 -- What judging a tableau answers.
-use mathlib.Core.Bool.{Bool, false}
-use mathlib.Core.List.{List, [], _∷_}
-use mathlib.Core.Option.{Option, some, none}
-use Prim.Native.Nat.{ℕ}
+use Rattle.basics.specs.Words.{Bool, false, List, [], _∷_, Option, some, none, ℕ}
 use Rattle.refusals.specs.Refusals.{refuse, firstOf, unlessRefused}
 use Rattle.card.specs.Layout.{machineCount}
 use Rattle.candidate.specs.Evaluating.{profileWith}

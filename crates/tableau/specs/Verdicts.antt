@@ -1,16 +1,7 @@
 -- What the verdict means, in the words of the request: for every card, ranking, word, work slice and tableau of which nothing is refused. Assumes nothing.
-use mathlib.Core.Path.{_≡_, refl, sym, _∙_, ap, subst}
-use mathlib.Core.Logic.{_⊎_, inl, inr, _↔_, _≢_}
-use mathlib.Core.Bool.{Bool, true, false}
-use mathlib.Core.List.{List, [], _∷_}
-use mathlib.Core.Option.{Option, some, none}
-use Prim.Native.Nat.{ℕ, zero, suc, _<_}
-use native.Mathlib.Omega.{arith}
-use lib.ListN.{length}
+use Rattle.basics.proofs.Words.{_≡_, refl, sym, _∙_, ap, subst, Bool, true, false, List, [], _∷_, Option, some, none, _⊎_, inl, inr, _↔_, _≢_, ℕ, zero, suc, _<_, arith, length, clash, every-at}
 use Rattle.refusals.specs.Refusals.{refuse, firstOf, unlessRefused}
-use Rattle.basics.proofs.Bools.{clash}
 use Rattle.refusals.proofs.Refusals.{accepted}
-use Rattle.basics.proofs.Below.{every-at}
 use Rattle.card.specs.Layout.{machineCount}
 use Rattle.card.specs.Card.{machinesOf}
 use Rattle.candidate.specs.Candidates.{pairsOf, IsCandidate}

@@ -1,8 +1,5 @@
 -- What a number of a step table says. Assumes nothing.
-use mathlib.Core.Path.{_≡_, refl}
-use mathlib.Core.Option.{Option, some, none}
-use Prim.Native.Nat.{ℕ, _+_, _*_, _/_, _%_, _<_, _≤_}
-use native.Mathlib.Omega.{arith}
+use Rattle.basics.specs.Words.{_≡_, refl, Option, some, none, ℕ, _+_, _*_, _/_, _%_, _<_, _≤_, arith}
 use Rattle.tables.specs.StepTable.{stepCode}
 
 -- a step to one of at most 32 states, with at most 15 marks

@@ -1,12 +1,5 @@
 -- State counts and the states of a code, machine by machine. Assumes nothing.
-use mathlib.Core.Path.{_≡_, sym, _∙_, ap}
-use mathlib.Core.List.{List, [], _∷_}
-use Prim.Native.Nat.{ℕ, zero, suc, _+_, _*_, _<_, _≤_}
-use native.Mathlib.Nat.{mul-assoc, mul-le-mul-left}
-use native.Mathlib.Numerals.{add-one}
-use native.Mathlib.Omega.{arith}
-use lib.ListN.{length, getD, take, drop, set, drop-of-length-le}
-use lib.Seq.{drop-cons, take-suc, take-suc-set}
+use Rattle.basics.specs.Words.{_≡_, sym, _∙_, ap, List, [], _∷_, ℕ, zero, suc, _+_, _*_, _<_, _≤_, arith, length, getD, take, drop, set, drop-of-length-le, drop-cons, take-suc, take-suc-set, mul-assoc, mul-le-mul-left, add-one}
 use Rattle.product.specs.Nodes.{product}
 use Rattle.product.specs.Laws.Nodes.{Positive, product-positive}
 use Rattle.product.specs.Laws.JointStep.{counts-positive}

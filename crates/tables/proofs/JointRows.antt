@@ -1,11 +1,5 @@
 -- Numbers written into a row, one after the other. Assumes nothing.
-use mathlib.Core.Path.{_≡_, _∙_}
-use mathlib.Core.List.{List}
-use Prim.Native.Nat.{ℕ, _+_, _<_, _≤_}
-use native.Mathlib.Decide.{ℕ-discrete}
-use native.Mathlib.Omega.{arith}
-use lib.ListN.{length, getD, set, length-set}
-use lib.Seq.{getD-set-same, getD-set-other}
+use Rattle.basics.specs.Words.{_≡_, _∙_, List, ℕ, _+_, _<_, _≤_, arith, length, getD, set, length-set, getD-set-same, getD-set-other, ℕ-discrete}
 
 pub record RowTo (f : ℕ → ℕ) (n : ℕ) (ys : List ℕ) (y : ℕ) : Type 0 where
   pub within : y ≤ n

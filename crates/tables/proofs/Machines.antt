@@ -1,9 +1,5 @@
 -- Machines by their numbers: their counts, their states, their steps. Assumes nothing.
-use mathlib.Core.Path.{_≡_}
-use mathlib.Core.List.{List, [], _∷_}
-use Prim.Native.Nat.{ℕ, zero, suc, _<_}
-use native.Mathlib.Omega.{arith}
-use lib.ListN.{length, getD, length-map, List·getD-map}
+use Rattle.basics.specs.Words.{_≡_, List, [], _∷_, ℕ, zero, suc, _<_, arith, length, getD, length-map, List·getD-map}
 use Rattle.machine.specs.declared.Pair.{Pair}
 use Rattle.machine.specs.Machine.{Machine, noMachine, stepOf}
 use Rattle.product.specs.Nodes.{stateCountOf, stateCounts, product, statesOf}

@@ -1,10 +1,5 @@
 -- The state counts of a card's machines at the front of an array.
-use mathlib.Core.Path.{_≡_, sym, _∙_, ap}
-use mathlib.Core.Bool.{true}
-use mathlib.Core.List.{List, [], _∷_}
-use Prim.Native.Nat.{ℕ, zero, suc, _≤_}
-use native.Mathlib.Omega.{arith}
-use lib.ListN.{length, take, length-map}
+use Rattle.basics.specs.Words.{_≡_, sym, _∙_, ap, true, List, [], _∷_, ℕ, zero, suc, _≤_, arith, length, take, length-map}
 use Rattle.ranking.specs.Rankings.{isRanking}
 use Rattle.card.specs.Layout.{machineCount, symbolCount}
 use Rattle.card.specs.Card.{machinesOf, cardRefusal}

@@ -1,7 +1,5 @@
 -- The start node is the number 0: the first position, and each machine's start state is 0. Assumes nothing.
-use mathlib.Core.Path.{_≡_, refl}
-use mathlib.Core.List.{List, [], _∷_, map}
-use native.Mathlib.Omega.{arith}
+use Rattle.basics.specs.Words.{_≡_, refl, List, [], _∷_, map, arith}
 use Rattle.machine.specs.Machine.{Machine, startState}
 use Rattle.product.specs.Nodes.{stateCounts, codeOf}
 use Rattle.product.specs.ProductGraph.{startNode}

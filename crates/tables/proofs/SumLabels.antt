@@ -1,11 +1,5 @@
 -- Laws of labels as numbers. Assumes nothing.
-use mathlib.Core.Path.{_≡_, ap}
-use mathlib.Core.Bool.{Bool, cond}
-use mathlib.Core.Option.{some, none}
-use mathlib.Core.List.{List}
-use Prim.Native.Nat.{ℕ, _≤_, _<_}
-use lib.ListN.{length, getD}
-use borrow.Author.Tests.{lt-ltb, le-ltb}
+use Rattle.basics.proofs.Words.{_≡_, ap, Bool, cond, List, some, none, ℕ, _≤_, _<_, length, getD, lt-ltb, le-ltb}
 use Rattle.tables.specs.Laws.Harmony.{any-default}
 use Rattle.tables.specs.SumLabels.{noLabel, costOf, labelFrom, labelOf}
 

@@ -1,16 +1,5 @@
 -- Laws of the work slice: what a node's numbers say, and what writing them does.
-use mathlib.Core.Path.{_≡_, refl, sym, _∙_, ap}
-use mathlib.Core.Logic.{_⊎_, inl, inr, _≢_}
-use mathlib.Core.Bool.{Bool, cond, not}
-use mathlib.Core.Option.{none, some, Option·none-ne-some}
-use mathlib.Core.List.{List, [], _∷_}
-use Prim.Native.Nat.{ℕ, zero, suc, _+_, _*_, _≤_, _<_}
-use native.Mathlib.Omega.{arith}
-use native.Mathlib.Decide.{ℕ-discrete, decLt}
-use lib.Dec.{eqb}
-use borrow.Author.Tests.{eq-eqb, ne-eqb, eqb-true, eqb-false, not-true, not-false}
-use lib.ListN.{length, getD, set, length-set, List·getD-eq-default}
-use lib.Seq.{getD-set-same, getD-set-other}
+use Rattle.basics.proofs.Words.{_≡_, refl, sym, _∙_, ap, Bool, cond, not, List, [], _∷_, none, some, Option·none-ne-some, _⊎_, inl, inr, _≢_, ℕ, zero, suc, _+_, _*_, _≤_, _<_, arith, length, getD, set, length-set, List·getD-eq-default, eqb, getD-set-same, getD-set-other, ℕ-discrete, decLt, eq-eqb, ne-eqb, eqb-true, eqb-false, not-true, not-false}
 use Rattle.paths.specs.Ranked.{Ranked}
 use Rattle.tables.specs.Work.{stateOf, costAt, labelOf, AlikeAt, Reached, Stored}
 

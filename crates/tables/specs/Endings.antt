@@ -1,6 +1,5 @@
 -- What an ending costs: its marks, and no pair.
-use mathlib.Core.Option.{Option, some, none}
-use Prim.Native.Nat.{ℕ, zero, suc}
+use Rattle.basics.specs.Words.{Option, some, none, ℕ, zero, suc}
 use Rattle.paths.specs.Ranked.{Ranked}
 use Rattle.tables.specs.Marks.{marksCost}
 

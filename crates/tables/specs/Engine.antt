@@ -1,6 +1,5 @@
 -- The graph that the engine searches.
-use mathlib.Core.List.{List}
-use Prim.Native.Nat.{ℕ}
+use Rattle.basics.specs.Words.{List, ℕ}
 use Rattle.machine.specs.Machine.{Machine}
 use Rattle.paths.specs.Ranked.{rankedCosts}
 use Rattle.paths.specs.Graph.{Graph}

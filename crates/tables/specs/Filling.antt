@@ -1,7 +1,5 @@
 -- A part of a card that is accepted.
-use mathlib.Core.Path.{_≡_}
-use mathlib.Core.List.{List}
-use Prim.Native.Nat.{ℕ}
+use Rattle.basics.specs.Words.{_≡_, List, ℕ}
 use Rattle.machine.specs.Part.{partRefusal}
 
 -- a part that is accepted on some card

@@ -1,7 +1,5 @@
 -- The joint step and the joint ending at a code of states, with the marks as one number.
-use mathlib.Core.List.{List}
-use mathlib.Core.Option.{Option, some, none}
-use Prim.Native.Nat.{ℕ}
+use Rattle.basics.specs.Words.{List, Option, some, none, ℕ}
 use Rattle.machine.specs.declared.Pair.{Pair}
 use Rattle.machine.specs.Machine.{Machine}
 use Rattle.product.specs.ProductGraph.{Move}

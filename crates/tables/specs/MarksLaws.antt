@@ -1,8 +1,5 @@
 -- Laws of the marks of a pair as one number: each mark is at most 15, and the number has them all.
-use mathlib.Core.Path.{_≡_, refl, sym, _∙_, ap}
-use Prim.Native.Nat.{ℕ, zero, suc, _+_, _*_, _/_, _%_, _^_, _≤_, _<_}
-use native.Mathlib.Nat.{mod-lt, div-lt-iff-lt-mul, mul-le-mul-right, mul-add-div-right, mul-add-mod-self-right, div-eq-of-lt, mod-eq-of-lt, one-le-pow, pow-succ'}
-use native.Mathlib.Omega.{arith}
+use Rattle.basics.specs.Words.{_≡_, refl, sym, _∙_, ap, ℕ, zero, suc, _+_, _*_, _/_, _%_, _^_, _≤_, _<_, arith, mod-lt, div-lt-iff-lt-mul, mul-le-mul-right, mul-add-div-right, mul-add-mod-self-right, div-eq-of-lt, mod-eq-of-lt, one-le-pow, pow-succ'}
 use Rattle.paths.specs.Ranked.{Ranked, letterCount, countAt}
 use Rattle.tables.specs.Marks.{nibbles, fromNibbles}
 

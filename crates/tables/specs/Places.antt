@@ -1,8 +1,5 @@
 -- Marks of machines as one number, in the order of a ranking.
-use mathlib.Core.Path.{_≡_}
-use mathlib.Core.List.{List, [], _∷_}
-use Prim.Native.Nat.{ℕ, _<_}
-use lib.ListN.{length, getD}
+use Rattle.basics.specs.Words.{_≡_, List, [], _∷_, ℕ, _<_, length, getD}
 use Rattle.paths.specs.ByRanking.{ranked}
 use Rattle.tables.specs.Marks.{fromNibbles}
 

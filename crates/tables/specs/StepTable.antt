@@ -1,8 +1,5 @@
 -- A machine's step as one number: where it goes, and its marks.
-use mathlib.Core.List.{List, []}
-use mathlib.Core.Option.{Option, some, none}
-use Prim.Native.Nat.{ℕ, _+_, _*_}
-use lib.ListN.{getD}
+use Rattle.basics.specs.Words.{List, [], Option, some, none, ℕ, _+_, _*_, getD}
 use Rattle.machine.specs.Machine.{Machine}
 pub use Rattle.machine.specs.Machine.{noMachine}
 

@@ -1,11 +1,6 @@
 -- A label as one number: the sum times 4,096 and the number of pairs. Of two labels the lesser has the lesser number, and numbers add up as labels do:
 -- a best path has fewer than 4,096 pairs.
-use mathlib.Core.Bool.{cond}
-use mathlib.Core.List.{List}
-use mathlib.Core.Option.{Option, some, none}
-use Prim.Native.Nat.{ℕ, _/_, _%_}
-use lib.Dec.{ltb}
-use lib.ListN.{getD}
+use Rattle.basics.specs.Words.{cond, List, Option, some, none, ℕ, _/_, _%_, getD, ltb}
 use Rattle.paths.specs.Ranked.{Ranked}
 
 -- the number of a node that has no label

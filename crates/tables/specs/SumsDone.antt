@@ -1,8 +1,5 @@
 -- All nodes labelled.
-use mathlib.Core.Path.{_≡_}
-use mathlib.Core.List.{List}
-use Prim.Native.Nat.{ℕ}
-use lib.ListN.{length}
+use Rattle.basics.specs.Words.{_≡_, List, ℕ, length}
 use Rattle.paths.specs.Positions.{Done}
 use Rattle.product.specs.Setting.{placeOf}
 use Rattle.product.specs.WeightedPaths.{weightedGraph}

@@ -1,8 +1,5 @@
 -- Machines as an accepted card has them, and their state counts.
-use mathlib.Core.Path.{_≡_}
-use mathlib.Core.List.{List}
-use Prim.Native.Nat.{ℕ, _<_, _≤_}
-use lib.ListN.{length}
+use Rattle.basics.specs.Words.{_≡_, List, ℕ, _<_, _≤_, length}
 use Rattle.machine.specs.Machine.{Machine}
 use Rattle.product.specs.Nodes.{stateCountOf, stateCounts, product}
 use Rattle.product.specs.Laws.JointStep.{AllSound}

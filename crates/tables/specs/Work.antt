@@ -1,13 +1,6 @@
 -- The work slice: eight numbers to a node. Node u's stand from u * 8 on: its state, 0 where it has no label, six counts in ranked order, the number
 -- of pairs.
-use mathlib.Core.Path.{_≡_}
-use mathlib.Core.Logic.{_≢_}
-use mathlib.Core.Bool.{Bool, true, false, cond}
-use mathlib.Core.Option.{Option, none, some}
-use mathlib.Core.List.{List}
-use Prim.Native.Nat.{ℕ, _+_, _*_, _≤_, _<_}
-use lib.Dec.{eqb}
-use lib.ListN.{length, getD}
+use Rattle.basics.specs.Words.{_≡_, Bool, true, false, cond, List, Option, none, some, _≢_, ℕ, _+_, _*_, _≤_, _<_, length, getD, eqb}
 use Rattle.paths.specs.Ranked.{Ranked}
 
 -- the slice has the node u

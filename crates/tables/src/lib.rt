@@ -1,8 +1,6 @@
 // What the search writes down: steps and labels as numbers; the state counts of a card's machines, the number of joint states, the start node; a
 // ranking as six places.
-ghost use mathlib.Core.Path.{_≡_};
-ghost use mathlib.Core.List.{List};
-ghost use lib.ListN.{getD, take};
+ghost use Rattle.basics.specs.Words.{_≡_, List, getD, take};
 ghost use Rattle.machine.specs.Machine.{Machine};
 ghost use Rattle.card.specs.Layout.{machineCount};
 ghost use Rattle.card.specs.Card.{machinesOf, cardRefusal};

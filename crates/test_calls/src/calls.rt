@@ -1,5 +1,10 @@
 // The calls. Each writes its line but for the end: the call's name, the refusal's number, and the rest of what it answers. A lent slice is written in
 // short, as it is after the call; a work slice, lent filled with 7s, by how many there still are where the call has to keep it.
+use crate::printing::write;
+use crate::printing::write_spaced_byte;
+use crate::printing::write_spaced_number;
+use crate::printing::write_spaced_size;
+use crate::slices::sevens;
 use crate::writing::wide_sevens;
 use crate::writing::write_best;
 use crate::writing::write_evaluation;
@@ -11,11 +16,6 @@ use crate::writing::write_three;
 use ranking::Comparison;
 use ranking::Derived;
 use ranking::Profile;
-use test_support::slices::sevens;
-use test_support::writing::write;
-use test_support::writing::write_spaced_byte;
-use test_support::writing::write_spaced_number;
-use test_support::writing::write_spaced_size;
 
 // What there is to lend.
 const WORK_NUMBERS: usize = 25600;

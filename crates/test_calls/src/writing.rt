@@ -1,16 +1,16 @@
 // The words of a line: numbers in decimal, each with a space before it or, in a list, a comma.
+use crate::printing::write;
+use crate::printing::write_byte;
+use crate::printing::write_count;
+use crate::printing::write_spaced_byte;
+use crate::printing::write_spaced_count;
+use crate::printing::write_spaced_number;
+use crate::printing::write_spaced_size;
+use crate::slices::sevens;
 use candidate::Evaluation;
 use ranking::Finding;
 use ranking::Order;
 use ranking::Profile;
-use test_support::slices::sevens;
-use test_support::writing::write;
-use test_support::writing::write_byte;
-use test_support::writing::write_count;
-use test_support::writing::write_spaced_byte;
-use test_support::writing::write_spaced_count;
-use test_support::writing::write_spaced_number;
-use test_support::writing::write_spaced_size;
 ghost use Prim.Native.Nat.{_<_};
 
 // What slices are written modulo.

@@ -43,9 +43,9 @@ use test_calls::fields::profile_at;
 use test_calls::fields::sets_at;
 use test_calls::fields::size_at;
 use test_calls::fields::weights_at;
+use test_calls::slices::read_file;
 use test_calls::writing::end_line;
 use test_calls::writing::write_bad_case;
-use test_support::slices::read_file;
 
 // One byte more than the file may have.
 const FILE_BYTES: usize = 409601;

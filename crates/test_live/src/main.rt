@@ -10,8 +10,8 @@ use live::Counted;
 use live::Lead;
 use live::Row;
 use ranking::Profile;
-use test_support::writing::write;
-use test_support::writing::write_number;
+use test_calls::printing::write;
+use test_calls::printing::write_number;
 
 // A list of 34 records, and what the last call on it answered. A call is lent the first so many of them: 34, or 3.
 pub struct Board {

@@ -1,12 +1,5 @@
 -- The joint step of a column at some places, machine by machine. Assumes nothing.
-use mathlib.Core.Path.{_≡_, sym, _∙_, ap}
-use mathlib.Core.List.{List}
-use Prim.Native.Nat.{ℕ, suc, _+_, _*_, _^_, _<_, _≤_}
-use native.Mathlib.Nat.{suc-mul}
-use native.Mathlib.Omega.{arith}
-use lib.ListN.{length, getD, drop}
-use lib.Seq.{drop-cons}
-use Rattle.basics.proofs.Search.{left-none}
+use Rattle.basics.proofs.Words.{_≡_, sym, _∙_, ap, List, ℕ, suc, _+_, _*_, _^_, _<_, _≤_, arith, length, getD, drop, drop-cons, suc-mul, left-none}
 use Rattle.cells.specs.Cells.{nowhere, highCell, lowCell, scaleOf, highOf, lowOf, highAt, lowAt}
 use Rattle.cells.specs.Laws.Joint.{cell-of-none}
 use Rattle.cells.specs.Laws.Numbers.{marks-low, high-small}

@@ -1,14 +1,5 @@
 -- Whether a step keeps to the labels, as the test finds out; the least output. Assumes nothing.
-use mathlib.Core.Path.{_≡_, refl, sym, _∙_, ap}
-use mathlib.Core.Bool.{Bool, true, false, _&&_, not}
-use mathlib.Core.List.{List}
-use Prim.Native.Nat.{ℕ, _+_, _%_, _<_, _≤_}
-use native.Mathlib.Omega.{arith}
-use lib.Dec.{eqb}
-use borrow.Author.Tests.{eqb-true, eq-eqb}
-use Rattle.basics.specs.Sets.{member}
-use Rattle.basics.proofs.Bools.{left, right, both, clash}
-use Rattle.basics.proofs.Sets.{no-member}
+use Rattle.basics.proofs.Words.{_≡_, refl, sym, _∙_, ap, Bool, true, false, _&&_, not, List, ℕ, _+_, _%_, _<_, _≤_, arith, eqb, member, eqb-true, eq-eqb, left, right, both, clash, no-member}
 use Rattle.machine.specs.SymbolSets.{leastSymbol}
 use Rattle.machine.proofs.SymbolSets.{below-least}
 use Rattle.machine.proofs.SetLoops.{with-true}

@@ -1,8 +1,5 @@
 -- The joint step at places of a column, one for each machine: the sums of the cells that stand there.
-use mathlib.Core.Path.{_≡_}
-use mathlib.Core.List.{List, [], _∷_}
-use Prim.Native.Nat.{ℕ, suc, _+_, _*_, _^_, _<_, _≤_}
-use lib.ListN.{length}
+use Rattle.basics.specs.Words.{_≡_, List, [], _∷_, ℕ, suc, _+_, _*_, _^_, _<_, _≤_, length}
 use Rattle.cells.specs.declared.Cell.{Cell}
 use Rattle.cells.specs.Cells.{nowhere, scaleOf, highOf, lowOf, highAt, lowAt}
 

@@ -1,12 +1,6 @@
 -- The labels that the walk keeps to, as cells. In ranked order they are counts, eight 16-bit numbers to a node; by weights they are sums, one 64-bit
 -- number to a node. One of the two slices has them, and the other is empty.
-use mathlib.Core.Path.{_≡_}
-use mathlib.Core.Logic.{_≢_}
-use mathlib.Core.Bool.{cond}
-use mathlib.Core.List.{List}
-use Prim.Native.Nat.{ℕ, _+_, _*_, _/_, _%_, _<_}
-use lib.Dec.{eqb, ltb}
-use lib.ListN.{length, getD}
+use Rattle.basics.specs.Words.{_≡_, cond, List, _≢_, ℕ, _+_, _*_, _/_, _%_, _<_, length, getD, eqb, ltb}
 use Rattle.tables.specs.Work.{HasNode, stateOf, costAt}
 use Rattle.cells.specs.declared.Cell.{Cell}
 use Rattle.cells.specs.Labels.{noLabel}

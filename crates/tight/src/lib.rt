@@ -1,9 +1,6 @@
 // What the walk looks for at one node: the least pair that keeps to the labels, by joint steps at the places of the states at hand and the labels that
 // they lead to.
-ghost use mathlib.Core.Path.{_≡_};
-ghost use mathlib.Core.Bool.{true, false};
-ghost use Prim.Native.Nat.{ℕ, _*_, _+_, _^_, _<_, _≤_};
-ghost use lib.ListN.{length};
+ghost use Rattle.basics.specs.Words.{_≡_, true, false, ℕ, _*_, _+_, _^_, _<_, _≤_, length};
 ghost use Rattle.columns.specs.Filling.{Small};
 ghost use Rattle.tables.specs.Work.{HasNode};
 ghost use Rattle.tight.specs.Labels.{countsCell, sumCell, cellOf, HasLabel};

@@ -1,12 +1,5 @@
 -- Of every arc of an accepted card there is an accepted card that lacks it and nothing else: its counts and its other parts are those of the card.
-use mathlib.Core.Path.{_≡_, refl, sym, _∙_, ap}
-use mathlib.Core.List.{List, [], _∷_, map}
-use Prim.Native.Nat.{ℕ, zero, suc, _+_, _*_, _<_}
-use native.Mathlib.Decide.{ℕ-discrete}
-use native.Mathlib.Omega.{arith}
-use lib.ListN.{length, getD, set, length-set}
-use lib.Seq.{map-set-same, getD-set-same, getD-set-other}
-use Rattle.basics.specs.Products.{product}
+use Rattle.basics.specs.Words.{_≡_, refl, sym, _∙_, ap, List, [], _∷_, map, ℕ, zero, suc, _+_, _*_, _<_, arith, length, getD, set, length-set, map-set-same, getD-set-same, getD-set-other, ℕ-discrete, product}
 use Rattle.refusals.proofs.Refusals.{none-first}
 use Rattle.machine.specs.Machine.{Machine, noMachine, stateCountOf}
 use Rattle.machine.specs.Part.{stateCount, machineOf, partRefusal}

@@ -1,8 +1,5 @@
 -- What a call wrote, and when a second call answers the same.
-use mathlib.Core.Path.{_≡_}
-use mathlib.Core.List.{List, _++_}
-use Prim.Native.Nat.{ℕ, _*_}
-use lib.ListN.{take, drop}
+use Rattle.basics.specs.Words.{_≡_, List, _++_, ℕ, _*_, take, drop}
 use Rattle.machine.specs.declared.Pair.{Pair}
 use Rattle.candidate.specs.declared.Evaluation.{Evaluation}
 use Rattle.candidate.specs.Candidates.{pairsOf}

@@ -1,15 +1,5 @@
 -- The best candidate on a card that lacks one arc which it does not travel: it is the same. From the theorem on the best alone.
-use mathlib.Core.Path.{_≡_, refl, sym, _∙_, ap}
-use mathlib.Core.Logic.{_≢_}
-use mathlib.Core.Bool.{true, false, false≢true}
-use mathlib.Core.List.{List}
-use mathlib.Core.Option.{Option, some, none}
-use Prim.Native.Nat.{ℕ, _<_}
-use native.Mathlib.Omega.{arith}
-use lib.ListN.{getD, length-set}
-use lib.Seq.{map-set-same, getD-set-same}
-use Rattle.basics.specs.Search.{allOf}
-use Rattle.basics.proofs.Search.{all-at}
+use Rattle.basics.proofs.Words.{_≡_, refl, sym, _∙_, ap, true, false, false≢true, List, Option, some, none, _≢_, ℕ, _<_, arith, getD, length-set, map-set-same, getD-set-same, allOf, all-at}
 use Rattle.machine.specs.declared.Pair.{Pair}
 use Rattle.machine.specs.Symbols.{isPair}
 use Rattle.machine.specs.Machine.{Machine, noMachine, startState}

@@ -1,10 +1,5 @@
 -- Machines that lack one arc, and the arcs that a candidate travels.
-use mathlib.Core.Bool.{Bool, false, _||_}
-use mathlib.Core.List.{List, [], _∷_}
-use mathlib.Core.Option.{some, none}
-use Prim.Native.Nat.{ℕ, zero, suc}
-use lib.ListN.{getD, set}
-use Rattle.basics.specs.Search.{without}
+use Rattle.basics.specs.Words.{Bool, false, _||_, List, [], _∷_, some, none, ℕ, zero, suc, getD, set, without}
 use Rattle.machine.specs.declared.Arc.{Arc}
 use Rattle.machine.specs.declared.Pair.{Pair}
 use Rattle.machine.specs.Machine.{Machine, noMachine, startState, takesFrom, stepOf}

@@ -1,9 +1,5 @@
 -- Cards that lack one arc of another, and the bytes of one of them.
-use mathlib.Core.Path.{_≡_}
-use mathlib.Core.List.{List, _++_, map}
-use Prim.Native.Nat.{ℕ, _+_, _*_, _-_, _<_}
-use lib.ListN.{length, take, drop, set}
-use Rattle.basics.specs.Search.{joined}
+use Rattle.basics.specs.Words.{_≡_, List, _++_, map, ℕ, _+_, _*_, _-_, _<_, length, take, drop, set, joined}
 use Rattle.machine.specs.Part.{stateCount, arcCount}
 use Rattle.card.specs.Layout.{machineCount, symbolCount, partsOf, partOf}
 use Rattle.card.specs.Card.{machinesOf}

@@ -1,11 +1,6 @@
 -- Arcs that the answer does not use, over the calls as they are: both engines have the contracts `Optimizes` and `OptimizesSets`, so each of the two
 -- calls may be either engine's.
-use mathlib.Core.Path.{_≡_, sym, _∙_, ap, subst}
-use mathlib.Core.Bool.{true, false}
-use mathlib.Core.List.{List}
-use mathlib.Core.Option.{Option}
-use Prim.Native.Nat.{ℕ, _*_, _≤_}
-use lib.ListN.{length}
+use Rattle.basics.specs.Words.{_≡_, sym, _∙_, ap, subst, true, false, List, Option, ℕ, _*_, _≤_, length}
 use Rattle.refusals.specs.Refusals.{refuse}
 use Rattle.machine.specs.declared.Pair.{Pair}
 use Rattle.machine.specs.Machine.{Machine}

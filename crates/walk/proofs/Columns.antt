@@ -1,15 +1,5 @@
 -- The columns of an input at the places of the states at hand: the joint step there, its marks, and the states that it leads to. Assumes nothing.
-use mathlib.Core.Path.{_≡_, refl, sym, _∙_, ap, subst}
-use mathlib.Core.Logic.{_⊎_}
-use mathlib.Core.Bool.{true, false}
-use mathlib.Core.List.{List, [], _∷_, map}
-use mathlib.Core.Option.{Option, some, none, Option·none-ne-some}
-use Prim.Native.Nat.{ℕ, zero, suc, _+_, _*_, _/_, _%_, _^_, _<_, _≤_}
-use native.Mathlib.Nat.{suc-mul, mul-le-mul-right, mul-le-mul-left}
-use native.Mathlib.Decide.{decLt}
-use native.Mathlib.Omega.{arith}
-use lib.ListN.{length, getD, drop, List·getD-eq-default}
-use Rattle.basics.specs.Sets.{member}
+use Rattle.basics.specs.Words.{_≡_, refl, sym, _∙_, ap, subst, true, false, List, [], _∷_, map, Option, some, none, Option·none-ne-some, _⊎_, ℕ, zero, suc, _+_, _*_, _/_, _%_, _^_, _<_, _≤_, arith, length, getD, drop, List·getD-eq-default, suc-mul, mul-le-mul-right, mul-le-mul-left, decLt, member}
 use Rattle.machine.specs.declared.Pair.{Pair}
 use Rattle.machine.specs.Machine.{Machine, stateCountOf, stepOf}
 use Rattle.product.specs.Nodes.{product, stateCounts, codeOf, statesOf}

@@ -1,13 +1,5 @@
 -- The start of the walk and its end. Assumes nothing.
-use mathlib.Core.Path.{_≡_, refl, sym, _∙_, ap, subst}
-use mathlib.Core.Logic.{_⊎_, inl, inr}
-use mathlib.Core.List.{List, [], _∷_, _++_, append-nil, map}
-use mathlib.Core.Option.{Option, some, none, Option·none-ne-some}
-use Prim.Native.Nat.{ℕ, zero, suc, _+_, _*_, _-_, _%_, _<_, _≤_}
-use native.Mathlib.Decide.{decLt}
-use native.Mathlib.Omega.{arith}
-use lib.ListN.{length, getD, take, replicate, length-map, length-append, length-replicate, List·getD-append, List·getD-eq-default}
-use lib.Seq.{ext-getD, getD-append-add}
+use Rattle.basics.specs.Words.{_≡_, refl, sym, _∙_, ap, subst, List, [], _∷_, _++_, append-nil, map, Option, some, none, Option·none-ne-some, _⊎_, inl, inr, ℕ, zero, suc, _+_, _*_, _-_, _%_, _<_, _≤_, arith, length, getD, take, replicate, length-map, length-append, length-replicate, List·getD-append, List·getD-eq-default, ext-getD, getD-append-add, decLt}
 use Rattle.machine.specs.declared.Pair.{Pair}
 use Rattle.machine.specs.Machine.{Machine, startState}
 use Rattle.ranking.specs.Profiles.{merge}

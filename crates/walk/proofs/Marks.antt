@@ -1,10 +1,5 @@
 -- The marks of a list of pairs from a code's states: those of the first one, and those of the rest. Assumes nothing.
-use mathlib.Core.Path.{_≡_, sym, _∙_, ap}
-use mathlib.Core.List.{List, _∷_, map}
-use mathlib.Core.Option.{Option, some}
-use Prim.Native.Nat.{ℕ, _≤_}
-use native.Mathlib.Omega.{arith}
-use lib.ListN.{getD}
+use Rattle.basics.specs.Words.{_≡_, sym, _∙_, ap, List, _∷_, map, Option, some, ℕ, _≤_, arith, getD}
 use Rattle.machine.specs.declared.Pair.{Pair}
 use Rattle.machine.specs.Machine.{Machine}
 use Rattle.ranking.specs.Profiles.{merge}

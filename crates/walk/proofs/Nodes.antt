@@ -1,16 +1,5 @@
 -- The pairs with an input at the node that the walk has reached: which keep to the labels, and where the walk is after one. Assumes nothing.
-use mathlib.Core.Path.{_≡_, sym, _∙_, ap, subst}
-use mathlib.Core.Logic.{_⊎_, inl, inr}
-use mathlib.Core.Bool.{true, and-false}
-use mathlib.Core.List.{List, [], _∷_, _++_, append-assoc}
-use mathlib.Core.Option.{Option, some, none}
-use Prim.Native.Nat.{ℕ, _+_, _*_, _%_, _<_, _≤_}
-use native.Mathlib.Decide.{ℕ-discrete}
-use native.Mathlib.Omega.{arith}
-use lib.ListN.{length, getD, take, length-set, length-append}
-use borrow.Author.Tests.{eq-eqb, ne-eqb}
-use Rattle.basics.specs.Sets.{member}
-use Rattle.basics.proofs.Bools.{clash}
+use Rattle.basics.proofs.Words.{_≡_, sym, _∙_, ap, subst, true, and-false, List, [], _∷_, _++_, append-assoc, Option, some, none, _⊎_, inl, inr, ℕ, _+_, _*_, _%_, _<_, _≤_, arith, length, getD, take, length-set, length-append, ℕ-discrete, member, eq-eqb, ne-eqb, clash}
 use Rattle.machine.specs.declared.Pair.{Pair}
 use Rattle.machine.specs.Symbols.{isPair}
 use Rattle.ranking.specs.Profiles.{merge}

@@ -1,16 +1,6 @@
 -- The two kinds of ways on from a node: by an insertion, whose columns have the steps of all states, and by a symbol of the set there, whose columns have
 -- those of the states at hand. Assumes nothing.
-use mathlib.Core.Path.{_≡_, refl, sym, _∙_, ap, subst}
-use mathlib.Core.Logic.{_⊎_, inl, inr, _≢_}
-use mathlib.Core.Bool.{Bool, true, false, not, _&&_, _||_}
-use mathlib.Core.List.{List, [], _∷_}
-use mathlib.Core.Option.{Option, some, none}
-use Prim.Native.Nat.{ℕ, zero, suc, _+_, _*_, _%_, _<_, _≤_}
-use native.Mathlib.Omega.{arith}
-use lib.Dec.{eqb}
-use lib.ListN.{length, getD, take}
-use lib.Seq.{getD-take, length-take-le}
-use Rattle.basics.specs.Sets.{member}
+use Rattle.basics.specs.Words.{_≡_, refl, sym, _∙_, ap, subst, Bool, true, false, not, _&&_, _||_, List, [], _∷_, Option, some, none, _⊎_, inl, inr, _≢_, ℕ, zero, suc, _+_, _*_, _%_, _<_, _≤_, arith, length, getD, take, eqb, getD-take, length-take-le, member}
 use Rattle.machine.specs.declared.Pair.{Pair}
 use Rattle.machine.specs.Symbols.{emptySymbol, isPair}
 use Rattle.machine.specs.SymbolSets.{leastSymbol}

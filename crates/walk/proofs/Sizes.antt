@@ -1,11 +1,5 @@
 -- The pairs of a label are told by the last 16 bits of its low number. Assumes nothing.
-use mathlib.Core.Path.{_≡_, refl, _∙_, ap}
-use mathlib.Core.List.{List, [], _∷_}
-use mathlib.Core.Option.{some}
-use Prim.Native.Nat.{ℕ, suc, _+_, _*_, _/_, _%_, _<_}
-use native.Mathlib.Nat.{mul-left-comm}
-use native.Mathlib.Omega.{arith}
-use lib.ListN.{length}
+use Rattle.basics.specs.Words.{_≡_, refl, _∙_, ap, List, [], _∷_, some, ℕ, suc, _+_, _*_, _/_, _%_, _<_, arith, length, mul-left-comm}
 use Rattle.machine.specs.declared.Pair.{Pair}
 use Rattle.card.specs.Card.{machinesOf}
 use Rattle.paths.specs.Costs.{Labels}

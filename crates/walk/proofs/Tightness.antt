@@ -1,10 +1,5 @@
 -- A step keeps to the labels by its numbers exactly if its edge does. Assumes nothing.
-use mathlib.Core.Path.{_≡_, refl, sym, _∙_, ap}
-use mathlib.Core.List.{List}
-use mathlib.Core.Option.{Option, some, none, Option·none-ne-some}
-use Prim.Native.Nat.{ℕ, _+_, _/_, _%_, _<_}
-use native.Mathlib.Decide.{decLt}
-use native.Mathlib.Omega.{arith}
+use Rattle.basics.specs.Words.{_≡_, refl, sym, _∙_, ap, List, Option, some, none, Option·none-ne-some, ℕ, _+_, _/_, _%_, _<_, arith, decLt}
 use Rattle.machine.specs.declared.Pair.{Pair}
 use Rattle.paths.specs.Costs.{Labels}
 use Rattle.paths.specs.Ranked.{Ranked, add, rankedCosts}

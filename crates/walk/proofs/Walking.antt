@@ -1,11 +1,5 @@
 -- What the walk's requires says, for every node on the way. Assumes nothing.
-use mathlib.Core.Path.{_≡_, sym, _∙_, ap, subst}
-use mathlib.Core.List.{List}
-use Prim.Native.Nat.{ℕ, _+_, _*_, _<_, _≤_}
-use native.Mathlib.Nat.{mul-le-mul-right}
-use native.Mathlib.Omega.{arith}
-use lib.ListN.{length, take, replicate, length-replicate}
-use lib.Seq.{length-take-le}
+use Rattle.basics.specs.Words.{_≡_, sym, _∙_, ap, subst, List, ℕ, _+_, _*_, _<_, _≤_, arith, length, take, replicate, length-replicate, length-take-le, mul-le-mul-right}
 use Rattle.machine.specs.Symbols.{emptySymbol}
 use Rattle.machine.specs.Machine.{Machine, startState}
 use Rattle.card.specs.Card.{machinesOf}

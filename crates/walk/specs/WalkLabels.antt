@@ -1,9 +1,5 @@
 -- What the walk asks of the labels, whatever the order.
-use mathlib.Core.Path.{_≡_}
-use mathlib.Core.List.{List}
-use mathlib.Core.Option.{some}
-use Prim.Native.Nat.{ℕ, _+_, _*_, _%_, _<_, _≤_}
-use lib.ListN.{length}
+use Rattle.basics.specs.Words.{_≡_, List, some, ℕ, _+_, _*_, _%_, _<_, _≤_, length}
 use Rattle.card.specs.Card.{machinesOf}
 use Rattle.paths.specs.Costs.{Labels}
 use Rattle.paths.specs.Ranked.{Ranked, rankedCosts}

@@ -1,8 +1,5 @@
 -- What the walk writes, whatever the order: the best path, and its profile.
-use mathlib.Core.Path.{_≡_}
-use mathlib.Core.List.{List, _++_}
-use Prim.Native.Nat.{ℕ, _*_}
-use lib.ListN.{length, drop}
+use Rattle.basics.specs.Words.{_≡_, List, _++_, ℕ, _*_, length, drop}
 use Rattle.machine.specs.declared.Pair.{Pair}
 use Rattle.card.specs.Card.{machinesOf}
 use Rattle.candidate.specs.Candidates.{bytesOf, profileOf}

@@ -1,11 +1,6 @@
 // The walk from the start along the labels, which writes the pairs of the best candidate and adds up their marks. Labels are two numbers, as they
 // are for every order.
-ghost use mathlib.Core.Path.{_≡_};
-ghost use mathlib.Core.Bool.{_||_};
-ghost use Prim.Native.Nat.{ℕ, _*_, _<_, _≤_};
-ghost use lib.Dec.{eqb};
-ghost use lib.ListN.{length, getD};
-ghost use Rattle.basics.specs.Sets.{member};
+ghost use Rattle.basics.specs.Words.{_≡_, _||_, ℕ, _*_, _<_, _≤_, length, getD, eqb, member};
 ghost use Rattle.machine.specs.Symbols.{emptySymbol};
 ghost use Rattle.paths.specs.Costs.{Labels};
 ghost use Rattle.paths.specs.Ranked.{rankedCosts};

@@ -1,12 +1,5 @@
 -- Writing the numbers of machines by their weights. Assumes nothing.
-use mathlib.Core.Path.{_≡_, refl, _∙_}
-use mathlib.Core.Logic.{_⊎_, inl, inr, _≢_}
-use mathlib.Core.List.{List}
-use Prim.Native.Nat.{ℕ, zero, suc, _+_, _*_, _%_, _<_, _≤_}
-use native.Mathlib.Decide.{ℕ-discrete, decLt}
-use native.Mathlib.Omega.{arith}
-use lib.ListN.{length, getD, set, take, replicate, length-set, length-replicate, List·getD-eq-default}
-use lib.Seq.{getD-set-same, getD-set-other, getD-take, length-take-le}
+use Rattle.basics.specs.Words.{_≡_, refl, _∙_, List, _⊎_, inl, inr, _≢_, ℕ, zero, suc, _+_, _*_, _%_, _<_, _≤_, arith, length, getD, set, take, replicate, length-set, length-replicate, List·getD-eq-default, getD-set-same, getD-set-other, getD-take, length-take-le, ℕ-discrete, decLt}
 use Rattle.tables.specs.Tables.{CountsOfSome}
 use Rattle.tables.proofs.Counts.{few-counts}
 use Rattle.cells.specs.Cells.{highOf, lowOf}

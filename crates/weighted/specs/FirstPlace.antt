@@ -1,7 +1,5 @@
 -- The places by which the lists have marks: card order, but a machine and the first one change places.
-use mathlib.Core.List.{List, [], _∷_}
-use Prim.Native.Nat.{ℕ}
-use lib.ListN.{getD, set}
+use Rattle.basics.specs.Words.{List, [], _∷_, ℕ, getD, set}
 
 abbrev pub cardPlaces : List ℕ
 cardPlaces = 0 ∷ 1 ∷ 2 ∷ 3 ∷ 4 ∷ 5 ∷ []

@@ -1,9 +1,5 @@
 -- Labelling all nodes by weights.
-use mathlib.Core.Path.{_≡_}
-use mathlib.Core.Bool.{true}
-use mathlib.Core.List.{List}
-use Prim.Native.Nat.{ℕ, _+_, _*_}
-use lib.ListN.{length}
+use Rattle.basics.specs.Words.{_≡_, true, List, ℕ, _+_, _*_, length}
 use Rattle.card.specs.Layout.{machineCount}
 use Rattle.product.specs.Setting.{Setting}
 use Rattle.product.specs.Weights.{soundWeights}

@@ -1,9 +1,5 @@
 -- The numbers of machines by their weights.
-use mathlib.Core.Path.{_≡_}
-use mathlib.Core.Logic.{_⊎_, _≢_}
-use mathlib.Core.List.{List}
-use Prim.Native.Nat.{ℕ, _*_, _%_, _<_, _≤_}
-use lib.ListN.{length, getD}
+use Rattle.basics.specs.Words.{_≡_, List, _⊎_, _≢_, ℕ, _*_, _%_, _<_, _≤_, length, getD}
 use Rattle.cells.specs.Cells.{highOf, lowOf}
 
 -- a mark counts 256 times its machine's weight in high, and nothing in low

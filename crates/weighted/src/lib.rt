@@ -1,8 +1,5 @@
 // The weighted order, in which sums of weights are compared, on the same search as the ranked one.
-ghost use mathlib.Core.Path.{_≡_};
-ghost use mathlib.Core.Bool.{true};
-ghost use Prim.Native.Nat.{_*_, _^_, _<_, _≤_};
-ghost use lib.ListN.{length, take};
+ghost use Rattle.basics.specs.Words.{_≡_, true, _*_, _^_, _<_, _≤_, length, take};
 ghost use Rattle.tables.specs.Tables.{CountsOfSome};
 ghost use Rattle.cells.specs.Columns.{WeightsOf};
 ghost use Rattle.product.specs.Weights.{soundWeights};

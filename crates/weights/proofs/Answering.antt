@@ -1,13 +1,5 @@
 -- The search for a word by its sets, and what the call answers. Assumes nothing.
-use mathlib.Core.Path.{_≡_, _∙_, ap}
-use mathlib.Core.Bool.{true}
-use mathlib.Core.List.{List}
-use mathlib.Core.Option.{some}
-use Prim.Native.Nat.{ℕ, zero, suc, _<_, _≤_}
-use native.Mathlib.Omega.{arith}
-use lib.Dec.{ltb}
-use lib.ListN.{length}
-use Rattle.basics.specs.Search.{allOf}
+use Rattle.basics.specs.Words.{_≡_, _∙_, ap, true, List, some, ℕ, zero, suc, _<_, _≤_, arith, length, ltb, allOf}
 use Rattle.card.specs.Layout.{symbolCount}
 use Rattle.product.specs.Best.{Contender}
 use Rattle.product.specs.Sets.{singletons, bestOfSetsIn}

@@ -1,15 +1,5 @@
 -- What the checks find out. Assumes nothing.
-use mathlib.Core.Path.{_≡_, sym, _∙_, ap}
-use mathlib.Core.Logic.{_≢_}
-use mathlib.Core.Bool.{true, false}
-use mathlib.Core.List.{List}
-use Prim.Native.Nat.{ℕ, _+_, _*_, _<_, _≤_}
-use native.Mathlib.Omega.{arith}
-use lib.Dec.{leb}
-use lib.ListN.{length, getD, drop}
-use borrow.Author.Tests.{eq-eqb, ne-eqb, le-leb, lt-leb}
-use Rattle.basics.specs.Search.{allOf}
-use Rattle.basics.proofs.Search.{left-next, left-none, all-none, all-next, all-fails}
+use Rattle.basics.proofs.Words.{_≡_, sym, _∙_, ap, true, false, List, _≢_, ℕ, _+_, _*_, _<_, _≤_, arith, length, getD, drop, leb, allOf, eq-eqb, ne-eqb, le-leb, lt-leb, left-next, left-none, all-none, all-next, all-fails}
 use Rattle.card.specs.Layout.{symbolCount}
 use Rattle.card.specs.Card.{machinesOf}
 use Rattle.product.specs.Nodes.{nodeCount}

@@ -1,14 +1,5 @@
 -- Reading the answer off the labels. Assumes nothing.
-use mathlib.Core.Path.{_≡_, refl, sym, _∙_, ap, subst}
-use mathlib.Core.Bool.{Bool}
-use mathlib.Core.List.{List, [], _∷_}
-use mathlib.Core.Option.{Option, some}
-use Prim.Native.Nat.{ℕ, _+_, _*_, _/_, _%_, _<_, _≤_}
-use native.Mathlib.Decide.{decLt}
-use native.Mathlib.Omega.{arith}
-use lib.Dec.{leb, ltb}
-use lib.ListN.{length, getD}
-use borrow.Author.Tests.{lt-ltb, le-ltb, leb-true, ltb-true}
+use Rattle.basics.proofs.Words.{_≡_, refl, sym, _∙_, ap, subst, Bool, List, [], _∷_, Option, some, ℕ, _+_, _*_, _/_, _%_, _<_, _≤_, arith, length, getD, leb, ltb, decLt, lt-ltb, le-ltb, leb-true, ltb-true}
 use Rattle.refusals.specs.Refusals.{refuse, firstOf, unlessRefused}
 use Rattle.refusals.proofs.Refusals.{accepted as taken, not-accepted, passed, none-first}
 use Rattle.machine.specs.declared.Pair.{Pair}

@@ -1,10 +1,5 @@
 -- What input promises that the checks before the search accept.
-use mathlib.Core.Path.{_≡_}
-use mathlib.Core.Bool.{true}
-use mathlib.Core.List.{List}
-use Prim.Native.Nat.{ℕ, _*_, _≤_}
-use lib.ListN.{length}
-use lib.Dec.{lit<}
+use Rattle.basics.specs.Words.{_≡_, true, List, ℕ, _*_, _≤_, length, lit<}
 use Rattle.refusals.specs.Refusals.{refuse}
 use Rattle.refusals.proofs.Refusals.{passed}
 use Rattle.card.specs.Layout.{machineCount, symbolCount}

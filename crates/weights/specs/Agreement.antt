@@ -1,18 +1,7 @@
 -- Where the engine of rankings and the engine of weights both answer for one card and word, all weights are above zero and each is more than c times
 -- the sum of those ranked below it, c being the largest count in the two profiles, the two give the same candidate and profile.
-use mathlib.Core.Path.{_≡_, refl}
-use mathlib.Core.Bool.{true}
-use mathlib.Core.List.{List, [], _∷_}
-use mathlib.Core.Option.{some}
-use Prim.Native.Nat.{ℕ, max, _≤_}
-use native.Mathlib.Nat.{le-max-left, le-max-right}
-use native.Mathlib.Omega.{arith}
-use lib.ListN.{length}
-use lib.Dec.{leb}
+use Rattle.basics.proofs.Words.{_≡_, refl, true, List, [], _∷_, some, ℕ, max, _≤_, arith, length, leb, le-max-left, le-max-right, allOf, both, all-member, each-member}
 use borrow.Author.Tests.{leb-true, le-leb}
-use Rattle.basics.specs.Search.{allOf}
-use Rattle.basics.proofs.Bools.{both}
-use Rattle.basics.proofs.Search.{all-member, each-member}
 use Rattle.ranking.specs.Rankings.{isRanking}
 use Rattle.card.specs.Layout.{machineCount}
 use Rattle.card.specs.Card.{cardRefusal}

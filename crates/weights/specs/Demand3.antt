@@ -1,11 +1,6 @@
 -- Demand 3, of what the call with weights answers: for every card, weights, word and work slice that the checks 1 to 6, 26, 8 and 9 accept, and every
 -- answer slice.
-use mathlib.Core.Path.{_≡_, _∙_, ap, ap₂}
-use mathlib.Core.List.{List}
-use mathlib.Core.Option.{Option, some}
-use Prim.Native.Nat.{ℕ, _*_, _≤_}
-use native.Mathlib.Omega.{arith}
-use lib.ListN.{length}
+use Rattle.basics.specs.Words.{_≡_, _∙_, ap, ap₂, List, Option, some, ℕ, _*_, _≤_, arith, length}
 use borrow.Author.Tests.{le-leb}
 use Rattle.machine.specs.declared.Pair.{Pair}
 use Rattle.card.specs.Layout.{symbolCount}

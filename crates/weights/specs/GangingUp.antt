@@ -2,17 +2,7 @@
 -- three marks where it is kept and one where it is weakened; faithfulness three where it is dropped and one where it is weakened. With equal weights
 -- three marks of either gang up against one of each, and the sound is weakened; a ranking takes any number of marks of the lower constraint to save
 -- one of the higher, and drops or keeps it.
-use mathlib.Core.Path.{_≡_, refl, sym, _∙_, ap}
-use mathlib.Core.Logic.{_⊎_, inl, inr, ⊎-elim}
-use mathlib.Core.Bool.{true}
-use mathlib.Core.List.{List, [], _∷_, _++_, List·Memᴰ, List·Memᴰ·head, List·Memᴰ·tail, List·Memᴰ·not-nil}
-use mathlib.Core.Option.{Option, some, none}
-use Prim.Native.Nat.{ℕ}
-use native.Mathlib.Omega.{arith}
-use lib.ListN.{getD}
-use Rattle.basics.specs.Search.{allOf, pairwise, those, firstThat, joined, everyBelow, someBelow, numbersBelow, occurrences}
-use Rattle.basics.specs.Products.{product}
-use Rattle.basics.proofs.Below.{length-numbers}
+use Rattle.basics.proofs.Words.{_≡_, refl, sym, _∙_, ap, true, List, [], _∷_, _++_, List·Memᴰ, List·Memᴰ·head, List·Memᴰ·tail, List·Memᴰ·not-nil, Option, some, none, _⊎_, inl, inr, ⊎-elim, ℕ, arith, getD, allOf, pairwise, those, firstThat, joined, everyBelow, someBelow, numbersBelow, occurrences, product, length-numbers}
 use Rattle.machine.specs.Machine.{ofKind, takes, stepAmong, endingOf, takeOnePair, clash}
 use Rattle.machine.specs.Part.{arcAt, arcsAt, machineOf, soundArc, shaped, partRefusal}
 use Rattle.layout.specs.Layout.{dueOffset, laidOut, partsIn}

@@ -1,11 +1,5 @@
 -- The search, for input that passed the checks before it.
-use mathlib.Core.Path.{_≡_}
-use mathlib.Core.Bool.{true}
-use mathlib.Core.List.{List, [], _∷_}
-use mathlib.Core.Option.{Option}
-use Prim.Native.Nat.{ℕ, _+_, _*_, _%_}
-use lib.Dec.{leb, ltb}
-use lib.ListN.{length}
+use Rattle.basics.specs.Words.{_≡_, true, List, [], _∷_, Option, ℕ, _+_, _*_, _%_, length, leb, ltb}
 use Rattle.refusals.specs.Refusals.{refuse, firstOf}
 use Rattle.card.specs.Layout.{machineCount, symbolCount}
 use Rattle.card.specs.Card.{cardRefusal, machinesOf}

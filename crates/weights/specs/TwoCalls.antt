@@ -1,9 +1,6 @@
 -- Two calls with weights, on one card, weights, word and answer slice and with work slices of their own, of any length and contents: what is refused
 -- before 9 is refused by both; otherwise 9 is each call's alone; and two calls that pass 9 give one result and one answer slice.
-use mathlib.Core.Path.{refl, ap}
-use mathlib.Core.List.{List, [], _∷_}
-use Prim.Native.Nat.{ℕ, _*_}
-use lib.ListN.{length}
+use Rattle.basics.specs.Words.{refl, ap, List, [], _∷_, ℕ, _*_, length}
 use Rattle.refusals.specs.Refusals.{refuse, firstOf}
 use Rattle.card.specs.Layout.{machineCount, symbolCount}
 use Rattle.card.specs.Card.{cardRefusal, machinesOf}

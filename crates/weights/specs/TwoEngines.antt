@@ -1,12 +1,7 @@
 -- The two engines, of what their calls answer: where both answer for one card and word, all weights are above zero and each is more than c times the
 -- sum of those ranked below it, c being the largest count in the two profiles, they give the same candidate and profile. (That all weights are above
 -- zero follows from the rest.)
-use mathlib.Core.Path.{_≡_, refl, sym, _∙_, ap, ap₂}
-use mathlib.Core.List.{List, [], _∷_, _++_}
-use mathlib.Core.Option.{some}
-use Prim.Native.Nat.{ℕ, zero, suc, _*_, _-_, max}
-use lib.ListN.{length, take, drop, replicate}
-use lib.Seq.{take-at}
+use Rattle.basics.specs.Words.{_≡_, refl, sym, _∙_, ap, ap₂, List, [], _∷_, _++_, some, ℕ, zero, suc, _*_, _-_, max, length, take, drop, replicate, take-at}
 use Rattle.machine.specs.declared.Pair.{Pair}
 use Rattle.ranking.specs.declared.Profile.{Profile}
 use Rattle.card.specs.Layout.{machineCount}

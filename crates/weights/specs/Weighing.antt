@@ -1,8 +1,5 @@
 -- What the call with weights answers: the whole result, and the answer slice at exit.
-use mathlib.Core.List.{List}
-use mathlib.Core.Option.{Option, some, none}
-use Prim.Native.Nat.{ℕ, _*_}
-use lib.ListN.{length}
+use Rattle.basics.specs.Words.{List, Option, some, none, ℕ, _*_, length}
 use Rattle.refusals.specs.Refusals.{refuse, unlessRefused}
 use Rattle.card.specs.Layout.{machineCount, symbolCount}
 use Rattle.card.specs.Card.{machinesOf}

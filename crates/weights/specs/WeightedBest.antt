@@ -1,12 +1,6 @@
 -- The theorem on the best candidate, for weights: what the definition finds among the lists of fewer pairs than there are nodes is the best of the
 -- lists of any length. It holds for every accepted card, all weights, zero too, and every word.
-use mathlib.Core.Path.{_≡_}
-use mathlib.Core.Bool.{true}
-use mathlib.Core.List.{List}
-use mathlib.Core.Option.{some}
-use Prim.Native.Nat.{ℕ, _<_, _≤_}
-use native.Mathlib.Omega.{arith}
-use lib.ListN.{length}
+use Rattle.basics.specs.Words.{_≡_, true, List, some, ℕ, _<_, _≤_, arith, length}
 use borrow.Author.Tests.{ltb-true, ltb-false, lt-ltb, le-ltb}
 use Rattle.machine.specs.declared.Pair.{Pair}
 use Rattle.machine.specs.Machine.{Machine}

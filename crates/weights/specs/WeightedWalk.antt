@@ -1,12 +1,5 @@
 -- The walk by weights: the sums in the work slice are the labels that it asks for, and the list that it writes is the best by weights.
-use mathlib.Core.Path.{_≡_, refl, sym, _∙_, ap, subst}
-use mathlib.Core.Bool.{true}
-use mathlib.Core.List.{List, []}
-use mathlib.Core.Option.{Option, some}
-use Prim.Native.Nat.{ℕ, _+_, _*_, _/_, _%_, _^_, _<_, _≤_}
-use native.Mathlib.Decide.{decLt}
-use native.Mathlib.Omega.{arith}
-use lib.ListN.{length, getD}
+use Rattle.basics.specs.Words.{_≡_, refl, sym, _∙_, ap, subst, true, List, [], Option, some, ℕ, _+_, _*_, _/_, _%_, _^_, _<_, _≤_, arith, length, getD, decLt}
 use borrow.Author.Tests.{ne-eqb, lt-ltb, le-ltb}
 use Rattle.card.specs.Layout.{machineCount}
 use Rattle.card.specs.Card.{machinesOf}

@@ -1,9 +1,5 @@
 // The checks of the call: of card, weights, word and work slice, which make the card's sizes, and of the best candidate.
-ghost use mathlib.Core.Path.{_≡_};
-ghost use mathlib.Core.List.{[], _∷_};
-ghost use Prim.Native.Nat.{_+_, _*_};
-ghost use lib.Dec.{leb};
-ghost use lib.ListN.{length};
+ghost use Rattle.basics.specs.Words.{_≡_, [], _∷_, _+_, _*_, length, leb};
 ghost use Rattle.refusals.specs.Refusals.{refuse, firstOf, checkedNumber};
 ghost use Rattle.product.specs.Optimizing.{soundWord};
 ghost use Rattle.input.specs.Readiness.{Readies, FewSizes};

@@ -1,16 +1,5 @@
 -- Laws of the texts before and after a byte, and of the segments. Assumes nothing.
-use mathlib.Core.Path.{_≡_, refl, ap, sym, _∙_}
-use mathlib.Core.Bool.{Bool, true, false}
-use mathlib.Core.List.{List, [], _∷_}
-use mathlib.Core.Option.{Option, some, none}
-use Prim.Native.Nat.{ℕ, suc, _+_, _-_, _<_, _≤_, min}
-use native.Mathlib.Nat.{add-zero, suc-inj, suc-ne-zero}
-use native.Mathlib.Numerals.{add-one}
-use native.Mathlib.Omega.{arith}
-use lib.ListN.{length, getD, take, drop, length-take, length-drop, drop-of-length-le}
-use lib.Seq.{take-all}
-use lib.Dec.{eqb}
-use borrow.Author.Tests.{eq-eqb, ne-eqb}
+use Rattle.basics.proofs.Words.{_≡_, refl, ap, sym, _∙_, Bool, true, false, List, [], _∷_, Option, some, none, ℕ, suc, _+_, _-_, _<_, _≤_, min, arith, length, getD, take, drop, length-take, length-drop, drop-of-length-le, eqb, take-all, add-zero, suc-inj, suc-ne-zero, add-one, eq-eqb, ne-eqb}
 use Rattle.writing.specs.Text.{before, after, segments}
 use Rattle.writing.specs.Cutting.{before-nil, after-nil, segments-nil, before-hit, after-hit, segments-hit, before-miss, after-miss, segments-miss}
 use Rattle.writing.proofs.Lists.{rest-cons}

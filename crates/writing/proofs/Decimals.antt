@@ -1,17 +1,7 @@
 -- Laws of numbers in decimal. Assumes nothing.
-use mathlib.Core.Path.{_≡_, refl, ap, _∙_}
-use mathlib.Core.Bool.{Bool, true, false}
-use mathlib.Core.List.{List, [], _∷_}
-use Prim.Native.Nat.{ℕ, zero, suc, _+_, _*_, _/_, _%_, _^_, _<_, _≤_}
-use native.Mathlib.Nat.{pow-suc, pow-le-pow-right}
-use native.Mathlib.Numerals.{add-one}
-use native.Mathlib.Omega.{arith}
-use lib.ListN.{length, getD, drop, length-append, drop-of-length-le}
-use lib.Dec.{ltb, leb, lit<, lit≤}
-use borrow.Author.Tests.{leb-true, ltb-true, ltb-false}
+use Rattle.basics.proofs.Words.{_≡_, refl, ap, _∙_, Bool, true, false, List, [], _∷_, ℕ, zero, suc, _+_, _*_, _/_, _%_, _^_, _<_, _≤_, arith, length, getD, drop, length-append, drop-of-length-le, ltb, leb, lit<, lit≤, pow-suc, pow-le-pow-right, add-one, leb-true, ltb-true, ltb-false, left, right}
 use Rattle.writing.specs.Decimal.{isDigit, digitValue, valueFrom, digitOf, decimal}
 use Rattle.writing.specs.DecimalRead.{decimal-digit, decimal-more}
-use Rattle.basics.proofs.Bools.{left, right}
 use Rattle.writing.proofs.Lists.{rest-cons}
 
 -- how many digits there are

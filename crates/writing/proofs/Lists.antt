@@ -1,17 +1,5 @@
 -- Laws of lists from a place on, of tests over them, and of stores in a row. Assumes nothing.
-use mathlib.Core.Path.{_≡_, refl, ap, sym, _∙_}
-use mathlib.Core.Bool.{Bool, true, false}
-use mathlib.Core.List.{List, [], _∷_, _++_}
-use Prim.Native.Nat.{ℕ, zero, suc, _+_, _<_, _≤_, min}
-use native.Mathlib.Nat.{add-zero, add-suc, suc-add, zero-add}
-use native.Mathlib.Numerals.{add-one}
-use native.Mathlib.Omega.{arith}
-use lib.Dec.{leb}
-use lib.ListN.{length, getD, take, drop, set}
-use lib.Seq.{drop-cons, take-all, sets, sets-eq, ext-getD}
-use borrow.Author.Tests.{leb-true, leb-false}
-use Rattle.basics.specs.Search.{allOf}
-use Rattle.basics.proofs.Bools.{left, right}
+use Rattle.basics.proofs.Words.{_≡_, refl, ap, sym, _∙_, Bool, true, false, List, [], _∷_, _++_, ℕ, zero, suc, _+_, _<_, _≤_, min, arith, length, getD, take, drop, set, leb, drop-cons, take-all, sets, sets-eq, ext-getD, add-zero, add-suc, suc-add, zero-add, add-one, allOf, leb-true, leb-false, left, right}
 use Rattle.writing.specs.Buffers.{Below}
 
 -- the element at a place, and the rest

@@ -1,12 +1,5 @@
 -- Laws of the texts that are printed: their parts, their lengths. Assumes nothing.
-use mathlib.Core.Path.{_≡_, refl, ap, sym, _∙_}
-use mathlib.Core.List.{List, [], _∷_, _++_}
-use Prim.Native.Nat.{ℕ, zero, suc, _+_, _-_, _*_, _<_, _≤_, zero-le}
-use native.Mathlib.Nat.{suc-ne-zero, not-suc-le-zero, le-of-suc-le-suc, mul-suc, mul-le-mul-left}
-use native.Mathlib.Omega.{arith}
-use lib.Dec.{lit≤}
-use lib.ListN.{length, getD, take, drop, length-append, length-drop, drop-of-length-le}
-use Rattle.basics.specs.Search.{joined}
+use Rattle.basics.specs.Words.{_≡_, refl, ap, sym, _∙_, List, [], _∷_, _++_, ℕ, zero, suc, _+_, _-_, _*_, _<_, _≤_, zero-le, arith, length, getD, take, drop, length-append, length-drop, drop-of-length-le, lit≤, suc-ne-zero, not-suc-le-zero, le-of-suc-le-suc, mul-suc, mul-le-mul-left, joined}
 use Rattle.candidate.specs.declared.Evaluation.{Evaluation}
 use Rattle.candidate.specs.Candidates.{pairsOf}
 use Rattle.writing.specs.Text.{textOf}

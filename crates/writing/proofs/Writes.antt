@@ -1,11 +1,5 @@
 -- Laws of texts written in a buffer, one after another. Assumes nothing.
-use mathlib.Core.Path.{_≡_, refl, ap, sym, _∙_}
-use mathlib.Core.List.{List, [], _∷_, _++_}
-use Prim.Native.Nat.{ℕ, _+_, _/_, _%_, _<_, _≤_}
-use native.Mathlib.Nat.{add-zero}
-use native.Mathlib.Omega.{arith}
-use lib.ListN.{length, set, length-append}
-use lib.Seq.{sets, length-sets}
+use Rattle.basics.specs.Words.{_≡_, refl, ap, sym, _∙_, List, [], _∷_, _++_, ℕ, _+_, _/_, _%_, _<_, _≤_, arith, length, set, length-append, sets, length-sets, add-zero}
 use Rattle.writing.specs.Decimal.{decimal}
 use Rattle.writing.specs.Buffers.{Written, atFront}
 use Rattle.writing.specs.DecimalRead.{decimal-digit, decimal-more}

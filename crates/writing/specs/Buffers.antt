@@ -1,9 +1,5 @@
 -- Texts written in a lent buffer.
-use mathlib.Core.Path.{_≡_}
-use mathlib.Core.List.{List, _++_}
-use Prim.Native.Nat.{ℕ, _+_, _<_}
-use lib.ListN.{length, getD, drop}
-use lib.Seq.{sets}
+use Rattle.basics.specs.Words.{_≡_, List, _++_, ℕ, _+_, _<_, length, getD, drop, sets}
 
 -- every number of a list is below a bound
 abbrev pub Below : ℕ → List ℕ → Type 0

@@ -1,10 +1,5 @@
 -- Laws of the texts before and after a byte and of the segments, by the text's first byte.
-use mathlib.Core.Path.{_≡_, refl}
-use mathlib.Core.Bool.{true, false}
-use mathlib.Core.List.{List, [], _∷_}
-use mathlib.Core.Option.{some, none}
-use Prim.Native.Nat.{ℕ}
-use lib.Dec.{eqb}
+use Rattle.basics.specs.Words.{_≡_, refl, true, false, List, [], _∷_, some, none, ℕ, eqb}
 use Rattle.writing.specs.Text.{before, after, toFirst, segments}
 
 -- the empty text

@@ -1,9 +1,6 @@
 -- Numbers in decimal.
-use mathlib.Core.Bool.{Bool, true, false, _&&_}
-use mathlib.Core.List.{List, [], _∷_, _++_}
-use Prim.Native.Nat.{ℕ, zero, suc, _+_, _-_, _*_, _/_, _%_}
+use Rattle.basics.specs.Words.{Bool, true, false, _&&_, List, [], _∷_, _++_, ℕ, zero, suc, _+_, _-_, _*_, _/_, _%_, leb, ltb}
 use Prim.Native.Char.{code}
-use lib.Dec.{leb, ltb}
 
 -- a byte that is a decimal digit, and the number that it says
 abbrev pub isDigit : ℕ → Bool

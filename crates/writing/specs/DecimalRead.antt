@@ -1,14 +1,6 @@
 -- A number in decimal says that number.
-use mathlib.Core.Path.{_≡_, refl, _∙_}
-use mathlib.Core.Bool.{Bool, true, false, _&&_}
-use mathlib.Core.List.{List, [], _∷_, _++_}
-use Prim.Native.Nat.{ℕ, zero, suc, _+_, _*_, _/_, _%_, _<_, _≤_}
-use native.Mathlib.Nat.{not-suc-le-zero}
-use native.Mathlib.Numerals.{add-one}
-use native.Mathlib.Omega.{arith}
-use lib.Dec.{ltb}
+use Rattle.basics.specs.Words.{_≡_, refl, _∙_, Bool, true, false, _&&_, List, [], _∷_, _++_, ℕ, zero, suc, _+_, _*_, _/_, _%_, _<_, _≤_, arith, ltb, not-suc-le-zero, add-one, allOf}
 use borrow.Author.Tests.{ltb-true, ltb-false, lt-ltb, le-ltb, le-leb}
-use Rattle.basics.specs.Search.{allOf}
 use Rattle.writing.specs.Decimal.{isDigit, digitValue, valueFrom, valueOf, digitOf, digitsWithin, decimal}
 
 -- the digits of a number below ten, and of another

@@ -1,11 +1,7 @@
 -- Texts as lists of bytes, and how they are cut.
-use mathlib.Core.Bool.{true, false}
-use mathlib.Core.List.{List, [], _∷_}
-use mathlib.Core.Option.{Option, some, none}
-use Prim.Native.Nat.{ℕ}
+use Rattle.basics.specs.Words.{true, false, List, [], _∷_, Option, some, none, ℕ, eqb}
 use Prim.Native.Char.{code}
 use Prim.Native.String.{String}
-use lib.Dec.{eqb}
 
 -- the bytes of a text in ASCII
 abbrev pub textOf : String → List ℕ

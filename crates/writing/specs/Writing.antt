@@ -1,8 +1,5 @@
 -- The lines that the program prints.
-use mathlib.Core.List.{List, [], _∷_, _++_}
-use Prim.Native.Nat.{ℕ, zero, suc, _*_}
-use lib.ListN.{take}
-use Rattle.basics.specs.Search.{joined}
+use Rattle.basics.specs.Words.{List, [], _∷_, _++_, ℕ, zero, suc, _*_, take, joined}
 use Rattle.candidate.specs.declared.Evaluation.{Evaluation}
 use Rattle.candidate.specs.Candidates.{pairsOf}
 use Rattle.writing.specs.Text.{textOf}

@@ -5,10 +5,7 @@ use crate::text::write_byte;
 use crate::text::write_text;
 use candidate::Evaluation;
 use ranking::Profile;
-ghost use mathlib.Core.Path.{_≡_};
-ghost use Prim.Native.Nat.{_+_, _*_, _<_, _≤_};
-ghost use lib.ListN.{length};
-ghost use Rattle.basics.specs.Search.{joined};
+ghost use Rattle.basics.specs.Words.{_≡_, _+_, _*_, _<_, _≤_, length, joined};
 ghost use Rattle.writing.specs.Buffers.{Written, Below, atFront};
 ghost use Rattle.writing.specs.Writing.{nextCount, withCommas, pairText, pairsText, badLine, refusedLine, acceptedLine, lineOf, totalLine, closingLines};
 

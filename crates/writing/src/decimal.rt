@@ -1,9 +1,5 @@
 // Numbers in decimal.
-ghost use mathlib.Core.Path.{_≡_};
-ghost use mathlib.Core.Bool.{true};
-ghost use Prim.Native.Nat.{_+_, _≤_, _<_};
-ghost use lib.ListN.{length};
-ghost use Rattle.basics.specs.Search.{allOf};
+ghost use Rattle.basics.specs.Words.{_≡_, true, _+_, _≤_, _<_, length, allOf};
 ghost use Rattle.writing.specs.Decimal.{isDigit, valueOf};
 ghost use Rattle.writing.specs.Decimal.{decimal as Decimal·decimal};
 ghost use Rattle.writing.specs.Buffers.{Written};

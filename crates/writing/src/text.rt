@@ -1,8 +1,5 @@
 // Texts as slices of bytes.
-ghost use mathlib.Core.Path.{_≡_};
-ghost use mathlib.Core.List.{[], _∷_};
-ghost use Prim.Native.Nat.{_+_, _<_, _≤_, min};
-ghost use lib.ListN.{length};
+ghost use Rattle.basics.specs.Words.{_≡_, [], _∷_, _+_, _<_, _≤_, min, length};
 ghost use Rattle.writing.specs.Text.{before};
 ghost use Rattle.writing.specs.Buffers.{Written};
 

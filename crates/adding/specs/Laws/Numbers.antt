@@ -1,10 +1,5 @@
 -- Bounds of cells.
-use mathlib.Core.Path.{_≡_}
-use mathlib.Core.Bool.{Bool, true, false, cond}
-use Prim.Native.Nat.{ℕ, _+_, _*_, _/_, _%_, _^_, _<_, _≤_}
-use native.Mathlib.Nat.{mul-le-mul, mul-le-mul-right}
-use native.Mathlib.Omega.{arith}
-use lib.Dec.{eqb}
+use Rattle.basics.specs.Words.{_≡_, Bool, true, false, cond, ℕ, _+_, _*_, _/_, _%_, _^_, _<_, _≤_, arith, eqb, mul-le-mul, mul-le-mul-right}
 use borrow.Author.Tests.{ne-eqb}
 use Rattle.adding.specs.Cells.{nowhere, highCell, lowCell}
 

@@ -1,11 +1,5 @@
 -- Laws of sums of cells.
-use mathlib.Core.Path.{_≡_, refl, sym, _∙_, ap}
-use mathlib.Core.List.{List, [], _∷_, _++_}
-use Prim.Native.Nat.{ℕ, zero, suc, _+_, _*_, _/_, _%_, _<_, _≤_}
-use native.Mathlib.Nat.{mul-add-mod-self-right, mod-eq-of-lt, mul-le-mul-right, mod-lt, div-add-mod', mul-assoc, add-mul, mul-zero, suc-mul}
-use native.Mathlib.Omega.{arith}
-use lib.ListN.{length, getD, take, drop, take-append-drop}
-use Rattle.basics.specs.Products.{product}
+use Rattle.basics.specs.Words.{_≡_, refl, sym, _∙_, ap, List, [], _∷_, _++_, ℕ, zero, suc, _+_, _*_, _/_, _%_, _<_, _≤_, arith, length, getD, take, drop, take-append-drop, mul-add-mod-self-right, mod-eq-of-lt, mul-le-mul-right, mod-lt, div-add-mod', mul-assoc, add-mul, mul-zero, suc-mul, product}
 use Rattle.paths.specs.Numbering.{position-is}
 use Rattle.product.specs.Laws.Nodes.{Positive}
 use Rattle.adding.specs.Cells.{cellSum, places}

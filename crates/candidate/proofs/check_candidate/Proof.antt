@@ -1,11 +1,4 @@
-use mathlib.Core.Path.{_≡_, sym, _∙_}
-use Prim.Native.Nat.{_≤_, _-_, _%_}
-use borrow.Author.Needs.{needs}
-use borrow.Author.Tests.{not-true, not-false}
-use native.Mathlib.Omega.{arith}
-use lib.ListN.{length, drop}
-use Rattle.basics.specs.Search.{allOf}
-use Rattle.basics.proofs.Search.{all-none, all-next, all-fails}
+use Rattle.basics.proofs.Words.{_≡_, sym, _∙_, _≤_, _-_, _%_, arith, length, drop, allOf, needs, not-true, not-false, all-none, all-next, all-fails}
 use Rattle.refusals.proofs.Refusals.{passes-with, refuses-with}
 use Rattle.candidate.specs.Candidates.{pairsOf}
 use Rattle.candidate.specs.Evaluating.{soundPair}
@@ -69,10 +62,8 @@ check-candidate-spec =
     μ-loop
     returns
     returns-2
-    (λ c. search needs)
-    (λ c κs. search needs)
+    (λ c. search needs) (λ c κs. search needs)
     returns-3
-    (λ c. search needs)
-    (λ c. search needs)
+    (λ c. search needs) (λ c. search needs)
     loop-again
     returns-4)

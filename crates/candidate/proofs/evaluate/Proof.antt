@@ -1,9 +1,4 @@
-use mathlib.Core.Path.{_≡_, sym, ap, _∙_}
-use mathlib.Core.Bool.{true, false}
-use Prim.Native.Nat.{_≤_, _%_}
-use native.Mathlib.Omega.{arith}
-use lib.Dec.{lit<}
-use lib.ListN.{length}
+use Rattle.basics.proofs.Words.{_≡_, sym, ap, _∙_, true, false, _≤_, _%_, arith, length, lit<, needs}
 use Rattle.refusals.proofs.Refusals.{passed, refuses-with, was-false, refused-number}
 use Rattle.card.specs.Layout.{symbolCount}
 use Rattle.card.specs.Card.{cardRefusal, machinesOf}
@@ -12,7 +7,6 @@ use Rattle.candidate.specs.Candidates.{pairsOf, isComplete}
 use Rattle.candidate.specs.Evaluating.{soundCandidate, refused}
 use Rattle.candidate.proofs.Pairs.{sound-shape, length-pairs}
 use Rattle.candidate.proofs.Answers.{card-refused, candidate-refused, completion-refused, evaluated}
-use borrow.Author.Needs.{needs}
 use Rattle.candidate.proofs.evaluate.Statement.{statement}
 use Rattle.candidate.proofs.evaluate.Tie as tie
 
@@ -91,24 +85,13 @@ pub evaluate-spec : {M : Type 1} → statement M
 evaluate-spec =
     tie.close
     (tie.spec
-    (λ c κs. search needs)
-    (λ c. search needs)
-    (λ c. search needs)
-    (λ c κs. search needs)
-    (λ c κs. search needs)
+    (λ c κs. search needs) (λ c. search needs) (λ c. search needs) (λ c κs. search needs) (λ c κs. search needs)
     returns
     symbol-count-requires
-    (λ c κs. search needs)
-    (λ c. search needs)
-    (λ c. search needs)
-    (λ c κs. search needs)
-    (λ c κs. search needs)
+    (λ c κs. search needs) (λ c. search needs) (λ c. search needs) (λ c κs. search needs) (λ c κs. search needs)
     returns-2
     score-requires
-    (λ c. search needs)
-    (λ c. search needs)
-    (λ c κs. search needs)
-    (λ c κs. search needs)
+    (λ c. search needs) (λ c. search needs) (λ c κs. search needs) (λ c κs. search needs)
     returns-3
     cast-t14
     spelled-length-requires

@@ -1,8 +1,6 @@
-use mathlib.Core.Path.{ap, _∙_}
-use lib.Dec.{eqb}
+use Rattle.basics.proofs.Words.{ap, _∙_, eqb, needs}
 use Rattle.machine.specs.declared.Pair.{Pair}
 use Rattle.machine.specs.Symbols.{emptySymbol}
-use borrow.Author.Needs.{needs}
 use Rattle.candidate.proofs.inserts_at.Statement.{statement}
 use Rattle.candidate.proofs.inserts_at.Tie as tie
 

@@ -1,7 +1,5 @@
-use mathlib.Core.Path.{ap, ap₂, _∙_}
-use mathlib.Core.Bool.{Bool, _&&_}
+use Rattle.basics.proofs.Words.{ap, ap₂, _∙_, Bool, _&&_, needs}
 use Rattle.candidate.specs.Evaluating.{soundPair}
-use borrow.Author.Needs.{needs}
 use Rattle.candidate.proofs.is_sound_at.Statement.{statement}
 use Rattle.candidate.proofs.is_sound_at.Tie as tie
 

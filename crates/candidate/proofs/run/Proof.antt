@@ -1,13 +1,6 @@
-use mathlib.Core.Path.{_≡_, sym, ap, _∙_}
-use mathlib.Core.Bool.{true}
-use mathlib.Core.Option.{Option, some, none}
-use Prim.Native.Nat.{ℕ, _≤_, _<_, _-_, _+_, _*_, _%_}
+use Rattle.basics.proofs.Words.{_≡_, sym, ap, _∙_, true, Option, some, none, ℕ, _≤_, _<_, _-_, _+_, _*_, _%_, arith, length, drop, allOf, needs}
 use mir.Syntax.{w16, w64}
 use mir.Val.{Fits}
-use borrow.Author.Needs.{needs}
-use native.Mathlib.Omega.{arith}
-use lib.ListN.{length, drop}
-use Rattle.basics.specs.Search.{allOf}
 use Rattle.machine.specs.declared.Pair.{Pair}
 use Rattle.machine.specs.Machine.{startState, stepOf, stepped, endingOf, ended}
 use Rattle.machine.specs.Part.{machineOf}
@@ -182,8 +175,7 @@ run-spec =
     loop-holds
     pair-at-requires
     step-requires
-    (λ c. search needs)
-    (λ c. search needs)
+    (λ c. search needs) (λ c. search needs)
     returns
     (λ c κs. search needs)
     add-marks
@@ -191,8 +183,7 @@ run-spec =
     loop-less
     loop-again
     ending-requires
-    (λ c. search needs)
-    (λ c. search needs)
+    (λ c. search needs) (λ c. search needs)
     returns-2
     (λ c κs. search needs)
     add-total

@@ -1,12 +1,7 @@
-use mathlib.Core.Path.{_≡_, sym, ap, _∙_}
-use mathlib.Core.List.{List}
-use Prim.Native.Nat.{ℕ, _≤_, _<_, _-_}
-use borrow.Author.Needs.{needs}
-use native.Mathlib.Omega.{arith}
+use Rattle.basics.proofs.Words.{_≡_, sym, ap, _∙_, List, ℕ, _≤_, _<_, _-_, arith, needs, clash}
 use Rattle.machine.specs.Part.{machineOf}
 use Rattle.card.specs.Layout.{machineCount, symbolCount}
 use Rattle.card.specs.Accepted.{accepted}
-use Rattle.basics.proofs.Bools.{clash}
 use Rattle.refusals.proofs.Refusals.{passes-with, refuses-with}
 use Rattle.candidate.specs.Candidates.{pairsOf, marksOf}
 use Rattle.candidate.specs.Evaluating.{marked}
@@ -87,18 +82,14 @@ score-spec =
     (tie.spec
     Inv-loop
     μ-loop
-    (λ c κs. search needs)
-    (λ c κs. search needs)
+    (λ c κs. search needs) (λ c κs. search needs)
     loop-holds
     part-requires
     run-requires
-    (λ c. search needs)
-    (λ c. search needs)
-    (λ c κs. search needs)
+    (λ c. search needs) (λ c. search needs) (λ c κs. search needs)
     returns
     mul-counts
     array-write-counts
-    (λ c. search needs)
-    (λ c. search needs)
+    (λ c. search needs) (λ c. search needs)
     loop-again
     returns-2)

@@ -1,10 +1,4 @@
-use mathlib.Core.Path.{_≡_, sym, _∙_}
-use mathlib.Core.Logic.{⊎-elim}
-use Prim.Native.Nat.{_≤_, _-_, _+_, _*_, _%_}
-use borrow.Author.Needs.{needs}
-use borrow.Author.Tests.{not-true, not-false}
-use native.Mathlib.Omega.{arith}
-use lib.ListN.{length, drop}
+use Rattle.basics.proofs.Words.{_≡_, sym, _∙_, ⊎-elim, _≤_, _-_, _+_, _*_, _%_, arith, length, drop, needs, not-true, not-false}
 use Rattle.candidate.specs.Candidates.{pairsOf, spelled}
 use Rattle.candidate.proofs.Pairs.{spelled-next, spelled-same, spelled-end}
 use Rattle.candidate.proofs.spelled_length.Statement.{statement}
@@ -49,10 +43,6 @@ spelled-length-spec =
     (tie.spec
     Inv-loop
     μ-loop
-    (λ c. search needs)
-    (λ c κs. search needs)
-    (λ c. search needs)
-    (λ c. search needs)
-    (λ c. search needs)
+    (λ c. search needs) (λ c κs. search needs) (λ c. search needs) (λ c. search needs) (λ c. search needs)
     loop-again
     returns)

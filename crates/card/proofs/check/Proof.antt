@@ -1,13 +1,9 @@
-use mathlib.Core.Path.{_≡_}
-use mathlib.Core.Bool.{true}
-use mathlib.Core.List.{[], _∷_}
-use lib.Dec.{lit<}
+use Rattle.basics.proofs.Words.{_≡_, true, [], _∷_, lit<, needs}
 use Rattle.refusals.specs.Refusals.{refuse}
 use Rattle.layout.specs.Layout.{laidOut}
 use Rattle.card.specs.Layout.{machineCount, symbolCount, counted, partsOf}
 use Rattle.card.specs.Card.{partsRefusal, fewStates, cardRefusal}
 use Rattle.refusals.proofs.Refusals.{was-true, goes-up}
-use borrow.Author.Needs.{needs}
 use Rattle.card.proofs.check.Statement.{statement}
 use Rattle.card.proofs.check.Tie as tie
 
@@ -51,13 +47,10 @@ pub check-spec : {M : Type 1} → statement M
 check-spec =
     tie.close
     (tie.spec
-    (λ c κs. search needs)
-    (λ c. search needs)
-    (λ c. search needs)
+    (λ c κs. search needs) (λ c. search needs) (λ c. search needs)
     returns
     check-layout-requires
-    (λ c. search needs)
-    (λ c. search needs)
+    (λ c. search needs) (λ c. search needs)
     returns-2
     check-card-requires
     returns-3)

@@ -1,10 +1,4 @@
-use native.Mathlib.Omega.{arith}
-use mathlib.Core.Path.{_≡_, refl, ap, sym, _∙_}
-use mathlib.Core.Bool.{true}
-use mathlib.Core.List.{[], _∷_}
-use lib.Dec.{eqb, leb, lit<}
-use lib.ListN.{length}
-use borrow.Author.Tests.{eqb-true, eq-eqb}
+use Rattle.basics.proofs.Words.{_≡_, refl, ap, sym, _∙_, true, [], _∷_, arith, length, eqb, leb, lit<, needs, eqb-true, eq-eqb}
 use Rattle.refusals.specs.Refusals.{refuse, firstOf, checkedNumber}
 use Rattle.refusals.proofs.Refusals.{last-one, passed-number, was-true, refused-number, goes-up}
 use Rattle.card.specs.Layout.{soundCounts}
@@ -13,7 +7,6 @@ use Rattle.card.specs.Packing.{total, split, packed, packingRefusal}
 use Rattle.card.specs.Laws.Layout.{Counted, counts-told}
 use Rattle.card.specs.Laws.Packed.{packed-length}
 use Rattle.card.proofs.Answers.{two-up, two-on}
-use borrow.Author.Needs.{needs}
 use Rattle.card.proofs.check_packing.Statement.{statement}
 use Rattle.card.proofs.check_packing.Tie as tie
 
@@ -106,21 +99,15 @@ pub check-packing-spec : {M : Type 1} → statement M
 check-packing-spec =
     tie.close
     (tie.spec
-    (λ c κs. search needs)
-    (λ c. search needs)
-    (λ c. search needs)
+    (λ c κs. search needs) (λ c. search needs) (λ c. search needs)
     returns
     sum-requires
-    (λ c κs. search needs)
-    (λ c. search needs)
-    (λ c. search needs)
+    (λ c κs. search needs) (λ c. search needs) (λ c. search needs)
     returns-2
     check-parts-requires
-    (λ c. search needs)
-    (λ c. search needs)
+    (λ c. search needs) (λ c. search needs)
     returns-3
-    (λ c. search needs)
-    (λ c. search needs)
+    (λ c. search needs) (λ c. search needs)
     add-tested-2
     (λ c κs. search needs)
     returns-4)

@@ -1,13 +1,9 @@
-use native.Mathlib.Omega.{arith}
-use mathlib.Core.Path.{_≡_, sym, _∙_}
-use mathlib.Core.List.{[], _∷_}
-use lib.Dec.{ltb}
+use Rattle.basics.proofs.Words.{_≡_, sym, _∙_, [], _∷_, arith, ltb, needs}
 use Rattle.refusals.specs.Refusals.{refuse}
 use Rattle.refusals.proofs.Refusals.{last-one, passed-number, goes-up}
 use Rattle.card.specs.Layout.{machineCount}
 use Rattle.card.specs.Card.{cardRefusal}
 use Rattle.card.specs.Accepted.{accepted}
-use borrow.Author.Needs.{needs}
 use Rattle.card.proofs.check_reading.Statement.{statement}
 use Rattle.card.proofs.check_reading.Tie as tie
 
@@ -32,9 +28,7 @@ pub check-reading-spec : {M : Type 1} → statement M
 check-reading-spec =
     tie.close
     (tie.spec
-    (λ c κs. search needs)
-    (λ c. search needs)
-    (λ c. search needs)
+    (λ c κs. search needs) (λ c. search needs) (λ c. search needs)
     returns
     shared-slice-read-tested
     (λ c κs. search needs)

@@ -1,7 +1,4 @@
-use native.Mathlib.Omega.{arith}
-use mathlib.Core.Path.{_≡_, sym, _∙_}
-use Prim.Native.Nat.{_+_, _*_, _<_, _≤_}
-use lib.ListN.{length}
+use Rattle.basics.proofs.Words.{_≡_, sym, _∙_, _+_, _*_, _<_, _≤_, arith, length, needs}
 use Rattle.layout.specs.Layout.{Bytes}
 use Rattle.card.specs.Packing.{packingRefusal}
 use Rattle.card.specs.Laws.Layout.{Counted, counts-told}
@@ -10,7 +7,6 @@ use Rattle.card.specs.Laws.Packable.{Packable, packable}
 use Rattle.card.specs.Laws.Checked.{parts-small}
 use Rattle.refusals.proofs.Refusals.{passed-number, refused-number}
 use Rattle.card.proofs.Answers.{pack-refused, target-kept, pack-accepted, target-packed}
-use borrow.Author.Needs.{needs}
 use Rattle.card.proofs.pack.Statement.{statement}
 use Rattle.card.proofs.pack.Tie as tie
 
@@ -81,15 +77,11 @@ pub pack-spec : {M : Type 1} → statement M
 pack-spec =
     tie.close
     (tie.spec
-    (λ c κs. search needs)
-    (λ c. search needs)
-    (λ c. search needs)
-    (λ c κs. search needs)
+    (λ c κs. search needs) (λ c. search needs) (λ c. search needs) (λ c κs. search needs)
     returns
     write-table-requires
     write-parts-requires
-    (λ c. search needs)
-    (λ c. search needs)
+    (λ c. search needs) (λ c. search needs)
     add-t16
     (λ c. search needs)
     returns-2)

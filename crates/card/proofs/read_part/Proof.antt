@@ -1,10 +1,4 @@
-use native.Mathlib.Omega.{arith}
-use mathlib.Core.Path.{_≡_, sym, _∙_}
-use mathlib.Core.List.{[], _∷_}
-use Prim.Native.Nat.{_+_, _*_, _<_, _≤_}
-use lib.Dec.{ltb, lit<}
-use lib.ListN.{length}
-use borrow.Author.Tests.{ltb-true}
+use Rattle.basics.proofs.Words.{_≡_, sym, _∙_, [], _∷_, _+_, _*_, _<_, _≤_, arith, length, ltb, lit<, needs, ltb-true}
 use Rattle.refusals.specs.Refusals.{refuse}
 use Rattle.refusals.proofs.Refusals.{passed, passed-number, refused-number}
 use Rattle.card.specs.Layout.{machineCount}
@@ -13,7 +7,6 @@ use Rattle.card.specs.Reading.{readingRefusal}
 use Rattle.card.specs.Laws.Search.{first-passed, rest-passed}
 use Rattle.card.specs.Accepted.{accepted}
 use Rattle.card.proofs.Answers.{read-refused, read-placed}
-use borrow.Author.Needs.{needs}
 use Rattle.card.proofs.read_part.Statement.{statement}
 use Rattle.card.proofs.read_part.Tie as tie
 
@@ -57,10 +50,7 @@ pub read-part-spec : {M : Type 1} → statement M
 read-part-spec =
     tie.close
     (tie.spec
-    (λ c κs. search needs)
-    (λ c. search needs)
-    (λ c. search needs)
-    (λ c κs. search needs)
+    (λ c κs. search needs) (λ c. search needs) (λ c. search needs) (λ c κs. search needs)
     returns
     (λ c κs. search needs)
     part-offset-requires

@@ -1,19 +1,12 @@
 -- What the check of parts tells of them. Assumes nothing.
-use mathlib.Core.Path.{_≡_}
-use mathlib.Core.List.{List, [], _∷_, map}
-use Prim.Native.Nat.{ℕ, zero, suc, _*_, _<_, _≤_}
-use native.Mathlib.Nat.{mul-le-mul}
-use native.Mathlib.Omega.{arith}
-use lib.ListN.{length, getD, take, drop, length-drop}
-use lib.Seq.{length-take-le}
-use Rattle.basics.specs.Products.{product}
+use Rattle.basics.specs.Words.{_≡_, List, [], _∷_, map, ℕ, zero, suc, _*_, _<_, _≤_, arith, length, getD, take, drop, length-drop, length-take-le, mul-le-mul, product}
 use Rattle.machine.specs.Part.{stateCount, partRefusal}
 use Rattle.machine.specs.Accepted.{Shaped, shape-facts, accepted}
 use Rattle.layout.specs.Layout.{Bytes}
 use Rattle.card.specs.Card.{partsRefusal}
 use Rattle.card.specs.Packing.{total, split}
 use Rattle.card.specs.Laws.Search.{first-passed, rest-passed}
-use Rattle.card_bytes.specs.Laws.Bytes.{bytes-take, bytes-drop}
+use Rattle.layout.specs.Laws.Bytes.{bytes-take, bytes-drop}
 
 -- the shape of a part that is accepted
 pub part-shaped : (S : ℕ) (part : List ℕ) → partRefusal S part ≡ 0 → Shaped part

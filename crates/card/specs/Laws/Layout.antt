@@ -1,12 +1,6 @@
 -- What the check of the counts tells of a card, and its parts. Assumes nothing.
-use mathlib.Core.Path.{_≡_}
-use mathlib.Core.Bool.{true, _&&_}
-use mathlib.Core.List.{List}
-use Prim.Native.Nat.{ℕ, _<_, _≤_}
-use lib.Dec.{leb}
-use lib.ListN.{length, getD}
+use Rattle.basics.proofs.Words.{_≡_, true, _&&_, List, ℕ, _<_, _≤_, length, getD, leb, left, right}
 use borrow.Author.Tests.{leb-true, le-leb}
-use Rattle.basics.proofs.Bools.{left, right}
 use Rattle.layout.specs.Layout.{partOf}
 use Rattle.layout.specs.LaidOut.{length-parts as length-parts-in, part-at as part-in-at}
 use Rattle.card.specs.Layout.{machineCount, symbolCount, soundCounts, counted, partsOf}

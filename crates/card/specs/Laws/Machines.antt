@@ -1,14 +1,10 @@
 -- The machines of a card by their numbers.
-use mathlib.Core.Path.{_≡_, ap, _∙_}
-use mathlib.Core.List.{List, []}
-use Prim.Native.Nat.{ℕ, _<_}
-use lib.ListN.{length, getD, length-map}
+use Rattle.basics.proofs.Words.{_≡_, ap, _∙_, List, [], ℕ, _<_, length, getD, length-map, map-at}
 use Rattle.machine.specs.Machine.{Machine}
 use Rattle.machine.specs.Part.{machineOf}
 use Rattle.layout.specs.Layout.{partOf}
 use Rattle.card.specs.Layout.{machineCount, partsOf}
 use Rattle.card.specs.Card.{machinesOf}
-use Rattle.basics.proofs.Search.{map-at}
 use Rattle.card.specs.Laws.Layout.{length-parts, part-at}
 
 pub length-machines : (card : List ℕ) → length (machinesOf card) ≡ machineCount card

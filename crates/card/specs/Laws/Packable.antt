@@ -1,14 +1,7 @@
 -- What the checks of packing tell of its input. Assumes nothing.
-use mathlib.Core.Path.{_≡_}
-use mathlib.Core.Bool.{true}
-use mathlib.Core.List.{List, [], _∷_, map}
-use Prim.Native.Nat.{ℕ, _≤_}
-use lib.Dec.{eqb, leb, lit<}
-use lib.ListN.{length, length-map}
+use Rattle.basics.specs.Words.{_≡_, true, List, [], _∷_, map, ℕ, _≤_, length, length-map, eqb, leb, lit<, joined, product}
 use borrow.Author.Tests.{leb-true, eqb-true, le-leb, eq-eqb}
 use Rattle.refusals.specs.Refusals.{refuse}
-use Rattle.basics.specs.Search.{joined}
-use Rattle.basics.specs.Products.{product}
 use Rattle.refusals.proofs.Refusals.{passed}
 use Rattle.machine.specs.Part.{stateCount}
 use Rattle.card.specs.Layout.{soundCounts}

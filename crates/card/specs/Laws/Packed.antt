@@ -1,18 +1,12 @@
 -- A packed card read back. Assumes nothing.
-use mathlib.Core.Path.{_≡_, refl, ap, sym, _∙_}
-use mathlib.Core.List.{List, [], _∷_, _++_, map}
-use Prim.Native.Nat.{ℕ, zero, suc, _+_, _*_, _<_, _≤_}
-use native.Mathlib.Omega.{arith}
-use lib.ListN.{length, getD, take, drop}
-use lib.Seq.{take-suc, take-length, drop-append-add}
-use Rattle.basics.specs.Search.{numbersBelow}
+use Rattle.basics.specs.Words.{_≡_, refl, ap, sym, _∙_, List, [], _∷_, _++_, map, ℕ, zero, suc, _+_, _*_, _<_, _≤_, arith, length, getD, take, drop, take-suc, take-length, drop-append-add, numbersBelow}
 use Rattle.layout.specs.Layout.{offsetOf, lengthOf, dueOffset, partOf, partsIn}
 use Rattle.card.specs.Layout.{machineCount, symbolCount, partsOf}
 use Rattle.card.specs.Packing.{total, split, table, packed}
 use Rattle.card.specs.Laws.Search.{map-snoc}
-use Rattle.card_bytes.specs.Laws.Parts.{total-next, split-snoc}
-use Rattle.card_bytes.specs.Laws.Packed.{packed-table, packed-place}
-pub use Rattle.card_bytes.specs.Laws.Packed.{length-table, packed-length}
+use Rattle.layout.specs.Laws.Parts.{total-next, split-snoc}
+use Rattle.layout.specs.Laws.Packed.{packed-table, packed-place}
+pub use Rattle.layout.specs.Laws.Packed.{length-table, packed-length}
 use Rattle.layout.specs.LaidOut.{LaidOut}
 
 module _ (S : ℕ) (lengths bytes : List ℕ) where

@@ -1,20 +1,12 @@
 -- A card that is laid out, put together again from its parts. Assumes nothing.
-use mathlib.Core.Path.{_≡_, refl, ap, sym, _∙_}
-use mathlib.Core.List.{List, [], _∷_, _++_, map, append-nil, append-assoc}
-use Prim.Native.Nat.{ℕ, zero, suc, _+_, _*_, _<_, _≤_}
-use native.Mathlib.Omega.{arith}
-use lib.ListN.{length, getD, take, drop, length-map, length-drop}
-use lib.Seq.{take-add, drop-cons, take-length, drop-at, length-take-le, ext-getD}
-use Rattle.basics.specs.Search.{numbersBelow, joined}
+use Rattle.basics.proofs.Words.{_≡_, refl, ap, sym, _∙_, List, [], _∷_, _++_, map, append-nil, append-assoc, ℕ, zero, suc, _+_, _*_, _<_, _≤_, arith, length, getD, take, drop, length-map, length-drop, take-add, drop-cons, take-length, drop-at, length-take-le, ext-getD, numbersBelow, joined, map-at, length-numbers}
 use Rattle.layout.specs.Layout.{Bytes, offsetOf, lengthOf, dueOffset, partOf, partsIn}
 use Rattle.card.specs.Layout.{machineCount, symbolCount, partsOf}
 use Rattle.card.specs.Packing.{total, split, places, packed}
-use Rattle.basics.proofs.Search.{map-at}
 use Rattle.card.specs.Laws.Search.{map-snoc, joined-snoc}
-use Rattle.basics.proofs.Below.{length-numbers}
-use Rattle.card_bytes.specs.Laws.Bytes.{low-byte, high-byte}
+use Rattle.layout.specs.Laws.Bytes.{low-byte, high-byte}
 use Rattle.card.specs.Laws.Parts.{total-snoc, joined-split, joined-total}
-use Rattle.card_bytes.specs.Laws.Places.{places-snoc}
+use Rattle.layout.specs.Laws.Places.{places-snoc}
 use Rattle.layout.specs.LaidOut.{LaidOut, due-next, part-length}
 use Rattle.card.specs.Laws.Layout.{length-parts, part-at}
 

@@ -1,10 +1,6 @@
 -- Laws of refusals and of lists with one element more. Assumes nothing.
-use mathlib.Core.Path.{_≡_, refl, ap, sym, _∙_}
-use mathlib.Core.List.{List, [], _∷_, _++_, map, append-nil, append-assoc}
-use Prim.Native.Nat.{ℕ, zero, suc}
-use native.Mathlib.Omega.{arith}
+use Rattle.basics.specs.Words.{_≡_, refl, ap, sym, _∙_, List, [], _∷_, _++_, map, append-nil, append-assoc, ℕ, zero, suc, arith, joined}
 use Rattle.refusals.specs.Refusals.{firstOf}
-use Rattle.basics.specs.Search.{joined}
 
 -- nothing is refused where each in turn refuses nothing
 pub first-passed : (n : ℕ) (ns : List ℕ) → firstOf (n ∷ ns) ≡ 0 → n ≡ 0

@@ -1,18 +1,8 @@
 -- Laws of a set of outputs four by four.
-use mathlib.Core.Path.{_≡_, refl, sym, _∙_, ap}
-use mathlib.Core.Logic.{_⊎_, inl, inr, _≢_}
-use mathlib.Core.Bool.{Bool, true, not, _&&_}
-use Prim.Native.Nat.{ℕ, zero, suc, _-_, _^_, _<_, _≤_}
-use native.Mathlib.Decide.{ℕ-discrete, decLt}
-use native.Mathlib.Omega.{arith}
+use Rattle.basics.proofs.Words.{_≡_, refl, sym, _∙_, ap, Bool, true, not, _&&_, _⊎_, inl, inr, _≢_, ℕ, zero, suc, _-_, _^_, _<_, _≤_, arith, getD, eqb, ℕ-discrete, decLt, member, clash, left as left-of, right as right-of, has-member}
 use lib.Bits.{and-le-l, and-le-r}
 use lib.Count.{trailingZeros, trailing-le}
-use lib.Dec.{eqb}
-use lib.ListN.{getD}
 use borrow.Author.Tests.{eq-eqb, ne-eqb}
-use Rattle.basics.specs.Sets.{member}
-use Rattle.basics.proofs.Bools.{clash, left as left-of, right as right-of}
-use Rattle.basics.proofs.Sets.{has-member}
 use Rattle.machine.specs.SymbolSets.{leastSymbol}
 use Rattle.machine.proofs.SymbolSets.{least-at, without-least, below-least}
 use Rattle.machine.proofs.SetLoops.{with-true}

@@ -1,8 +1,5 @@
 -- `close_counts` meets its contract. The loop's invariant: the labels of the codes below `code` are written.
-use borrow.Author.Needs.{needs}
-use mathlib.Core.Path.{_≡_, subst}
-use Prim.Native.Nat.{_-_, _≤_}
-use native.Mathlib.Omega.{arith}
+use Rattle.basics.proofs.Words.{_≡_, subst, _-_, _≤_, arith, needs}
 use Rattle.closing.specs.Closing.{CountsClosed}
 use Rattle.closing.proofs.ClosingCodes.{stored-start, has-node, stored-next}
 use Rattle.closing.proofs.close_counts.Statement.{statement}
@@ -50,17 +47,10 @@ close-counts-spec =
     Inv-loop
     μ-loop
     loop-holds
-    (λ c. search needs)
-    (λ c. search needs)
-    (λ c. search needs)
-    (λ c. search needs)
-    (λ c. search needs)
-    (λ c. search needs)
-    (λ c. search needs)
-    (λ c. search needs)
+    (λ c. search needs) (λ c. search needs) (λ c. search needs) (λ c. search needs) (λ c. search needs) (λ c. search needs)
+    (λ c. search needs) (λ c. search needs)
     store-requires
-    (λ c. search needs)
-    (λ c. search needs)
+    (λ c. search needs) (λ c. search needs)
     loop-again
     pass-all-requires
     same-length

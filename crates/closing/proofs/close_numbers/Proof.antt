@@ -1,8 +1,5 @@
 -- `close_numbers` meets its contract. The loop's invariant: the numbers of the codes below `code` are written.
-use borrow.Author.Needs.{needs}
-use mathlib.Core.Path.{_≡_, subst}
-use Prim.Native.Nat.{_-_, _≤_}
-use native.Mathlib.Omega.{arith}
+use Rattle.basics.proofs.Words.{_≡_, subst, _-_, _≤_, arith, needs}
 use Rattle.closing.specs.Closing.{NumbersClosed}
 use Rattle.closing.proofs.ClosingNumbers.{numbers-start, numbers-next}
 use Rattle.closing.proofs.close_numbers.Statement.{statement}
@@ -76,11 +73,9 @@ close-numbers-spec =
     (λ c. search needs)
     element-copy-out-number-of-2
     number-of-requires
-    (λ c. search needs)
-    (λ c. search needs)
+    (λ c. search needs) (λ c. search needs)
     slice-write-work
-    (λ c. search needs)
-    (λ c. search needs)
+    (λ c. search needs) (λ c. search needs)
     loop-again
     pass-all-requires
     same-length

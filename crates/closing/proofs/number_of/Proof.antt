@@ -1,5 +1,4 @@
-use mathlib.Core.Path.{sym}
-use native.Mathlib.Omega.{arith}
+use Rattle.basics.specs.Words.{sym, arith}
 use Rattle.closing.proofs.ClosingNumbers.{number-there, number-none}
 use Rattle.closing.proofs.number_of.Statement.{statement}
 use Rattle.closing.proofs.number_of.Tie as tie

@@ -1,8 +1,5 @@
 -- `pass_all` meets its contract. The loop's invariant: the codes below `code` are passed on.
-use borrow.Author.Needs.{needs}
-use mathlib.Core.Path.{_≡_, subst}
-use Prim.Native.Nat.{_-_, _≤_}
-use native.Mathlib.Omega.{arith}
+use Rattle.basics.proofs.Words.{_≡_, subst, _-_, _≤_, arith, needs}
 use Rattle.closing.proofs.Passing.{PassedBelow, passed-start, pass-pre, passed-next, passed-end}
 use Rattle.closing.proofs.pass_all.Statement.{statement}
 use Rattle.closing.proofs.pass_all.Tie as tie
@@ -41,7 +38,6 @@ pass-all-spec =
     μ-loop
     loop-holds
     pass-on-requires
-    (λ c. search needs)
-    (λ c. search needs)
+    (λ c. search needs) (λ c. search needs)
     loop-again
     returns)

@@ -1,7 +1,6 @@
 -- `pass_on` meets its contract: a label's last byte is 255, so the code can be taken off.
-use native.Mathlib.Omega.{arith}
+use Rattle.basics.proofs.Words.{arith, needs}
 use Rattle.closing.proofs.Passing.{at-least, passed}
-use borrow.Author.Needs.{needs}
 use Rattle.closing.proofs.pass_on.Statement.{statement}
 use Rattle.closing.proofs.pass_on.Tie as tie
 
@@ -15,22 +14,9 @@ pub pass-on-spec : {M : Type 1} → statement M
 pass-on-spec =
     tie.close
     (tie.spec
-    (λ c. search needs)
-    (λ c. search needs)
-    (λ c. search needs)
-    (λ c. search needs)
-    (λ c. search needs)
-    (λ c. search needs)
+    (λ c. search needs) (λ c. search needs) (λ c. search needs) (λ c. search needs) (λ c. search needs) (λ c. search needs)
     (λ c κs. search needs)
     sub-next
-    (λ c. search needs)
-    (λ c. search needs)
-    (λ c. search needs)
-    (λ c. search needs)
-    (λ c. search needs)
-    (λ c. search needs)
-    (λ c. search needs)
-    (λ c. search needs)
-    (λ c. search needs)
-    (λ c. search needs)
+    (λ c. search needs) (λ c. search needs) (λ c. search needs) (λ c. search needs) (λ c. search needs) (λ c. search needs)
+    (λ c. search needs) (λ c. search needs) (λ c. search needs) (λ c. search needs)
     returns)

@@ -1,6 +1,4 @@
-use borrow.Author.Needs.{needs}
-use mathlib.Core.Path.{_≡_}
-use native.Mathlib.Omega.{arith}
+use Rattle.basics.proofs.Words.{_≡_, arith, needs}
 use Rattle.columns.proofs.AtHand.{from-pre, from-another, from-entered}
 use Rattle.columns.proofs.enter_from.Statement.{statement}
 use Rattle.columns.proofs.enter_from.Tie as tie

@@ -1,7 +1,4 @@
-use borrow.Author.Needs.{needs}
-use mathlib.Core.Path.{_≡_, refl, _∙_}
-use Prim.Native.Nat.{_-_}
-use lib.ListN.{length, getD}
+use Rattle.basics.proofs.Words.{_≡_, refl, _∙_, _-_, length, getD, needs}
 use Rattle.card.specs.Card.{machinesOf}
 use Rattle.card.specs.Laws.Machines.{machine-at}
 use Rattle.machine.specs.Machine.{noMachine}
@@ -61,14 +58,12 @@ fill-at-spec =
     Inv-loop
     μ-loop
     set-of-requires
-    (λ c κs. search needs)
-    (λ c κs. search needs)
+    (λ c κs. search needs) (λ c κs. search needs)
     loop-holds
     part-requires
     (λ c. search needs)
     fill-state-requires
-    (λ c. search needs)
-    (λ c. search needs)
+    (λ c. search needs) (λ c. search needs)
     loop-again
     same-length
     returns)

@@ -1,8 +1,4 @@
-use borrow.Author.Needs.{needs}
-use mathlib.Core.Path.{_≡_, refl, _∙_}
-use Prim.Native.Nat.{ℕ, _≤_, _-_, _+_, _^_}
-use native.Mathlib.Omega.{arith}
-use lib.ListN.{length}
+use Rattle.basics.proofs.Words.{_≡_, refl, _∙_, ℕ, _≤_, _-_, _+_, _^_, arith, length, needs}
 use Rattle.machine.specs.Part.{stateCount, arcCount, arcsOf}
 use Rattle.machine.specs.Accepted.{accepted}
 use Rattle.machine.proofs.Arcs.{arcs-count}

@@ -1,9 +1,4 @@
-use borrow.Author.Needs.{needs}
-use mathlib.Core.Path.{_≡_, sym, _∙_, ap}
-use Prim.Native.Nat.{ℕ, _≤_, _-_, _*_}
-use native.Mathlib.Numerals.{add-one}
-use native.Mathlib.Omega.{arith}
-use lib.ListN.{length, take}
+use Rattle.basics.proofs.Words.{_≡_, sym, _∙_, ap, ℕ, _≤_, _-_, _*_, arith, length, take, add-one, needs}
 use Rattle.tables.proofs.Counts.{few-counts}
 use Rattle.cells.specs.Cells.{places}
 use Rattle.cells.specs.Laws.Sums.{places-none, places-next, places-all}
@@ -44,10 +39,8 @@ width-of-spec =
     Inv-loop
     μ-loop
     loop-holds
-    (λ c. search needs)
-    (λ c κs. search needs)
+    (λ c. search needs) (λ c κs. search needs)
     add-width
-    (λ c. search needs)
-    (λ c. search needs)
+    (λ c. search needs) (λ c. search needs)
     loop-again
     returns)

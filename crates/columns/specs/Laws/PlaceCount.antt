@@ -1,16 +1,6 @@
 -- The places of a column: at most 40, where one to six machines of at most 32 states have at most 128 joint states; at most 21, where these are at most 16.
-use mathlib.Core.Path.{_≡_, refl}
-use mathlib.Core.Bool.{Bool, true, false, cond}
-use mathlib.Core.List.{List, [], _∷_}
-use Prim.Native.Nat.{ℕ, zero, suc, _+_, _-_, _*_, _/_, _<_, _≤_}
-use native.Mathlib.Nat.{le-div-iff-mul-le, mul-comm, mul-le-mul-right}
-use native.Mathlib.Omega.{arith}
-use lib.Dec.{leb, ltb}
-use lib.ListN.{length, getD}
+use Rattle.basics.proofs.Words.{_≡_, refl, Bool, true, false, cond, List, [], _∷_, ℕ, zero, suc, _+_, _-_, _*_, _/_, _<_, _≤_, arith, length, getD, leb, ltb, le-div-iff-mul-le, mul-comm, mul-le-mul-right, everyBelow, product, every-at}
 use borrow.Author.Tests.{leb-true, ltb-true, ltb-false}
-use Rattle.basics.specs.Search.{everyBelow}
-use Rattle.basics.specs.Products.{product}
-use Rattle.basics.proofs.Below.{every-at}
 use Rattle.product.specs.Laws.Nodes.{Positive, product-positive}
 use Rattle.cells.specs.Cells.{places}
 

@@ -1,12 +1,5 @@
 -- The places of columns: at most 40 for an accepted card, and at most 21 if it has at most 16 joint states.
-use mathlib.Core.Path.{_≡_, ap}
-use mathlib.Core.List.{List, [], _∷_}
-use Prim.Native.Nat.{ℕ, zero, suc, _+_, _*_, _<_, _≤_}
-use native.Mathlib.Nat.{mul-le-mul-right, suc-mul}
-use native.Mathlib.Decide.{decLt}
-use native.Mathlib.Omega.{arith}
-use lib.ListN.{length, getD, take}
-use Rattle.basics.specs.Products.{product}
+use Rattle.basics.specs.Words.{_≡_, ap, List, [], _∷_, ℕ, zero, suc, _+_, _*_, _<_, _≤_, arith, length, getD, take, mul-le-mul-right, suc-mul, decLt, product}
 use Rattle.tables.specs.Tables.{CountsOfSome}
 use Rattle.tables.proofs.Counts.{few-counts, all-positive, few-states, count-few}
 use Rattle.cells.specs.Cells.{places}

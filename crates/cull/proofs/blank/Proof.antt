@@ -1,7 +1,5 @@
 -- `blank` meets its contract. The loop's invariant: the first i nodes are blank. The measure is the number of nodes left.
-use Prim.Native.Nat.{_-_, _≤_}
-use native.Mathlib.Omega.{arith}
-use borrow.Author.Needs.{needs}
+use Rattle.basics.proofs.Words.{_-_, _≤_, arith, needs}
 use Rattle.cull.specs.Culling.{Blanked}
 use Rattle.cull.proofs.Culling.{blank-start, blank-next, blank-end}
 use Rattle.cull.proofs.blank.Statement.{statement}
@@ -29,11 +27,7 @@ blank-spec =
     Inv-loop
     μ-loop
     loop-holds
-    (λ c. search needs)
-    (λ c. search needs)
-    (λ c. search needs)
-    (λ c. search needs)
-    (λ c. search needs)
+    (λ c. search needs) (λ c. search needs) (λ c. search needs) (λ c. search needs) (λ c. search needs)
     loop-again
     (λ c. search needs)
     returns)

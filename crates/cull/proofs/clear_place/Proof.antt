@@ -1,7 +1,5 @@
 -- `clear_place` meets its contract. The loop's invariant: the first i nodes are cleared. The measure is the number of nodes left.
-use Prim.Native.Nat.{_-_, _≤_}
-use native.Mathlib.Omega.{arith}
-use borrow.Author.Needs.{needs}
+use Rattle.basics.proofs.Words.{_-_, _≤_, arith, needs}
 use Rattle.cull.specs.Culling.{PlaceCleared}
 use Rattle.cull.proofs.Culling.{clear-start, clear-next, clear-end}
 use Rattle.cull.proofs.clear_place.Statement.{statement}
@@ -29,12 +27,7 @@ clear-place-spec =
     Inv-loop
     μ-loop
     loop-holds
-    (λ c. search needs)
-    (λ c. search needs)
-    (λ c. search needs)
-    (λ c. search needs)
-    (λ c. search needs)
-    (λ c. search needs)
+    (λ c. search needs) (λ c. search needs) (λ c. search needs) (λ c. search needs) (λ c. search needs) (λ c. search needs)
     (λ c. search needs)
     loop-again
     (λ c. search needs)

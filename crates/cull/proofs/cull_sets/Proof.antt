@@ -1,8 +1,4 @@
-use mathlib.Core.Path.{_≡_, sym, _∙_, ap}
-use Prim.Native.Nat.{_≤_, _<_, _+_, _*_}
-use native.Mathlib.Omega.{arith}
-use lib.ListN.{length}
-use borrow.Author.Needs.{needs}
+use Rattle.basics.proofs.Words.{_≡_, sym, _∙_, ap, _≤_, _<_, _+_, _*_, arith, length, needs}
 use Rattle.product.specs.OptimizingSets.{setsInputRefusal}
 use Rattle.refusals.specs.Refusals.{checkedNumber}
 use Rattle.refusals.proofs.Refusals.{refused-number}
@@ -67,11 +63,7 @@ pub cull-sets-spec : {M : Type 1} → statement M
 cull-sets-spec =
     tie.close
     (tie.spec
-    (λ c κs. search needs)
-    (λ c. search needs)
-    (λ c. search needs)
-    (λ c κs. search needs)
-    (λ c κs. search needs)
+    (λ c κs. search needs) (λ c. search needs) (λ c. search needs) (λ c κs. search needs) (λ c κs. search needs)
     returns
     (λ c. search needs)
     mul-nodes
@@ -79,6 +71,5 @@ cull-sets-spec =
     slice-relend-prefix-search-sets
     slice-aggregate-search-sets
     search-sets-requires
-    (λ c. search needs)
-    (λ c. search needs)
+    (λ c. search needs) (λ c. search needs)
     returns-2)

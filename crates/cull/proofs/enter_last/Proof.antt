@@ -1,6 +1,5 @@
 -- `enter_last` meets its contract.
-use mathlib.Core.Path.{_∙_}
-use native.Mathlib.Omega.{arith}
+use Rattle.basics.specs.Words.{_∙_, arith}
 use Rattle.tables.specs.Laws.Cards.{card-counts}
 use Rattle.columns.specs.Filling.{Small}
 use Rattle.cull.proofs.Ending.{fill-ready, join-ready, endings-ready, endings-tried}

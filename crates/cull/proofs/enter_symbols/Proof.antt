@@ -1,12 +1,5 @@
 -- `enter_symbols` meets its contract. The loop's invariant: the symbols that are not left were tried.
-use borrow.Author.Needs.{needs}
-use mathlib.Core.Path.{_≡_, refl, sym, _∙_, ap}
-use mathlib.Core.Bool.{_&&_, not}
-use Prim.Native.Nat.{ℕ, _+_}
-use native.Mathlib.Omega.{arith}
-use lib.Dec.{eqb}
-use lib.ListN.{length, length-replicate}
-use Rattle.basics.specs.Sets.{member}
+use Rattle.basics.proofs.Words.{_≡_, refl, sym, _∙_, ap, _&&_, not, ℕ, _+_, arith, length, length-replicate, eqb, member, needs}
 use Rattle.product.specs.Laws.Setting.{few-codes}
 use Rattle.stage_entering.specs.Entering.{codesAt, AheadOf}
 use Rattle.cull.proofs.Culling.{tables-kept, SymbolsTried, symbols-start, nodes-there, symbol-reads, input-pre, symbols-next, ahead-stays, symbols-end}

@@ -1,9 +1,5 @@
 -- `label` meets its contract.
-use borrow.Author.Needs.{needs}
-use mathlib.Core.Path.{sym, _∙_, ap, subst}
-use Prim.Native.Nat.{ℕ, _+_, _*_}
-use native.Mathlib.Omega.{arith}
-use lib.ListN.{length, take}
+use Rattle.basics.proofs.Words.{sym, _∙_, ap, subst, ℕ, _+_, _*_, arith, length, take, needs}
 use Rattle.product.specs.Setting.{Setting}
 use Rattle.tables.specs.Places.{sixPlaces}
 use Rattle.cells.specs.Columns.{WeightsOf}

@@ -1,11 +1,7 @@
 -- `label_by` meets its contract.
-use mathlib.Core.Path.{refl, sym, _∙_}
-use Prim.Native.Nat.{ℕ}
-use native.Mathlib.Omega.{arith}
-use lib.ListN.{length-replicate}
+use Rattle.basics.proofs.Words.{refl, sym, _∙_, ℕ, arith, length-replicate, needs}
 use Rattle.tables.proofs.Prefix.{places-six}
 use Rattle.cull.proofs.Listing.{size-few, list-ready, cull-ready, lent-ready}
-use borrow.Author.Needs.{needs}
 use Rattle.cull.proofs.label_by.Statement.{statement}
 use Rattle.cull.proofs.label_by.Tie as tie
 
@@ -41,14 +37,11 @@ label-by-spec =
     tie.close
     (tie.spec
     mul-size
-    (λ c. search needs)
-    (λ c. search needs)
-    (λ c. search needs)
+    (λ c. search needs) (λ c. search needs) (λ c. search needs)
     list-insertions-requires
     (λ c. search needs)
     slice-aggregate-label-stages-2
     slice-aggregate-label-stages-3
     label-stages-requires
-    (λ c. search needs)
-    (λ c. search needs)
+    (λ c. search needs) (λ c. search needs)
     returns)

@@ -1,8 +1,5 @@
 -- `label_stage` meets its contract. The loop's invariant: the positions from `position` on are done.
-use mathlib.Core.Path.{_≡_, refl, _∙_}
-use Prim.Native.Nat.{_-_, _≤_}
-use native.Mathlib.Omega.{arith}
-use lib.ListN.{length}
+use Rattle.basics.specs.Words.{_≡_, refl, _∙_, _-_, _≤_, arith, length}
 use Rattle.product.specs.Laws.Setting.{few-nodes}
 use Rattle.cull.proofs.Positions.{position-there}
 use Rattle.cull.proofs.Culling.{PositionDone, lent-kept, last-pre, last-entered, last-ready, last-labelled, symbols-pre, position-entered, settle-ready, position-labelled, position-ready, position-begun, position-passed, stage-end}

@@ -1,9 +1,5 @@
 -- `label_stages` meets its contract.
-use mathlib.Core.Path.{_≡_, refl, _∙_}
-use mathlib.Core.List.{List}
-use Prim.Native.Nat.{ℕ, _-_, _≤_, _<_}
-use native.Mathlib.Omega.{arith}
-use lib.ListN.{length}
+use Rattle.basics.specs.Words.{_≡_, refl, _∙_, List, ℕ, _-_, _≤_, _<_, arith, length}
 use Rattle.product.specs.Laws.Setting.{few-nodes}
 use Rattle.cull.proofs.Culling.{StagesGone, lent-kept, counts-few, stage-given, stages-start, stages-next, stages-idle, stages-end}
 use Rattle.cull.proofs.label_stages.Statement.{statement}

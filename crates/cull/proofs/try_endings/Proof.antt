@@ -1,6 +1,5 @@
 -- `try_endings` meets its contract.
-use Prim.Native.Nat.{_-_, _≤_}
-use native.Mathlib.Omega.{arith}
+use Rattle.basics.specs.Words.{_-_, _≤_, arith}
 use Rattle.cull.specs.Culling.{CodesEnded}
 use Rattle.cull.proofs.Ending.{ending-places, ended-start, ended-next, ended-end}
 use Rattle.cull.proofs.try_endings.Statement.{statement}

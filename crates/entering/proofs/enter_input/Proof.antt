@@ -1,8 +1,4 @@
-use borrow.Author.Needs.{needs}
-use mathlib.Core.Path.{_≡_, refl, sym, _∙_}
-use Prim.Native.Nat.{_^_, _<_}
-use native.Mathlib.Omega.{arith}
-use lib.ListN.{length}
+use Rattle.basics.proofs.Words.{_≡_, refl, sym, _∙_, _^_, _<_, arith, length, needs}
 use Rattle.cells.specs.Laws.Fours.{without-less}
 use Rattle.entering.proofs.Fours.{FoursTried, four-few, four-or-after, counts-known, of-width, fill-ready, four-ready, try-ready, fours-start, fours-next, fours-end}
 use Rattle.entering.proofs.enter_input.Statement.{statement}

@@ -1,11 +1,4 @@
-use borrow.Author.Needs.{needs}
-use mathlib.Core.Path.{_≡_, refl, sym, _∙_, ap}
-use mathlib.Core.Bool.{not, _&&_}
-use Prim.Native.Nat.{ℕ}
-use native.Mathlib.Omega.{arith}
-use lib.Dec.{eqb}
-use lib.ListN.{length}
-use Rattle.basics.specs.Sets.{member}
+use Rattle.basics.proofs.Words.{_≡_, refl, sym, _∙_, ap, not, _&&_, ℕ, arith, length, eqb, member, needs}
 use Rattle.entering.proofs.Symbols.{blank-position, still-ready, blank-codes, SymbolsTried, symbols-start, symbols-next, symbols-end}
 use Rattle.entering.proofs.enter_symbols.Statement.{statement}
 use Rattle.entering.proofs.enter_symbols.Tie as tie

@@ -1,11 +1,5 @@
 -- What marks add at most, 15 for each machine: a step to a label with room for it stays a label.
-use mathlib.Core.Path.{_≡_, refl, sym, _∙_, ap}
-use mathlib.Core.List.{List, [], _∷_}
-use mathlib.Core.Option.{Option, some, none, Option·none-ne-some}
-use Prim.Native.Nat.{ℕ, zero, suc, _+_, _*_, _/_, _%_, _<_, _≤_}
-use native.Mathlib.Nat.{mul-le-mul-right}
-use native.Mathlib.Omega.{arith}
-use lib.ListN.{length, getD, replicate}
+use Rattle.basics.specs.Words.{_≡_, refl, sym, _∙_, ap, List, [], _∷_, Option, some, none, Option·none-ne-some, ℕ, zero, suc, _+_, _*_, _/_, _%_, _<_, _≤_, arith, length, getD, replicate, mul-le-mul-right}
 use Rattle.machine.specs.declared.Pair.{Pair}
 use Rattle.machine.specs.Machine.{Machine, stepOf}
 use Rattle.product.specs.Nodes.{stateCounts, product}

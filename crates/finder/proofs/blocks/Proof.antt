@@ -1,8 +1,6 @@
-use mathlib.Core.Path.{ap₂}
-use borrow.Author.Needs.{needs}
+use Rattle.basics.proofs.Words.{ap₂, _&&_, needs}
 use Rattle.finder.proofs.blocks.Statement.{statement}
 use Rattle.finder.proofs.blocks.Tie as tie
-use mathlib.Core.Bool.{_&&_}
 
 returns : tie.Need-returns
 returns c = ap₂ _&&_ (c .before .disjoint .ensures) (c .has .ensures)

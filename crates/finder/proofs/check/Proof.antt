@@ -1,13 +1,9 @@
-use mathlib.Core.Path.{sym, _∙_}
-use mathlib.Core.List.{[], _∷_}
-use native.Mathlib.Omega.{arith}
-use lib.Dec.{lit<}
+use Rattle.basics.proofs.Words.{sym, _∙_, [], _∷_, arith, lit<, needs}
 use Rattle.refusals.specs.Refusals.{refuse}
 use Rattle.refusals.proofs.Refusals.{was-true, goes-up, goes-on, last-one}
 use Rattle.ranking.specs.Rankings.{isMachineCount}
 use Rattle.finder.specs.Finder.{soundList}
 use Rattle.ranking.specs.Lemmas.Rankings.{machine-count}
-use borrow.Author.Needs.{needs}
 use Rattle.finder.proofs.check.Statement.{statement}
 use Rattle.finder.proofs.check.Tie as tie
 
@@ -38,9 +34,7 @@ pub check-spec : {M : Type 1} → statement M
 check-spec =
     tie.close
     (tie.spec
-    (λ c κs. search needs)
-    (λ c. search needs)
-    (λ c. search needs)
+    (λ c κs. search needs) (λ c. search needs) (λ c. search needs)
     returns
     check-conditions-requires
     returns-2)

@@ -1,8 +1,4 @@
-use Prim.Native.Nat.{_-_}
-use mathlib.Core.Path.{_≡_, sym, ap, _∙_}
-use borrow.Author.Needs.{needs}
-use borrow.Author.Tests.{not-true, not-false}
-use lib.ListN.{length}
+use Rattle.basics.proofs.Words.{_≡_, sym, ap, _∙_, _-_, length, needs, not-true, not-false}
 use Rattle.refusals.proofs.Refusals.{passes-with, refuses-with}
 use Rattle.finder.specs.Finder.{soundCondition}
 use Rattle.finder.specs.Steps.{conditionAt}
@@ -60,10 +56,8 @@ check-conditions-spec =
     returns
     returns-2
     (λ c. reached-start _ _)
-    (λ c κs. search needs)
-    (λ c κs. search needs)
+    (λ c κs. search needs) (λ c κs. search needs)
     returns-3
-    (λ c. search needs)
-    (λ c. search needs)
+    (λ c. search needs) (λ c. search needs)
     loop-again
     returns-4)

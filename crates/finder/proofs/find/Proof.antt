@@ -1,6 +1,4 @@
-use mathlib.Core.Path.{sym, _∙_, ap}
-use mathlib.Core.List.{[], _∷_}
-use borrow.Author.Needs.{needs}
+use Rattle.basics.proofs.Words.{sym, _∙_, ap, [], _∷_, needs}
 use Rattle.refusals.specs.Refusals.{refuse, firstOf, checkedNumber}
 use Rattle.refusals.proofs.Refusals.{accepts, not-accepted, refused-number}
 use Rattle.ranking.specs.Rankings.{isMachineCount}
@@ -38,10 +36,7 @@ pub find-spec : {M : Type 1} → statement M
 find-spec =
     tie.close
     (tie.spec
-    (λ c κs. search needs)
-    (λ c. search needs)
-    (λ c. search needs)
-    (λ c κs. search needs)
+    (λ c κs. search needs) (λ c. search needs) (λ c. search needs) (λ c κs. search needs)
     returns
     rank-requires
     returns-2)

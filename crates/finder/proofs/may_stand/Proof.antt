@@ -1,8 +1,4 @@
-use Prim.Native.Nat.{_-_}
-use mathlib.Core.Path.{_≡_, sym, ap, _∙_}
-use mathlib.Core.Bool.{not}
-use borrow.Author.Needs.{needs}
-use lib.ListN.{length}
+use Rattle.basics.proofs.Words.{_≡_, sym, ap, _∙_, not, _-_, length, needs}
 use Rattle.finder.specs.Steps.{conditionAt, blocks}
 use Rattle.finder.proofs.Pairs.{Reached, reached-start, reached-next, reached-fails, reached-end}
 use Rattle.finder.proofs.may_stand.Statement.{statement}
@@ -42,10 +38,8 @@ may-stand-spec =
     Inv-loop
     μ-loop
     (λ c. reached-start _ _)
-    (λ c κs. search needs)
-    (λ c κs. search needs)
+    (λ c κs. search needs) (λ c κs. search needs)
     returns
-    (λ c. search needs)
-    (λ c. search needs)
+    (λ c. search needs) (λ c. search needs)
     loop-again
     returns-2)

@@ -1,12 +1,7 @@
-use Prim.Native.Nat.{_≤_, _-_}
-use mathlib.Core.Path.{_≡_, ap, ap₂, sym, _∙_}
-use mathlib.Core.Bool.{Bool, not, _&&_}
-use mathlib.Core.Option.{none}
-use native.Mathlib.Omega.{arith}
+use Rattle.basics.proofs.Words.{_≡_, ap, ap₂, sym, _∙_, Bool, not, _&&_, none, _≤_, _-_, arith, needs}
 use Rattle.finder.specs.Finder.{conditionsOf}
 use Rattle.finder.specs.Steps.{nextMachine, nextOf}
 use Rattle.finder.proofs.Steps.{next, next-start, next-on, next-found}
-use borrow.Author.Needs.{needs}
 use Rattle.finder.proofs.next_machine.Statement.{statement}
 use Rattle.finder.proofs.next_machine.Tie as tie
 
@@ -52,10 +47,8 @@ next-machine-spec =
     Inv-loop
     μ-loop
     loop-holds
-    (λ c κs. search needs)
-    (λ c κs. search needs)
+    (λ c κs. search needs) (λ c κs. search needs)
     returns
-    (λ c. search needs)
-    (λ c. search needs)
+    (λ c. search needs) (λ c. search needs)
     loop-again
     returns-2)

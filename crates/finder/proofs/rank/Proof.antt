@@ -1,11 +1,7 @@
-use mathlib.Core.Path.{_≡_, sym, _∙_, ap}
-use mathlib.Core.Option.{some}
+use Rattle.basics.proofs.Words.{_≡_, sym, _∙_, ap, some, _-_, arith, needs}
 use Rattle.finder.specs.Steps.{nextMachine}
 use Rattle.finder.proofs.Sets.{member-with}
 use Rattle.finder.proofs.Pairs.{even-list, demotion-sound}
-use Prim.Native.Nat.{_-_}
-use borrow.Author.Needs.{needs}
-use native.Mathlib.Omega.{arith}
 use Rattle.finder.specs.Finder.{conditionsOf, refusedFinding, findingOf}
 use Rattle.finder.proofs.Steps.{Filled, filled-start, filled-next, filled-stops, filled-answer, next-below, next-there, next-missing}
 use Rattle.finder.proofs.rank.Statement.{statement}
@@ -69,14 +65,10 @@ rank-spec =
     μ-loop
     loop-holds
     next-machine-requires
-    (λ c. search needs)
-    (λ c. search needs)
-    (λ c κs. search needs)
+    (λ c. search needs) (λ c. search needs) (λ c κs. search needs)
     returns
-    (λ c. search needs)
-    (λ c. search needs)
+    (λ c. search needs) (λ c. search needs)
     shl-placed
-    (λ c. search needs)
-    (λ c. search needs)
+    (λ c. search needs) (λ c. search needs)
     loop-again
     returns-2)

@@ -1,6 +1,5 @@
-use mathlib.Core.Path.{ap}
+use Rattle.basics.proofs.Words.{ap, needs}
 use Rattle.finder.specs.Finder.{refusedFinding}
-use borrow.Author.Needs.{needs}
 use Rattle.finder.proofs.refused.Statement.{statement}
 use Rattle.finder.proofs.refused.Tie as tie
 

@@ -1,10 +1,8 @@
-use mathlib.Core.Path.{ap₂}
-use borrow.Author.Needs.{needs}
+use Rattle.basics.proofs.Words.{ap₂, _&&_, needs}
 use Rattle.finder.specs.Finder.{soundCondition}
 use Rattle.finder.proofs.Sets.{below-shifted}
 use Rattle.finder.proofs.sound.Statement.{statement}
 use Rattle.finder.proofs.sound.Tie as tie
-use mathlib.Core.Bool.{_&&_}
 
 returns : tie.Need-returns
 unfolding soundCondition

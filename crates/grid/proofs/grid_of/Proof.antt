@@ -1,12 +1,9 @@
-use mathlib.Core.Path.{_≡_, _∙_, ap}
-use Prim.Native.Nat.{_≤_}
-use lib.ListN.{length, take}
+use Rattle.basics.proofs.Words.{_≡_, _∙_, ap, _≤_, length, take, needs}
 use Rattle.card.specs.Card.{machinesOf}
 use Rattle.product.specs.Nodes.{stateCounts, product}
 use Rattle.tables.specs.Tables.{CountsOfSome}
 use Rattle.tables.proofs.Prefix.{front-is, front-length, front-fits, front-counts}
 use Rattle.cells.specs.Cells.{places}
-use borrow.Author.Needs.{needs}
 use Rattle.grid.proofs.grid_of.Statement.{statement}
 use Rattle.grid.proofs.grid_of.Tie as tie
 
@@ -57,9 +54,7 @@ pub grid-of-spec : {M : Type 1} → statement M
 grid-of-spec =
     tie.close
     (tie.spec
-    (λ c κs. search needs)
-    (λ c κs. search needs)
-    (λ c κs. search needs)
+    (λ c κs. search needs) (λ c κs. search needs) (λ c κs. search needs)
     array-share-prefix-counts
     slice-aggregate-width-of
     width-of-requires

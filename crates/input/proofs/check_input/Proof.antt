@@ -1,9 +1,4 @@
-use mathlib.Core.Path.{_≡_, sym, _∙_}
-use mathlib.Core.List.{List, [], _∷_}
-use Prim.Native.Nat.{ℕ, _+_, _*_}
-use native.Mathlib.Omega.{arith}
-use lib.Dec.{leb}
-use lib.ListN.{length}
+use Rattle.basics.proofs.Words.{_≡_, sym, _∙_, List, [], _∷_, ℕ, _+_, _*_, arith, length, leb, needs}
 use Rattle.refusals.specs.Refusals.{refuse, firstOf, checkedNumber}
 use Rattle.refusals.proofs.Refusals.{passed-number, refused-number, goes-up, first-on}
 use Rattle.ranking.specs.Rankings.{isRanking}
@@ -14,7 +9,6 @@ use Rattle.product.specs.Optimizing.{soundWord, inputRefusal}
 use Rattle.grid.specs.declared.Grid.{Grid}
 use Rattle.grid.specs.Grids.{GridOf}
 use Rattle.input.proofs.Nodes.{few-sizes}
-use borrow.Author.Needs.{needs}
 use Rattle.input.proofs.check_input.Statement.{statement}
 use Rattle.input.proofs.check_input.Tie as tie
 
@@ -56,10 +50,7 @@ pub check-input-spec : {M : Type 1} → statement M
 check-input-spec =
     tie.close
     (tie.spec
-    (λ c κs. search needs)
-    (λ c. search needs)
-    (λ c. search needs)
-    (λ c κs. search needs)
+    (λ c κs. search needs) (λ c. search needs) (λ c. search needs) (λ c κs. search needs)
     returns
     grid-of-requires
     check-word-requires

@@ -1,16 +1,9 @@
-use mathlib.Core.Path.{_≡_, sym, ap, _∙_}
-use mathlib.Core.Bool.{true}
-use Prim.Native.Nat.{_+_, _*_}
-use mathlib.Core.List.{[], _∷_}
-use native.Mathlib.Omega.{arith}
-use lib.Dec.{leb, lit<}
-use lib.ListN.{length}
+use Rattle.basics.proofs.Words.{_≡_, sym, ap, _∙_, true, [], _∷_, _+_, _*_, arith, length, leb, lit<, needs}
 use Rattle.refusals.specs.Refusals.{refuse, checkedNumber}
 use Rattle.refusals.proofs.Refusals.{was-true, goes-up, last-one}
 use Rattle.ranking.specs.Rankings.{isRanking}
 use Rattle.product.specs.OptimizingSets.{setsRefusal}
 use Rattle.product.specs.Laws.SymbolSets.{accepted-sets}
-use borrow.Author.Needs.{needs}
 use Rattle.input.proofs.check_sets.Statement.{statement}
 use Rattle.input.proofs.check_sets.Tie as tie
 
@@ -61,13 +54,10 @@ check-sets-spec =
     tie.close
     (tie.spec
     cast-check-ranking
-    (λ c κs. search needs)
-    (λ c. search needs)
-    (λ c. search needs)
+    (λ c κs. search needs) (λ c. search needs) (λ c. search needs)
     returns
     check-sets-requires
-    (λ c. search needs)
-    (λ c. search needs)
+    (λ c. search needs) (λ c. search needs)
     returns-2
     check-work-requires
     returns-3)

@@ -1,16 +1,9 @@
-use mathlib.Core.Path.{_≡_, sym, _∙_}
-use mathlib.Core.Bool.{true}
-use Prim.Native.Nat.{_+_, _*_}
-use mathlib.Core.List.{[], _∷_}
-use native.Mathlib.Omega.{arith}
-use lib.Dec.{leb, lit<}
-use lib.ListN.{length}
+use Rattle.basics.proofs.Words.{_≡_, sym, _∙_, true, [], _∷_, _+_, _*_, arith, length, leb, lit<, needs}
 use Rattle.refusals.specs.Refusals.{refuse}
 use Rattle.refusals.proofs.Refusals.{was-true, goes-up, last-one}
 use Rattle.ranking.specs.Rankings.{isRanking}
 use Rattle.product.specs.Optimizing.{soundWord}
 use Rattle.input.specs.AcceptedInput.{short-word}
-use borrow.Author.Needs.{needs}
 use Rattle.input.proofs.check_word.Statement.{statement}
 use Rattle.input.proofs.check_word.Tie as tie
 
@@ -60,13 +53,9 @@ check-word-spec =
     tie.close
     (tie.spec
     cast-check-ranking
-    (λ c κs. search needs)
-    (λ c. search needs)
-    (λ c. search needs)
+    (λ c κs. search needs) (λ c. search needs) (λ c. search needs)
     returns
-    (λ c κs. search needs)
-    (λ c. search needs)
-    (λ c. search needs)
+    (λ c κs. search needs) (λ c. search needs) (λ c. search needs)
     returns-2
     check-work-requires
     returns-3)

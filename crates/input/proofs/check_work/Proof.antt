@@ -1,11 +1,6 @@
-use mathlib.Core.Path.{_≡_, sym}
-use Prim.Native.Nat.{_≤_, _+_, _*_}
-use native.Mathlib.Nat.{mul-comm, mul-le-mul}
-use native.Mathlib.Omega.{arith}
+use Rattle.basics.proofs.Words.{_≡_, sym, _≤_, _+_, _*_, arith, mul-comm, mul-le-mul, needs, le-leb, lt-leb}
 use Rattle.refusals.proofs.Refusals.{passes-with, refuses-with}
 use Rattle.input.proofs.Nodes.{few-nodes}
-use borrow.Author.Tests.{le-leb, lt-leb}
-use borrow.Author.Needs.{needs}
 use Rattle.input.proofs.check_work.Statement.{statement}
 use Rattle.input.proofs.check_work.Tie as tie
 

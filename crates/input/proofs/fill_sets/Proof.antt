@@ -1,8 +1,4 @@
-use mathlib.Core.Path.{_≡_, refl}
-use Prim.Native.Nat.{_-_, _≤_}
-use native.Mathlib.Omega.{arith}
-use lib.ListN.{length, length-set}
-use borrow.Author.Needs.{needs}
+use Rattle.basics.proofs.Words.{_≡_, refl, _-_, _≤_, arith, length, length-set, needs}
 use Rattle.input.proofs.Words.{FilledBelow, filled-start, filled-next, filled-end, small-at}
 use Rattle.input.proofs.fill_sets.Statement.{statement}
 use Rattle.input.proofs.fill_sets.Tie as tie

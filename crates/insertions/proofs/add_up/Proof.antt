@@ -1,6 +1,4 @@
-use borrow.Author.Needs.{needs}
-use Prim.Native.Nat.{_-_}
-use native.Mathlib.Omega.{arith}
+use Rattle.basics.proofs.Words.{_-_, arith, needs}
 use Rattle.insertions.proofs.Adding.{AddTo, add-start, add-fits, add-next, add-end}
 use Rattle.insertions.proofs.add_up.Statement.{statement}
 use Rattle.insertions.proofs.add_up.Tie as tie
@@ -30,14 +28,8 @@ add-up-spec =
     Inv-loop
     μ-loop
     loop-holds
-    (λ c. search needs)
-    (λ c. search needs)
-    (λ c. search needs)
-    (λ c. search needs)
-    (λ c. search needs)
+    (λ c. search needs) (λ c. search needs) (λ c. search needs) (λ c. search needs) (λ c. search needs)
     add-ends
-    (λ c. search needs)
-    (λ c. search needs)
-    (λ c. search needs)
+    (λ c. search needs) (λ c. search needs) (λ c. search needs)
     loop-again
     returns)

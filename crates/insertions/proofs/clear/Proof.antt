@@ -1,10 +1,5 @@
-use borrow.Author.Needs.{needs}
+use Rattle.basics.proofs.Words.{_≡_, ap, _∙_, _++_, append-nil, _-_, _≤_, arith, length, set, length-set, drop, replicate, drop-of-length-le, needs}
 use borrow.Author.Fill.{fill-more}
-use mathlib.Core.Path.{_≡_, ap, _∙_}
-use mathlib.Core.List.{_++_, append-nil}
-use native.Mathlib.Omega.{arith}
-use Prim.Native.Nat.{_-_, _≤_}
-use lib.ListN.{length, set, length-set, drop, replicate, drop-of-length-le}
 use Rattle.insertions.proofs.clear.Statement.{statement}
 use Rattle.insertions.proofs.clear.Tie as tie
 
@@ -31,10 +26,6 @@ clear-spec =
     (tie.spec
     Inv-loop
     μ-loop
-    (λ c. search needs)
-    (λ c. search needs)
-    (λ c. search needs)
-    (λ c. search needs)
-    (λ c. search needs)
+    (λ c. search needs) (λ c. search needs) (λ c. search needs) (λ c. search needs) (λ c. search needs)
     loop-again
     returns)

@@ -1,8 +1,4 @@
-use borrow.Author.Needs.{needs}
-use mathlib.Core.Path.{_≡_, refl, sym, _∙_, ap}
-use mathlib.Core.List.{[]}
-use Prim.Native.Nat.{ℕ, _-_, _≤_}
-use native.Mathlib.Omega.{arith}
+use Rattle.basics.proofs.Words.{_≡_, refl, sym, _∙_, ap, [], ℕ, _-_, _≤_, arith, needs}
 use Rattle.insertions.specs.Lanes.{bumped, bump}
 use Rattle.insertions.specs.Tables.{codeLane}
 use Rattle.insertions.proofs.Lanes.{bump-same, bumped-none, bumped-next, count-next}
@@ -45,15 +41,9 @@ count-code-spec =
     Inv-loop
     μ-loop
     loop-holds
-    (λ c. search needs)
-    (λ c. search needs)
-    (λ c. search needs)
-    (λ c. search needs)
-    (λ c. search needs)
-    (λ c. search needs)
+    (λ c. search needs) (λ c. search needs) (λ c. search needs) (λ c. search needs) (λ c. search needs) (λ c. search needs)
     add-count-lane-3
     count-lane-requires
-    (λ c. search needs)
-    (λ c. search needs)
+    (λ c. search needs) (λ c. search needs)
     loop-again
     returns)

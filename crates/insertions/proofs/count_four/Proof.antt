@@ -1,8 +1,4 @@
-use borrow.Author.Needs.{needs}
-use mathlib.Core.Path.{_≡_, refl, _∙_, ap}
-use mathlib.Core.List.{[]}
-use Prim.Native.Nat.{ℕ, _-_, _*_, _≤_}
-use native.Mathlib.Omega.{arith}
+use Rattle.basics.proofs.Words.{_≡_, refl, _∙_, ap, [], ℕ, _-_, _*_, _≤_, arith, needs}
 use Rattle.insertions.specs.Lanes.{bumped}
 use Rattle.insertions.specs.Tables.{fourLane, lanesFrom}
 use Rattle.insertions.proofs.Lanes.{bumped-start, bumped-on, count-next}

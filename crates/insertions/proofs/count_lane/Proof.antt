@@ -1,10 +1,6 @@
-use mathlib.Core.Path.{sym, _∙_, ap}
-use Prim.Native.Nat.{ℕ, _+_}
-use native.Mathlib.Omega.{arith}
-use lib.ListN.{getD, set}
+use Rattle.basics.proofs.Words.{sym, _∙_, ap, ℕ, _+_, arith, getD, set, needs}
 use Rattle.insertions.specs.Lanes.{laneOf}
 use Rattle.insertions.proofs.Lanes.{bump-moves, bump-stays}
-use borrow.Author.Needs.{needs}
 use Rattle.insertions.proofs.count_lane.Statement.{statement}
 use Rattle.insertions.proofs.count_lane.Tie as tie
 
@@ -24,11 +20,7 @@ pub count-lane-spec : {M : Type 1} → statement M
 count-lane-spec =
     tie.close
     (tie.spec
-    (λ c κs. search needs)
-    (λ c κs. search needs)
-    (λ c. search needs)
-    (λ c. search needs)
-    (λ c. search needs)
+    (λ c κs. search needs) (λ c κs. search needs) (λ c. search needs) (λ c. search needs) (λ c. search needs)
     add-ends
     (λ c. search needs)
     returns

@@ -1,8 +1,4 @@
-use borrow.Author.Needs.{needs}
-use mathlib.Core.Path.{_≡_, _∙_, ap}
-use mathlib.Core.List.{[]}
-use Prim.Native.Nat.{ℕ, _+_, _-_, _*_, _≤_}
-use native.Mathlib.Omega.{arith}
+use Rattle.basics.proofs.Words.{_≡_, _∙_, ap, [], ℕ, _+_, _-_, _*_, _≤_, arith, needs}
 use Rattle.insertions.specs.Lanes.{bumped}
 use Rattle.insertions.specs.Tables.{codeLane, lanesFrom}
 use Rattle.insertions.proofs.Lanes.{bumped-start, bumped-on, equal-alike, count-next}
@@ -70,7 +66,6 @@ count-row-spec =
     add-count-code-2
     mul-count-code-2
     count-code-requires
-    (λ c. search needs)
-    (λ c. search needs)
+    (λ c. search needs) (λ c. search needs)
     loop-again
     returns)

@@ -1,5 +1,4 @@
-use borrow.Author.Needs.{needs}
-use Prim.Native.Nat.{_-_}
+use Rattle.basics.proofs.Words.{_-_, needs}
 use Rattle.insertions.proofs.Adding.{FillTo, fill-start, fill-next, fill-end}
 use Rattle.insertions.proofs.fill_on.Statement.{statement}
 use Rattle.insertions.proofs.fill_on.Tie as tie
@@ -25,13 +24,8 @@ fill-on-spec =
     (tie.spec
     Inv-loop
     μ-loop
-    (λ c. search needs)
-    (λ c. search needs)
-    (λ c. search needs)
+    (λ c. search needs) (λ c. search needs) (λ c. search needs)
     loop-holds
-    (λ c. search needs)
-    (λ c. search needs)
-    (λ c. search needs)
-    (λ c. search needs)
+    (λ c. search needs) (λ c. search needs) (λ c. search needs) (λ c. search needs)
     loop-again
     returns)

@@ -1,10 +1,6 @@
-use mathlib.Core.Path.{sym, _∙_, ap}
-use Prim.Native.Nat.{ℕ, _+_, _<_}
-use native.Mathlib.Omega.{arith}
-use lib.ListN.{length, getD, set, length-set}
+use Rattle.basics.proofs.Words.{sym, _∙_, ap, ℕ, _+_, _<_, arith, length, getD, set, length-set, needs}
 use Rattle.insertions.specs.Lanes.{laneOf}
 use Rattle.insertions.proofs.Lanes.{bump-moves, bump-stays, put-moves, put-stays, lane-room}
-use borrow.Author.Needs.{needs}
 use Rattle.insertions.proofs.list_lane.Statement.{statement}
 use Rattle.insertions.proofs.list_lane.Tie as tie
 
@@ -56,18 +52,13 @@ pub list-lane-spec : {M : Type 1} → statement M
 list-lane-spec =
     tie.close
     (tie.spec
-    (λ c κs. search needs)
-    (λ c κs. search needs)
-    (λ c. search needs)
-    (λ c. search needs)
-    (λ c. search needs)
+    (λ c κs. search needs) (λ c κs. search needs) (λ c. search needs) (λ c. search needs) (λ c. search needs)
     entry-of-requires
     cast-entries
     mul-entries
     slice-write-entries
     add-ends
-    (λ c. search needs)
-    (λ c. search needs)
+    (λ c. search needs) (λ c. search needs)
     same-length
     returns
     returns-2)

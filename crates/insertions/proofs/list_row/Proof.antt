@@ -1,8 +1,4 @@
-use borrow.Author.Needs.{needs}
-use mathlib.Core.Path.{_≡_, _∙_, ap}
-use Prim.Native.Nat.{ℕ, _+_, _-_, _*_, _≤_}
-use native.Mathlib.Omega.{arith}
-use lib.ListN.{length}
+use Rattle.basics.proofs.Words.{_≡_, _∙_, ap, ℕ, _+_, _-_, _*_, _≤_, arith, length, needs}
 use Rattle.insertions.specs.Lanes.{bumped, placed}
 use Rattle.insertions.specs.Tables.{codeLane, lanesFrom}
 use Rattle.insertions.proofs.Lanes.{bumped-start, placed-start, bumped-on, placed-on, placed-size, equal-alike, entry-next}
@@ -88,8 +84,7 @@ list-row-spec =
     add-list-code-2
     mul-list-code-2
     list-code-requires
-    (λ c. search needs)
-    (λ c. search needs)
+    (λ c. search needs) (λ c. search needs)
     loop-again
     same-length
     returns)

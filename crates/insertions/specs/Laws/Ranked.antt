@@ -1,12 +1,5 @@
 -- Marks times the weights of machines in ranked order: place by place.
-use mathlib.Core.Path.{_≡_, refl, _∙_}
-use mathlib.Core.Bool.{true, false, cond}
-use mathlib.Core.List.{List, [], _∷_}
-use Prim.Native.Nat.{ℕ, zero, suc, _+_, _*_, _<_, _≤_}
-use native.Mathlib.Nat.{mul-add}
-use native.Mathlib.Omega.{arith}
-use lib.Dec.{eqb}
-use lib.ListN.{length, getD}
+use Rattle.basics.specs.Words.{_≡_, refl, _∙_, true, false, cond, List, [], _∷_, ℕ, zero, suc, _+_, _*_, _<_, _≤_, arith, length, getD, eqb, mul-add}
 use borrow.Author.Tests.{eq-eqb, ne-eqb}
 use Rattle.cells.specs.Cells.{highOf, lowOf}
 use Rattle.cells.specs.Columns.{weighed}

@@ -1,7 +1,4 @@
-use borrow.Author.Needs.{needs}
-use native.Mathlib.Omega.{arith}
-use mathlib.Core.Path.{_≡_, sym, ap, _∙_}
-use mathlib.Core.List.{[], _∷_}
+use Rattle.basics.proofs.Words.{_≡_, sym, ap, _∙_, [], _∷_, arith, needs}
 use Rattle.card.specs.Card.{cardRefusal}
 use Rattle.refusals.specs.Refusals.{refuse, checkedNumber}
 use Rattle.refusals.proofs.Refusals.{passed-number, goes-up, first-on, last-one}
@@ -71,17 +68,12 @@ pub check-joining-spec : {M : Type 1} → statement M
 check-joining-spec =
     tie.close
     (tie.spec
-    (λ c κs. search needs)
-    (λ c. search needs)
-    (λ c. search needs)
+    (λ c κs. search needs) (λ c. search needs) (λ c. search needs)
     returns
     is-joinable-requires
-    (λ c κs. search needs)
-    (λ c. search needs)
-    (λ c. search needs)
+    (λ c κs. search needs) (λ c. search needs) (λ c. search needs)
     returns-2
-    (λ c κs. search needs)
-    (λ c κs. search needs)
+    (λ c κs. search needs) (λ c κs. search needs)
     fits-part-requires
     (λ c κs. search needs)
     returns-3)

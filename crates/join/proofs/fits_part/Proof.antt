@@ -1,10 +1,4 @@
-use native.Mathlib.Omega.{arith}
-use mathlib.Core.Path.{_≡_, sym, ap, ap₂, _∙_}
-use mathlib.Core.Bool.{_&&_}
-use mathlib.Core.List.{List}
-use Prim.Native.Nat.{ℕ, _*_, _≤_}
-use lib.Dec.{leb}
-use lib.ListN.{length}
+use Rattle.basics.specs.Words.{_≡_, sym, ap, ap₂, _∙_, _&&_, List, ℕ, _*_, _≤_, arith, length, leb, mul-le-mul}
 use Rattle.machine.specs.Machine.{stateCountOf}
 use Rattle.machine.specs.Part.{stateCount, arcsOf, machineOf}
 use Rattle.machine.specs.Accepted.{state-count, shape-facts}
@@ -12,7 +6,6 @@ use Rattle.layout.specs.Layout.{partOf}
 use Rattle.join.specs.JoinedMachine.{joinedArcs, joinedMachine}
 use Rattle.join.specs.JoinedCard.{lower, other}
 use Rattle.joined.specs.Laws.Crossed.{joined-states}
-use native.Mathlib.Nat.{mul-le-mul}
 use Rattle.join.proofs.Answers.{shape-in, joined-arcs}
 use Rattle.join.proofs.fits_part.Statement.{statement}
 use Rattle.join.proofs.fits_part.Tie as tie

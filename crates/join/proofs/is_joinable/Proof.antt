@@ -1,8 +1,4 @@
-use borrow.Author.Needs.{needs}
-use mathlib.Core.Path.{sym, ap, ap₂, subst, _∙_}
-use mathlib.Core.Bool.{Bool, _||_}
-use mathlib.Core.List.{List}
-use Prim.Native.Nat.{ℕ}
+use Rattle.basics.proofs.Words.{sym, ap, ap₂, subst, _∙_, Bool, _||_, List, ℕ, needs}
 use Rattle.machine.specs.Machine.{noMachine}
 use Rattle.machine.specs.Part.{machineOf}
 use Rattle.card.specs.Layout.{machineCount}

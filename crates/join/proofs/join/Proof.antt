@@ -1,11 +1,4 @@
-use borrow.Author.Needs.{needs}
-use native.Mathlib.Omega.{arith}
-use mathlib.Core.Path.{_≡_, sym, ap, ap₂, subst, _∙_}
-use mathlib.Core.List.{List}
-use Prim.Native.Nat.{ℕ, _≤_}
-use lib.Dec.{leb, lit<}
-use lib.ListN.{length}
-use borrow.Author.Tests.{leb-true}
+use Rattle.basics.proofs.Words.{_≡_, sym, ap, ap₂, subst, _∙_, List, ℕ, _≤_, arith, length, leb, lit<, needs, leb-true}
 use Rattle.refusals.specs.Refusals.{checkedNumber, refuse}
 use Rattle.join.specs.JoinedCard.{joinedCard, lower, other, joining, machinesRefusal, joiningRefusal}
 use Rattle.join.specs.Laws.Joinable.{may-join}
@@ -103,20 +96,12 @@ pub join-spec : {M : Type 1} → statement M
 join-spec =
     tie.close
     (tie.spec
-    (λ c κs. search needs)
-    (λ c κs. search needs)
-    (λ c κs. search needs)
-    (λ c. search needs)
-    (λ c. search needs)
+    (λ c κs. search needs) (λ c κs. search needs) (λ c κs. search needs) (λ c. search needs) (λ c. search needs)
     (λ c κs. search needs)
     returns
-    (λ c κs. search needs)
-    (λ c κs. search needs)
+    (λ c κs. search needs) (λ c κs. search needs)
     new-card-length-requires
-    (λ c κs. search needs)
-    (λ c. search needs)
-    (λ c. search needs)
-    (λ c κs. search needs)
+    (λ c κs. search needs) (λ c. search needs) (λ c. search needs) (λ c κs. search needs)
     returns-2
     write-card-requires
     same-length

@@ -6,5 +6,4 @@ pub other-spec : {M : Type 1} → statement M
 other-spec =
     tie.close
     (tie.spec
-    (λ c. search needs)
-    (λ c. search needs))
+    (λ c. search needs) (λ c. search needs))

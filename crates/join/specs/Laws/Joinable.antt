@@ -1,14 +1,7 @@
 -- What refusal 27 tells, and the checks before the target. Assumes nothing.
-use mathlib.Core.Path.{_≡_, refl, ap, _∙_}
-use mathlib.Core.Logic.{_⊎_, inl, inr}
-use mathlib.Core.Bool.{Bool, true, false, not, _&&_, _||_}
-use mathlib.Core.List.{List, [], _∷_}
-use Prim.Native.Nat.{ℕ, _<_}
-use native.Mathlib.Omega.{arith}
-use lib.Dec.{eqb, ltb, lit<}
+use Rattle.basics.proofs.Words.{_≡_, refl, ap, _∙_, Bool, true, false, not, _&&_, _||_, List, [], _∷_, _⊎_, inl, inr, ℕ, _<_, arith, eqb, ltb, lit<, left, right, either}
 use borrow.Author.Tests.{eqb-false, ltb-true, ltb-false, not-true}
 use Rattle.refusals.specs.Refusals.{refuse}
-use Rattle.basics.proofs.Bools.{left, right, either}
 use Rattle.refusals.proofs.Refusals.{passed, none-first}
 use Rattle.machine.specs.Machine.{Machine}
 use Rattle.card.specs.Layout.{machineCount}

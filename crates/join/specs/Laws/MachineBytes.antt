@@ -1,17 +1,7 @@
 -- The bytes of a machine are a part whose machine it is. Assumes nothing.
-use mathlib.Core.Path.{_≡_, refl, sym, ap, _∙_}
-use mathlib.Core.Bool.{true}
-use mathlib.Core.List.{List, [], _∷_, _++_, map}
-use mathlib.Core.Option.{Option, some, none}
-use Prim.Native.Nat.{ℕ, zero, suc, _+_, _*_, _/_, _%_, _^_, _<_, _≤_}
-use native.Mathlib.Omega.{arith}
-use lib.Dec.{leb, lit<}
-use lib.ListN.{length, getD, take, drop, length-map}
+use Rattle.basics.proofs.Words.{_≡_, refl, sym, ap, _∙_, true, List, [], _∷_, _++_, map, Option, some, none, ℕ, zero, suc, _+_, _*_, _/_, _%_, _^_, _<_, _≤_, arith, length, getD, take, drop, length-map, leb, lit<, getD-drop, drop-drop, take-at, drop-at, allOf, joined, both, left, right}
 use lib.Pow.{pow-mono}
-use lib.Seq.{getD-drop, drop-drop, take-at, drop-at}
 use borrow.Author.Tests.{leb-true, le-leb, eq-eqb}
-use Rattle.basics.specs.Search.{allOf, joined}
-use Rattle.basics.proofs.Bools.{both, left, right}
 use Rattle.machine.specs.declared.Arc.{Arc}
 use Rattle.machine.specs.Machine.{Machine, stateCountOf}
 use Rattle.machine.specs.Part.{fourBytesAt, eightBytesAt, arcAt, arcsAt, stateBytes, endingByte, arcsOf, machineOf, shaped, soundArc, partRefusal}

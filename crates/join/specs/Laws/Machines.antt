@@ -1,12 +1,6 @@
 -- Sound machines: what the checks of a part promise of its machine. Assumes nothing.
-use mathlib.Core.Path.{_≡_}
-use mathlib.Core.Bool.{Bool, true, _&&_}
-use mathlib.Core.Option.{Option, some, none}
-use Prim.Native.Nat.{ℕ, _≤_}
-use lib.Dec.{leb}
+use Rattle.basics.proofs.Words.{_≡_, Bool, true, _&&_, Option, some, none, ℕ, _≤_, leb, allOf, pairwise, left, right}
 use borrow.Author.Tests.{leb-true}
-use Rattle.basics.specs.Search.{allOf, pairwise}
-use Rattle.basics.proofs.Bools.{left, right}
 use Rattle.machine.specs.Machine.{Machine, stateCountOf}
 use Rattle.machine.specs.Part.{soundArc, clashFree}
 

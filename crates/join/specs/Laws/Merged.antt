@@ -1,16 +1,6 @@
 -- Laws of lists in which one place takes in another. Assumes nothing.
-use mathlib.Core.Path.{_≡_, refl, sym, ap, subst, _∙_}
-use mathlib.Core.Bool.{Bool, true, false, _&&_, and-assoc, and-comm}
-use mathlib.Core.List.{List, [], _∷_, _++_, map}
-use Prim.Native.Nat.{ℕ, zero, suc, _*_, _<_, _≤_}
-use native.Mathlib.Nat.{mul-assoc, mul-comm}
-use native.Mathlib.Omega.{arith}
-use lib.Dec.{eqb, ltb}
-use lib.ListN.{length, getD, List·getD-map, List·getD-append}
+use Rattle.basics.proofs.Words.{_≡_, refl, sym, ap, subst, _∙_, Bool, true, false, _&&_, and-assoc, and-comm, List, [], _∷_, _++_, map, ℕ, zero, suc, _*_, _<_, _≤_, arith, length, getD, List·getD-map, List·getD-append, eqb, ltb, mul-assoc, mul-comm, allOf, without, product, any-default}
 use borrow.Author.Tests.{eqb-true, eqb-false, ltb-true, ltb-false}
-use Rattle.basics.specs.Search.{allOf, without}
-use Rattle.basics.specs.Products.{product}
-use Rattle.basics.proofs.Search.{any-default}
 use Rattle.join.specs.Merged.{mergedAt}
 
 module _ {A : Type 0} where

@@ -1,14 +1,7 @@
 -- The machine of an accepted part is sound; and a part of the right shape with a sound machine is accepted. Assumes nothing.
-use mathlib.Core.Path.{_≡_, refl, sym, ap, ap₂, _∙_}
-use mathlib.Core.Bool.{Bool, true, _&&_}
-use mathlib.Core.List.{List, [], _∷_, map}
-use Prim.Native.Nat.{ℕ, zero, suc}
-use native.Mathlib.Omega.{arith}
-use lib.Dec.{eqb, leb}
+use Rattle.basics.proofs.Words.{_≡_, refl, sym, ap, ap₂, _∙_, Bool, true, _&&_, List, [], _∷_, map, ℕ, zero, suc, arith, eqb, leb, allOf, same, both, left, right}
 use borrow.Author.Tests.{eqb-true, leb-true, eq-eqb, le-leb}
-use Rattle.basics.specs.Search.{allOf}
 use Rattle.refusals.specs.Refusals.{firstOf}
-use Rattle.basics.proofs.Bools.{same, both, left, right}
 use Rattle.refusals.proofs.Refusals.{none-first}
 use Rattle.machine.specs.Part.{stateCount, stateBytes, endingByte, arcsOf, machineOf, shaped, soundArc, soundStates, soundArcs, partRefusal}
 use Rattle.machine.specs.Accepted.{Accepted, accepted, shape-facts, state-count}

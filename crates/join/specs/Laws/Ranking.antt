@@ -1,16 +1,6 @@
 -- Rankings of a card with two machines joined: they are rankings, and compare the merged counts as the old one did. Assumes nothing.
-use mathlib.Core.Path.{_≡_, refl, sym, ap, _∙_}
-use mathlib.Core.Logic.{_⊎_, inl, inr}
-use mathlib.Core.Bool.{Bool, true, false, not, _&&_, cond}
-use mathlib.Core.List.{List, [], _∷_}
-use Prim.Native.Nat.{ℕ, suc, _+_, _-_, _<_}
-use native.Mathlib.Omega.{arith}
-use lib.Dec.{eqb, ltb}
-use lib.ListN.{length, getD}
+use Rattle.basics.proofs.Words.{_≡_, refl, sym, ap, _∙_, Bool, true, false, not, _&&_, cond, List, [], _∷_, _⊎_, inl, inr, ℕ, suc, _+_, _-_, _<_, arith, length, getD, eqb, ltb, those, occurrences, same, both, left, right, each-below}
 use borrow.Author.Tests.{eqb-true, eqb-false, ltb-true, ltb-false, eq-eqb, ne-eqb, not-true}
-use Rattle.basics.specs.Search.{those, occurrences}
-use Rattle.basics.proofs.Bools.{same, both, left, right}
-use Rattle.basics.proofs.Below.{each-below}
 use Rattle.ranking.specs.Rankings.{isRanking}
 use Rattle.ranking.specs.Harmony.{isWorse, worse}
 use Rattle.ranking.specs.Lemmas.Harmony.{Standing, fewer, same as alike, more, standing, harmony-end, at-fewer, at-same, at-more}

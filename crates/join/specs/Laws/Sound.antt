@@ -1,20 +1,7 @@
 -- The joined machine of two sound machines, one of them without marks, is sound. Assumes nothing.
-use mathlib.Core.Path.{_≡_, refl, sym, ap, _∙_}
-use mathlib.Core.Logic.{_⊎_, inl, inr}
-use mathlib.Core.Bool.{Bool, true, false, not, _&&_}
-use mathlib.Core.List.{List, [], _∷_, _++_, map, List·Memᴰ, List·Memᴰ·head, List·Memᴰ·tail}
-use mathlib.Core.Option.{Option, some, none}
-use Prim.Native.Nat.{ℕ, zero, suc, _+_, _*_, _^_, _<_, _≤_}
-use native.Mathlib.Nat.{suc-mul, mul-le-mul-right, mul-le-mul}
-use native.Mathlib.Omega.{arith}
+use Rattle.basics.proofs.Words.{_≡_, refl, sym, ap, _∙_, Bool, true, false, not, _&&_, List, [], _∷_, _++_, map, List·Memᴰ, List·Memᴰ·head, List·Memᴰ·tail, Option, some, none, _⊎_, inl, inr, ℕ, zero, suc, _+_, _*_, _^_, _<_, _≤_, arith, eqb, ltb, suc-mul, mul-le-mul-right, mul-le-mul, allOf, pairwise, those, joined, member, both, left, right, fails, clash as never, all-member, each-member, all-append, those-member, pairwise-those, joined-member, member-and, has-member}
 use lib.Bits.{bitAnd, and-le-l}
-use lib.Dec.{eqb, ltb}
 use borrow.Author.Tests.{eqb-true, ltb-true, leb-true, eq-eqb, ne-eqb, lt-ltb, le-leb, not-true}
-use Rattle.basics.specs.Search.{allOf, pairwise, those, joined}
-use Rattle.basics.specs.Sets.{member}
-use Rattle.basics.proofs.Bools.{both, left, right, fails, clash as never}
-use Rattle.basics.proofs.Sets.{member-and, has-member}
-use Rattle.basics.proofs.Search.{all-member, each-member, all-append, those-member, pairwise-those, joined-member}
 use Rattle.machine.specs.declared.Arc.{Arc}
 use Rattle.machine.specs.Machine.{Machine, stateCountOf, ofKind, takes, takeOnePair, clash}
 use Rattle.machine.specs.Part.{soundSet, soundArc, clashFree}

@@ -1,18 +1,6 @@
 -- One law on a step of the joined machine, one on an ending, and what follows for lists of pairs. Assumes nothing.
-use mathlib.Core.Path.{_≡_, refl, sym, ap, _∙_}
-use mathlib.Core.Bool.{Bool, true, false, _&&_}
-use mathlib.Core.List.{List, [], _∷_, _++_, map}
-use mathlib.Core.Option.{Option, some, none}
-use Prim.Native.Nat.{ℕ, _+_, _*_, _/_, _%_, _<_}
-use native.Mathlib.Nat.{mul-add-div-right, mul-add-mod-self-right, div-eq-of-lt, mod-eq-of-lt}
-use native.Mathlib.Omega.{arith}
-use lib.Dec.{eqb}
+use Rattle.basics.proofs.Words.{_≡_, refl, sym, ap, _∙_, Bool, true, false, _&&_, List, [], _∷_, _++_, map, Option, some, none, ℕ, _+_, _*_, _/_, _%_, _<_, arith, eqb, mul-add-div-right, mul-add-mod-self-right, div-eq-of-lt, mod-eq-of-lt, allOf, those, joined, member, same, both, left, right, fails, clash, those-here, those-later, member-and}
 use borrow.Author.Tests.{eqb-true, eq-eqb}
-use Rattle.basics.specs.Search.{allOf, those, joined}
-use Rattle.basics.specs.Sets.{member}
-use Rattle.basics.proofs.Bools.{same, both, left, right, fails, clash}
-use Rattle.basics.proofs.Sets.{member-and}
-use Rattle.basics.proofs.Search.{those-here, those-later}
 use Rattle.machine.specs.declared.Arc.{Arc}
 use Rattle.machine.specs.declared.Pair.{Pair}
 use Rattle.machine.specs.Symbols.{isPair}

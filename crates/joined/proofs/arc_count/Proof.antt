@@ -1,8 +1,4 @@
-use borrow.Author.Needs.{needs}
-use native.Mathlib.Omega.{arith}
-use mathlib.Core.Path.{_≡_, ap}
-use Prim.Native.Nat.{_+_, _*_, _-_, _≤_}
-use lib.ListN.{length, drop}
+use Rattle.basics.proofs.Words.{_≡_, ap, _+_, _*_, _-_, _≤_, arith, length, drop, needs}
 use Rattle.machine.specs.declared.Arc.{Arc}
 use Rattle.machine.specs.Part.{stateCount, arcsOf}
 use Rattle.joined.specs.JoinedMachine.{arcsWith, joinedArcs}
@@ -61,13 +57,10 @@ arc-count-spec =
     (tie.spec
     Inv-loop
     μ-loop
-    (λ c κs. search needs)
-    (λ c κs. search needs)
-    (λ c. search needs)
+    (λ c κs. search needs) (λ c κs. search needs) (λ c. search needs)
     nth-arc-requires
     row-count-requires
     add-count
-    (λ c. search needs)
-    (λ c. search needs)
+    (λ c. search needs) (λ c. search needs)
     loop-again
     returns)

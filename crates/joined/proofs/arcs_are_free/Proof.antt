@@ -1,11 +1,4 @@
-use borrow.Author.Needs.{needs}
-use native.Mathlib.Omega.{arith}
-use mathlib.Core.Path.{_≡_, refl, ap, _∙_}
-use Prim.Native.Nat.{_-_, _≤_}
-use lib.Dec.{eqb}
-use lib.ListN.{drop}
-use borrow.Author.Tests.{eq-eqb, ne-eqb}
-use Rattle.basics.specs.Search.{allOf}
+use Rattle.basics.proofs.Words.{_≡_, refl, ap, _∙_, _-_, _≤_, arith, drop, eqb, allOf, needs, eq-eqb, ne-eqb}
 use Rattle.machine.specs.declared.Arc.{Arc}
 use Rattle.machine.specs.Part.{arcCount, arcsOf}
 use Rattle.joined.proofs.Rest.{all-go-on, all-stop, all-end}
@@ -55,12 +48,10 @@ arcs-are-free-spec =
     (tie.spec
     Inv-loop
     μ-loop
-    (λ c κs. search needs)
-    (λ c κs. search needs)
+    (λ c κs. search needs) (λ c κs. search needs)
     loop-holds
     (λ c κs. search needs)
     returns
-    (λ c. search needs)
-    (λ c. search needs)
+    (λ c. search needs) (λ c. search needs)
     loop-again
     returns-2)

@@ -1,9 +1,4 @@
-use borrow.Author.Needs.{needs}
-use native.Mathlib.Omega.{arith}
-use mathlib.Core.Path.{_≡_, refl, sym, ap, _∙_}
-use Prim.Native.Nat.{ℕ, _-_, _≤_}
-use lib.ListN.{drop}
-use Rattle.basics.specs.Search.{allOf}
+use Rattle.basics.proofs.Words.{_≡_, refl, sym, ap, _∙_, ℕ, _-_, _≤_, arith, drop, allOf, needs}
 use Rattle.machine.specs.Part.{stateCount, stateBytes, endingByte}
 use Rattle.joined.specs.JoinedMachine.{endsFree}
 use Rattle.joined.proofs.Rest.{all-go-on, all-stop, all-end}
@@ -58,7 +53,6 @@ endings-are-free-spec =
     loop-holds
     (λ c κs. search needs)
     returns
-    (λ c. search needs)
-    (λ c. search needs)
+    (λ c. search needs) (λ c. search needs)
     loop-again
     returns-2)

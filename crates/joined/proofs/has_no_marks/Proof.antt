@@ -1,6 +1,4 @@
-use borrow.Author.Needs.{needs}
-use mathlib.Core.Path.{ap₂, _∙_}
-use mathlib.Core.Bool.{Bool, _&&_}
+use Rattle.basics.proofs.Words.{ap₂, _∙_, Bool, _&&_, needs}
 use Rattle.joined.proofs.Parts.{no-marks}
 use Rattle.joined.proofs.has_no_marks.Statement.{statement}
 use Rattle.joined.proofs.has_no_marks.Tie as tie
@@ -12,6 +10,5 @@ pub has-no-marks-spec : {M : Type 1} → statement M
 has-no-marks-spec =
     tie.close
     (tie.spec
-    (λ c κs. search needs)
-    (λ c κs. search needs)
+    (λ c κs. search needs) (λ c κs. search needs)
     returns)

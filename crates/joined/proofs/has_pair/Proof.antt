@@ -1,12 +1,4 @@
-use native.Mathlib.Omega.{arith}
-use borrow.Author.Needs.{needs}
-use mathlib.Core.Path.{_≡_, refl, sym, subst}
-use mathlib.Core.Logic.{_⊎_, inl, inr, ⊎-elim}
-use mathlib.Core.Bool.{true, not, _||_}
-use Prim.Native.Nat.{ℕ, _^_, _<_}
-use lib.Dec.{eqb}
-use borrow.Author.Tests.{eqb-true, eqb-false}
-use Rattle.basics.proofs.Bools.{either, left-fails, right-fails}
+use Rattle.basics.proofs.Words.{_≡_, refl, sym, subst, true, not, _||_, _⊎_, inl, inr, ⊎-elim, ℕ, _^_, _<_, arith, eqb, needs, eqb-true, eqb-false, either, left-fails, right-fails}
 use lib.Bits.{bitOr, and-le-r, or-lt, or-add-and}
 use Rattle.machine.proofs.SymbolSets.{least-at}
 use lib.Count.{trailingZeros}

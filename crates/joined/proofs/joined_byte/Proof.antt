@@ -1,12 +1,4 @@
-use borrow.Author.Needs.{needs}
-use mathlib.Core.Path.{_≡_, refl}
-use mathlib.Core.Logic.{_⊎_, inl, inr}
-use mathlib.Core.Bool.{true, false, _||_}
-use Prim.Native.Nat.{ℕ, zero, suc, _+_, _-_}
-use native.Mathlib.Omega.{arith}
-use lib.Dec.{eqb}
-use borrow.Author.Tests.{eqb-true, eqb-false}
-use Rattle.basics.proofs.Bools.{either, left-fails, right-fails}
+use Rattle.basics.proofs.Words.{_≡_, refl, true, false, _||_, _⊎_, inl, inr, ℕ, zero, suc, _+_, _-_, arith, eqb, needs, eqb-true, eqb-false, either, left-fails, right-fails}
 use Rattle.joined.specs.Writing.{joinedByte}
 use Rattle.joined.proofs.joined_byte.Statement.{statement}
 use Rattle.joined.proofs.joined_byte.Tie as tie

@@ -1,9 +1,4 @@
-use borrow.Author.Needs.{needs}
-use native.Mathlib.Omega.{arith}
-use mathlib.Core.Path.{_≡_, sym, ap, _∙_}
-use mathlib.Core.Logic.{⊎-elim}
-use Prim.Native.Nat.{_+_, _-_, _≤_}
-use lib.ListN.{length, drop}
+use Rattle.basics.proofs.Words.{_≡_, sym, ap, _∙_, ⊎-elim, _+_, _-_, _≤_, arith, length, drop, needs}
 use Rattle.machine.specs.Machine.{takeOnePair}
 use Rattle.machine.specs.Part.{stateCount, arcsOf}
 use Rattle.joined.specs.JoinedMachine.{arcsWith}
@@ -48,13 +43,7 @@ row-count-spec =
     (tie.spec
     Inv-loop
     μ-loop
-    (λ c κs. search needs)
-    (λ c κs. search needs)
-    (λ c. search needs)
-    (λ c κs. search needs)
-    (λ c κs. search needs)
-    (λ c. search needs)
-    (λ c. search needs)
-    (λ c. search needs)
+    (λ c κs. search needs) (λ c κs. search needs) (λ c. search needs) (λ c κs. search needs) (λ c κs. search needs)
+    (λ c. search needs) (λ c. search needs) (λ c. search needs)
     loop-again
     returns)

@@ -1,7 +1,4 @@
-use borrow.Author.Needs.{needs}
-use mathlib.Core.Path.{ap, subst, _∙_}
-use mathlib.Core.Bool.{Bool, not, _&&_}
-use Prim.Native.Nat.{ℕ}
+use Rattle.basics.proofs.Words.{ap, subst, _∙_, Bool, not, _&&_, ℕ, needs}
 use lib.Bits.{bitAnd}
 use Rattle.joined.specs.CommonPairs.{HasPair}
 use Rattle.joined.specs.Laws.CommonPairs.{common-by-sets}
@@ -25,7 +22,5 @@ pub share-pair-spec : {M : Type 1} → statement M
 share-pair-spec =
     tie.close
     (tie.spec
-    (λ c κs. search needs)
-    (λ c κs. search needs)
-    (λ c κs. search needs)
+    (λ c κs. search needs) (λ c κs. search needs) (λ c κs. search needs)
     returns)

@@ -1,16 +1,7 @@
 -- Whether two arcs take a common pair, by their kinds and the sets that they share. Assumes nothing.
-use mathlib.Core.Path.{_≡_, refl, sym, ap, _∙_}
-use mathlib.Core.Logic.{_⊎_, inl, inr}
-use mathlib.Core.Bool.{Bool, true, false, not, _&&_, _||_, or-true}
-use Prim.Native.Nat.{ℕ, zero, suc, _^_, _<_}
-use native.Mathlib.Decide.{ℕ-discrete}
-use native.Mathlib.Omega.{arith}
+use Rattle.basics.proofs.Words.{_≡_, refl, sym, ap, _∙_, Bool, true, false, not, _&&_, _||_, or-true, _⊎_, inl, inr, ℕ, zero, suc, _^_, _<_, arith, eqb, ℕ-discrete, member, same, both, left, right, either, fails, clash, has-member, its-member, member-and, member-or}
 use lib.Bits.{bitAnd, bitOr, bitXor, and-le-l}
-use lib.Dec.{eqb}
 use borrow.Author.Tests.{eqb-true, eqb-false, eq-eqb, ne-eqb, not-true}
-use Rattle.basics.specs.Sets.{member}
-use Rattle.basics.proofs.Bools.{same, both, left, right, either, fails, clash}
-use Rattle.basics.proofs.Sets.{has-member, its-member, member-and, member-or}
 use Rattle.machine.specs.declared.Arc.{Arc}
 use Rattle.machine.specs.declared.Pair.{Pair}
 use Rattle.machine.specs.Symbols.{emptySymbol, isPair}

@@ -1,13 +1,5 @@
 -- Laws of two lists crossed, and how many states the joined machine has. Assumes nothing.
-use mathlib.Core.Path.{_≡_, sym, ap, _∙_}
-use mathlib.Core.List.{List, [], _∷_, _++_, map}
-use Prim.Native.Nat.{ℕ, zero, suc, _+_, _*_, _<_}
-use native.Mathlib.Nat.{suc-mul}
-use native.Mathlib.Omega.{arith}
-use lib.ListN.{length, getD, length-map, length-append, List·getD-append, List·getD-map}
-use lib.Seq.{getD-append-add}
-use Rattle.basics.specs.Search.{joined}
-use Rattle.basics.proofs.Search.{any-default}
+use Rattle.basics.proofs.Words.{_≡_, sym, ap, _∙_, List, [], _∷_, _++_, map, ℕ, zero, suc, _+_, _*_, _<_, arith, length, getD, length-map, length-append, List·getD-append, List·getD-map, getD-append-add, suc-mul, joined, any-default}
 use Rattle.machine.specs.Machine.{Machine, stateCountOf}
 use Rattle.joined.specs.JoinedMachine.{joinedState, bothMarks, crossed, joinedMachine}
 

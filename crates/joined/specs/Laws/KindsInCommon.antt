@@ -1,12 +1,6 @@
 -- Kinds of arcs: which have a pair in common, and the pairs of the joined kind. Assumes nothing.
-use mathlib.Core.Path.{_≡_, refl, sym, ap, _∙_}
-use mathlib.Core.Logic.{_⊎_, inl, inr}
-use mathlib.Core.Bool.{true, false, not, _&&_, _||_, and-true, and-self, or-true}
-use Prim.Native.Nat.{ℕ, zero, suc}
-use native.Mathlib.Omega.{arith}
-use lib.Dec.{eqb, ltb}
+use Rattle.basics.proofs.Words.{_≡_, refl, sym, ap, _∙_, true, false, not, _&&_, _||_, and-true, and-self, or-true, _⊎_, inl, inr, ℕ, zero, suc, arith, eqb, ltb, left, right, either, fails, clash}
 use borrow.Author.Tests.{eqb-true, lt-ltb, not-true}
-use Rattle.basics.proofs.Bools.{left, right, either, fails, clash}
 use Rattle.machine.specs.declared.Pair.{Pair}
 use Rattle.machine.specs.Symbols.{isPair}
 use Rattle.machine.specs.Machine.{ofKind}

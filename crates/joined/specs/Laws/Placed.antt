@@ -1,11 +1,5 @@
 -- Laws of bytes put into a target. Assumes nothing.
-use mathlib.Core.Path.{_≡_, ap, sym, _∙_}
-use mathlib.Core.List.{List, [], _∷_, _++_, append-nil, append-assoc}
-use Prim.Native.Nat.{ℕ, _+_, _<_, _≤_}
-use native.Mathlib.Numerals.{add-one}
-use native.Mathlib.Omega.{arith}
-use lib.ListN.{length, take, drop, set, length-append, length-drop, take-append-drop, drop-of-length-le}
-use lib.Seq.{set-split, length-take-le, take-at, drop-at, drop-drop}
+use Rattle.basics.specs.Words.{_≡_, ap, sym, _∙_, List, [], _∷_, _++_, append-nil, append-assoc, ℕ, _+_, _<_, _≤_, arith, length, take, drop, set, length-append, length-drop, take-append-drop, drop-of-length-le, set-split, length-take-le, take-at, drop-at, drop-drop, add-one}
 use borrow.Rule.Slice.PartMut.{putMid}
 use Rattle.joined.specs.Writing.{placed}
 

@@ -1,12 +1,5 @@
 -- The joined part's bytes, as they are written: row by row, arc by arc. Assumes nothing.
-use mathlib.Core.Path.{_≡_, refl, sym, ap, ap₂, _∙_}
-use mathlib.Core.Bool.{Bool, true, false}
-use mathlib.Core.List.{List, [], _∷_, _++_, map, map-map, map-append, append-assoc}
-use Prim.Native.Nat.{ℕ, zero, suc, _+_, _*_, _-_, _/_, _%_, _<_, _≤_}
-use native.Mathlib.Omega.{arith}
-use lib.ListN.{length, getD, drop, set, length-map, length-append, length-set}
-use Rattle.basics.specs.Search.{those, joined}
-use Rattle.basics.proofs.Search.{left-at, left-none, those-here, those-later}
+use Rattle.basics.proofs.Words.{_≡_, refl, sym, ap, ap₂, _∙_, Bool, true, false, List, [], _∷_, _++_, map, map-map, map-append, append-assoc, ℕ, zero, suc, _+_, _*_, _-_, _/_, _%_, _<_, _≤_, arith, length, getD, drop, set, length-map, length-append, length-set, those, joined, left-at, left-none, those-here, those-later}
 use Rattle.machine.specs.declared.Arc.{Arc}
 use Rattle.machine.specs.Machine.{Machine, stateCountOf, takeOnePair}
 use Rattle.machine.specs.Part.{stateBytes, endingByte, arcsOf, machineOf, shaped}

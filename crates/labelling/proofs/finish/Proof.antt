@@ -1,11 +1,5 @@
 -- `finish` meets its contract: by ranked counts where there are no sums, by weights otherwise.
-use borrow.Author.Needs.{needs}
-use borrow.Author.Tests.{eq-eqb, ne-eqb}
-use mathlib.Core.Path.{_≡_, sym, subst}
-use mathlib.Core.Bool.{Bool, true, false}
-use mathlib.Core.List.{List}
-use Prim.Native.Nat.{ℕ}
-use lib.ListN.{length}
+use Rattle.basics.proofs.Words.{_≡_, sym, subst, Bool, true, false, List, ℕ, length, needs, eq-eqb, ne-eqb}
 use Rattle.settling.specs.Settling.{SettlePre, Settled}
 use Rattle.labelling.specs.Kinds.{inCounts, listsBy}
 use Rattle.closing.specs.Closing.{CountsPre, CountsClosed, NumbersPre, NumbersClosed, PassAllPre, AllPassed}

@@ -1,7 +1,4 @@
-use borrow.Author.Needs.{needs}
-use Prim.Native.Nat.{_*_}
-use native.Mathlib.Omega.{arith}
-use lib.ListN.{take}
+use Rattle.basics.proofs.Words.{_*_, arith, take, needs}
 use Rattle.card.specs.Card.{machinesOf}
 use Rattle.product.specs.Nodes.{stateCounts}
 use Rattle.tables.specs.Places.{sixPlaces}

@@ -1,8 +1,4 @@
-use borrow.Author.Needs.{needs}
-use mathlib.Core.Path.{sym}
-use Prim.Native.Nat.{ℕ, _*_}
-use native.Mathlib.Omega.{arith}
-use lib.ListN.{length-replicate}
+use Rattle.basics.proofs.Words.{sym, ℕ, _*_, arith, length-replicate, needs}
 use Rattle.labelling.proofs.Sizes.{states-small}
 use Rattle.labelling.proofs.Preparing.{columns-length}
 use Rattle.labelling.proofs.label_few.Statement.{statement}
@@ -35,10 +31,6 @@ label-few-spec =
     mul-places
     array-borrow-prefix-steps
     slice-aggregate-label-with
-    (λ c. search needs)
-    (λ c. search needs)
-    (λ c. search needs)
+    (λ c. search needs) (λ c. search needs) (λ c. search needs)
     label-with-requires
-    (λ c. search needs)
-    (λ c. search needs)
-    (λ c. search needs))
+    (λ c. search needs) (λ c. search needs) (λ c. search needs))

@@ -1,8 +1,4 @@
-use borrow.Author.Needs.{needs}
-use mathlib.Core.Path.{sym}
-use Prim.Native.Nat.{ℕ, _*_}
-use native.Mathlib.Omega.{arith}
-use lib.ListN.{length-replicate}
+use Rattle.basics.proofs.Words.{sym, ℕ, _*_, arith, length-replicate, needs}
 use Rattle.product.specs.Laws.Setting.{few-codes}
 use Rattle.labelling.proofs.Sizes.{states-few}
 use Rattle.labelling.proofs.Preparing.{columns-length}
@@ -36,10 +32,6 @@ label-many-spec =
     mul-places
     array-borrow-prefix-steps
     slice-aggregate-label-with
-    (λ c. search needs)
-    (λ c. search needs)
-    (λ c. search needs)
+    (λ c. search needs) (λ c. search needs) (λ c. search needs)
     label-with-requires
-    (λ c. search needs)
-    (λ c. search needs)
-    (λ c. search needs))
+    (λ c. search needs) (λ c. search needs) (λ c. search needs))

@@ -1,8 +1,5 @@
 -- `label_positions` meets its contract. The loop's invariant: the positions from `position` on are closed.
-use mathlib.Core.Path.{_≡_, refl, sym, _∙_}
-use Prim.Native.Nat.{ℕ, _-_, _≤_}
-use native.Mathlib.Omega.{arith}
-use lib.ListN.{length, length-replicate}
+use Rattle.basics.specs.Words.{_≡_, refl, sym, _∙_, ℕ, _-_, _≤_, arith, length, length-replicate}
 use Rattle.labelling.proofs.Sizes.{counts-fit, counts-length, states-are}
 use Rattle.labelling.proofs.Finishing.{PositionClosed}
 use Rattle.labelling.proofs.Looping.{enter-ready, base-few, last-ready, last-closed, blank-there, next-there, symbols-ready, symbols-closed, all-closed, one-before, zeros-fit}

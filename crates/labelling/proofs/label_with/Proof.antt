@@ -1,8 +1,4 @@
-use borrow.Author.Needs.{needs}
-use mathlib.Core.Path.{_∙_}
-use Prim.Native.Nat.{ℕ, _+_, _*_, _≤_}
-use native.Mathlib.Omega.{arith}
-use lib.ListN.{length, length-replicate}
+use Rattle.basics.proofs.Words.{_∙_, ℕ, _+_, _*_, _≤_, arith, length, length-replicate, needs}
 use Rattle.labelling.proofs.Sizes.{counts-fit, counts-length, counts-some, size-is}
 use Rattle.labelling.proofs.Preparing.{fill-ready, list-ready, lists-ready, groups-room}
 use Rattle.labelling.proofs.label_with.Statement.{statement}
@@ -107,8 +103,7 @@ label-with-spec =
     count-requires
     list-requires
     label-positions-requires
-    (λ c. search needs)
-    (λ c. search needs)
+    (λ c. search needs) (λ c. search needs)
     same-length-3
     (λ c. search needs)
     same-length-5

@@ -1,11 +1,5 @@
 -- Attained labels of two numbers leave room for 128 pairs more.
-use mathlib.Core.Path.{_≡_, refl}
-use mathlib.Core.List.{List}
-use mathlib.Core.Option.{some}
-use Prim.Native.Nat.{ℕ, zero, suc, _+_, _*_, _/_, _^_, _≤_, _<_}
-use native.Mathlib.Nat.{mul-le-mul-left}
-use native.Mathlib.Omega.{arith}
-use lib.ListN.{length, getD, replicate, length-replicate}
+use Rattle.basics.specs.Words.{_≡_, refl, List, some, ℕ, zero, suc, _+_, _*_, _/_, _^_, _≤_, _<_, arith, length, getD, replicate, length-replicate, mul-le-mul-left}
 use Rattle.machine.specs.declared.Pair.{Pair}
 use Rattle.card.specs.Card.{machinesOf}
 use Rattle.paths.specs.Costs.{Labels}

@@ -1,10 +1,5 @@
 -- Labels of six ranked counts that are done are labels of two numbers that are done.
-use mathlib.Core.Path.{_≡_, refl, sym, _∙_, ap, subst}
-use mathlib.Core.Logic.{inl, inr}
-use mathlib.Core.List.{List, _∷_}
-use mathlib.Core.Option.{Option, none, some, Option·none-ne-some}
-use Prim.Native.Nat.{ℕ}
-use native.Mathlib.Omega.{arith}
+use Rattle.basics.specs.Words.{_≡_, refl, sym, _∙_, ap, subst, List, _∷_, Option, none, some, Option·none-ne-some, inl, inr, ℕ, arith}
 use Rattle.card.specs.Card.{machinesOf}
 use Rattle.paths.specs.Total.{Upto}
 use Rattle.paths.specs.Costs.{Costs, Labels, AtMost}

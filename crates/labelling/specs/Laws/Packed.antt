@@ -1,10 +1,5 @@
 -- The engine's graph with its costs packed into two numbers is the graph of the cells, by the ranked weights.
-use mathlib.Core.Path.{_≡_, refl, sym, _∙_, ap}
-use mathlib.Core.List.{List, [], _∷_}
-use mathlib.Core.Option.{Option, some, none, Option·none-ne-some}
-use Prim.Native.Nat.{ℕ, suc, _+_, _/_, _%_, _≤_}
-use native.Mathlib.Omega.{arith}
-use lib.ListN.{length, length-map}
+use Rattle.basics.specs.Words.{_≡_, refl, sym, _∙_, ap, List, [], _∷_, Option, some, none, Option·none-ne-some, ℕ, suc, _+_, _/_, _%_, _≤_, arith, length, length-map}
 use Rattle.machine.specs.declared.Pair.{Pair}
 use Rattle.machine.specs.Machine.{Machine}
 use Rattle.card.specs.Card.{machinesOf, cardRefusal}

@@ -1,13 +1,5 @@
 -- Labels of two numbers that are done are labels of six ranked counts that are done.
-use mathlib.Core.Path.{_≡_, refl}
-use mathlib.Core.Logic.{_⊎_, inl, inr, _≢_}
-use mathlib.Core.Bool.{true}
-use mathlib.Core.List.{List}
-use mathlib.Core.Option.{some}
-use Prim.Native.Nat.{ℕ, zero, suc, _+_, _*_, _≤_, _<_}
-use native.Mathlib.Omega.{arith}
-use lib.ListN.{length, getD}
-use Rattle.basics.specs.Sets.{member}
+use Rattle.basics.specs.Words.{_≡_, refl, true, List, some, _⊎_, inl, inr, _≢_, ℕ, zero, suc, _+_, _*_, _≤_, _<_, arith, length, getD, member}
 use Rattle.machine.specs.declared.Pair.{Pair}
 use Rattle.machine.specs.Symbols.{emptySymbol}
 use Rattle.card.specs.Card.{machinesOf}

@@ -1,13 +1,6 @@
 -- A position that was settled is done, over the costs that cells stand for: settling works on the two numbers of a label, high with its last byte,
 -- and these are the costs packed. Nothing is lost by packing where every cost is short.
-use mathlib.Core.Path.{_≡_, refl, sym, _∙_, ap, ap₂, subst}
-use mathlib.Core.Logic.{inl, inr, _≢_}
-use mathlib.Core.Option.{Option, none, some, Option·none-ne-some}
-use mathlib.Core.List.{List, _∷_}
-use Prim.Native.Nat.{ℕ, _+_, _*_, _/_, _%_, _<_}
-use native.Mathlib.Decide.{decLt}
-use native.Mathlib.Omega.{arith}
-use lib.ListN.{length, getD}
+use Rattle.basics.specs.Words.{_≡_, refl, sym, _∙_, ap, ap₂, subst, List, _∷_, Option, none, some, Option·none-ne-some, inl, inr, _≢_, ℕ, _+_, _*_, _/_, _%_, _<_, arith, length, getD, decLt}
 use Rattle.machine.specs.declared.Pair.{Pair}
 use Rattle.card.specs.Card.{machinesOf}
 use Rattle.paths.specs.Total.{Upto}

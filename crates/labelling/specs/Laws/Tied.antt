@@ -1,15 +1,6 @@
 -- The lists of insertions are the edges between the codes of a position; what settling it asks, and what it gives in ranked order.
-use mathlib.Core.Path.{_≡_, refl, sym, _∙_, ap, subst}
-use mathlib.Core.Logic.{_⊎_, inl, inr, _≢_}
-use mathlib.Core.Bool.{Bool, true}
-use mathlib.Core.Option.{Option, none, some, Option·none-ne-some}
-use mathlib.Core.List.{List}
-use Prim.Native.Nat.{ℕ, _+_, _*_, _-_, _/_, _%_, _<_, _≤_}
-use native.Mathlib.Omega.{arith}
-use lib.ListN.{length, getD}
+use Rattle.basics.proofs.Words.{_≡_, refl, sym, _∙_, ap, subst, Bool, true, List, Option, none, some, Option·none-ne-some, _⊎_, inl, inr, _≢_, ℕ, _+_, _*_, _-_, _/_, _%_, _<_, _≤_, arith, length, getD, member, clash}
 use borrow.Author.Tests.{ne-eqb}
-use Rattle.basics.specs.Sets.{member}
-use Rattle.basics.proofs.Bools.{clash}
 use Rattle.machine.specs.declared.Pair.{Pair}
 use Rattle.machine.specs.Symbols.{emptySymbol, isPair, pairOf}
 use Rattle.machine.specs.Machine.{Machine}

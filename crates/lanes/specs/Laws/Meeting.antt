@@ -1,10 +1,5 @@
 -- How a caller meets what trying asks: with the columns and the weights of a card's machines, and the joint steps that joining leaves.
-use mathlib.Core.Path.{_≡_}
-use mathlib.Core.List.{List}
-use Prim.Native.Nat.{ℕ, zero, suc, _+_, _*_, _<_, _≤_}
-use native.Mathlib.Nat.{mul-comm}
-use native.Mathlib.Omega.{arith}
-use lib.ListN.{length, getD}
+use Rattle.basics.specs.Words.{_≡_, List, ℕ, zero, suc, _+_, _*_, _<_, _≤_, arith, length, getD, mul-comm}
 use Rattle.machine.specs.Machine.{Machine}
 use Rattle.product.specs.Nodes.{stateCounts, product}
 use Rattle.product.specs.Laws.Nodes.{product-positive}

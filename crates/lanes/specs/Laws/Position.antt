@@ -1,13 +1,5 @@
 -- Trying all codes of a position by four outputs, while the position is entered.
-use mathlib.Core.Path.{_≡_, refl, sym, _∙_, ap}
-use mathlib.Core.Logic.{_⊎_, inl, inr, _≢_}
-use mathlib.Core.Bool.{cond}
-use mathlib.Core.List.{List}
-use mathlib.Core.Option.{Option, some, none}
-use Prim.Native.Nat.{ℕ, zero, suc, _+_, _%_, _<_, _≤_}
-use native.Mathlib.Decide.{decLt, ℕ-discrete}
-use native.Mathlib.Omega.{arith}
-use lib.Dec.{eqb, ltb}
+use Rattle.basics.specs.Words.{_≡_, refl, sym, _∙_, ap, cond, List, Option, some, none, _⊎_, inl, inr, _≢_, ℕ, zero, suc, _+_, _%_, _<_, _≤_, arith, eqb, ltb, decLt, ℕ-discrete}
 use borrow.Author.Tests.{eq-eqb, ne-eqb, lt-ltb, le-ltb}
 use Rattle.machine.specs.declared.Pair.{Pair}
 use Rattle.paths.specs.Costs.{Labels}

@@ -1,12 +1,6 @@
 -- Trying a step: a label stays as it is where there is no step or no label to go on from, and is the lesser of both else. With these three laws
 -- `paths/Positions.entering-no-edge`, `entering-unlabelled` and `entering-letter` take a lane each.
-use mathlib.Core.Path.{_≡_, sym, _∙_, ap}
-use mathlib.Core.Logic.{_⊎_, inl, inr}
-use mathlib.Core.List.{List}
-use mathlib.Core.Option.{Option, some, none, Option·none-ne-some}
-use Prim.Native.Nat.{ℕ, _+_, _/_, _%_, _<_, _≤_}
-use native.Mathlib.Decide.{decLt}
-use native.Mathlib.Omega.{arith}
+use Rattle.basics.specs.Words.{_≡_, sym, _∙_, ap, List, Option, some, none, Option·none-ne-some, _⊎_, inl, inr, ℕ, _+_, _/_, _%_, _<_, _≤_, arith, decLt}
 use Rattle.paths.specs.Total.{Upto}
 use Rattle.paths.specs.Costs.{AtMost, Above, Lowers, kept, lowered}
 use Rattle.paths.specs.Ranked.{Ranked, add, Less}

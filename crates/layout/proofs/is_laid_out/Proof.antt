@@ -1,13 +1,4 @@
-use borrow.Author.Needs.{needs}
-use native.Mathlib.Omega.{arith}
-use mathlib.Core.Path.{_≡_, ap, sym, _∙_}
-use mathlib.Core.Bool.{true}
-use Prim.Native.Nat.{_+_, _*_, _-_, _≤_}
-use lib.Dec.{eqb}
-use lib.ListN.{length}
-use borrow.Author.Tests.{eq-eqb, ne-eqb}
-use Rattle.basics.specs.Search.{everyBelow}
-use Rattle.basics.proofs.Below.{every-next}
+use Rattle.basics.proofs.Words.{_≡_, ap, sym, _∙_, true, _+_, _*_, _-_, _≤_, arith, length, eqb, everyBelow, needs, eq-eqb, ne-eqb, every-next}
 use Rattle.layout.specs.Layout.{offsetOf, dueOffset, inPlace, laidOut}
 use Rattle.layout.proofs.Checking.{due-step, no-table, out-of-place, end-decides}
 use Rattle.layout.proofs.is_laid_out.Statement.{statement}
@@ -69,16 +60,11 @@ is-laid-out-spec =
     (tie.spec
     Inv-loop
     μ-loop
-    (λ c κs. search needs)
-    (λ c. search needs)
-    (λ c. search needs)
+    (λ c κs. search needs) (λ c. search needs) (λ c. search needs)
     returns
     loop-holds
     (λ c κs. search needs)
     returns-2
-    (λ c κs. search needs)
-    (λ c. search needs)
-    (λ c. search needs)
-    (λ c. search needs)
+    (λ c κs. search needs) (λ c. search needs) (λ c. search needs) (λ c. search needs)
     loop-again
     returns-3)

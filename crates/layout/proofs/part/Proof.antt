@@ -1,5 +1,4 @@
-use native.Mathlib.Nat.{add-sub-cancel-left}
-use borrow.Author.Needs.{needs}
+use Rattle.basics.proofs.Words.{add-sub-cancel-left, needs}
 use Rattle.layout.proofs.part.Statement.{statement}
 use Rattle.layout.proofs.part.Tie as tie
 
@@ -10,10 +9,5 @@ pub part-spec : {M : Type 1} → statement M
 part-spec =
     tie.close
     (tie.spec
-    (λ c κs. search needs)
-    (λ c κs. search needs)
-    (λ c. search needs)
-    (λ c. search needs)
-    (λ c. search needs)
-    (λ c. search needs)
+    (λ c κs. search needs) (λ c κs. search needs) (λ c. search needs) (λ c. search needs) (λ c. search needs) (λ c. search needs)
     returns)

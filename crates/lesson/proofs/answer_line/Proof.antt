@@ -1,12 +1,7 @@
-use mathlib.Core.Path.{sym, _∙_}
-use Prim.Native.Nat.{_≤_}
-use native.Mathlib.Omega.{arith}
-use lib.ListN.{replicate}
-use lib.Seq.{length-take-le}
+use Rattle.basics.proofs.Words.{sym, _∙_, _≤_, arith, replicate, length-take-le, needs}
 use Rattle.lines.specs.Parsing.{parsedLine}
 use Rattle.lines.proofs.Bounds.{parsed-bounds}
 use Rattle.lesson.proofs.Replies.{prints, bad-reply, good-reply, bad-counts, good-counts}
-use borrow.Author.Needs.{needs}
 use Rattle.lesson.proofs.answer_line.Statement.{statement}
 use Rattle.lesson.proofs.answer_line.Tie as tie
 
@@ -56,18 +51,12 @@ pub answer-line-spec : {M : Type 1} → statement M
 answer-line-spec =
     tie.close
     (tie.spec
-    (λ c. search needs)
-    (λ c. search needs)
-    (λ c κs. search needs)
-    (λ c. search needs)
-    (λ c. search needs)
-    (λ c κs. search needs)
+    (λ c. search needs) (λ c. search needs) (λ c κs. search needs) (λ c. search needs) (λ c. search needs) (λ c κs. search needs)
     (λ c. search needs)
     returns
     array-share-prefix-ranking
     slice-aggregate-write-best
     array-share-prefix-word
     slice-aggregate-write-best-2
-    (λ c κs. search needs)
-    (λ c. search needs)
+    (λ c κs. search needs) (λ c. search needs)
     returns-2)

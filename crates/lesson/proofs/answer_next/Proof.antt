@@ -1,8 +1,4 @@
-use mathlib.Core.Path.{_≡_, ap, sym, _∙_}
-use mathlib.Core.Bool.{Bool, true, false, not}
-use native.Mathlib.Omega.{arith}
-use lib.Dec.{lit<}
-use borrow.Author.Tests.{not-true, not-false}
+use Rattle.basics.proofs.Words.{_≡_, ap, sym, _∙_, Bool, true, false, not, arith, lit<, needs, not-true, not-false}
 use Rattle.refusals.specs.Refusals.{checkedNumber, refuse}
 use Rattle.refusals.proofs.Refusals.{was-true, was-false}
 use Rattle.writing.specs.Writing.{refusedLine}
@@ -10,7 +6,6 @@ use Rattle.lesson.specs.Tally.{counted, isFull, pastText}
 use Rattle.lesson.specs.TallyLaws.{tally-full, tally-open, text-full, text-open}
 use Rattle.lesson.proofs.Replies.{prints}
 use Rattle.lesson.proofs.Tallies.{fewer}
-use borrow.Author.Needs.{needs}
 use Rattle.lesson.proofs.answer_next.Statement.{statement}
 use Rattle.lesson.proofs.answer_next.Tie as tie
 
@@ -57,14 +52,8 @@ pub answer-next-spec : {M : Type 1} → statement M
 answer-next-spec =
     tie.close
     (tie.spec
-    (λ c κs. search needs)
-    (λ c κs. search needs)
-    (λ c. search needs)
-    (λ c. search needs)
-    (λ c κs. search needs)
-    (λ c κs. search needs)
-    (λ c κs. search needs)
-    (λ c. search needs)
+    (λ c κs. search needs) (λ c κs. search needs) (λ c. search needs) (λ c. search needs) (λ c κs. search needs)
+    (λ c κs. search needs) (λ c κs. search needs) (λ c. search needs)
     returns
     (λ c κs. search needs)
     count-requires

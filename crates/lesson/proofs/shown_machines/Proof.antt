@@ -1,10 +1,7 @@
-use mathlib.Core.Path.{_∙_}
-use Prim.Native.Nat.{zero-le}
-use native.Mathlib.Omega.{arith}
+use Rattle.basics.proofs.Words.{_∙_, zero-le, arith, needs}
 use Rattle.refusals.proofs.Refusals.{passed-number, refused-number}
 use Rattle.lesson.specs.TallyLaws.{shown-few}
 use Rattle.lesson.proofs.Tallies.{shown-none, shown-all}
-use borrow.Author.Needs.{needs}
 use Rattle.lesson.proofs.shown_machines.Statement.{statement}
 use Rattle.lesson.proofs.shown_machines.Tie as tie
 
@@ -24,9 +21,7 @@ pub shown-machines-spec : {M : Type 1} → statement M
 shown-machines-spec =
     tie.close
     (tie.spec
-    (λ c κs. search needs)
-    (λ c. search needs)
-    (λ c. search needs)
+    (λ c κs. search needs) (λ c. search needs) (λ c. search needs)
     returns
     machine-count-requires
     returns-2)

@@ -1,9 +1,5 @@
-use mathlib.Core.Path.{refl}
-use Prim.Native.Nat.{ℕ}
-use native.Mathlib.Omega.{arith}
-use lib.ListN.{length-replicate}
+use Rattle.basics.proofs.Words.{refl, ℕ, arith, length-replicate, needs}
 use Rattle.lesson.proofs.Replies.{prints, best-line, best-counts}
-use borrow.Author.Needs.{needs}
 use Rattle.lesson.proofs.write_best.Statement.{statement}
 use Rattle.lesson.proofs.write_best.Tie as tie
 
@@ -24,11 +20,6 @@ pub write-best-spec : {M : Type 1} → statement M
 write-best-spec =
     tie.close
     (tie.spec
-    (λ c. search needs)
-    (λ c. search needs)
-    (λ c κs. search needs)
-    (λ c κs. search needs)
-    (λ c. search needs)
-    (λ c κs. search needs)
-    (λ c. search needs)
+    (λ c. search needs) (λ c. search needs) (λ c κs. search needs) (λ c κs. search needs) (λ c. search needs)
+    (λ c κs. search needs) (λ c. search needs)
     returns)

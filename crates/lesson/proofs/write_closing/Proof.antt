@@ -1,13 +1,7 @@
-use mathlib.Core.Path.{_≡_, ap, sym}
-use Prim.Native.Nat.{ℕ}
-use native.Mathlib.Omega.{arith}
-use lib.ListN.{length, take, length-take}
-use lib.Seq.{length-take-le}
-use borrow.Author.Needs.{length-unmapped}
+use Rattle.basics.proofs.Words.{_≡_, ap, sym, ℕ, arith, length, take, length-take, length-take-le, length-unmapped, needs}
 use Rattle.writing.specs.Writing.{closingLines}
 use Rattle.lesson.specs.Tally.{closingText}
 use Rattle.lesson.proofs.Replies.{prints}
-use borrow.Author.Needs.{needs}
 use Rattle.lesson.proofs.write_closing.Statement.{statement}
 use Rattle.lesson.proofs.write_closing.Tie as tie
 

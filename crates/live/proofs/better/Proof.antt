@@ -1,6 +1,4 @@
-use mathlib.Core.Path.{_≡_, sym, ap, _∙_}
-use mathlib.Core.Bool.{Bool}
-use borrow.Author.Needs.{needs}
+use Rattle.basics.proofs.Words.{_≡_, sym, ap, _∙_, Bool, needs}
 use Rattle.live.specs.declared.Row.{Row}
 use Rattle.live.specs.Steps.{firstIf}
 use Rattle.live.proofs.better.Statement.{statement}

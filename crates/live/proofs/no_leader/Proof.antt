@@ -1,7 +1,4 @@
-use mathlib.Core.Path.{ap₂}
-use mathlib.Core.Bool.{false}
-use Prim.Native.Nat.{ℕ}
-use borrow.Author.Needs.{needs}
+use Rattle.basics.proofs.Words.{ap₂, false, ℕ, needs}
 use Rattle.live.specs.declared.Row.{Row}
 use Rattle.live.specs.declared.Lead.{Lead}
 use Rattle.live.proofs.no_leader.Statement.{statement}

@@ -1,5 +1,4 @@
-use mathlib.Core.Path.{ap}
-use borrow.Author.Needs.{needs}
+use Rattle.basics.proofs.Words.{ap, needs}
 use Rattle.live.specs.Rows.{refusedCount}
 use Rattle.live.proofs.refused.Statement.{statement}
 use Rattle.live.proofs.refused.Tie as tie

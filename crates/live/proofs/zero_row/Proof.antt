@@ -1,5 +1,4 @@
-use mathlib.Core.Path.{ap}
-use borrow.Author.Needs.{needs}
+use Rattle.basics.proofs.Words.{ap, needs}
 use Rattle.live.specs.declared.Row.{Row}
 use Rattle.live.proofs.zero_row.Statement.{statement}
 use Rattle.live.proofs.zero_row.Tie as tie

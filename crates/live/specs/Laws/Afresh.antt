@@ -1,13 +1,6 @@
 -- The rows worked out afresh after one call more. Assumes nothing.
-use mathlib.Core.Path.{_≡_, refl, sym, ap, _∙_}
-use mathlib.Core.Bool.{Bool, true, false, not, _||_}
-use mathlib.Core.List.{List, [], _∷_, _++_}
-use Prim.Native.Nat.{ℕ}
-use lib.Dec.{eqb}
+use Rattle.basics.proofs.Words.{_≡_, refl, sym, ap, _∙_, Bool, true, false, not, _||_, List, [], _∷_, _++_, ℕ, eqb, those, same, those-here, those-later}
 use borrow.Author.Tests.{eqb-true, eq-eqb}
-use Rattle.basics.specs.Search.{those}
-use Rattle.basics.proofs.Bools.{same}
-use Rattle.basics.proofs.Search.{those-here, those-later}
 use Rattle.live.specs.declared.Row.{Row}
 use Rattle.live.specs.Rows.{hasId}
 use Rattle.live.specs.Afresh.{Call, Add, Remove, removes, afresh}

@@ -1,14 +1,6 @@
 -- Laws of the rows with and without an id. Assumes nothing.
-use mathlib.Core.Path.{_≡_, refl, sym, ap, _∙_}
-use mathlib.Core.Bool.{Bool, true, false, not}
-use mathlib.Core.List.{List, [], _∷_, _++_}
-use Prim.Native.Nat.{ℕ, zero, suc, _<_}
-use native.Mathlib.Omega.{arith}
-use lib.ListN.{length, take}
+use Rattle.basics.proofs.Words.{_≡_, refl, sym, ap, _∙_, Bool, true, false, not, List, [], _∷_, _++_, ℕ, zero, suc, _<_, arith, length, take, allOf, pairwise, those, both, left, right, clash, fails, all-append, those-here, those-later}
 use borrow.Author.Tests.{eqb-true, eq-eqb}
-use Rattle.basics.specs.Search.{allOf, pairwise, those}
-use Rattle.basics.proofs.Bools.{both, left, right, clash, fails}
-use Rattle.basics.proofs.Search.{all-append, those-here, those-later}
 use Rattle.live.specs.declared.Row.{Row}
 use Rattle.live.specs.Rows.{hasId, present, without}
 

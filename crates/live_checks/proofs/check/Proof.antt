@@ -1,5 +1,4 @@
-use mathlib.Core.Path.{sym, _∙_}
-use borrow.Author.Needs.{needs}
+use Rattle.basics.proofs.Words.{sym, _∙_, needs}
 use Rattle.live_checks.proofs.Checks.{two-passed, two-refused}
 use Rattle.live_checks.proofs.check.Statement.{statement}
 use Rattle.live_checks.proofs.check.Tie as tie

@@ -1,5 +1,4 @@
-use mathlib.Core.Path.{_≡_, sym, ap, _∙_}
-use borrow.Author.Needs.{needs}
+use Rattle.basics.proofs.Words.{_≡_, sym, ap, _∙_, needs}
 use Rattle.ranking.specs.declared.Order.{Order}
 use Rattle.ranking.specs.Harmony.{isBetter}
 use Rattle.live_checks.proofs.takes_lead.Statement.{statement}

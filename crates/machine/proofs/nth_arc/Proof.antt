@@ -1,6 +1,4 @@
-use Prim.Native.Nat.{ℕ, _+_, _*_}
-use mathlib.Core.Path.{sym, ap, _∙_}
-use native.Mathlib.Omega.{arith}
+use Rattle.basics.specs.Words.{sym, ap, _∙_, ℕ, _+_, _*_, arith}
 use Rattle.machine.specs.Part.{stateCount, arcCount, arcAt}
 use Rattle.machine.specs.Accepted.{shape-facts}
 use Rattle.machine.proofs.Arcs.{arc-at}

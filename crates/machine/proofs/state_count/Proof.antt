@@ -1,5 +1,4 @@
-use native.Mathlib.Omega.{arith}
-use borrow.Author.Needs.{needs}
+use Rattle.basics.proofs.Words.{arith, needs}
 use Rattle.machine.specs.Accepted.{shape-facts}
 use Rattle.machine.proofs.state_count.Statement.{statement}
 use Rattle.machine.proofs.state_count.Tie as tie

@@ -1,6 +1,4 @@
-use borrow.Author.Needs.{needs}
-use mathlib.Core.Path.{sym}
-use lib.ListN.{List·getD-eq-default}
+use Rattle.basics.proofs.Words.{sym, List·getD-eq-default, needs}
 use Rattle.machine_weights.proofs.high_at.Statement.{statement}
 use Rattle.machine_weights.proofs.high_at.Tie as tie
 
@@ -11,9 +9,5 @@ pub high-at-spec : {M : Type 1} → statement M
 high-at-spec =
     tie.close
     (tie.spec
-    (λ c. search needs)
-    (λ c. search needs)
-    (λ c. search needs)
-    (λ c. search needs)
-    (λ c. search needs)
+    (λ c. search needs) (λ c. search needs) (λ c. search needs) (λ c. search needs) (λ c. search needs)
     returns-2)

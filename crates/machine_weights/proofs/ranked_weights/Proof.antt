@@ -1,9 +1,4 @@
-use borrow.Author.Needs.{needs}
-use mathlib.Core.Path.{_≡_, refl, _∙_, ap}
-use mathlib.Core.List.{List}
-use Prim.Native.Nat.{ℕ, _*_, _-_, _≤_}
-use native.Mathlib.Omega.{arith}
-use lib.ListN.{length}
+use Rattle.basics.proofs.Words.{_≡_, refl, _∙_, ap, List, ℕ, _*_, _-_, _≤_, arith, length, needs}
 use Rattle.tables.specs.Places.{sixPlaces}
 use Rattle.settling.specs.Prices.{rankedHighs, rankedLows}
 use Rattle.insertions.specs.RankedWeights.{weightBy}

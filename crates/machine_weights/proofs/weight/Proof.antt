@@ -1,7 +1,4 @@
-use borrow.Author.Needs.{needs}
-use mathlib.Core.Logic.{⊎-elim}
-use Prim.Native.Nat.{_-_}
-use native.Mathlib.Omega.{arith}
+use Rattle.basics.proofs.Words.{⊎-elim, _-_, arith, needs}
 use Rattle.machine_weights.proofs.Weighing.{SumTo, sum-start, sum-taken, sum-passed, sum-end}
 use Rattle.machine_weights.proofs.weight.Statement.{statement}
 use Rattle.machine_weights.proofs.weight.Tie as tie

@@ -1,8 +1,4 @@
-use mathlib.Core.Path.{sym}
-use Prim.Native.Nat.{_≤_, _+_, _*_}
-use native.Mathlib.Omega.{arith}
-use lib.ListN.{length}
-use borrow.Author.Needs.{needs}
+use Rattle.basics.proofs.Words.{sym, _≤_, _+_, _*_, arith, length, needs}
 use Rattle.input.specs.AcceptedInput.{accepted-input}
 use Rattle.input.proofs.Nodes.{node-room, nodes-few}
 use Rattle.optimizer.proofs.Answers.{front-room}
@@ -50,5 +46,4 @@ best-profile-spec =
     slice-relend-prefix-label-best
     slice-aggregate-label-best
     label-best-requires
-    (λ c. search needs)
-    (λ c. search needs))
+    (λ c. search needs) (λ c. search needs))

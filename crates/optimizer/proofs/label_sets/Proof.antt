@@ -1,5 +1,4 @@
-use native.Mathlib.Omega.{arith}
-use borrow.Author.Needs.{needs}
+use Rattle.basics.proofs.Words.{arith, needs}
 use Rattle.tables.specs.LabelCost.{costOf}
 use Rattle.readout.proofs.Stages.{start-there}
 use Rattle.optimizer.proofs.Telling.{some-ranking, best-told}

@@ -1,8 +1,4 @@
-use mathlib.Core.Path.{refl, ap}
-use Prim.Native.Nat.{_-_, _<_}
-use native.Mathlib.Omega.{arith}
-use borrow.Author.Needs.{needs}
-use lib.ListN.{length}
+use Rattle.basics.proofs.Words.{refl, ap, _-_, _<_, arith, length, needs}
 use Rattle.ranking.specs.declared.Profile.{Profile}
 use Rattle.optimizer.specs.Telling.{RankingOfSome}
 use Rattle.optimizer.proofs.Places.{Placed, placed-start, placed-next, placed-end, place-below}

@@ -1,8 +1,4 @@
-use borrow.Author.Needs.{needs}
-use Prim.Native.Nat.{ℕ, _+_, _*_, _<_, _≤_, _-_}
-use native.Mathlib.Nat.{mul-le-mul, mod-lt}
-use native.Mathlib.Omega.{arith}
-use lib.ListN.{getD}
+use Rattle.basics.proofs.Words.{ℕ, _+_, _*_, _<_, _≤_, _-_, arith, getD, mul-le-mul, mod-lt, needs}
 use Rattle.adding.specs.Laws.Numbers.{column-few, column-in}
 use Rattle.outputs.proofs.key_of.Statement.{statement}
 use Rattle.outputs.proofs.key_of.Tie as tie
@@ -79,7 +75,6 @@ key-of-spec =
     add-sum-2
     mul-sum-4
     add-sum-3
-    (λ c. search needs)
-    (λ c. search needs)
+    (λ c. search needs) (λ c. search needs)
     loop-again
     returns)

@@ -1,14 +1,9 @@
 -- Each check that passed leaves the number to those after it; the one that refused has the number, and so has the last.
-use mathlib.Core.Path.{_≡_, _∙_, sym}
-use mathlib.Core.Bool.{true}
-use mathlib.Core.List.{List, [], _∷_}
-use Prim.Native.Nat.{ℕ}
-use lib.Dec.{lit<}
-use borrow.Author.Needs.{needs}
+use Rattle.basics.proofs.Words.{_≡_, _∙_, sym, true, List, [], _∷_, ℕ, lit<, needs}
 use Rattle.refusals.specs.Refusals.{refuse, firstOf}
 use Rattle.refusals.proofs.Refusals.{last-one, was-true, goes-on, goes-up}
 use Rattle.machine.specs.Part.{shaped, soundStates, soundArcs, noClash, partRefusal}
-use Rattle.clashes.proofs.Clashes.{sound-leaves}
+use Rattle.part_check.proofs.Clashing.{sound-leaves}
 use Rattle.part_check.proofs.check.Statement.{statement}
 use Rattle.part_check.proofs.check.Tie as tie
 
@@ -81,17 +76,13 @@ pub check-spec : {M : Type 1} → statement M
 check-spec =
     tie.close
     (tie.spec
-    (λ c κs. search needs)
-    (λ c. search needs)
-    (λ c. search needs)
+    (λ c κs. search needs) (λ c. search needs) (λ c. search needs)
     returns
     check-states-requires
-    (λ c. search needs)
-    (λ c. search needs)
+    (λ c. search needs) (λ c. search needs)
     returns-2
     check-arcs-requires
-    (λ c. search needs)
-    (λ c. search needs)
+    (λ c. search needs) (λ c. search needs)
     returns-3
     check-clashes-requires
     returns-4)

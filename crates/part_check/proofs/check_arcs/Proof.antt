@@ -1,10 +1,4 @@
-use Prim.Native.Nat.{_≤_, _+_, _*_}
-use mathlib.Core.Path.{_≡_, ap, sym, _∙_}
-use native.Mathlib.Omega.{arith}
-use lib.ListN.{length}
-use borrow.Author.Needs.{needs}
-use borrow.Author.Tests.{not-true, not-false}
-use Rattle.basics.specs.Search.{allOf}
+use Rattle.basics.proofs.Words.{_≡_, ap, sym, _∙_, _≤_, _+_, _*_, arith, length, allOf, needs, not-true, not-false}
 use Rattle.refusals.specs.Refusals.{refuse}
 use Rattle.machine.specs.Part.{arcsAt, soundArc, soundArcs}
 use Rattle.machine.specs.Accepted.{shape-facts}
@@ -52,16 +46,11 @@ check-arcs-spec =
     Inv-loop
     μ-loop
     shared-slice-read-states
-    (λ c κs. search needs)
-    (λ c κs. search needs)
-    (λ c. search needs)
+    (λ c κs. search needs) (λ c κs. search needs) (λ c. search needs)
     shared-slice-read-left
     loop-holds
-    (λ c κs. search needs)
-    (λ c κs. search needs)
+    (λ c κs. search needs) (λ c κs. search needs)
     returns
-    (λ c. search needs)
-    (λ c. search needs)
-    (λ c. search needs)
+    (λ c. search needs) (λ c. search needs) (λ c. search needs)
     loop-again
     returns-2)

@@ -1,7 +1,4 @@
-use native.Mathlib.Omega.{arith}
-use lib.ListN.{length}
-use borrow.Author.Tests.{lt-leb, le-leb}
-use borrow.Author.Needs.{needs}
+use Rattle.basics.proofs.Words.{arith, length, needs, lt-leb, le-leb}
 use Rattle.machine.specs.Part.{shaped}
 use Rattle.part_check.proofs.check_length.Statement.{statement}
 use Rattle.part_check.proofs.check_length.Tie as tie
@@ -21,12 +18,6 @@ check-length-spec =
     tie.close
     (tie.spec
     returns
-    (λ c. search needs)
-    (λ c κs. search needs)
-    (λ c. search needs)
-    (λ c κs. search needs)
-    (λ c. search needs)
-    (λ c. search needs)
-    (λ c. search needs)
-    (λ c κs. search needs)
+    (λ c. search needs) (λ c κs. search needs) (λ c. search needs) (λ c κs. search needs) (λ c. search needs) (λ c. search needs)
+    (λ c. search needs) (λ c κs. search needs)
     returns-2)

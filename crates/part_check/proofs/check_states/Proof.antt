@@ -1,15 +1,5 @@
-use Prim.Native.Nat.{_≤_, _-_, _+_}
-use mathlib.Core.Path.{_≡_, ap, sym, _∙_}
-use mathlib.Core.List.{[]}
-use native.Mathlib.Omega.{arith}
-use lib.Dec.{leb}
-use lib.ListN.{length}
-use lib.Seq.{slice, slice-empty}
-use borrow.Author.Needs.{needs}
-use borrow.Author.Tests.{lt-leb, le-leb}
-use Rattle.basics.specs.Search.{allOf}
+use Rattle.basics.proofs.Words.{_≡_, ap, sym, _∙_, [], _≤_, _-_, _+_, arith, length, leb, slice, slice-empty, allOf, needs, lt-leb, le-leb, all-next, all-fails, all-none}
 use Rattle.refusals.specs.Refusals.{refuse}
-use Rattle.basics.proofs.Search.{all-next, all-fails, all-none}
 use Rattle.machine.specs.Part.{soundStates}
 use Rattle.machine.specs.Accepted.{shape-facts}
 use Rattle.machine.proofs.States.{bytes-cons}
@@ -61,12 +51,10 @@ check-states-spec =
     Inv-loop
     μ-loop
     shared-slice-read-index
-    (λ c κs. search needs)
-    (λ c. search needs)
+    (λ c κs. search needs) (λ c. search needs)
     loop-holds
     (λ c. search needs)
     returns
-    (λ c. search needs)
-    (λ c. search needs)
+    (λ c. search needs) (λ c. search needs)
     loop-again
     returns-2)

@@ -1,8 +1,5 @@
 -- `walk::ending_marks`: an ending that is not final has no marks to count. Assumes nothing.
-use mathlib.Core.Path.{sym, _∙_, ap}
-use mathlib.Core.Option.{Option·none-ne-some}
-use native.Mathlib.Omega.{arith}
-use borrow.Author.Needs.{needs}
+use Rattle.basics.proofs.Words.{sym, _∙_, ap, Option·none-ne-some, arith, needs}
 use Rattle.machine.specs.Machine.{ended}
 use Rattle.passing.proofs.ending_marks.Statement.{statement}
 use Rattle.passing.proofs.ending_marks.Tie as tie

@@ -1,9 +1,5 @@
 -- `passing::pass`: the loop's invariant is `PassedTo`. Assumes nothing.
-use mathlib.Core.Path.{sym, _∙_}
-use Prim.Native.Nat.{_-_}
-use borrow.Author.Needs.{needs}
-use native.Mathlib.Omega.{arith}
-use lib.ListN.{length}
+use Rattle.basics.proofs.Words.{sym, _∙_, _-_, arith, length, needs}
 use Rattle.passing.proofs.Placing.{column-few, column-in, PassedTo, passed-start, mark-fits, in-states, in-marks, step-few, passed-next, passed-states, passed-marks}
 use Rattle.passing.proofs.pass.Statement.{statement}
 use Rattle.passing.proofs.pass.Tie as tie
@@ -68,8 +64,7 @@ pass-spec =
     μ-loop
     loop-holds
     mul-step
-    (λ c. search needs)
-    (λ c κs. search needs)
+    (λ c. search needs) (λ c κs. search needs)
     add-step
     mul-step-2
     shared-slice-read-step
@@ -80,8 +75,7 @@ pass-spec =
     add-marks
     (λ c. search needs)
     slice-write-marks
-    (λ c. search needs)
-    (λ c. search needs)
+    (λ c. search needs) (λ c. search needs)
     loop-again
     same-length
     same-length-2

@@ -1,9 +1,5 @@
 -- `passing::places_of`: the loop's invariant is `PlacedTo`. Assumes nothing.
-use mathlib.Core.Path.{sym, _∙_}
-use Prim.Native.Nat.{_-_}
-use borrow.Author.Needs.{needs}
-use native.Mathlib.Omega.{arith}
-use lib.ListN.{length}
+use Rattle.basics.proofs.Words.{sym, _∙_, _-_, arith, length, needs}
 use Rattle.passing.proofs.Placing.{PlacedTo, placed-start, in-six, next-few, place-few, placed-next, placed-end}
 use Rattle.passing.proofs.places_of.Statement.{statement}
 use Rattle.passing.proofs.places_of.Tie as tie
@@ -53,8 +49,7 @@ places-of-spec =
     slice-write-places
     shared-slice-read-first
     add-first
-    (λ c. search needs)
-    (λ c. search needs)
+    (λ c. search needs) (λ c. search needs)
     loop-again
     same-length
     returns)

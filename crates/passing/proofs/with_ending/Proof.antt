@@ -1,9 +1,5 @@
 -- `walk::with_ending`: the loop's invariant is `EndedTo`. Assumes nothing.
-use mathlib.Core.Path.{refl, sym, _∙_, ap}
-use mathlib.Core.List.{List}
-use Prim.Native.Nat.{ℕ, _-_, _<_}
-use native.Mathlib.Omega.{arith}
-use lib.ListN.{length, getD}
+use Rattle.basics.specs.Words.{refl, sym, _∙_, ap, List, ℕ, _-_, _<_, arith, length, getD}
 use Rattle.machine.specs.Machine.{Machine, noMachine, endingOf}
 use Rattle.machine.specs.Part.{machineOf}
 use Rattle.machine.specs.Accepted.{accepted as part-accepted}

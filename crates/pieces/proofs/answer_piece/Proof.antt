@@ -1,12 +1,4 @@
-use mathlib.Core.Path.{_≡_, refl, ap, sym, _∙_}
-use mathlib.Core.Bool.{true, false}
-use mathlib.Core.List.{[]}
-use Prim.Native.Nat.{_-_, _<_, _≤_}
-use native.Mathlib.Omega.{arith}
-use lib.Dec.{lit≤}
-use lib.ListN.{take, drop}
-use lib.Seq.{length-take-le, take-at}
-use Rattle.basics.proofs.Bools.{clash, left-fails}
+use Rattle.basics.proofs.Words.{_≡_, refl, ap, sym, _∙_, true, false, [], _-_, _<_, _≤_, arith, take, drop, lit≤, length-take-le, take-at, needs, clash, left-fails}
 use Rattle.lines.specs.Taking.{endedLines, heldAfter}
 use Rattle.lines.proofs.Bounds.{next-bounds}
 use Rattle.tally.specs.declared.Tally.{Tally}
@@ -15,7 +7,6 @@ use Rattle.lesson.specs.TallyLaws.{nothing-after, tally-cons, tally-none}
 use Rattle.pieces.proofs.Pieces.{held-ended, held-open, first-ended, none-ended}
 use Rattle.pieces.proofs.Closing.{past-written}
 use lib.ListN
-use borrow.Author.Needs.{needs}
 use Rattle.pieces.proofs.answer_piece.Statement.{statement}
 use Rattle.pieces.proofs.answer_piece.Tie as tie
 
@@ -146,8 +137,7 @@ answer-piece-spec =
     Inv-loop
     μ-loop
     loop-holds
-    (λ c κs. search needs)
-    (λ c. search needs)
+    (λ c κs. search needs) (λ c. search needs)
     slice-reshare-prefix-print-answer
     slice-aggregate-print-answer
     print-answer-requires

@@ -1,12 +1,8 @@
-use lib.ListN.{drop}
-use mathlib.Core.Path.{ap, sym, _∙_}
-use mathlib.Core.List.{_++_}
-use Rattle.basics.proofs.Bools.{left-fails, right-fails}
+use Rattle.basics.proofs.Words.{ap, sym, _∙_, _++_, drop, needs, left-fails, right-fails}
 use Rattle.tally.specs.declared.Tally.{Tally}
 use Rattle.lesson.specs.Tally.{lineText, closingText}
 use Rattle.lesson.proofs.Replies.{prints}
 use Rattle.pieces.proofs.Closing.{end-closing, end-line, front-lent, front-room, room-before, room-behind, text-fits, front-part, prints-after}
-use borrow.Author.Needs.{needs}
 use Rattle.pieces.proofs.finish.Statement.{statement}
 use Rattle.pieces.proofs.finish.Tie as tie
 
@@ -55,8 +51,7 @@ pub finish-spec : {M : Type 1} → statement M
 finish-spec =
     tie.close
     (tie.spec
-    (λ c κs. search needs)
-    (λ c. search needs)
+    (λ c κs. search needs) (λ c. search needs)
     returns
     (λ c. search needs)
     slice-aggregate-answer-next
@@ -65,6 +60,5 @@ finish-spec =
     sub-write-closing
     (λ c. search needs)
     write-closing-requires-2
-    (λ c. search needs)
-    (λ c. search needs)
+    (λ c. search needs) (λ c. search needs)
     returns-2)

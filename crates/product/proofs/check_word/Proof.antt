@@ -1,11 +1,4 @@
-use mathlib.Core.Path.{_≡_, refl, sym, _∙_, ap}
-use mathlib.Core.Bool.{true, false}
-use Prim.Native.Nat.{ℕ, _≤_, _-_}
-use native.Mathlib.Omega.{arith}
-use lib.ListN.{length, getD, drop}
-use borrow.Author.Needs.{needs}
-use borrow.Author.Tests.{not-true, not-false}
-use Rattle.basics.specs.Search.{allOf}
+use Rattle.basics.proofs.Words.{_≡_, refl, sym, _∙_, ap, true, false, ℕ, _≤_, _-_, arith, length, getD, drop, allOf, needs, not-true, not-false}
 use Rattle.refusals.proofs.Refusals.{passes-with, refuses-with}
 use Rattle.product.specs.Optimizing.{soundWord}
 use Rattle.product.proofs.Words.{symbol, wrong-length, right-length, next-symbol, wrong-symbol, no-symbol-left}
@@ -56,10 +49,8 @@ check-word-spec =
     μ-loop
     returns
     loop-holds
-    (λ c. search needs)
-    (λ c κs. search needs)
+    (λ c. search needs) (λ c κs. search needs)
     returns-2
-    (λ c. search needs)
-    (λ c. search needs)
+    (λ c. search needs) (λ c. search needs)
     loop-again
     returns-3)

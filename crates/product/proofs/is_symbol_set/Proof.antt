@@ -1,9 +1,6 @@
-use mathlib.Core.Path.{_≡_}
-use mathlib.Core.Bool.{not, _&&_}
-use Rattle.basics.specs.Sets.{member}
+use Rattle.basics.proofs.Words.{_≡_, not, _&&_, member, needs}
 use Rattle.machine.specs.Symbols.{emptySymbol}
 use Rattle.machine.specs.Part.{soundSet}
-use borrow.Author.Needs.{needs}
 use Rattle.product.proofs.is_symbol_set.Statement.{statement}
 use Rattle.product.proofs.is_symbol_set.Tie as tie
 

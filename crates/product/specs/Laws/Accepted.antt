@@ -1,11 +1,6 @@
 -- What an accepted card promises of its machines and of P.
-use mathlib.Core.Path.{_≡_, refl, ap, ap₂}
-use mathlib.Core.List.{List, [], _∷_, map}
-use Prim.Native.Nat.{ℕ, _≤_}
-use native.Mathlib.Omega.{arith}
-use lib.ListN.{length}
+use Rattle.basics.proofs.Words.{_≡_, refl, ap, ap₂, List, [], _∷_, map, ℕ, _≤_, arith, length, both}
 use borrow.Author.Tests.{le-leb}
-use Rattle.basics.proofs.Bools.{both}
 use Rattle.refusals.proofs.Refusals.{none-first}
 use Rattle.machine.specs.Part.{machineOf, stateCount, partRefusal}
 use Rattle.machine.specs.Accepted.{shape-facts, state-count, accepted}

@@ -1,14 +1,5 @@
 -- The best of the definition is the best path of the product from the start node, for a price that agrees with the order on profiles.
-use mathlib.Core.Path.{_≡_, refl, sym, _∙_, ap}
-use mathlib.Core.Logic.{inl, inr, _≢_}
-use mathlib.Core.Bool.{true, false≢true}
-use mathlib.Core.List.{List, [], _∷_, List·Memᴰ}
-use mathlib.Core.Option.{Option, some, none, Option·none-ne-some}
-use Prim.Native.Nat.{ℕ, _<_, _≤_}
-use native.Mathlib.Omega.{arith}
-use lib.ListN.{length}
-use Rattle.basics.specs.Search.{allOf}
-use Rattle.basics.proofs.Bools.{both, left, right}
+use Rattle.basics.proofs.Words.{_≡_, refl, sym, _∙_, ap, true, false≢true, List, [], _∷_, List·Memᴰ, Option, some, none, Option·none-ne-some, inl, inr, _≢_, ℕ, _<_, _≤_, arith, length, allOf, both, left, right}
 use Rattle.machine.specs.declared.Pair.{Pair}
 use Rattle.machine.specs.Symbols.{isPair}
 use Rattle.machine.specs.Machine.{Machine, startState, stepOf}

@@ -1,15 +1,5 @@
 -- The best candidate is the best path from the start node, and a candidate that none beats by profile or pair count is a cheapest one.
-use mathlib.Core.Path.{_≡_, sym, _∙_, ap}
-use mathlib.Core.Logic.{_⊎_, inl, inr, _≢_}
-use mathlib.Core.Bool.{true, false}
-use mathlib.Core.List.{List}
-use mathlib.Core.Option.{Option, some}
-use Prim.Native.Nat.{ℕ, _<_, _≤_}
-use native.Mathlib.Decide.{decLt}
-use native.Mathlib.Omega.{arith}
-use lib.ListN.{length, length-map}
-use lib.Seq.{ext-getD}
-use Rattle.basics.proofs.Bools.{clash}
+use Rattle.basics.proofs.Words.{_≡_, sym, _∙_, ap, true, false, List, Option, some, _⊎_, inl, inr, _≢_, ℕ, _<_, _≤_, arith, length, length-map, ext-getD, decLt, clash}
 use Rattle.machine.specs.declared.Pair.{Pair}
 use Rattle.machine.specs.Machine.{Machine}
 use Rattle.ranking.specs.Rankings.{isRanking}

@@ -1,21 +1,7 @@
 -- What the definition of the best over sets lists: the words with one symbol from each set, and their best candidates.
-use mathlib.Core.Path.{_≡_, refl, sym, _∙_, ap}
-use mathlib.Core.Bool.{Bool, true, false≢true}
-use mathlib.Core.List.{List, [], _∷_, map, List·Memᴰ, List·Memᴰ·head, List·Memᴰ·not-nil, List·Memᴰ·eq-of-singleton}
-use mathlib.Core.Option.{Option, some, none}
-use Prim.Native.Nat.{ℕ, _^_, _<_}
-use native.Mathlib.Decide.{decLt}
-use native.Mathlib.Omega.{arith}
-use lib.ListN.{length}
-use lib.Dec.{ltb}
+use Rattle.basics.proofs.Words.{_≡_, refl, sym, _∙_, ap, Bool, true, false≢true, List, [], _∷_, map, List·Memᴰ, List·Memᴰ·head, List·Memᴰ·not-nil, List·Memᴰ·eq-of-singleton, Option, some, none, ℕ, _^_, _<_, arith, length, ltb, decLt, allOf, those, joined, numbersBelow, member, both, left, right, clash, those-member, member-those, joined-member, member-joined, member-numbers, member-beyond}
 use lib.Pow.{pow-lt}
 use borrow.Author.Tests.{ltb-true, lt-ltb}
-use Rattle.basics.specs.Search.{allOf, those, joined, numbersBelow}
-use Rattle.basics.specs.Sets.{member}
-use Rattle.basics.proofs.Bools.{both, left, right, clash}
-use Rattle.basics.proofs.Search.{those-member, member-those, joined-member, member-joined}
-use Rattle.basics.proofs.Below.{member-numbers}
-use Rattle.basics.proofs.Sets.{member-beyond}
 use Rattle.machine.specs.declared.Pair.{Pair}
 use Rattle.card.specs.Card.{machinesOf, cardRefusal}
 use Rattle.candidate.specs.Candidates.{IsCandidate}

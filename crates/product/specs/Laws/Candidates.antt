@@ -1,15 +1,6 @@
 -- The tie at the start node, in the words of candidates.
-use mathlib.Core.Path.{_≡_, refl, sym, _∙_, ap}
-use mathlib.Core.Bool.{Bool, true, false, _&&_, false≢true}
-use mathlib.Core.List.{List, [], _∷_, map}
-use mathlib.Core.Option.{Option, some, none, Option·none-ne-some}
-use Prim.Native.Nat.{ℕ}
-use native.Mathlib.Omega.{arith}
-use lib.ListN.{length}
-use lib.Dec.{eqb}
+use Rattle.basics.proofs.Words.{_≡_, refl, sym, _∙_, ap, Bool, true, false, _&&_, false≢true, List, [], _∷_, map, Option, some, none, Option·none-ne-some, ℕ, arith, length, eqb, allOf, both, left, right}
 use borrow.Author.Tests.{eqb-true, eq-eqb}
-use Rattle.basics.specs.Search.{allOf}
-use Rattle.basics.proofs.Bools.{both, left, right}
 use Rattle.machine.specs.declared.Pair.{Pair}
 use Rattle.machine.specs.Symbols.{isPair}
 use Rattle.machine.specs.Machine.{Machine, startState}

@@ -1,11 +1,5 @@
 -- The graph of an accepted card, as the theory of paths and an engine ask for it.
-use mathlib.Core.Path.{_≡_}
-use mathlib.Core.Bool.{true}
-use mathlib.Core.List.{List}
-use mathlib.Core.Option.{some}
-use Prim.Native.Nat.{ℕ, _<_, _≤_}
-use native.Mathlib.Omega.{arith}
-use lib.ListN.{length}
+use Rattle.basics.specs.Words.{_≡_, true, List, some, ℕ, _<_, _≤_, arith, length}
 use Rattle.machine.specs.declared.Pair.{Pair}
 use Rattle.machine.specs.Symbols.{withinSymbols}
 use Rattle.card.specs.Layout.{symbolCount}

@@ -1,12 +1,6 @@
 -- Laws for an engine: a node's moves and ending by its position and its code, and the step by codes machine by machine.
-use mathlib.Core.Path.{_≡_, refl, _∙_, ap}
-use mathlib.Core.Bool.{true}
-use mathlib.Core.List.{List, [], _∷_, map}
-use mathlib.Core.Option.{Option, some, none, Option·none-ne-some}
-use Prim.Native.Nat.{ℕ, _+_, _*_, _/_, _%_, _<_, _≤_}
-use lib.ListN.{length, getD}
+use Rattle.basics.specs.Words.{_≡_, refl, _∙_, ap, true, List, [], _∷_, map, Option, some, none, Option·none-ne-some, ℕ, _+_, _*_, _/_, _%_, _<_, _≤_, length, getD, member}
 use borrow.Author.Tests.{eq-eqb, ne-eqb}
-use Rattle.basics.specs.Sets.{member}
 use Rattle.machine.specs.declared.Pair.{Pair}
 use Rattle.machine.specs.Symbols.{emptySymbol, isPair}
 use Rattle.machine.specs.Machine.{Machine, stepOf}

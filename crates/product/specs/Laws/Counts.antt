@@ -1,15 +1,6 @@
 -- How large the counts of a candidate are: at most 15 marks a pair, and 15 for ending.
-use mathlib.Core.Path.{_≡_, refl, sym, _∙_}
-use mathlib.Core.Bool.{true}
-use mathlib.Core.List.{List, [], _∷_}
-use mathlib.Core.Option.{Option, some, none, Option·none-ne-some}
-use Prim.Native.Nat.{ℕ, suc, _+_, _*_, _≤_}
-use native.Mathlib.Omega.{arith}
-use lib.ListN.{length}
-use lib.Dec.{leb}
+use Rattle.basics.proofs.Words.{_≡_, refl, sym, _∙_, true, List, [], _∷_, Option, some, none, Option·none-ne-some, ℕ, suc, _+_, _*_, _≤_, arith, length, leb, allOf, both}
 use borrow.Author.Tests.{le-leb}
-use Rattle.basics.specs.Search.{allOf}
-use Rattle.basics.proofs.Bools.{both}
 use Rattle.machine.specs.declared.Pair.{Pair}
 use Rattle.machine.specs.Machine.{Machine, startState, stepOf, endingOf}
 use Rattle.candidate.specs.Candidates.{addMarks, marksFrom, marksOf, countOf, profileOf}

@@ -1,14 +1,6 @@
 -- Laws of the edges: where a move leads, what it costs, and what the theory of paths asks of the product.
-use mathlib.Core.Path.{_≡_, refl, _∙_, ap}
-use mathlib.Core.Bool.{Bool, true, false, cond}
-use mathlib.Core.List.{List, [], _∷_, map}
-use mathlib.Core.Option.{Option, some, none, Option·none-ne-some}
-use Prim.Native.Nat.{ℕ, zero, suc, _+_, _*_, _<_, _≤_}
-use native.Mathlib.Omega.{arith}
-use lib.ListN.{length, getD}
-use lib.Dec.{eqb, leb}
+use Rattle.basics.specs.Words.{_≡_, refl, _∙_, ap, Bool, true, false, cond, List, [], _∷_, map, Option, some, none, Option·none-ne-some, ℕ, zero, suc, _+_, _*_, _<_, _≤_, arith, length, getD, eqb, leb, member}
 use borrow.Author.Tests.{eqb-true, eqb-false, leb-true}
-use Rattle.basics.specs.Sets.{member}
 use Rattle.machine.specs.declared.Pair.{Pair}
 use Rattle.machine.specs.Symbols.{emptySymbol, isPair, withinSymbols}
 use Rattle.machine.specs.Machine.{Machine, endingOf}

@@ -1,19 +1,7 @@
 -- Entering a position of a graph over a card's nodes and a list of sets: at the last one its endings are looked at, node by node; at another one the
 -- pairs that leave it, a symbol of the set after the other, for each symbol node by node, for each node out by out.
-use mathlib.Core.Path.{_≡_, refl, sym, _∙_, ap}
-use mathlib.Core.Logic.{_⊎_, inl, inr, _≢_}
-use mathlib.Core.Bool.{Bool, true, false, not, _&&_}
-use mathlib.Core.List.{List}
-use mathlib.Core.Option.{some, none, Option·none-ne-some}
-use Prim.Native.Nat.{ℕ, suc, _+_, _*_, _<_}
-use native.Mathlib.Omega.{arith}
-use native.Mathlib.Decide.{decLt, ℕ-discrete}
-use lib.Dec.{eqb}
-use lib.ListN.{length, getD}
+use Rattle.basics.proofs.Words.{_≡_, refl, sym, _∙_, ap, Bool, true, false, not, _&&_, List, some, none, Option·none-ne-some, _⊎_, inl, inr, _≢_, ℕ, suc, _+_, _*_, _<_, arith, length, getD, eqb, decLt, ℕ-discrete, member, clash, no-member}
 use borrow.Author.Tests.{eqb-true}
-use Rattle.basics.specs.Sets.{member}
-use Rattle.basics.proofs.Bools.{clash}
-use Rattle.basics.proofs.Sets.{no-member}
 use Rattle.machine.specs.declared.Pair.{Pair}
 use Rattle.machine.specs.Symbols.{emptySymbol}
 use Rattle.machine.proofs.SetLoops.{with-true}

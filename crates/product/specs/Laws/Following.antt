@@ -1,12 +1,6 @@
 -- Walking along labels and writing the pairs: what is written, and what is left. Over any graph whose letters are the pairs and whose costs tell how
 -- many of them there are.
-use mathlib.Core.Path.{_≡_, refl, sym, _∙_, ap}
-use mathlib.Core.Option.{some}
-use mathlib.Core.List.{List, [], _∷_, _++_, append-assoc}
-use Prim.Native.Nat.{ℕ, suc, _+_, _*_, _<_, _≤_}
-use native.Mathlib.Omega.{arith}
-use lib.ListN.{length, getD, drop, set, length-append}
-use lib.Seq.{set-at, drop-cons}
+use Rattle.basics.specs.Words.{_≡_, refl, sym, _∙_, ap, List, [], _∷_, _++_, append-assoc, some, ℕ, suc, _+_, _*_, _<_, _≤_, arith, length, getD, drop, set, length-append, set-at, drop-cons}
 use Rattle.machine.specs.declared.Pair.{Pair}
 use Rattle.candidate.specs.Candidates.{bytesOf}
 use Rattle.paths.specs.Costs.{Costs, Labels}

@@ -1,9 +1,5 @@
 -- Laws of the joint step: the joint marks of a list of pairs, pair by pair; what sound machines promise of it.
-use mathlib.Core.Path.{_≡_, refl}
-use mathlib.Core.List.{List, [], _∷_, map}
-use mathlib.Core.Bool.{true}
-use mathlib.Core.Option.{Option, some, none, Option·none-ne-some}
-use Prim.Native.Nat.{ℕ, _<_, _≤_}
+use Rattle.basics.specs.Words.{_≡_, refl, true, List, [], _∷_, map, Option, some, none, Option·none-ne-some, ℕ, _<_, _≤_}
 use Rattle.machine.specs.declared.Pair.{Pair}
 use Rattle.machine.specs.Symbols.{withinSymbols}
 use Rattle.machine.specs.Machine.{Machine, startState, stepOf, endingOf}

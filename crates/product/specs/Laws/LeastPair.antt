@@ -1,18 +1,7 @@
 -- Finding the least of the pairs at a position that pass a test: in by in, the empty symbol first, and out by out. The test of an engine is that a
 -- pair keeps to its labels.
-use mathlib.Core.Path.{_≡_, refl, sym, _∙_, ap}
-use mathlib.Core.Logic.{_⊎_, inl, inr, _≢_}
-use mathlib.Core.Bool.{Bool, true, false, not, _&&_, _||_}
-use mathlib.Core.List.{List}
-use Prim.Native.Nat.{ℕ, _<_}
-use native.Mathlib.Decide.{ℕ-discrete}
-use native.Mathlib.Omega.{arith}
-use lib.Dec.{eqb}
-use lib.ListN.{getD}
+use Rattle.basics.proofs.Words.{_≡_, refl, sym, _∙_, ap, Bool, true, false, not, _&&_, _||_, List, _⊎_, inl, inr, _≢_, ℕ, _<_, arith, getD, eqb, ℕ-discrete, member, left as left-passes, either, left-fails, right-fails, clash, no-member}
 use borrow.Author.Tests.{eqb-true, eq-eqb}
-use Rattle.basics.specs.Sets.{member}
-use Rattle.basics.proofs.Bools.{left as left-passes, either, left-fails, right-fails, clash}
-use Rattle.basics.proofs.Sets.{no-member}
 use Rattle.machine.specs.declared.Pair.{Pair}
 use Rattle.machine.specs.Symbols.{emptySymbol}
 use Rattle.machine.specs.SymbolSets.{leastSymbol}

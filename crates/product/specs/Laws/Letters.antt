@@ -1,17 +1,7 @@
 -- The letters of the edges at a node: an insertion stays at its position, any other pair reads a symbol of the set there and leads to the next one.
 -- It is all that labelling and walking ask of a graph over a card's nodes, whatever its costs: the product at any price, or a part of it.
-use mathlib.Core.Path.{_≡_, _∙_, ap, subst}
-use mathlib.Core.Logic.{_⊎_, inl, inr, _≢_}
-use mathlib.Core.Bool.{true}
-use mathlib.Core.List.{List}
-use mathlib.Core.Option.{some}
-use Prim.Native.Nat.{ℕ, suc, _≤_, _<_}
-use native.Mathlib.Omega.{arith}
-use lib.Dec.{leb}
-use lib.ListN.{length, getD}
+use Rattle.basics.proofs.Words.{_≡_, _∙_, ap, subst, true, List, some, _⊎_, inl, inr, _≢_, ℕ, suc, _≤_, _<_, arith, length, getD, leb, member, right}
 use borrow.Author.Tests.{leb-true}
-use Rattle.basics.specs.Sets.{member}
-use Rattle.basics.proofs.Bools.{right}
 use Rattle.machine.specs.declared.Pair.{Pair}
 use Rattle.machine.specs.Symbols.{emptySymbol, isPair}
 use Rattle.card.specs.Layout.{symbolCount}

@@ -1,19 +1,7 @@
 -- What the definition of the best lists: the lists of fewer than n pairs over the symbols, those of them that are complete candidates for the
 -- word, and the least of these.
-use mathlib.Core.Path.{_≡_, refl, sym, _∙_, ap}
-use mathlib.Core.Logic.{_⊎_, inl, inr}
-use mathlib.Core.Bool.{Bool, true, false, _&&_}
-use mathlib.Core.List.{List, [], _∷_, map, List·Memᴰ, List·Memᴰ·head, List·Memᴰ·tail, List·Memᴰ·not-nil, List·Memᴰ·cases-cons, Memᴰ·cast}
-use mathlib.Core.Option.{Option, some, none, Option·none-ne-some}
-use Prim.Native.Nat.{ℕ, zero, suc, _+_, _<_, _≤_}
-use native.Mathlib.Omega.{arith}
-use lib.ListN.{length}
-use lib.Dec.{leb}
+use Rattle.basics.proofs.Words.{_≡_, refl, sym, _∙_, ap, Bool, true, false, _&&_, List, [], _∷_, map, List·Memᴰ, List·Memᴰ·head, List·Memᴰ·tail, List·Memᴰ·not-nil, List·Memᴰ·cases-cons, Memᴰ·cast, Option, some, none, Option·none-ne-some, _⊎_, inl, inr, ℕ, zero, suc, _+_, _<_, _≤_, arith, length, leb, allOf, joined, numbersBelow, both, left, right, clash, those-member, member-those, joined-member, member-joined, member-numbers}
 use borrow.Author.Tests.{leb-true}
-use Rattle.basics.specs.Search.{allOf, joined, numbersBelow}
-use Rattle.basics.proofs.Bools.{both, left, right, clash}
-use Rattle.basics.proofs.Search.{those-member, member-those, joined-member, member-joined}
-use Rattle.basics.proofs.Below.{member-numbers}
 use Rattle.machine.specs.declared.Pair.{Pair}
 use Rattle.machine.specs.Symbols.{isPair, withinSymbols}
 use Rattle.machine.specs.Machine.{Machine}

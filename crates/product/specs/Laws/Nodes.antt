@@ -1,9 +1,5 @@
 -- Laws of nodes as numbers: numbering and reading back.
-use mathlib.Core.Path.{_≡_, refl, _∙_, ap}
-use mathlib.Core.List.{List, [], _∷_}
-use Prim.Native.Nat.{ℕ, suc, _+_, _*_, _/_, _%_, _<_, _≤_}
-use native.Mathlib.Nat.{mul-le-mul-right, mul-add-div-right, mul-add-mod-self-right, div-eq-of-lt, mod-eq-of-lt, mod-lt, div-lt-iff-lt-mul, suc-mul, mul-pos}
-use native.Mathlib.Omega.{arith}
+use Rattle.basics.specs.Words.{_≡_, refl, _∙_, ap, List, [], _∷_, ℕ, suc, _+_, _*_, _/_, _%_, _<_, _≤_, arith, mul-le-mul-right, mul-add-div-right, mul-add-mod-self-right, div-eq-of-lt, mod-eq-of-lt, mod-lt, div-lt-iff-lt-mul, suc-mul, mul-pos}
 use Rattle.product.specs.Nodes.{product, codeOf, statesOf, nodeOf, positionAt, statesAt}
 
 -- one state for each count, below it

@@ -1,16 +1,7 @@
 -- The cost of a list of pairs from a node: it is there exactly when they are pairs that spell a word with one symbol from each set that is left and
 -- every machine takes them all and ends, and it is the price of the marks and of the number of pairs.
-use mathlib.Core.Path.{_≡_, refl, sym, _∙_, ap}
-use mathlib.Core.Bool.{Bool, true, false, _&&_, and-false}
-use mathlib.Core.List.{List, [], _∷_, map}
-use mathlib.Core.Option.{Option, some, none}
-use Prim.Native.Nat.{ℕ, suc, _+_, _≤_}
-use native.Mathlib.Omega.{arith}
-use lib.ListN.{length, getD, drop}
-use lib.Dec.{eqb}
+use Rattle.basics.specs.Words.{_≡_, refl, sym, _∙_, ap, Bool, true, false, _&&_, and-false, List, [], _∷_, map, Option, some, none, ℕ, suc, _+_, _≤_, arith, length, getD, drop, eqb, allOf, member}
 use borrow.Author.Tests.{eqb-true, eqb-false, eq-eqb, ne-eqb, le-leb}
-use Rattle.basics.specs.Search.{allOf}
-use Rattle.basics.specs.Sets.{member}
 use Rattle.machine.specs.declared.Pair.{Pair}
 use Rattle.machine.specs.Symbols.{emptySymbol, isPair}
 use Rattle.machine.specs.Machine.{Machine}

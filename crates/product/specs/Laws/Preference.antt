@@ -1,15 +1,7 @@
 -- The order of preference on candidates is the order of the product's paths, for a price that agrees with the order on profiles: the cost, then
 -- the letters.
-use mathlib.Core.Path.{_≡_, refl, _∙_, ap}
-use mathlib.Core.Logic.{_⊎_, inl, inr}
-use mathlib.Core.Bool.{Bool, true, false, not, _&&_, _||_, false≢true, or-true}
-use mathlib.Core.List.{List, [], _∷_}
-use Prim.Native.Nat.{ℕ, zero, suc, _+_, _*_, _<_}
-use native.Mathlib.Omega.{arith}
-use lib.ListN.{length}
-use lib.Dec.{eqb, ltb}
+use Rattle.basics.proofs.Words.{_≡_, refl, _∙_, ap, Bool, true, false, not, _&&_, _||_, false≢true, or-true, List, [], _∷_, _⊎_, inl, inr, ℕ, zero, suc, _+_, _*_, _<_, arith, length, eqb, ltb, clash, both, left, right, either}
 use borrow.Author.Tests.{eqb-true, ltb-true, eq-eqb, lt-ltb}
-use Rattle.basics.proofs.Bools.{clash, both, left, right, either}
 use Rattle.machine.specs.declared.Pair.{Pair}
 use Rattle.ranking.specs.Profiles.{merge}
 use Rattle.ranking.specs.ByteStrings.{smaller}

@@ -1,17 +1,6 @@
 -- Laws of words with one symbol from each set, and of words as sets of one symbol each.
-use mathlib.Core.Path.{_≡_, refl, sym, _∙_}
-use mathlib.Core.Logic.{_↔_}
-use mathlib.Core.Bool.{true, false, _&&_}
-use mathlib.Core.List.{List, [], _∷_}
-use Prim.Native.Nat.{ℕ, zero, suc, _+_, _^_, _<_, _≤_}
-use native.Mathlib.Decide.{decLt}
-use native.Mathlib.Omega.{arith}
-use lib.ListN.{length, getD, drop, length-map}
+use Rattle.basics.proofs.Words.{_≡_, refl, sym, _∙_, true, false, _&&_, List, [], _∷_, _↔_, ℕ, zero, suc, _+_, _^_, _<_, _≤_, arith, length, getD, drop, length-map, decLt, member, clash, left-next, left-none, no-member, member-one}
 use borrow.Author.Tests.{eqb-true, eq-eqb}
-use Rattle.basics.specs.Sets.{member}
-use Rattle.basics.proofs.Bools.{clash}
-use Rattle.basics.proofs.Search.{left-next, left-none}
-use Rattle.basics.proofs.Sets.{no-member, member-one}
 use Rattle.machine.specs.Symbols.{emptySymbol}
 use Rattle.product.specs.Best.{sameWord}
 use Rattle.product.specs.Sets.{fitsSets, singletons}

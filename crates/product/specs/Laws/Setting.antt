@@ -1,10 +1,5 @@
 -- How many nodes there are, and which position a node is at.
-use mathlib.Core.Path.{_≡_}
-use mathlib.Core.List.{List}
-use Prim.Native.Nat.{ℕ, suc, _+_, _*_, _-_, _<_, _≤_}
-use native.Mathlib.Nat.{mul-le-mul, mul-le-mul-right, suc-mul}
-use native.Mathlib.Omega.{arith}
-use lib.ListN.{length}
+use Rattle.basics.specs.Words.{_≡_, List, ℕ, suc, _+_, _*_, _-_, _<_, _≤_, arith, length, mul-le-mul, mul-le-mul-right, suc-mul}
 use Rattle.card.specs.Layout.{symbolCount}
 use Rattle.card.specs.Card.{machinesOf}
 use Rattle.card.specs.Accepted.{accepted}

@@ -1,13 +1,6 @@
 -- What sound weights are.
-use mathlib.Core.Path.{_≡_}
-use mathlib.Core.Bool.{true}
-use mathlib.Core.List.{List}
-use Prim.Native.Nat.{ℕ}
-use lib.ListN.{length}
-use lib.Dec.{eqb, leb}
+use Rattle.basics.proofs.Words.{_≡_, true, List, ℕ, length, eqb, leb, allOf, left, right}
 use borrow.Author.Tests.{eqb-true}
-use Rattle.basics.specs.Search.{allOf}
-use Rattle.basics.proofs.Bools.{left, right}
 use Rattle.product.specs.Weights.{soundWeights}
 
 pub record Weighs (K : ℕ) (weights : List ℕ) : Type 0 where

@@ -1,16 +1,6 @@
 -- Weighted sums: a sum over all machines is the same in card order and in ranked order; the sum of a merge; how large a sum is. Assumes nothing.
-use mathlib.Core.Path.{_≡_, refl, sym, _∙_, ap}
-use mathlib.Core.Bool.{true}
-use mathlib.Core.List.{List, [], _∷_}
-use Prim.Native.Nat.{ℕ, zero, suc, _+_, _*_, _<_, _≤_}
-use native.Mathlib.Nat.{zero-mul, one-mul, mul-zero, suc-mul, mul-suc, mul-add, mul-le-mul}
-use native.Mathlib.Omega.{arith}
-use lib.ListN.{length, getD}
-use lib.Dec.{leb}
+use Rattle.basics.proofs.Words.{_≡_, refl, sym, _∙_, ap, true, List, [], _∷_, ℕ, zero, suc, _+_, _*_, _<_, _≤_, arith, length, getD, leb, zero-mul, one-mul, mul-zero, suc-mul, mul-suc, mul-add, mul-le-mul, allOf, occurrences, left, right, occurs-none, occurs-here, occurs-later}
 use borrow.Author.Tests.{leb-true}
-use Rattle.basics.specs.Search.{allOf, occurrences}
-use Rattle.basics.proofs.Bools.{left, right}
-use Rattle.basics.proofs.Occurrences.{occurs-none, occurs-here, occurs-later}
 use Rattle.ranking.specs.Profiles.{merge}
 use Rattle.ranking.specs.Rankings.{isRanking}
 use Rattle.ranking.specs.Lemmas.Harmony.{Standing, fewer, same, more, standing}

@@ -1,20 +1,8 @@
 -- What accepted sets are known to be, and that sets of one symbol each pass the test of sets exactly where the word passes that of symbols.
-use mathlib.Core.Path.{_≡_, refl}
-use mathlib.Core.Bool.{true, not, _&&_, and-false}
-use mathlib.Core.List.{List, [], _∷_}
-use Prim.Native.Nat.{ℕ, zero, suc, _+_, _^_, _<_, _≤_}
-use native.Mathlib.Decide.{decLt}
-use native.Mathlib.Omega.{arith}
-use lib.Dec.{leb, ltb, eqb, lit<}
-use lib.ListN.{length, getD}
+use Rattle.basics.proofs.Words.{_≡_, refl, true, not, _&&_, and-false, List, [], _∷_, ℕ, zero, suc, _+_, _^_, _<_, _≤_, arith, length, getD, leb, ltb, eqb, lit<, decLt, allOf, member, left, right, clash, all-at, each-at, member-beyond, member-one}
 use lib.Pow.{pow-pos, pow-lt, pow-mono}
 use borrow.Author.Tests.{leb-true, le-leb, lt-leb, ltb-true, lt-ltb, le-ltb, ne-eqb, not-true}
-use Rattle.basics.specs.Search.{allOf}
-use Rattle.basics.specs.Sets.{member}
 use Rattle.refusals.specs.Refusals.{refuse}
-use Rattle.basics.proofs.Bools.{left, right, clash}
-use Rattle.basics.proofs.Search.{all-at, each-at}
-use Rattle.basics.proofs.Sets.{member-beyond, member-one}
 use Rattle.refusals.proofs.Refusals.{passed, none-first}
 use Rattle.machine.specs.Symbols.{emptySymbol}
 use Rattle.machine.specs.Part.{soundSet}

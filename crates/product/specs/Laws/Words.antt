@@ -1,15 +1,6 @@
 -- What an accepted word is known to be.
-use mathlib.Core.Path.{_≡_}
-use mathlib.Core.Bool.{true, _&&_}
-use mathlib.Core.List.{List}
-use Prim.Native.Nat.{ℕ, _≤_}
-use native.Mathlib.Omega.{arith}
-use lib.Dec.{leb, ltb}
-use lib.ListN.{length, getD}
+use Rattle.basics.proofs.Words.{_≡_, true, _&&_, List, ℕ, _≤_, arith, length, getD, leb, ltb, allOf, left, right, all-at, each-at}
 use borrow.Author.Tests.{leb-true, lt-ltb}
-use Rattle.basics.specs.Search.{allOf}
-use Rattle.basics.proofs.Bools.{left, right}
-use Rattle.basics.proofs.Search.{all-at, each-at}
 use Rattle.product.specs.Optimizing.{soundWord}
 
 pub record AcceptedWord (S : ℕ) (word : List ℕ) : Type 0 where

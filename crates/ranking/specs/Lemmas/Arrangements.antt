@@ -1,17 +1,6 @@
 -- The arrangements of a list of machines are its permutations. Assumes nothing.
-use mathlib.Core.Path.{_≡_, refl, sym, _∙_, ap}
-use mathlib.Core.Bool.{Bool, true, not}
-use mathlib.Core.List.{List, [], _∷_, map, List·Memᴰ, List·Memᴰ·head, List·Memᴰ·eq-of-singleton}
-use Prim.Native.Nat.{ℕ, zero, suc, _+_, _<_, _≤_}
-use native.Mathlib.Omega.{arith}
-use lib.Dec.{eqb, ltb}
-use lib.ListN.{length}
+use Rattle.basics.proofs.Words.{_≡_, refl, sym, _∙_, ap, Bool, true, not, List, [], _∷_, map, List·Memᴰ, List·Memᴰ·head, List·Memᴰ·eq-of-singleton, ℕ, zero, suc, _+_, _<_, _≤_, arith, length, eqb, ltb, those, numbersBelow, occurrences, both, joined-member, member-joined, each-below, length-numbers, occurs-none, occurs-here, occurs-later, occurrences-append, its-place, member-occurs, occurs-member}
 use borrow.Author.Tests.{eq-eqb, ne-eqb, ltb-true, ltb-false}
-use Rattle.basics.specs.Search.{those, numbersBelow, occurrences}
-use Rattle.basics.proofs.Bools.{both}
-use Rattle.basics.proofs.Search.{joined-member, member-joined}
-use Rattle.basics.proofs.Below.{each-below, length-numbers}
-use Rattle.basics.proofs.Occurrences.{occurs-none, occurs-here, occurs-later, occurrences-append, its-place, member-occurs, occurs-member}
 use Rattle.ranking.specs.Rankings.{isRanking, arrangements}
 use Rattle.ranking.specs.Lemmas.Rankings.{Ranking, ranking-facts}
 use Rattle.ranking.specs.Lemmas.Searches.{split, equal-or-not, those-in, those-out, mem-map, map-mem}

@@ -1,12 +1,6 @@
 -- How the set of the machines where one profile has fewer grows. Assumes nothing.
-use mathlib.Core.Path.{_≡_}
-use mathlib.Core.List.{List}
-use Prim.Native.Nat.{ℕ, _+_, _^_, _<_, _≤_}
-use native.Mathlib.Numerals.{add-one}
-use lib.Dec.{ltb}
-use lib.ListN.{getD}
+use Rattle.basics.proofs.Words.{_≡_, List, ℕ, _+_, _^_, _<_, _≤_, getD, ltb, add-one, set-start, set-bound, set-grows, set-stays}
 use borrow.Author.Tests.{lt-ltb, le-ltb}
-use Rattle.basics.proofs.Sets.{set-start, set-bound, set-grows, set-stays}
 use Rattle.ranking.specs.Conditions.{fewerIn}
 
 module _ (a b : List ℕ) where

@@ -1,12 +1,5 @@
 -- How harmonic comparison goes down a ranking, from one machine to the next. Assumes nothing.
-use mathlib.Core.Path.{_≡_, refl}
-use mathlib.Core.Bool.{Bool, true, false}
-use mathlib.Core.List.{List, [], _∷_}
-use Prim.Native.Nat.{ℕ, _<_, _≤_}
-use native.Mathlib.Nat.{le-of-lt}
-use native.Mathlib.Omega.{arith}
-use lib.Dec.{ltb}
-use lib.ListN.{getD}
+use Rattle.basics.specs.Words.{_≡_, refl, Bool, true, false, List, [], _∷_, ℕ, _<_, _≤_, arith, getD, ltb, le-of-lt}
 use borrow.Author.Tests.{lt-ltb, le-ltb, ltb-true, ltb-false}
 use Rattle.ranking.specs.declared.Order.the-variants.{Better, Equal, Worse}
 use Rattle.ranking.specs.Harmony.{harmony}

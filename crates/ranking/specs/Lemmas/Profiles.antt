@@ -1,11 +1,6 @@
 -- How profiles merge, and which is the better of two: the laws of the violation semiring for what is finite in it. Profiles are lists of counts
 -- here; those of the engine have six. Assumes nothing.
-use mathlib.Core.Path.{_≡_, refl, sym, _∙_, ap}
-use mathlib.Core.List.{List, [], _∷_}
-use mathlib.Core.Bool.{Bool, true, false}
-use Prim.Native.Nat.{ℕ, zero, suc, _+_, _≤_}
-use native.Mathlib.Omega.{arith}
-use lib.ListN.{length, replicate}
+use Rattle.basics.specs.Words.{_≡_, refl, sym, _∙_, ap, Bool, true, false, List, [], _∷_, ℕ, zero, suc, _+_, _≤_, arith, length, replicate}
 use Rattle.ranking.specs.declared.Order.the-variants.{Equal}
 use Rattle.ranking.specs.Profiles.{zeroProfile, merge}
 use Rattle.ranking.specs.Rankings.{isRanking}

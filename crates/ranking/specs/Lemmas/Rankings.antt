@@ -1,16 +1,6 @@
 -- What a machine count and a ranking are known to be, and how the check of a ranking ends. Assumes nothing.
-use mathlib.Core.Path.{_≡_, refl, sym, _∙_}
-use mathlib.Core.Bool.{Bool, true, false, and-false}
-use mathlib.Core.List.{List, [], _∷_}
-use Prim.Native.Nat.{ℕ, zero, suc, _+_, _<_, _≤_}
-use native.Mathlib.Omega.{arith}
-use lib.Dec.{eqb, leb, ltb}
-use lib.ListN.{length, getD}
+use Rattle.basics.proofs.Words.{_≡_, refl, sym, _∙_, Bool, true, false, and-false, List, [], _∷_, ℕ, zero, suc, _+_, _<_, _≤_, arith, length, getD, eqb, leb, ltb, everyBelow, occurrences, left, right, both, every-at, one-below-fails, its-place, one-place}
 use borrow.Author.Tests.{eqb-true, eqb-false, leb-true, ltb-true, ltb-false, eq-eqb, ne-eqb, le-ltb, lt-ltb}
-use Rattle.basics.specs.Search.{everyBelow, occurrences}
-use Rattle.basics.proofs.Bools.{left, right, both}
-use Rattle.basics.proofs.Below.{every-at, one-below-fails}
-use Rattle.basics.proofs.Occurrences.{its-place, one-place}
 use Rattle.ranking.specs.Rankings.{isMachineCount, isRanking}
 
 -- 1 to 6 machines

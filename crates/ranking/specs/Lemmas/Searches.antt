@@ -1,17 +1,6 @@
 -- Laws of the searches over a list: in parts of it, along a function, one search in another. Assumes nothing.
-use mathlib.Core.Path.{_≡_, refl, sym, _∙_, ap, ap₂}
-use mathlib.Core.Logic.{⊎-elim}
-use mathlib.Core.Bool.{Bool, true, false, not, _&&_, _||_, and-false}
-use mathlib.Core.List.{List, [], _∷_, _++_, map, List·Memᴰ, List·Memᴰ·head, List·Memᴰ·tail, List·Memᴰ·not-nil, List·Memᴰ·cases-cons}
-use mathlib.Core.Option.{some, none, Option·map}
-use Prim.Native.Nat.{ℕ, zero, suc, _+_, _<_}
-use native.Mathlib.Numerals.{add-one}
-use native.Mathlib.Omega.{arith}
-use lib.Dec.{eqb}
+use Rattle.basics.proofs.Words.{_≡_, refl, sym, _∙_, ap, ap₂, Bool, true, false, not, _&&_, _||_, and-false, List, [], _∷_, _++_, map, List·Memᴰ, List·Memᴰ·head, List·Memᴰ·tail, List·Memᴰ·not-nil, List·Memᴰ·cases-cons, some, none, Option·map, ⊎-elim, ℕ, zero, suc, _+_, _<_, arith, eqb, add-one, allOf, those, firstThat, numbersBelow, both, first-found, first-next, first-misses}
 use borrow.Author.Tests.{eqb-true, eqb-false}
-use Rattle.basics.specs.Search.{allOf, those, firstThat, numbersBelow}
-use Rattle.basics.proofs.Bools.{both}
-use Rattle.basics.proofs.Search.{first-found, first-next, first-misses}
 
 -- the two cases of a test
 pub split : {C : Type 0} (b : Bool) → (b ≡ true → C) → (b ≡ false → C) → C

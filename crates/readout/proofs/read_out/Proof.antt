@@ -1,8 +1,5 @@
 -- `read_out` meets its contract.
-use mathlib.Core.Path.{_≡_, sym, _∙_, ap}
-use native.Mathlib.Omega.{arith}
-use borrow.Author.Needs.{needs}
-use lib.ListN.{length}
+use Rattle.basics.proofs.Words.{_≡_, sym, _∙_, ap, arith, length, needs}
 use Rattle.refusals.specs.Refusals.{checkedNumber}
 use Rattle.refusals.proofs.Refusals.{refused-number}
 use Rattle.product.specs.ProductGraph.{cardStart}
@@ -70,10 +67,7 @@ read-out-spec =
     (tie.spec
     start-node-requires
     check-best-requires
-    (λ c. search needs)
-    (λ c. search needs)
-    (λ c κs. search needs)
-    (λ c κs. search needs)
+    (λ c. search needs) (λ c. search needs) (λ c κs. search needs) (λ c κs. search needs)
     returns
     walk-ranked-requires
     cast-pairs

@@ -1,7 +1,5 @@
 -- `walk_ranked` meets its contract.
-use mathlib.Core.Path.{refl}
-use native.Mathlib.Omega.{arith}
-use borrow.Author.Needs.{needs}
+use Rattle.basics.proofs.Words.{refl, arith, needs}
 use Rattle.labelling.proofs.Sizes.{counts-fit, machines-few, counts-length, counts-some}
 use Rattle.labelling.proofs.Preparing.{counts-ranked}
 use Rattle.readout.proofs.Walking.{label-pre, weights-fit, weights-length, walk-pre, best-walked}

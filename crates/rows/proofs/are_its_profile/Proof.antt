@@ -1,6 +1,4 @@
-use mathlib.Core.Path.{_≡_, ap, ap₂, _∙_}
-use mathlib.Core.List.{List}
-use Prim.Native.Nat.{ℕ}
+use Rattle.basics.proofs.Words.{_≡_, ap, ap₂, _∙_, List, ℕ, needs}
 use Rattle.ranking.specs.declared.Profile.{Profile}
 use Rattle.card.specs.Card.{machinesOf}
 use Rattle.candidate.specs.Candidates.{pairsOf, profileOf}
@@ -8,7 +6,6 @@ use Rattle.candidate.specs.Evaluating.{profileWith}
 use Rattle.rows.specs.Tableau.{candidateOf}
 use Rattle.rows.specs.Judging.{sameCounts}
 use Rattle.rows.proofs.Rows.{candidate-bytes}
-use borrow.Author.Needs.{needs}
 use Rattle.rows.proofs.are_its_profile.Statement.{statement}
 use Rattle.rows.proofs.are_its_profile.Tie as tie
 
@@ -28,10 +25,7 @@ pub are-its-profile-spec : {M : Type 1} → statement M
 are-its-profile-spec =
     tie.close
     (tie.spec
-    (λ c. search needs)
-    (λ c. search needs)
-    (λ c. search needs)
+    (λ c. search needs) (λ c. search needs) (λ c. search needs)
     score-requires
-    (λ c κs. search needs)
-    (λ c κs. search needs)
+    (λ c κs. search needs) (λ c κs. search needs)
     returns)

@@ -1,8 +1,4 @@
-use mathlib.Core.Path.{_≡_, sym, ap, _∙_}
-use mathlib.Core.Bool.{true}
-use native.Mathlib.Omega.{arith}
-use borrow.Author.Needs.{needs}
-use borrow.Author.Tests.{not-true, not-false}
+use Rattle.basics.proofs.Words.{_≡_, sym, ap, _∙_, true, arith, needs, not-true, not-false}
 use Rattle.refusals.specs.Refusals.{refuse}
 use Rattle.refusals.proofs.Refusals.{refuses-with}
 use Rattle.layout.specs.Layout.{laidOut}
@@ -48,8 +44,7 @@ check-layout-spec =
     tie.close
     (tie.spec
     returns
-    (λ c. search needs)
-    (λ c. search needs)
+    (λ c. search needs) (λ c. search needs)
     returns-2
     (λ c κs. search needs)
     returns-3

@@ -1,13 +1,6 @@
-use mathlib.Core.Path.{_≡_, sym, ap, _∙_}
-use mathlib.Core.Bool.{true}
-use mathlib.Core.List.{[], _∷_}
-use Prim.Native.Nat.{ℕ}
-use native.Mathlib.Omega.{arith}
-use lib.Dec.{lit<}
-use borrow.Author.Needs.{needs}
+use Rattle.basics.proofs.Words.{_≡_, sym, ap, _∙_, true, [], _∷_, ℕ, arith, lit<, needs, every-at}
 use Rattle.refusals.specs.Refusals.{refuse, checkedNumber}
 use Rattle.refusals.proofs.Refusals.{was-true, goes-up, last-one}
-use Rattle.basics.proofs.Below.{every-at}
 use Rattle.card.specs.Layout.{machineCount}
 use Rattle.card.specs.Accepted.{accepted}
 use Rattle.rows.specs.Tableau.{rowCount, rowOf, everyRow, soundTableau}
@@ -67,12 +60,10 @@ check-tableau-spec =
     (tie.spec
     (λ c κs. search needs)
     check-layout-requires
-    (λ c. search needs)
-    (λ c. search needs)
+    (λ c. search needs) (λ c. search needs)
     returns
     check-candidates-requires
-    (λ c. search needs)
-    (λ c. search needs)
+    (λ c. search needs) (λ c. search needs)
     returns-2
     check-profiles-requires
     returns-3)

@@ -1,10 +1,7 @@
-use mathlib.Core.Path.{ap, _∙_}
-use mathlib.Core.List.{List}
-use Prim.Native.Nat.{ℕ}
+use Rattle.basics.proofs.Words.{ap, _∙_, List, ℕ, needs}
 use Rattle.layout.specs.LaidOut.{part-within}
 use Rattle.rows.specs.Tableau.{rowCount, countsOf}
 use Rattle.rows.specs.Judging.{sameCounts}
-use borrow.Author.Needs.{needs}
 use Rattle.rows.proofs.has_profile.Statement.{statement}
 use Rattle.rows.proofs.has_profile.Tie as tie
 

@@ -1,8 +1,4 @@
-use mathlib.Core.Path.{_≡_, sym, ap, ap₂, _∙_}
-use mathlib.Core.Bool.{true}
-use mathlib.Core.List.{List}
-use Prim.Native.Nat.{ℕ}
-use lib.Dec.{lit<}
+use Rattle.basics.proofs.Words.{_≡_, sym, ap, ap₂, _∙_, true, List, ℕ, lit<, needs}
 use Rattle.refusals.specs.Refusals.{refuse, checkedNumber}
 use Rattle.refusals.proofs.Refusals.{was-true, was-false}
 use Rattle.card.specs.Layout.{symbolCount}
@@ -13,7 +9,6 @@ use Rattle.product.specs.Best.{sameWord}
 use Rattle.candidate.proofs.Pairs.{sound-shape}
 use Rattle.rows.specs.Tableau.{candidateOf}
 use Rattle.rows.proofs.Rows.{candidate-bytes, not-sound, not-complete, word-decides}
-use borrow.Author.Needs.{needs}
 use Rattle.rows.proofs.is_for_word.Statement.{statement}
 use Rattle.rows.proofs.is_for_word.Tie as tie
 
@@ -68,17 +63,11 @@ pub is-for-word-spec : {M : Type 1} → statement M
 is-for-word-spec =
     tie.close
     (tie.spec
-    (λ c. search needs)
-    (λ c. search needs)
-    (λ c. search needs)
-    (λ c κs. search needs)
-    (λ c κs. search needs)
-    (λ c. search needs)
+    (λ c. search needs) (λ c. search needs) (λ c. search needs) (λ c κs. search needs) (λ c κs. search needs) (λ c. search needs)
     (λ c. search needs)
     returns
     score-requires
-    (λ c. search needs)
-    (λ c. search needs)
+    (λ c. search needs) (λ c. search needs)
     returns-2
     spells-requires
     returns-3)

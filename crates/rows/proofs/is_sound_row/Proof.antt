@@ -1,9 +1,4 @@
-use mathlib.Core.Path.{_≡_, refl, sym, ap, _∙_}
-use mathlib.Core.List.{List}
-use Prim.Native.Nat.{ℕ, _≤_, _-_}
-use lib.ListN.{getD}
-use borrow.Author.Needs.{needs}
-use native.Mathlib.Omega.{arith}
+use Rattle.basics.proofs.Words.{_≡_, refl, sym, ap, _∙_, List, ℕ, _≤_, _-_, arith, getD, needs}
 use Rattle.rows.specs.Tableau.{countsOf}
 use Rattle.rows.proofs.Rows.{zerosFrom, row-short, row-long, zero-next, not-zero, zero-end}
 use Rattle.rows.proofs.is_sound_row.Statement.{statement}
@@ -55,7 +50,6 @@ is-sound-row-spec =
     loop-holds
     (λ c κs. search needs)
     returns-2
-    (λ c. search needs)
-    (λ c. search needs)
+    (λ c. search needs) (λ c. search needs)
     loop-again
     returns-3)

@@ -1,8 +1,5 @@
-use mathlib.Core.Bool.{_&&_}
-use lib.Dec.{eqb}
-use Rattle.basics.specs.Search.{everyBelow}
+use Rattle.basics.proofs.Words.{_&&_, eqb, everyBelow, needs}
 use Rattle.rows.specs.Judging.{sameCounts}
-use borrow.Author.Needs.{needs}
 use Rattle.rows.proofs.same_counts.Statement.{statement}
 use Rattle.rows.proofs.same_counts.Tie as tie
 
@@ -27,16 +24,7 @@ pub same-counts-spec : {M : Type 1} → statement M
 same-counts-spec =
     tie.close
     (tie.spec
-    (λ c κs. search needs)
-    (λ c κs. search needs)
-    (λ c κs. search needs)
-    (λ c κs. search needs)
-    (λ c κs. search needs)
-    (λ c κs. search needs)
-    (λ c κs. search needs)
-    (λ c κs. search needs)
-    (λ c κs. search needs)
-    (λ c κs. search needs)
-    (λ c κs. search needs)
-    (λ c κs. search needs)
+    (λ c κs. search needs) (λ c κs. search needs) (λ c κs. search needs) (λ c κs. search needs) (λ c κs. search needs)
+    (λ c κs. search needs) (λ c κs. search needs) (λ c κs. search needs) (λ c κs. search needs) (λ c κs. search needs)
+    (λ c κs. search needs) (λ c κs. search needs)
     returns)

@@ -1,9 +1,4 @@
-use mathlib.Core.Path.{_≡_, sym, ap, _∙_}
-use mathlib.Core.Logic.{⊎-elim}
-use Prim.Native.Nat.{_≤_, _+_, _-_, _%_}
-use lib.ListN.{length}
-use borrow.Author.Needs.{needs}
-use native.Mathlib.Omega.{arith}
+use Rattle.basics.proofs.Words.{_≡_, sym, ap, _∙_, ⊎-elim, _≤_, _+_, _-_, _%_, arith, length, needs}
 use Rattle.rows.proofs.Spelling.{restSame, same-inserted, same-symbol, other-symbol, too-long, same-end}
 use Rattle.rows.proofs.spells.Statement.{statement}
 use Rattle.rows.proofs.spells.Tie as tie
@@ -53,13 +48,10 @@ spells-spec =
     (tie.spec
     Inv-loop
     μ-loop
-    (λ c. search needs)
-    (λ c. search needs)
+    (λ c. search needs) (λ c. search needs)
     returns
     (λ c. search needs)
     returns-2
-    (λ c. search needs)
-    (λ c. search needs)
-    (λ c. search needs)
+    (λ c. search needs) (λ c. search needs) (λ c. search needs)
     loop-again
     returns-3)

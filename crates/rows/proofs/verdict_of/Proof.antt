@@ -1,10 +1,4 @@
-use mathlib.Core.Path.{_≡_, sym, ap, _∙_}
-use mathlib.Core.Bool.{Bool, false}
-use mathlib.Core.List.{List}
-use mathlib.Core.Option.{none}
-use Prim.Native.Nat.{ℕ, _≤_, _-_}
-use borrow.Author.Needs.{needs}
-use native.Mathlib.Omega.{arith}
+use Rattle.basics.proofs.Words.{_≡_, sym, ap, _∙_, Bool, false, List, none, ℕ, _≤_, _-_, arith, needs}
 use Rattle.rows.specs.Tableau.{rowCount, claimedRow, rowOf, countsOf}
 use Rattle.rows.specs.Judging.{sameCounts}
 use Rattle.rows.proofs.Verdicts.{firstBefore, none-start, none-next, claim-wins, later-wins, no-row-wins}
@@ -73,17 +67,14 @@ verdict-of-spec =
     (tie.spec
     Inv-loop
     μ-loop
-    (λ c. search needs)
-    (λ c κs. search needs)
+    (λ c. search needs) (λ c κs. search needs)
     has-profile-requires
     returns
-    (λ c. search needs)
-    (λ c κs. search needs)
+    (λ c. search needs) (λ c κs. search needs)
     loop-holds
     has-profile-requires-2
     cast-t12
     returns-2
-    (λ c. search needs)
-    (λ c. search needs)
+    (λ c. search needs) (λ c. search needs)
     loop-again
     returns-3)

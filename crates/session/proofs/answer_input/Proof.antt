@@ -1,7 +1,4 @@
-use mathlib.Core.Path.{sym}
-use native.Mathlib.Omega.{arith}
-use lib.Seq.{length-take-le}
-use borrow.Author.Needs.{needs}
+use Rattle.basics.proofs.Words.{sym, arith, length-take-le, needs}
 use Rattle.session.proofs.answer_input.Statement.{statement}
 use Rattle.session.proofs.answer_input.Tie as tie
 
@@ -12,11 +9,6 @@ pub answer-input-spec : {M : Type 1} → statement M
 answer-input-spec =
     tie.close
     (tie.spec
-    (λ c. search needs)
-    (λ c κs. search needs)
-    (λ c. search needs)
-    (λ c κs. search needs)
-    (λ c. search needs)
+    (λ c. search needs) (λ c κs. search needs) (λ c. search needs) (λ c κs. search needs) (λ c. search needs)
     slice-aggregate-write-all
-    (λ c κs. search needs)
-    (λ c. search needs))
+    (λ c κs. search needs) (λ c. search needs))

@@ -1,11 +1,6 @@
-use mathlib.Core.Path.{_≡_, refl}
-use mathlib.Core.Bool.{true, false, not}
-use native.Mathlib.Omega.{arith}
-use lib.ListN.{length, take}
-use Rattle.basics.proofs.Bools.{left-fails, right-fails}
+use Rattle.basics.proofs.Words.{_≡_, refl, true, false, not, arith, length, take, needs, left-fails, right-fails}
 use Rattle.session.specs.Output.{Reads}
 use Rattle.session.proofs.Reading.{reads-none, reads-more, wrote}
-use borrow.Author.Needs.{needs}
 use Rattle.session.proofs.answer_pieces.Statement.{statement}
 use Rattle.session.proofs.answer_pieces.Tie as tie
 
@@ -52,20 +47,13 @@ answer-pieces-spec =
     Inv-loop
     μ-loop
     loop-holds
-    (λ c. search needs)
-    (λ c κs. search needs)
-    (λ c. search needs)
-    (λ c. search needs)
+    (λ c. search needs) (λ c κs. search needs) (λ c. search needs) (λ c. search needs)
     answer-piece-requires
-    (λ c. search needs)
-    (λ c. search needs)
+    (λ c. search needs) (λ c. search needs)
     returns
-    (λ c. search needs)
-    (λ c. search needs)
+    (λ c. search needs) (λ c. search needs)
     loop-again
-    (λ c. search needs)
-    (λ c. search needs)
+    (λ c. search needs) (λ c. search needs)
     returns-2
-    (λ c. search needs)
-    (λ c. search needs)
+    (λ c. search needs) (λ c. search needs)
     returns-3)

@@ -1,11 +1,6 @@
-use mathlib.Core.Path.{sym, _∙_}
-use mathlib.Core.List.{[]}
-use Prim.Native.Nat.{zero-le}
-use native.Mathlib.Omega.{arith}
-use lib.Seq.{length-take-le}
+use Rattle.basics.proofs.Words.{sym, _∙_, [], zero-le, arith, length-take-le, needs}
 use Rattle.lesson.proofs.Replies.{front}
 use Rattle.session.proofs.Reading.{wrote, reads-full, reads-text}
-use borrow.Author.Needs.{needs}
 use Rattle.session.proofs.answer_rest.Statement.{statement}
 use Rattle.session.proofs.answer_rest.Tie as tie
 
@@ -39,13 +34,10 @@ pub answer-rest-spec : {M : Type 1} → statement M
 answer-rest-spec =
     tie.close
     (tie.spec
-    (λ c κs. search needs)
-    (λ c. search needs)
-    (λ c. search needs)
+    (λ c κs. search needs) (λ c. search needs) (λ c. search needs)
     returns
     (λ c. search needs)
     slice-aggregate-finish
     finish-requires
-    (λ c. search needs)
-    (λ c. search needs)
+    (λ c. search needs) (λ c. search needs)
     returns-2)

@@ -1,8 +1,6 @@
-use native.Mathlib.Omega.{arith}
-use borrow.Author.Tests.{not-true, not-false}
+use Rattle.basics.proofs.Words.{arith, needs, not-true, not-false}
 use Rattle.stage.proofs.Marks.{place-0, place-1, place-2, place-3, place-4}
 use Rattle.stage.proofs.StageWork.{left-start, makes-next, left-told, makes-broken}
-use borrow.Author.Needs.{needs}
 use Rattle.stage.proofs.arc_left.Statement.{statement}
 use Rattle.stage.proofs.arc_left.Tie as tie
 use Rattle.stage.proofs.arc_left.Reads as reads

@@ -1,8 +1,6 @@
-use native.Mathlib.Omega.{arith}
-use Prim.Native.Nat.{_-_, _≤_}
+use Rattle.basics.proofs.Words.{_-_, _≤_, arith, needs}
 use Rattle.stage.specs.Relaxing.{noCounts}
 use Rattle.stage.proofs.StageWork.{KeptBelow, left-start, left-next, left-told, left-broken}
-use borrow.Author.Needs.{needs}
 use Rattle.stage.proofs.ending_left.Statement.{statement}
 use Rattle.stage.proofs.ending_left.Tie as tie
 

@@ -1,6 +1,5 @@
-use native.Mathlib.Omega.{arith}
+use Rattle.basics.proofs.Words.{arith, needs}
 use Rattle.stage.proofs.StageWork.{compared-none, compared-count, compared-pairs}
-use borrow.Author.Needs.{needs}
 use Rattle.stage.proofs.improves.Statement.{statement}
 use Rattle.stage.proofs.improves.Tie as tie
 

@@ -1,8 +1,4 @@
-use Prim.Native.Nat.{_+_}
-use lib.Dec.{eqb}
-use Prim.Native.Nat.{_+_}
-use lib.Dec.{eqb}
-use borrow.Author.Needs.{needs}
+use Rattle.basics.proofs.Words.{_+_, eqb, needs}
 use Rattle.stage.proofs.makes.Statement.{statement}
 use Rattle.stage.proofs.makes.Tie as tie
 use Rattle.stage.proofs.makes.Reads as reads

@@ -1,7 +1,5 @@
-use mathlib.Core.Path.{_≡_}
-use native.Mathlib.Omega.{arith}
+use Rattle.basics.proofs.Words.{_≡_, arith, needs}
 use Rattle.stage.proofs.Marks.{first-marks, second-marks, third-marks, fourth-marks, fifth-marks, sixth-marks}
-use borrow.Author.Needs.{needs}
 use Rattle.stage.proofs.marks_at.Statement.{statement}
 use Rattle.stage.proofs.marks_at.Tie as tie
 

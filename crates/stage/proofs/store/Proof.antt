@@ -1,7 +1,5 @@
-use native.Mathlib.Omega.{arith}
-use lib.ListN.{length-set}
+use Rattle.basics.proofs.Words.{arith, length-set, needs}
 use Rattle.stage.proofs.StageWork.{written}
-use borrow.Author.Needs.{needs}
 use Rattle.stage.proofs.store.Statement.{statement}
 use Rattle.stage.proofs.store.Tie as tie
 

@@ -1,9 +1,6 @@
-use mathlib.Core.Path.{refl}
-use native.Mathlib.Omega.{arith}
-use borrow.Author.Tests.{not-true, not-false}
+use Rattle.basics.proofs.Words.{refl, arith, needs, not-true, not-false}
 use Rattle.stage.specs.Relaxing.{unlabelled, dropped}
 use Rattle.stage.proofs.StageWork.{stage-labelled, stage-unlabelled, arc-pairs, arc-count, arc-lowered}
-use borrow.Author.Needs.{needs}
 use Rattle.stage.proofs.try_arc.Statement.{statement}
 use Rattle.stage.proofs.try_arc.Tie as tie
 

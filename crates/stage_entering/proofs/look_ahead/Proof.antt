@@ -1,8 +1,5 @@
 -- `look_ahead` meets its contract.
-use mathlib.Core.Path.{_≡_}
-use Prim.Native.Nat.{_-_, _≤_}
-use native.Mathlib.Omega.{arith}
-use lib.ListN.{length, length-set}
+use Rattle.basics.specs.Words.{_≡_, _-_, _≤_, arith, length, length-set}
 use Rattle.stage_entering.specs.Entering.{AheadOf}
 use Rattle.stage_entering.proofs.Front.{look-start, look-next, look-end}
 use Rattle.stage_entering.proofs.look_ahead.Statement.{statement}

@@ -1,9 +1,7 @@
 -- `own_count` meets its contract.
-use mathlib.Core.Path.{sym, _∙_, ap}
-use native.Mathlib.Omega.{arith}
+use Rattle.basics.proofs.Words.{sym, _∙_, ap, arith, needs}
 use Rattle.stage_entering.specs.Entering.{topOf}
 use Rattle.stage.proofs.StageWork.{stage-labelled, stage-unlabelled}
-use borrow.Author.Needs.{needs}
 use Rattle.stage_entering.proofs.own_count.Statement.{statement}
 use Rattle.stage_entering.proofs.own_count.Tie as tie
 

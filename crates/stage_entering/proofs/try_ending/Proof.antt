@@ -1,12 +1,7 @@
 -- `try_ending` meets its contract.
-use mathlib.Core.Path.{refl, sym, _∙_, ap, subst}
-use mathlib.Core.Option.{some}
-use Prim.Native.Nat.{ℕ, _<_}
-use native.Mathlib.Omega.{arith}
-use borrow.Author.Tests.{not-true, not-false}
+use Rattle.basics.proofs.Words.{refl, sym, _∙_, ap, subst, some, ℕ, _<_, arith, needs, not-true, not-false}
 use Rattle.stage_entering.specs.Entering.{not-final, dropped-ending, lowered-ending}
 use Rattle.stage_entering.proofs.Lanes.{ending-none, ending-some, marks-small}
-use borrow.Author.Needs.{needs}
 use Rattle.stage_entering.proofs.try_ending.Statement.{statement}
 use Rattle.stage_entering.proofs.try_ending.Tie as tie
 

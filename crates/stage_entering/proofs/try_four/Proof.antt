@@ -1,6 +1,5 @@
 -- `try_four` meets its contract.
-use Prim.Native.Nat.{_+_, _-_, _≤_}
-use native.Mathlib.Omega.{arith}
+use Rattle.basics.specs.Words.{_+_, _-_, _≤_, arith}
 use Rattle.stage_entering.specs.Entering.{CodesTried}
 use Rattle.stage_entering.proofs.Lanes.{codes-start, codes-next, codes-end, code-ready, AtPlaces, code-at, lanes-at, front-is, places-start, places-row, places-next}
 use Rattle.stage_entering.proofs.try_four.Statement.{statement}

@@ -1,10 +1,7 @@
 -- `try_lane` meets its contract.
-use mathlib.Core.Path.{sym, subst}
-use Prim.Native.Nat.{ℕ, _<_}
-use native.Mathlib.Omega.{arith}
+use Rattle.basics.proofs.Words.{sym, subst, ℕ, _<_, arith, needs}
 use Rattle.stage_entering.proofs.Front.{front-room}
 use Rattle.stage_entering.proofs.Lanes.{marks-small, lane-arc, lane-nothing, lane-passed, lane-tried}
-use borrow.Author.Needs.{needs}
 use Rattle.stage_entering.proofs.try_lane.Statement.{statement}
 use Rattle.stage_entering.proofs.try_lane.Tie as tie
 
@@ -31,10 +28,7 @@ try-lane-spec =
     tie.close
     (tie.spec
     returns
-    (λ c κs. search needs)
-    (λ c. search needs)
-    (λ c. search needs)
-    (λ c. search needs)
+    (λ c κs. search needs) (λ c. search needs) (λ c. search needs) (λ c. search needs)
     add-front
     returns-2
     add-try-arc

@@ -1,8 +1,7 @@
 -- `choose` meets its contract.
-use native.Mathlib.Omega.{arith}
+use Rattle.basics.proofs.Words.{arith, needs}
 use Rattle.settling.proofs.OpenCodes.{chosen-none, chosen-front, chosen-back}
 use Rattle.stage_settling.proofs.Spreading.{front-in, back-in}
-use borrow.Author.Needs.{needs}
 use Rattle.stage_settling.proofs.choose.Statement.{statement}
 use Rattle.stage_settling.proofs.choose.Tie as tie
 
@@ -47,8 +46,7 @@ pub choose-spec : {M : Type 1} → statement M
 choose-spec =
     tie.close
     (tie.spec
-    (λ c. search needs)
-    (λ c. search needs)
+    (λ c. search needs) (λ c. search needs)
     returns
     choose-in-requires
     returns-2

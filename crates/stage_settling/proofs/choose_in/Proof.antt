@@ -1,9 +1,5 @@
-use borrow.Author.Needs.{needs}
-use mathlib.Core.Path.{refl}
-use mathlib.Core.Logic.{⊎-elim}
+use Rattle.basics.proofs.Words.{refl, ⊎-elim, arith, needs}
 use Rattle.settling.proofs.OpenCodes.{one-in, one-same}
-use borrow.Author.Needs.{needs}
-use native.Mathlib.Omega.{arith}
 use Rattle.settling.specs.OpenCodes.{OneIn}
 use Rattle.settling.proofs.OpenCodes.{PartOf, part-less}
 use Rattle.stage_settling.proofs.choose_in.Statement.{statement}
@@ -55,7 +51,6 @@ choose-in-spec =
     add-is-before
     add-is-before-2
     is-before-requires
-    (λ c κs. search needs)
-    (λ c. search needs)
+    (λ c κs. search needs) (λ c. search needs)
     loop-again
     (λ c. search needs))

@@ -1,7 +1,4 @@
-use mathlib.Core.Path.{refl, _∙_}
-use mathlib.Core.List.{List}
-use Prim.Native.Nat.{ℕ, _≤_}
-use native.Mathlib.Omega.{arith}
+use Rattle.basics.specs.Words.{refl, _∙_, List, ℕ, _≤_, arith}
 use Rattle.settling.proofs.OpenCodes.{none-open}
 use Rattle.stage_settling.specs.Settling.{turns}
 use Rattle.stage_settling.proofs.Spreading.{Settling, settling-start, settling-ready, open-there, settling-step, settling-end, turn-less}

@@ -1,11 +1,7 @@
 -- `spread` meets its contract.
-use mathlib.Core.Path.{_∙_}
-use Prim.Native.Nat.{_*_, _-_, _≤_}
-use native.Mathlib.Omega.{arith}
-use lib.ListN.{getD}
+use Rattle.basics.proofs.Words.{_∙_, _*_, _-_, _≤_, arith, getD, needs}
 use Rattle.settling.proofs.Insertions.{listed}
 use Rattle.stage_settling.proofs.Spreading.{Spreading, spreading-start, spreading-step, spreading-end, settle-kept, entry-ready}
-use borrow.Author.Needs.{needs}
 use Rattle.stage_settling.proofs.spread.Statement.{statement}
 use Rattle.stage_settling.proofs.spread.Tie as tie
 

@@ -1,8 +1,5 @@
 -- `try_entry` meets its contract.
-use mathlib.Core.Path.{refl}
-use native.Mathlib.Omega.{arith}
-use Rattle.basics.proofs.Bools.{clash}
-use borrow.Author.Needs.{needs}
+use Rattle.basics.proofs.Words.{refl, arith, needs, clash}
 use Rattle.stage_settling.proofs.try_entry.Statement.{statement}
 use Rattle.stage_settling.proofs.try_entry.Tie as tie
 

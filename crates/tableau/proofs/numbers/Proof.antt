@@ -1,6 +1,5 @@
-use mathlib.Core.Path.{sym, ap}
+use Rattle.basics.proofs.Words.{sym, ap, needs}
 use Rattle.tableau.specs.Judging.{verdictNumbers}
-use borrow.Author.Needs.{needs}
 use Rattle.tableau.proofs.numbers.Statement.{statement}
 use Rattle.tableau.proofs.numbers.Tie as tie
 

@@ -1,18 +1,7 @@
 -- What input and tableau promise where nothing is refused. Assumes nothing.
-use mathlib.Core.Path.{_≡_, refl, _∙_}
-use mathlib.Core.Logic.{_↔_}
-use mathlib.Core.Bool.{true, _&&_}
-use mathlib.Core.List.{List, [], _∷_}
-use mathlib.Core.Option.{Option, some, none}
-use Prim.Native.Nat.{ℕ, _*_, _%_, _<_}
-use native.Mathlib.Omega.{arith}
-use lib.Dec.{eqb, leb, lit<}
-use lib.ListN.{length}
-use Rattle.basics.specs.Search.{allOf}
+use Rattle.basics.proofs.Words.{_≡_, refl, _∙_, true, _&&_, List, [], _∷_, Option, some, none, _↔_, ℕ, _*_, _%_, _<_, arith, length, eqb, leb, lit<, allOf, left, right, every-at}
 use Rattle.refusals.specs.Refusals.{refuse}
-use Rattle.basics.proofs.Bools.{left, right}
 use Rattle.refusals.proofs.Refusals.{passed, none-first}
-use Rattle.basics.proofs.Below.{every-at}
 use Rattle.machine.specs.declared.Pair.{Pair}
 use Rattle.machine.specs.Symbols.{isPair, withinSymbols}
 use Rattle.ranking.specs.Rankings.{isRanking}

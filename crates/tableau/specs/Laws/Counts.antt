@@ -1,15 +1,6 @@
 -- Six counts compared, and profiles as six counts. Assumes nothing.
-use mathlib.Core.Path.{_≡_, sym, _∙_, ap}
-use mathlib.Core.Logic.{_↔_}
-use mathlib.Core.Bool.{true}
-use mathlib.Core.List.{List}
-use Prim.Native.Nat.{ℕ, _-_, _<_, _≤_}
-use native.Mathlib.Omega.{arith}
-use lib.Dec.{eqb}
-use lib.ListN.{length, getD, replicate, List·getD-append}
-use lib.Seq.{ext-getD}
+use Rattle.basics.proofs.Words.{_≡_, sym, _∙_, ap, true, List, _↔_, ℕ, _-_, _<_, _≤_, arith, length, getD, replicate, List·getD-append, eqb, ext-getD, every-at}
 use borrow.Author.Tests.{eqb-true}
-use Rattle.basics.proofs.Below.{every-at}
 use Rattle.ranking.specs.declared.Order.the-variants.{Equal}
 use Rattle.ranking.specs.Rankings.{isRanking}
 use Rattle.ranking.specs.Harmony.{harmony}

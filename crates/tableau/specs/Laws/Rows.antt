@@ -1,13 +1,5 @@
 -- The first number below a bound that passes. Assumes nothing.
-use mathlib.Core.Path.{_≡_, refl}
-use mathlib.Core.Bool.{Bool, true, false}
-use mathlib.Core.List.{[], _∷_}
-use mathlib.Core.Option.{Option, some, none}
-use Prim.Native.Nat.{ℕ, zero, suc, _<_}
-use native.Mathlib.Omega.{arith}
-use Rattle.basics.specs.Search.{firstThat, numbersBelow}
-use Rattle.basics.proofs.Search.{first-passes, first-member, first-misses}
-use Rattle.basics.proofs.Below.{numbers-member, member-numbers}
+use Rattle.basics.proofs.Words.{_≡_, refl, Bool, true, false, [], _∷_, Option, some, none, ℕ, zero, suc, _<_, arith, firstThat, numbersBelow, first-passes, first-member, first-misses, numbers-member, member-numbers}
 use Rattle.ranking.specs.Lemmas.Searches.{first-before}
 
 -- i is below n and passes, and none before it does

@@ -1,10 +1,5 @@
 -- Which candidates no other one has a better profile than: those whose profile is the best's. Assumes nothing.
-use mathlib.Core.Path.{_≡_, refl, sym, _∙_, ap}
-use mathlib.Core.Logic.{_↔_}
-use mathlib.Core.Bool.{true}
-use mathlib.Core.List.{List}
-use Prim.Native.Nat.{ℕ}
-use Rattle.basics.proofs.Bools.{fails}
+use Rattle.basics.proofs.Words.{_≡_, refl, sym, _∙_, ap, true, List, _↔_, ℕ, fails}
 use Rattle.machine.specs.declared.Pair.{Pair}
 use Rattle.machine.specs.Machine.{Machine}
 use Rattle.ranking.specs.declared.Order.the-variants.{Equal}

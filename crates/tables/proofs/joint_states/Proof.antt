@@ -1,9 +1,4 @@
-use Prim.Native.Nat.{_-_, _*_, _≤_}
-use mathlib.Core.Path.{_≡_}
-use native.Mathlib.Nat.{mul-le-mul, le-pred-of-lt}
-use native.Mathlib.Omega.{arith}
-use borrow.Author.Needs.{needs}
-use lib.ListN.{length, drop}
+use Rattle.basics.proofs.Words.{_≡_, _-_, _*_, _≤_, arith, length, drop, mul-le-mul, le-pred-of-lt, needs}
 use Rattle.product.specs.Nodes.{product}
 use Rattle.tables.proofs.Counts.{states-bound, states-start, states-next, states-end}
 use Rattle.tables.proofs.joint_states.Statement.{statement}
@@ -45,8 +40,7 @@ joint-states-spec =
     Inv-loop
     μ-loop
     loop-holds
-    (λ c. search needs)
-    (λ c κs. search needs)
+    (λ c. search needs) (λ c κs. search needs)
     mul-states
     add-m
     loop-less

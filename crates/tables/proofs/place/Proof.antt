@@ -1,6 +1,4 @@
-use mathlib.Core.Path.{sym}
-use borrow.Author.Needs.{needs}
-use lib.ListN.{List·getD-eq-default}
+use Rattle.basics.proofs.Words.{sym, List·getD-eq-default, needs}
 use Rattle.tables.specs.Laws.Harmony.{any-default}
 use Rattle.tables.proofs.place.Statement.{statement}
 use Rattle.tables.proofs.place.Tie as tie

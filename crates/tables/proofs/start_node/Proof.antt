@@ -1,9 +1,5 @@
 -- `tables::start_node`: the code stays 0, and the start node is 0. Assumes nothing.
-use mathlib.Core.Path.{_≡_, sym, _∙_, ap}
-use Prim.Native.Nat.{ℕ, _*_, _-_}
-use native.Mathlib.Omega.{arith}
-use borrow.Author.Needs.{needs}
-use lib.ListN.{length}
+use Rattle.basics.proofs.Words.{_≡_, sym, _∙_, ap, ℕ, _*_, _-_, arith, length, needs}
 use Rattle.tables.proofs.Starting.{start-is-zero}
 use Rattle.tables.proofs.start_node.Statement.{statement}
 use Rattle.tables.proofs.start_node.Tie as tie
@@ -45,11 +41,9 @@ start-node-spec =
     (tie.spec
     Inv-loop
     μ-loop
-    (λ c κs. search needs)
-    (λ c κs. search needs)
+    (λ c κs. search needs) (λ c κs. search needs)
     loop-holds
-    (λ c. search needs)
-    (λ c κs. search needs)
+    (λ c. search needs) (λ c κs. search needs)
     mul-code
     add-code
     add-m

@@ -1,8 +1,4 @@
-use Prim.Native.Nat.{_-_, _≤_, _<_}
-use mathlib.Core.Path.{_≡_, refl, sym, ap, _∙_}
-use native.Mathlib.Omega.{arith}
-use lib.ListN.{length, getD, take, length-set}
-use lib.Seq.{take-all}
+use Rattle.basics.specs.Words.{_≡_, refl, sym, ap, _∙_, _-_, _≤_, _<_, arith, length, getD, take, length-set, take-all}
 use Rattle.machine.specs.Part.{stateCount}
 use Rattle.machine.specs.Accepted.{accepted as part-accepted}
 use Rattle.card.specs.Layout.{machineCount, symbolCount, partOf}

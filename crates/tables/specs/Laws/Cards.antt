@@ -1,10 +1,5 @@
 -- What an accepted card promises of its machines, for the tables.
-use mathlib.Core.Path.{_≡_, _∙_, ap}
-use mathlib.Core.List.{List, map}
-use Prim.Native.Nat.{ℕ, _<_, _≤_}
-use native.Mathlib.Decide.{decLt}
-use native.Mathlib.Omega.{arith}
-use lib.ListN.{List·getD-eq-default}
+use Rattle.basics.specs.Words.{_≡_, _∙_, ap, List, map, ℕ, _<_, _≤_, arith, List·getD-eq-default, decLt}
 use Rattle.machine.specs.Machine.{startState}
 use Rattle.machine.specs.Part.{stateCount}
 use Rattle.machine.specs.Accepted.{shape-facts, accepted as part-accepted}

@@ -1,9 +1,5 @@
 -- The joint ending by its number is the product's ending.
-use mathlib.Core.Path.{_≡_, refl, sym, _∙_, ap}
-use mathlib.Core.List.{List, [], _∷_}
-use mathlib.Core.Option.{Option, some, none}
-use Prim.Native.Nat.{ℕ, _<_, _≤_}
-use lib.ListN.{length, getD}
+use Rattle.basics.specs.Words.{_≡_, refl, sym, _∙_, ap, List, [], _∷_, Option, some, none, ℕ, _<_, _≤_, length, getD}
 use Rattle.machine.specs.Machine.{Machine}
 use Rattle.paths.specs.Ranked.{Ranked}
 use Rattle.paths.specs.ByRanking.{ranked}

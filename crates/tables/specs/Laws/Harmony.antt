@@ -1,11 +1,5 @@
 -- Six places compare as the ranking does.
-use mathlib.Core.Path.{_≡_, refl, sym, _∙_, ap}
-use mathlib.Core.Bool.{true}
-use mathlib.Core.List.{List, [], _∷_, _++_}
-use Prim.Native.Nat.{ℕ, zero, suc, _-_, _<_, _≤_}
-use native.Mathlib.Decide.{decLt}
-use native.Mathlib.Omega.{arith}
-use lib.ListN.{length, getD, replicate, List·getD-eq-default}
+use Rattle.basics.specs.Words.{_≡_, refl, sym, _∙_, ap, true, List, [], _∷_, _++_, ℕ, zero, suc, _-_, _<_, _≤_, arith, length, getD, replicate, List·getD-eq-default, decLt}
 pub use Rattle.basics.proofs.Search.{any-default}
 use Rattle.ranking.specs.Harmony.{harmony}
 use Rattle.ranking.specs.Rankings.{isRanking}

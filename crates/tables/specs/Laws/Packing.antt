@@ -1,9 +1,5 @@
 -- Marks as one number: what it stands for is their ranked cost.
-use mathlib.Core.Path.{_≡_}
-use mathlib.Core.List.{List, [], _∷_}
-use Prim.Native.Nat.{ℕ, zero, suc, _+_, _*_, _^_, _<_, _≤_}
-use native.Mathlib.Omega.{arith}
-use lib.ListN.{length, getD}
+use Rattle.basics.specs.Words.{_≡_, List, [], _∷_, ℕ, zero, suc, _+_, _*_, _^_, _<_, _≤_, arith, length, getD}
 use Rattle.paths.specs.Ranked.{countAt}
 use Rattle.paths.specs.ByRanking.{ranked, ranked-letters}
 use Rattle.tables.specs.Marks.{nibbles, fromNibbles, marksCost}

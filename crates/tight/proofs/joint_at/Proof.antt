@@ -1,7 +1,4 @@
-use borrow.Author.Needs.{needs}
-use native.Mathlib.Omega.{arith}
-use Prim.Native.Nat.{_*_, _-_, _^_}
-use lib.ListN.{length}
+use Rattle.basics.proofs.Words.{_*_, _-_, _^_, arith, length, needs}
 use Rattle.cells.specs.Cells.{nowhere, highAt, lowAt}
 use Rattle.passing.proofs.Placing.{column-few, column-in}
 use Rattle.tight.proofs.Joining.{SumTo, sum-start, joint-none, joint-whole, highs-next, lows-next, highs-fit, lows-fit}
@@ -83,26 +80,17 @@ joint-at-spec =
     μ-loop
     loop-holds
     mul-step
-    (λ c. search needs)
-    (λ c κs. search needs)
+    (λ c. search needs) (λ c κs. search needs)
     add-step
     mul-step-2
     shared-slice-read-step
     returns
-    (λ c. search needs)
-    (λ c. search needs)
-    (λ c. search needs)
-    (λ c. search needs)
-    (λ c. search needs)
-    (λ c. search needs)
+    (λ c. search needs) (λ c. search needs) (λ c. search needs) (λ c. search needs) (λ c. search needs) (λ c. search needs)
     high-cell-requires
     add-high
-    (λ c. search needs)
-    (λ c. search needs)
-    (λ c. search needs)
+    (λ c. search needs) (λ c. search needs) (λ c. search needs)
     low-cell-requires
     add-low
-    (λ c. search needs)
-    (λ c. search needs)
+    (λ c. search needs) (λ c. search needs)
     loop-again
     returns-2)

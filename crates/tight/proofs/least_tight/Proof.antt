@@ -1,5 +1,4 @@
-use native.Mathlib.Omega.{arith}
-use mathlib.Core.Logic.{⊎-elim}
+use Rattle.basics.specs.Words.{⊎-elim, arith}
 use Rattle.tight.proofs.Tests.{not-keeps, step-leads, step-pre, keeps-step, Trying, trying-start, trying-end, trying-found, trying-next}
 use Rattle.tight.proofs.least_tight.Statement.{statement}
 use Rattle.tight.proofs.least_tight.Tie as tie

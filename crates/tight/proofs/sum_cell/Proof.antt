@@ -1,6 +1,4 @@
-use borrow.Author.Needs.{needs}
-use native.Mathlib.Omega.{arith}
-use mathlib.Core.Path.{sym}
+use Rattle.basics.proofs.Words.{sym, arith, needs}
 use Rattle.tight.specs.Laws.Labels.{sum-some, sum-none}
 use Rattle.tight.proofs.sum_cell.Statement.{statement}
 use Rattle.tight.proofs.sum_cell.Tie as tie

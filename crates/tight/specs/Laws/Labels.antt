@@ -1,10 +1,5 @@
 -- The label of a node as a cell, case by case. Assumes nothing.
-use mathlib.Core.Path.{_≡_, sym, _∙_}
-use mathlib.Core.Logic.{_≢_}
-use mathlib.Core.List.{List}
-use Prim.Native.Nat.{ℕ, _+_, _*_, _/_, _%_, _<_, _≤_}
-use native.Mathlib.Omega.{arith}
-use lib.ListN.{length, getD}
+use Rattle.basics.specs.Words.{_≡_, sym, _∙_, List, _≢_, ℕ, _+_, _*_, _/_, _%_, _<_, _≤_, arith, length, getD}
 use borrow.Author.Tests.{eq-eqb, ne-eqb, lt-ltb, le-ltb}
 use Rattle.tables.specs.Work.{stateOf, costAt}
 use Rattle.cells.specs.declared.Cell.{Cell}

@@ -1,11 +1,5 @@
 -- Calls that answer with number 0, by the best candidate: the same for every order, a word and sets. Assumes nothing.
-use mathlib.Core.Path.{_≡_, refl, sym, _∙_, ap, ap₂, subst}
-use mathlib.Core.List.{List, [], _∷_, _++_}
-use mathlib.Core.Option.{Option, some, Option·none-ne-some}
-use Prim.Native.Nat.{ℕ, _*_, _≤_}
-use native.Mathlib.Omega.{arith}
-use lib.ListN.{length, take, drop}
-use lib.Seq.{take-at}
+use Rattle.basics.specs.Words.{_≡_, refl, sym, _∙_, ap, ap₂, subst, List, [], _∷_, _++_, Option, some, Option·none-ne-some, ℕ, _*_, _≤_, arith, length, take, drop, take-at}
 use Rattle.machine.specs.declared.Pair.{Pair}
 use Rattle.candidate.specs.declared.Evaluation.{Evaluation}
 use Rattle.candidate.specs.Candidates.{pairsOf, bytesOf}

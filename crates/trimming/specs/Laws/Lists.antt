@@ -1,11 +1,5 @@
 -- Lists without an element, and lists with one element replaced. Assumes nothing.
-use mathlib.Core.Path.{_≡_, refl}
-use mathlib.Core.Bool.{Bool, true}
-use mathlib.Core.List.{List, [], _∷_}
-use Prim.Native.Nat.{ℕ, zero, suc}
-use lib.ListN.{getD, set}
-use Rattle.basics.specs.Search.{allOf, pairwise, without}
-use Rattle.basics.proofs.Bools.{both, left, right}
+use Rattle.basics.proofs.Words.{_≡_, refl, Bool, true, List, [], _∷_, ℕ, zero, suc, getD, set, allOf, pairwise, without, both, left, right}
 
 -- what holds of all elements, or of every two, holds of those that are left
 pub all-without : {A : Type 0} (f : A → Bool) (j : ℕ) (xs : List A) → allOf f xs ≡ true → allOf f (without j xs) ≡ true

@@ -1,14 +1,6 @@
 -- A part rebuilt without an arc: its machine, and that it is accepted. Assumes nothing.
-use mathlib.Core.Path.{_≡_, refl, sym, _∙_, ap, ap₂}
-use mathlib.Core.List.{List, [], _∷_, _++_, map}
-use Prim.Native.Nat.{ℕ, zero, suc, _+_, _*_, _-_, _^_, _<_, _≤_}
-use native.Mathlib.Decide.{decLt, ℕ-discrete}
-use native.Mathlib.Omega.{arith}
-use lib.Dec.{leb}
-use lib.ListN.{length, getD, take, drop, length-append, length-drop, length-set, List·getD-append}
-use lib.Seq.{slice, length-take-le, getD-take, getD-drop, getD-append-add, getD-set-same, getD-set-other, take-set-lt, drop-set-lt, take-append-le, take-take}
+use Rattle.basics.specs.Words.{_≡_, refl, sym, _∙_, ap, ap₂, List, [], _∷_, _++_, map, ℕ, zero, suc, _+_, _*_, _-_, _^_, _<_, _≤_, arith, length, getD, take, drop, length-append, length-drop, length-set, List·getD-append, leb, slice, length-take-le, getD-take, getD-drop, getD-append-add, getD-set-same, getD-set-other, take-set-lt, drop-set-lt, take-append-le, take-take, decLt, ℕ-discrete, allOf, pairwise, without}
 use borrow.Author.Tests.{le-leb, eq-eqb}
-use Rattle.basics.specs.Search.{allOf, pairwise, without}
 use Rattle.machine.specs.declared.Arc.{Arc}
 use Rattle.machine.specs.Part.{stateCount, arcCount, fourBytesAt, eightBytesAt, arcAt, arcsAt, stateBytes, arcsOf, endingByte, machineOf, shaped, soundArc, clashFree, partRefusal}
 use Rattle.machine.specs.Accepted.{Shaped, accepted}

@@ -1,15 +1,6 @@
 -- A candidate's run through a machine that lacks an arc. Assumes nothing.
-use mathlib.Core.Path.{_≡_, refl, sym, _∙_, ap}
-use mathlib.Core.Logic.{_≢_}
-use mathlib.Core.Bool.{Bool, true, false, false≢true}
-use mathlib.Core.List.{List, [], _∷_}
-use mathlib.Core.Option.{Option, some, none, Option·none-ne-some}
-use Prim.Native.Nat.{ℕ, zero, suc, _<_}
-use native.Mathlib.Omega.{arith}
-use lib.Dec.{eqb}
+use Rattle.basics.proofs.Words.{_≡_, refl, sym, _∙_, ap, Bool, true, false, false≢true, List, [], _∷_, Option, some, none, Option·none-ne-some, _≢_, ℕ, zero, suc, _<_, arith, eqb, allOf, pairwise, without, clash as never, left, right, left-fails, right-fails}
 use borrow.Author.Tests.{not-true}
-use Rattle.basics.specs.Search.{allOf, pairwise, without}
-use Rattle.basics.proofs.Bools.{clash as never, left, right, left-fails, right-fails}
 use Rattle.machine.specs.declared.Arc.{Arc}
 use Rattle.machine.specs.declared.Pair.{Pair}
 use Rattle.machine.specs.Symbols.{isPair}

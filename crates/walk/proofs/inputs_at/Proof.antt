@@ -1,13 +1,5 @@
 -- `walk::inputs_at`: the union with the set of the empty symbol. Assumes nothing.
-use mathlib.Core.Path.{sym, _∙_, ap}
-use mathlib.Core.Bool.{Bool, _||_, or-false}
-use native.Mathlib.Omega.{arith}
-use lib.Dec.{eqb}
-use lib.ListN.{getD}
-use borrow.Author.Needs.{needs}
-use Rattle.basics.specs.Sets.{member}
-use Rattle.basics.proofs.Bools.{fails}
-use Rattle.basics.proofs.Sets.{member-one, member-or}
+use Rattle.basics.proofs.Words.{sym, _∙_, ap, Bool, _||_, or-false, arith, getD, eqb, member, needs, fails, member-one, member-or}
 use Rattle.product.specs.Laws.Sets.{member-within}
 use Rattle.walk.proofs.inputs_at.Statement.{statement}
 use Rattle.walk.proofs.inputs_at.Tie as tie

@@ -1,14 +1,6 @@
 -- `walk::walk_by`: the outer loop's invariant is `Reached`, the inner one's `Finding` and that the node stays, for all labels that are in the slices. The
 -- inner loop does not read the code, so its invariant is for every code. Assumes nothing.
-use mathlib.Core.Path.{_≡_, refl, sym, _∙_, ap, subst}
-use mathlib.Core.Logic.{⊎-elim, _≢_}
-use mathlib.Core.Bool.{true, _&&_, not}
-use mathlib.Core.List.{List}
-use Prim.Native.Nat.{ℕ, _+_, _*_, _<_, _≤_}
-use native.Mathlib.Omega.{arith}
-use lib.Dec.{eqb}
-use lib.ListN.{length, length-set}
-use Rattle.basics.specs.Sets.{member}
+use Rattle.basics.specs.Words.{_≡_, refl, sym, _∙_, ap, subst, true, _&&_, not, List, ⊎-elim, _≢_, ℕ, _+_, _*_, _<_, _≤_, arith, length, length-set, eqb, member}
 use Rattle.machine.specs.Symbols.{emptySymbol}
 use Rattle.paths.specs.Costs.{Labels}
 use Rattle.paths.specs.Ranked.{rankedCosts}

@@ -1,9 +1,5 @@
 -- `walk::walk_few`: the slice of the insertions is the front of a new array. Assumes nothing.
-use mathlib.Core.Path.{refl}
-use Prim.Native.Nat.{ℕ, _*_, _≤_}
-use native.Mathlib.Omega.{arith}
-use borrow.Author.Needs.{needs}
-use lib.ListN.{length-replicate}
+use Rattle.basics.proofs.Words.{refl, ℕ, _*_, _≤_, arith, length-replicate, needs}
 use Rattle.walk.proofs.Walking.{counts-ok, places-of-few, front-length, front-room}
 use Rattle.walk.proofs.walk_few.Statement.{statement}
 use Rattle.walk.proofs.walk_few.Tie as tie
@@ -35,5 +31,4 @@ walk-few-spec =
     array-borrow-prefix-insertions
     slice-aggregate-walk-by
     walk-by-requires
-    (λ c. search needs)
-    (λ c. search needs))
+    (λ c. search needs) (λ c. search needs))

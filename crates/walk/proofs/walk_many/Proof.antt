@@ -1,7 +1,5 @@
 -- `walk::walk_many`: the slice of the insertions is the front of a new array. Assumes nothing.
-use mathlib.Core.Path.{refl}
-use native.Mathlib.Omega.{arith}
-use borrow.Author.Needs.{needs}
+use Rattle.basics.proofs.Words.{refl, arith, needs}
 use Rattle.walk.proofs.Walking.{counts-ok, front-length, front-room}
 use Rattle.walk.proofs.walk_many.Statement.{statement}
 use Rattle.walk.proofs.walk_many.Tie as tie
@@ -22,9 +20,7 @@ walk-many-spec =
     tie.close
     (tie.spec
     width-of-requires
-    (λ c. search needs)
-    (λ c. search needs)
+    (λ c. search needs) (λ c. search needs)
     slice-aggregate-walk-by
     walk-by-requires
-    (λ c. search needs)
-    (λ c. search needs))
+    (λ c. search needs) (λ c. search needs))

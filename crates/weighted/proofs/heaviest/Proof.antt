@@ -1,8 +1,4 @@
-use borrow.Author.Needs.{needs}
-use mathlib.Core.Logic.{⊎-elim}
-use Prim.Native.Nat.{ℕ, _-_, _<_}
-use native.Mathlib.Omega.{arith}
-use lib.ListN.{length}
+use Rattle.basics.proofs.Words.{⊎-elim, ℕ, _-_, _<_, arith, length, needs}
 use Rattle.weighted.proofs.heaviest.Statement.{statement}
 use Rattle.weighted.proofs.heaviest.Tie as tie
 

@@ -1,5 +1,4 @@
-use borrow.Author.Needs.{needs}
-use mathlib.Core.Path.{ap}
+use Rattle.basics.proofs.Words.{ap, needs}
 use Rattle.weighted.specs.FirstPlace.{firstPut}
 use Rattle.weighted.proofs.highs_with.Statement.{statement}
 use Rattle.weighted.proofs.highs_with.Tie as tie
@@ -11,11 +10,6 @@ pub highs-with-spec : {M : Type 1} → statement M
 highs-with-spec =
     tie.close
     (tie.spec
-    (λ c κs. search needs)
-    (λ c. search needs)
-    (λ c. search needs)
-    (λ c. search needs)
-    (λ c. search needs)
-    (λ c. search needs)
+    (λ c κs. search needs) (λ c. search needs) (λ c. search needs) (λ c. search needs) (λ c. search needs) (λ c. search needs)
     (λ c. search needs)
     returns)

@@ -1,7 +1,4 @@
-use borrow.Author.Needs.{needs}
-use mathlib.Core.Path.{_∙_}
-use native.Mathlib.Omega.{arith}
-use lib.ListN.{length}
+use Rattle.basics.proofs.Words.{_∙_, arith, length, needs}
 use Rattle.tables.proofs.Counts.{few-counts}
 use Rattle.weighted.specs.Laws.Sound.{sound-are}
 use Rattle.weighted.proofs.Numbers.{numbers-of, numbers-by}

@@ -1,8 +1,4 @@
-use borrow.Author.Needs.{needs}
-use mathlib.Core.Path.{_≡_, ap}
-use Prim.Native.Nat.{ℕ, _-_, _*_, _≤_}
-use native.Mathlib.Omega.{arith}
-use lib.ListN.{length}
+use Rattle.basics.proofs.Words.{_≡_, ap, ℕ, _-_, _*_, _≤_, arith, length, needs}
 use Rattle.weighted.specs.WeighsBy.{HighsWritten}
 use Rattle.weighted.proofs.Numbers.{highs-start, highs-next}
 use Rattle.weighted.proofs.write_highs.Statement.{statement}
@@ -54,16 +50,13 @@ write-highs-spec =
     Inv-loop
     μ-loop
     loop-holds
-    (λ c. search needs)
-    (λ c. search needs)
-    (λ c κs. search needs)
+    (λ c. search needs) (λ c. search needs) (λ c κs. search needs)
     mul-numbers
     mul-numbers-2
     add-numbers
     (λ c. search needs)
     slice-write-numbers
-    (λ c. search needs)
-    (λ c. search needs)
+    (λ c. search needs) (λ c. search needs)
     loop-again
     same-length
     returns)

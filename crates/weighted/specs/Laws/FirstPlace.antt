@@ -1,17 +1,6 @@
 -- A machine in the first place, and the first one in its place: a ranking, by which the weights price marks as before. Assumes nothing.
-use mathlib.Core.Path.{_≡_, refl, sym, _∙_, ap}
-use mathlib.Core.Logic.{_≢_, _⊎_, inl, inr}
-use mathlib.Core.Bool.{Bool, true, cond}
-use mathlib.Core.List.{List}
-use Prim.Native.Nat.{ℕ, zero, suc, _+_, _*_, _<_, _≤_}
-use native.Mathlib.Decide.{ℕ-discrete, decLt}
-use native.Mathlib.Omega.{arith}
-use lib.Dec.{eqb}
-use lib.ListN.{length, getD, set, take, length-set, List·getD-eq-default}
-use lib.Seq.{getD-set-same, getD-set-other, getD-take}
+use Rattle.basics.proofs.Words.{_≡_, refl, sym, _∙_, ap, Bool, true, cond, List, _≢_, _⊎_, inl, inr, ℕ, zero, suc, _+_, _*_, _<_, _≤_, arith, length, getD, set, take, length-set, List·getD-eq-default, eqb, getD-set-same, getD-set-other, getD-take, ℕ-discrete, decLt, everyBelow, occurrences, every-at}
 use borrow.Author.Tests.{eq-eqb, ne-eqb, eqb-true}
-use Rattle.basics.specs.Search.{everyBelow, occurrences}
-use Rattle.basics.proofs.Below.{every-at}
 use Rattle.ranking.specs.Rankings.{isRanking}
 use Rattle.tables.specs.Places.{sixPlaces}
 use Rattle.settling.specs.Prices.{SixWeights, mostPrice}

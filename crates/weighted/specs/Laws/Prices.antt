@@ -1,12 +1,5 @@
 -- The lists of insertions have marks as numbers: what settling makes of them by the weights is what the machines' numbers make of them.
-use mathlib.Core.Path.{_≡_, refl, sym, _∙_, ap}
-use mathlib.Core.Logic.{_⊎_, inl, inr}
-use mathlib.Core.List.{List, [], _∷_}
-use Prim.Native.Nat.{ℕ, zero, suc, _+_, _*_, _/_, _%_, _^_, _<_, _≤_}
-use native.Mathlib.Nat.{mul-comm, zero-mul}
-use native.Mathlib.Decide.{decLt}
-use native.Mathlib.Omega.{arith}
-use lib.ListN.{length, getD, set, length-set, List·getD-eq-default}
+use Rattle.basics.specs.Words.{_≡_, refl, sym, _∙_, ap, List, [], _∷_, _⊎_, inl, inr, ℕ, zero, suc, _+_, _*_, _/_, _%_, _^_, _<_, _≤_, arith, length, getD, set, length-set, List·getD-eq-default, mul-comm, zero-mul, decLt}
 use Rattle.tables.specs.Places.{markNumber}
 use Rattle.tables.specs.Laws.Packing.{six-number}
 use Rattle.settling.specs.Prices.{SixWeights, marksPrice, mostPrice, noLows}

@@ -1,11 +1,5 @@
 -- Attained labels by weights leave room for 128 pairs more, and have fewer than 4,096 pairs.
-use mathlib.Core.Path.{_≡_}
-use mathlib.Core.List.{List}
-use mathlib.Core.Option.{some}
-use Prim.Native.Nat.{ℕ, zero, suc, _+_, _*_, _^_, _<_, _≤_}
-use native.Mathlib.Nat.{mul-le-mul-left}
-use native.Mathlib.Omega.{arith}
-use lib.ListN.{length, getD, replicate, length-replicate}
+use Rattle.basics.specs.Words.{_≡_, List, some, ℕ, zero, suc, _+_, _*_, _^_, _<_, _≤_, arith, length, getD, replicate, length-replicate, mul-le-mul-left}
 use Rattle.card.specs.Card.{machinesOf}
 use Rattle.paths.specs.Costs.{Labels}
 use Rattle.paths.specs.Ranked.{Ranked, rankedCosts}

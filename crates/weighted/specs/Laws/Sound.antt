@@ -1,16 +1,6 @@
 -- Accepted weights.
-use mathlib.Core.Path.{_≡_}
-use mathlib.Core.Bool.{true}
-use mathlib.Core.List.{List}
-use Prim.Native.Nat.{ℕ, _≤_, _<_}
-use native.Mathlib.Decide.{decLt}
-use native.Mathlib.Omega.{arith}
-use lib.Dec.{eqb, leb}
-use lib.ListN.{length, getD, List·getD-eq-default}
+use Rattle.basics.proofs.Words.{_≡_, true, List, ℕ, _≤_, _<_, arith, length, getD, List·getD-eq-default, eqb, leb, decLt, allOf, left, right, all-at}
 use borrow.Author.Tests.{eqb-true, leb-true}
-use Rattle.basics.specs.Search.{allOf}
-use Rattle.basics.proofs.Bools.{left, right}
-use Rattle.basics.proofs.Search.{all-at}
 use Rattle.product.specs.Weights.{soundWeights}
 
 pub record Sound (K : ℕ) (weights : List ℕ) : Type 0 where

@@ -1,10 +1,5 @@
 -- Marks by weights: what they count in high and low is their weighted sum.
-use mathlib.Core.Path.{_≡_, refl, _∙_, ap}
-use mathlib.Core.List.{List, [], _∷_}
-use Prim.Native.Nat.{ℕ, suc, _+_, _*_, _/_}
-use native.Mathlib.Nat.{mul-comm, mul-zero}
-use native.Mathlib.Omega.{arith}
-use lib.ListN.{getD}
+use Rattle.basics.specs.Words.{_≡_, refl, _∙_, ap, List, [], _∷_, ℕ, suc, _+_, _*_, _/_, arith, getD, mul-comm, mul-zero}
 use Rattle.cells.specs.Cells.{highOf, lowOf}
 use Rattle.cells.specs.Columns.{weighed}
 use Rattle.cells.specs.Trying.{cellPrice}

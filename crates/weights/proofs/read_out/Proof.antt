@@ -1,10 +1,5 @@
 -- `read_out`: what the start's number says, and the walk. Assumes nothing.
-use mathlib.Core.Path.{_≡_, sym, _∙_, ap}
-use Prim.Native.Nat.{ℕ, _*_, _≤_}
-use native.Mathlib.Omega.{arith}
-use lib.ListN.{length, getD, take}
-use lib.Seq.{length-take-le}
-use borrow.Author.Needs.{needs}
+use Rattle.basics.proofs.Words.{_≡_, sym, _∙_, ap, ℕ, _*_, _≤_, arith, length, getD, take, length-take-le, needs}
 use Rattle.card.specs.Card.{machinesOf}
 use Rattle.product.specs.Nodes.{stateCounts}
 use Rattle.product.specs.ProductGraph.{cardStart}
@@ -161,15 +156,10 @@ read-out-spec =
     (λ c κs. search needs)
     mul-number
     shared-slice-read-number
-    (λ c κs. search needs)
-    (λ c. search needs)
-    (λ c. search needs)
-    (λ c κs. search needs)
-    (λ c κs. search needs)
+    (λ c κs. search needs) (λ c. search needs) (λ c. search needs) (λ c κs. search needs) (λ c κs. search needs)
     returns
     weights-of-requires
-    (λ c. search needs)
-    (λ c. search needs)
+    (λ c. search needs) (λ c. search needs)
     mul-numbers
     array-share-prefix-numbers
     slice-aggregate-walk-2

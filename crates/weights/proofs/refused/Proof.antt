@@ -1,5 +1,4 @@
-use mathlib.Core.Path.{ap}
-use borrow.Author.Needs.{needs}
+use Rattle.basics.proofs.Words.{ap, needs}
 use Rattle.candidate.specs.declared.Evaluation.{Evaluation}
 use Rattle.weights.specs.declared.Weighing.{Weighing}
 use Rattle.weights.proofs.refused.Statement.{statement}

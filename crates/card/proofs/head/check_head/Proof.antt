@@ -1,9 +1,4 @@
-use borrow.Author.Needs.{needs}
-use native.Mathlib.Omega.{arith}
-use mathlib.Core.Path.{ap, _∙_}
-use Prim.Native.Nat.{ℕ}
-use lib.ListN.{length, getD}
-use borrow.Author.Tests.{lt-leb, le-leb}
+use Rattle.basics.proofs.Words.{ap, _∙_, ℕ, arith, length, getD, needs, lt-leb, le-leb}
 use Rattle.refusals.specs.Refusals.{refuse}
 use Rattle.card.specs.Layout.{soundCounts, counted}
 use Rattle.card.proofs.head.check_head.Statement.{statement}
@@ -24,8 +19,5 @@ check-head-spec =
     tie.close
     (tie.spec
     returns
-    (λ c. search needs)
-    (λ c κs. search needs)
-    (λ c. search needs)
-    (λ c κs. search needs)
+    (λ c. search needs) (λ c κs. search needs) (λ c. search needs) (λ c κs. search needs)
     returns-2)

@@ -1,8 +1,6 @@
-use native.Mathlib.Omega.{arith}
-use mathlib.Core.Path.{ap, _∙_}
+use Rattle.basics.proofs.Words.{ap, _∙_, arith, needs}
 use Rattle.refusals.specs.Refusals.{refuse}
 use Rattle.card.specs.Laws.Layout.{head-told}
-use borrow.Author.Needs.{needs}
 use Rattle.card.proofs.head.check_layout.Statement.{statement}
 use Rattle.card.proofs.head.check_layout.Tie as tie
 

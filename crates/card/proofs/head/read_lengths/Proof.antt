@@ -1,8 +1,4 @@
-use borrow.Author.Needs.{needs}
-use native.Mathlib.Omega.{arith}
-use mathlib.Core.Path.{_≡_}
-use Prim.Native.Nat.{ℕ, _-_, _<_, _≤_}
-use lib.ListN.{length, getD, length-set}
+use Rattle.basics.proofs.Words.{_≡_, ℕ, _-_, _<_, _≤_, arith, length, getD, length-set, needs}
 use Rattle.card.proofs.Lengths.{stored}
 use Rattle.layout.specs.Layout.{lengthOf}
 use Rattle.card.proofs.head.read_lengths.Statement.{statement}
@@ -34,14 +30,7 @@ read-lengths-spec =
     (tie.spec
     Inv-loop
     μ-loop
-    (λ c. search needs)
-    (λ c κs. search needs)
-    (λ c. search needs)
-    (λ c κs. search needs)
-    (λ c. search needs)
-    (λ c. search needs)
-    (λ c. search needs)
-    (λ c. search needs)
-    (λ c. search needs)
+    (λ c. search needs) (λ c κs. search needs) (λ c. search needs) (λ c κs. search needs) (λ c. search needs) (λ c. search needs)
+    (λ c. search needs) (λ c. search needs) (λ c. search needs)
     loop-again
     returns)

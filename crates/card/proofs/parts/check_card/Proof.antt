@@ -1,9 +1,4 @@
-use native.Mathlib.Omega.{arith}
-use mathlib.Core.Path.{_≡_, ap, sym, _∙_}
-use mathlib.Core.List.{[], _∷_, map}
-use Prim.Native.Nat.{_+_, _*_}
-use lib.ListN.{length, take, drop}
-use lib.Seq.{length-take-le, getD-take}
+use Rattle.basics.proofs.Words.{_≡_, ap, sym, _∙_, [], _∷_, map, _+_, _*_, arith, length, take, drop, length-take-le, getD-take, needs}
 use Rattle.refusals.specs.Refusals.{refuse, firstOf}
 use Rattle.card.specs.Layout.{machineCount, symbolCount, partsOf}
 use Rattle.card.specs.Card.{partsRefusal, fewStates}
@@ -11,7 +6,6 @@ use Rattle.card.specs.Packing.{split}
 use Rattle.layout.specs.LaidOut.{layout-told}
 use Rattle.card.specs.Laws.Layout.{Headed, head-told}
 use Rattle.card.specs.Laws.Repacked.{table-lengths, table-parts, table-total}
-use borrow.Author.Needs.{needs}
 use Rattle.card.proofs.parts.check_card.Statement.{statement}
 use Rattle.card.proofs.parts.check_card.Tie as tie
 
@@ -70,9 +64,7 @@ check-card-spec =
     (tie.spec
     read-lengths-requires
     shared-slice-read-index
-    (λ c κs. search needs)
-    (λ c. search needs)
-    (λ c. search needs)
+    (λ c κs. search needs) (λ c. search needs) (λ c. search needs)
     array-share-prefix-lengths
     slice-aggregate-check-parts
     shared-slice-read-check-parts

@@ -1,6 +1,5 @@
-use native.Mathlib.Omega.{arith}
+use Rattle.basics.proofs.Words.{arith, needs}
 use lib.Count.{trailing-le}
-use borrow.Author.Needs.{needs}
 use Rattle.cells.proofs.fours.least.Statement.{statement}
 use Rattle.cells.proofs.fours.least.Tie as tie
 

@@ -1,6 +1,4 @@
-use borrow.Author.Needs.{needs}
-use Prim.Native.Nat.{_-_}
-use native.Mathlib.Omega.{arith}
+use Rattle.basics.proofs.Words.{_-_, arith, needs}
 use Rattle.cells.proofs.Scaling.{Scaling, scaling-start, place-within, next-few, scaling-next, scaling-end}
 use Rattle.cells.proofs.scales.write_scales.Statement.{statement}
 use Rattle.cells.proofs.scales.write_scales.Tie as tie

@@ -1,6 +1,4 @@
-use borrow.Author.Needs.{needs}
-use mathlib.Core.Path.{sym}
-use native.Mathlib.Omega.{arith}
+use Rattle.basics.proofs.Words.{sym, arith, needs}
 use Rattle.entering.proofs.LastPosition.{ending-there, ending-none}
 use Rattle.entering.proofs.endings.ending_label.Statement.{statement}
 use Rattle.entering.proofs.endings.ending_label.Tie as tie

@@ -1,5 +1,4 @@
-use borrow.Author.Needs.{needs}
-use native.Mathlib.Omega.{arith}
+use Rattle.basics.proofs.Words.{arith, needs}
 use Rattle.entering.proofs.LastPosition.{fill-ready, join-ready, write-ready, last-entered}
 use Rattle.entering.proofs.endings.enter_endings.Statement.{statement}
 use Rattle.entering.proofs.endings.enter_endings.Tie as tie
@@ -45,8 +44,5 @@ enter-endings-spec =
     fill-endings-requires
     join-four-requires
     write-endings-requires
-    (λ c. search needs)
-    (λ c. search needs)
-    (λ c. search needs)
-    (λ c. search needs)
+    (λ c. search needs) (λ c. search needs) (λ c. search needs) (λ c. search needs)
     returns)

@@ -1,8 +1,4 @@
-use borrow.Author.Needs.{needs}
-use mathlib.Core.Path.{sym, _∙_}
-use Prim.Native.Nat.{_-_, _≤_}
-use native.Mathlib.Omega.{arith}
-use lib.ListN.{length-set}
+use Rattle.basics.proofs.Words.{sym, _∙_, _-_, _≤_, arith, length-set, needs}
 use Rattle.entering.specs.Endings.{EndingsWritten}
 use Rattle.entering.proofs.LastPosition.{CodePlaces, code-places, written-start, written-next, written-end}
 use Rattle.entering.proofs.endings.write_endings.Statement.{statement}
@@ -112,12 +108,9 @@ write-endings-spec =
     mul-ending-label-4
     shared-slice-read-ending-label-4
     add-ending-label-2
-    (λ c κs. search needs)
-    (λ c. search needs)
-    (λ c. search needs)
+    (λ c κs. search needs) (λ c. search needs) (λ c. search needs)
     slice-write-own
-    (λ c. search needs)
-    (λ c. search needs)
+    (λ c. search needs) (λ c. search needs)
     slice-write-own-2
     (λ c. search needs)
     loop-less

@@ -1,7 +1,4 @@
-use mathlib.Core.Path.{ap₂, _∙_}
-use mathlib.Core.List.{List}
-use Prim.Native.Nat.{ℕ}
-use lib.ListN.{length}
+use Rattle.basics.specs.Words.{ap₂, _∙_, List, ℕ, length}
 use Rattle.machine.specs.Part.{stateCount, arcsOf}
 use Rattle.join.specs.JoinedMachine.{joinedArcs}
 use Rattle.join.specs.JoinedCard.{lower, other}

@@ -1,10 +1,4 @@
-use borrow.Author.Needs.{needs}
-use native.Mathlib.Omega.{arith}
-use mathlib.Core.Path.{_≡_, sym, ap, _∙_}
-use mathlib.Core.List.{map}
-use Prim.Native.Nat.{ℕ, _-_, _<_, _≤_}
-use lib.ListN.{length, take}
-use lib.Seq.{length-take-le}
+use Rattle.basics.proofs.Words.{_≡_, sym, ap, _∙_, map, ℕ, _-_, _<_, _≤_, arith, length, take, length-take-le, needs}
 use Rattle.card.specs.Layout.{machineCount, partsOf}
 use Rattle.join.specs.JoinedCard.{joinedParts, lower, other}
 use Rattle.join.proofs.CardParts.{second-in, few-machines, card-length, total-length, card-small}

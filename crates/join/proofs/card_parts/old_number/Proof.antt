@@ -1,5 +1,4 @@
-use borrow.Author.Needs.{needs}
-use native.Mathlib.Omega.{arith}
+use Rattle.basics.proofs.Words.{arith, needs}
 use Rattle.join.proofs.CardParts.{old-before, old-after}
 use Rattle.join.proofs.card_parts.old_number.Statement.{statement}
 use Rattle.join.proofs.card_parts.old_number.Tie as tie

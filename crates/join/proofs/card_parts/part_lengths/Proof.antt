@@ -1,9 +1,4 @@
-use borrow.Author.Needs.{needs}
-use native.Mathlib.Omega.{arith}
-use mathlib.Core.Path.{_≡_, refl}
-use mathlib.Core.List.{[]}
-use Prim.Native.Nat.{ℕ, _-_, _<_, _≤_}
-use lib.ListN.{length, getD, length-set}
+use Rattle.basics.proofs.Words.{_≡_, refl, [], ℕ, _-_, _<_, _≤_, arith, length, getD, length-set, needs}
 use Rattle.card.specs.Layout.{partsOf}
 use Rattle.card.proofs.Lengths.{stored}
 use Rattle.join.specs.JoinedCard.{joinedParts, lower, other}
@@ -78,7 +73,6 @@ part-lengths-spec =
     (λ c. search needs)
     mul-lengths
     array-write-lengths
-    (λ c. search needs)
-    (λ c. search needs)
+    (λ c. search needs) (λ c. search needs)
     loop-again
     returns)

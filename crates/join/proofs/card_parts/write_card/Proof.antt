@@ -1,9 +1,4 @@
-use native.Mathlib.Omega.{arith}
-use mathlib.Core.Path.{_≡_, sym, ap, _∙_}
-use mathlib.Core.List.{_++_, map}
-use Prim.Native.Nat.{ℕ, _+_, _*_, _-_, _<_, _≤_}
-use lib.ListN.{length, take, drop}
-use lib.Seq.{length-take-le}
+use Rattle.basics.specs.Words.{_≡_, sym, ap, _∙_, _++_, map, ℕ, _+_, _*_, _-_, _<_, _≤_, arith, length, take, drop, length-take-le}
 use Rattle.card.specs.Layout.{machineCount, partsOf}
 use Rattle.card.specs.Packing.{table}
 use Rattle.join.specs.JoinedCard.{joinedParts, lower, other}

@@ -1,9 +1,4 @@
-use borrow.Author.Needs.{needs}
-use native.Mathlib.Omega.{arith}
-use mathlib.Core.Path.{_≡_, sym, ap, subst, _∙_}
-use mathlib.Core.List.{List, []}
-use Prim.Native.Nat.{ℕ, _+_, _*_, _-_, _<_, _≤_}
-use lib.ListN.{length, getD, length-take, length-drop}
+use Rattle.basics.proofs.Words.{_≡_, sym, ap, subst, _∙_, List, [], ℕ, _+_, _*_, _-_, _<_, _≤_, arith, length, getD, length-take, length-drop, needs}
 use Rattle.card.specs.Layout.{machineCount, partsOf}
 use Rattle.join.specs.JoinedCard.{joinedParts, lower, other}
 use Rattle.join.specs.Writing.{placed, tableLength, joinedBytes}
@@ -137,12 +132,10 @@ write-parts-spec =
     loop-holds
     part-length-requires
     add-end
-    (λ c. search needs)
-    (λ c. search needs)
+    (λ c. search needs) (λ c. search needs)
     part-write-part-end
     write-part-requires
-    (λ c. search needs)
-    (λ c. search needs)
+    (λ c. search needs) (λ c. search needs)
     loop-again
     same-length
     returns)

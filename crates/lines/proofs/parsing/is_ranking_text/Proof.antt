@@ -1,8 +1,4 @@
-use mathlib.Core.Path.{ap}
-use mathlib.Core.Bool.{Bool, _&&_}
-use lib.ListN.{length}
-use lib.Dec.{leb}
-use borrow.Author.Needs.{needs}
+use Rattle.basics.proofs.Words.{ap, Bool, _&&_, length, leb, needs}
 use Rattle.lines.specs.Parsing.{isRankingText}
 use Rattle.lines.proofs.parsing.is_ranking_text.Statement.{statement}
 use Rattle.lines.proofs.parsing.is_ranking_text.Tie as tie

@@ -1,9 +1,4 @@
-use mathlib.Core.Path.{_≡_, ap, sym, _∙_}
-use mathlib.Core.Bool.{Bool, _&&_}
-use Prim.Native.Nat.{ℕ}
-use lib.ListN.{length}
-use lib.Dec.{leb}
-use borrow.Author.Needs.{needs}
+use Rattle.basics.proofs.Words.{_≡_, ap, sym, _∙_, Bool, _&&_, ℕ, length, leb, needs}
 use Rattle.lines.proofs.Forms.{someDigits, some-digits, symbol-passes, symbol-fails}
 use Rattle.lines.proofs.parsing.is_symbol_text.Statement.{statement}
 use Rattle.lines.proofs.parsing.is_symbol_text.Tie as tie

@@ -1,12 +1,4 @@
-use mathlib.Core.Path.{_≡_, refl, ap, sym, _∙_}
-use Prim.Native.Nat.{_≤_}
-use native.Mathlib.Omega.{arith}
-use lib.ListN.{length, length-take, length-drop}
-use lib.Seq.{length-take-le}
-use borrow.Author.Needs.{needs}
-use borrow.Author.Tests.{not-true, not-false}
-use Rattle.basics.specs.Search.{allOf}
-use Rattle.basics.proofs.Search.{all-none}
+use Rattle.basics.proofs.Words.{_≡_, refl, ap, sym, _∙_, _≤_, arith, length, length-take, length-drop, length-take-le, allOf, needs, not-true, not-false, all-none}
 use Rattle.writing.specs.Text.{comma, segments}
 use Rattle.lines.specs.Parsing.{isSymbolText, isWordText}
 use Rattle.writing.proofs.Lists.{all-next, all-fails, all-end}
@@ -71,8 +63,6 @@ is-word-text-spec =
     returns-2
     returns-3
     add-rest
-    (λ c. search needs)
-    (λ c. search needs)
-    (λ c. search needs)
+    (λ c. search needs) (λ c. search needs) (λ c. search needs)
     loop-less
     loop-again)

@@ -1,14 +1,4 @@
-use mathlib.Core.Path.{_≡_, sym, _∙_}
-use mathlib.Core.Bool.{true}
-use mathlib.Core.List.{List}
-use mathlib.Core.Option.{some}
-use Prim.Native.Nat.{ℕ, _+_, _-_, _≤_}
-use native.Mathlib.Omega.{arith}
-use native.Mathlib.Nat.{le-trans}
-use lib.ListN.{length, take, drop, length-take, length-drop}
-use lib.Seq.{length-take-le}
-use borrow.Author.Tests.{not-true, not-false}
-use borrow.Author.Needs.{needs}
+use Rattle.basics.proofs.Words.{_≡_, sym, _∙_, true, List, some, ℕ, _+_, _-_, _≤_, arith, length, take, drop, length-take, length-drop, length-take-le, le-trans, needs, not-true, not-false}
 use Rattle.lines.specs.Parsing.{isRankingText, isWordText, parsedParts, parsedLine}
 use Rattle.lines.proofs.Forms.{line-long, line-unspaced, line-spaced, parts-unranked, parts-unworded, parts-formed, ranking-digits, word-symbols, parsed, unparsed}
 use Rattle.lines.proofs.parsing.parse.Statement.{statement}
@@ -83,11 +73,7 @@ parse-spec =
     (λ c κs. search needs)
     returns-2
     slice-aggregate-digits
-    (λ c. search needs)
-    (λ c. search needs)
-    (λ c. search needs)
-    (λ c. search needs)
-    (λ c κs. search needs)
+    (λ c. search needs) (λ c. search needs) (λ c. search needs) (λ c. search needs) (λ c κs. search needs)
     returns-3
     (λ c κs. search needs)
     returns-4

@@ -1,12 +1,4 @@
-use mathlib.Core.Path.{_≡_, refl, ap, _∙_}
-use mathlib.Core.Bool.{true}
-use mathlib.Core.List.{map}
-use Prim.Native.Nat.{_-_, _≤_}
-use native.Mathlib.Omega.{arith}
-use lib.ListN.{length, drop, length-set, length-map, drop-of-length-le}
-use lib.Seq.{sets}
-use borrow.Author.Needs.{needs}
-use Rattle.basics.specs.Search.{allOf}
+use Rattle.basics.proofs.Words.{_≡_, refl, ap, _∙_, true, map, _-_, _≤_, arith, length, drop, length-set, length-map, drop-of-length-le, sets, allOf, needs}
 use Rattle.writing.specs.Decimal.{isDigit, digitValue}
 use Rattle.writing.proofs.Lists.{rest-cons, all-first, all-rest, sets-next, sets-end, sets-front}
 use Rattle.writing.proofs.Decimals.{digit-facts}
@@ -54,8 +46,7 @@ write-ranking-spec =
     (λ c. search needs)
     sub-ranking
     slice-write-ranking
-    (λ c. search needs)
-    (λ c. search needs)
+    (λ c. search needs) (λ c. search needs)
     loop-again
     same-length
     returns)

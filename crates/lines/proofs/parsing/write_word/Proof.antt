@@ -1,12 +1,4 @@
-use mathlib.Core.Path.{_≡_, refl, ap, sym, _∙_}
-use mathlib.Core.Bool.{true}
-use mathlib.Core.List.{List, _∷_, map}
-use Prim.Native.Nat.{ℕ, _+_, _≤_}
-use native.Mathlib.Omega.{arith}
-use lib.ListN.{length, take, length-take, length-drop, length-set, length-map}
-use lib.Seq.{length-take-le, sets}
-use borrow.Author.Needs.{needs}
-use Rattle.basics.specs.Search.{allOf}
+use Rattle.basics.proofs.Words.{_≡_, refl, ap, sym, _∙_, true, List, _∷_, map, ℕ, _+_, _≤_, arith, length, take, length-take, length-drop, length-set, length-map, length-take-le, sets, allOf, needs}
 use Rattle.writing.specs.Text.{comma, after, segments}
 use Rattle.writing.specs.Decimal.{valueOf}
 use Rattle.lines.specs.Parsing.{isSymbolText, symbolsIn}
@@ -103,9 +95,6 @@ write-word-spec =
     add-count
     same-length
     returns-2
-    (λ c. search needs)
-    (λ c. search needs)
-    (λ c. search needs)
-    (λ c. search needs)
+    (λ c. search needs) (λ c. search needs) (λ c. search needs) (λ c. search needs)
     loop-less
     loop-again)

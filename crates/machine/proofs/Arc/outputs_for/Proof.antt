@@ -1,9 +1,4 @@
-use mathlib.Core.Path.{_≡_, sym, _∙_, ap}
-use mathlib.Core.Bool.{true, false}
-use Prim.Native.Nat.{ℕ}
-use borrow.Author.Needs.{needs}
-use Rattle.basics.specs.Sets.{member}
-use Rattle.basics.proofs.Sets.{no-member}
+use Rattle.basics.proofs.Words.{_≡_, sym, _∙_, ap, true, false, ℕ, member, needs, no-member}
 use Rattle.machine.specs.Machine.{takes}
 use Rattle.machine.proofs.Partners.{out-partners}
 use Rattle.machine.proofs.Arc.outputs_for.Statement.{statement}

@@ -1,5 +1,4 @@
-use mathlib.Core.Path.{_∙_}
-use borrow.Author.Needs.{needs}
+use Rattle.basics.proofs.Words.{_∙_, needs}
 use Rattle.machine.proofs.Arc.takes.Statement.{statement}
 use Rattle.machine.proofs.Arc.takes.Tie as tie
 

@@ -1,5 +1,4 @@
-use native.Mathlib.Omega.{arith}
-use borrow.Author.Needs.{needs}
+use Rattle.basics.proofs.Words.{arith, needs}
 use Rattle.machine.specs.Accepted.{shape-facts}
 use Rattle.machine.proofs.States.{not-final, final, no-state}
 use Rattle.machine.proofs.Position.ending.Statement.{statement}

@@ -1,5 +1,4 @@
-use mathlib.Core.Path.{sym, _∙_}
-use borrow.Author.Needs.{needs}
+use Rattle.basics.proofs.Words.{sym, _∙_, needs}
 use Rattle.machine.specs.Part.{arcAt}
 use Rattle.machine.proofs.Arcs.{leaves, leaves-other}
 use Rattle.machine.proofs.part.takes_from.Statement.{statement}

@@ -1,7 +1,4 @@
-use mathlib.Core.Path.{_≡_, sym, ap₂, _∙_}
-use Prim.Native.Nat.{ℕ, _≤_}
-use borrow.Author.Needs.{needs}
-use lib.Dec.{lit<}
+use Rattle.basics.proofs.Words.{_≡_, sym, ap₂, _∙_, ℕ, _≤_, lit<, needs}
 use Rattle.refusals.specs.Refusals.{refuse}
 use Rattle.refusals.proofs.Refusals.{was-true, accepts, refuses}
 use Rattle.ranking.specs.Rankings.{isMachineCount}
@@ -42,9 +39,7 @@ pub derive-spec : {M : Type 1} → statement M
 derive-spec =
     tie.close
     (tie.spec
-    (λ c κs. search needs)
-    (λ c. search needs)
-    (λ c. search needs)
+    (λ c κs. search needs) (λ c. search needs) (λ c. search needs)
     fewer-in-requires
     fewer-in-requires-2
     returns

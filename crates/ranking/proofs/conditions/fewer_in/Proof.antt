@@ -1,11 +1,5 @@
-use mathlib.Core.Path.{_≡_, sym}
-use Prim.Native.Nat.{_≤_, _+_, _-_, _*_, _^_}
-use native.Mathlib.Nat.{pow-suc}
-use native.Mathlib.Numerals.{add-one}
-use native.Mathlib.Omega.{arith}
+use Rattle.basics.proofs.Words.{_≡_, sym, ⊎-elim, _≤_, _+_, _-_, _*_, _^_, arith, pow-suc, add-one, needs}
 use lib.Pow.{pow-mono}
-use mathlib.Core.Logic.{⊎-elim}
-use borrow.Author.Needs.{needs}
 use Rattle.ranking.specs.Conditions.{fewerIn}
 use Rattle.ranking.specs.Lemmas.Conditions.{fewer-none, fewer-bound, fewer-grows, fewer-stays}
 use Rattle.ranking.proofs.conditions.fewer_in.Statement.{statement}
@@ -70,7 +64,6 @@ fewer-in-spec =
     count-requires-2
     add-set
     mul-bit
-    (λ c. search needs)
-    (λ c. search needs)
+    (λ c. search needs) (λ c. search needs)
     loop-again
     returns)

@@ -1,8 +1,4 @@
-use mathlib.Core.Path.{_≡_, sym, _∙_, ap}
-use mathlib.Core.List.{[], _∷_}
-use mathlib.Core.Option.{some}
-use borrow.Author.Needs.{needs}
-use lib.Dec.{lit<}
+use Rattle.basics.proofs.Words.{_≡_, sym, _∙_, ap, [], _∷_, some, lit<, needs}
 use Rattle.refusals.specs.Refusals.{refuse, firstOf, checkedNumber}
 use Rattle.refusals.proofs.Refusals.{passed, none-first, accepts, refuses}
 use Rattle.ranking.specs.Rankings.{isMachineCount, isRanking}

@@ -1,10 +1,4 @@
-use mathlib.Core.Path.{_≡_, sym, _∙_, ap}
-use mathlib.Core.List.{List}
-use Prim.Native.Nat.{ℕ, _≤_, _-_}
-use native.Mathlib.Omega.{arith}
-use borrow.Author.Needs.{needs}
-use lib.ListN.{length, getD, drop}
-use Rattle.basics.proofs.Search.{left-next, left-none}
+use Rattle.basics.proofs.Words.{_≡_, sym, _∙_, ap, List, ℕ, _≤_, _-_, arith, length, getD, drop, needs, left-next, left-none}
 use Rattle.ranking.specs.declared.Order.{Order}
 use Rattle.ranking.specs.declared.Order.the-variants.{Better, Worse}
 use Rattle.ranking.specs.Harmony.{harmony}
@@ -81,16 +75,12 @@ harmony-spec =
     (tie.spec
     Inv-loop
     μ-loop
-    (λ c. search needs)
-    (λ c. search needs)
-    (λ c κs. search needs)
-    (λ c. search needs)
+    (λ c. search needs) (λ c. search needs) (λ c κs. search needs) (λ c. search needs)
     count-requires
     (λ c. search needs)
     count-requires-2
     returns
     returns-2
-    (λ c. search needs)
-    (λ c. search needs)
+    (λ c. search needs) (λ c. search needs)
     loop-again
     returns-3)

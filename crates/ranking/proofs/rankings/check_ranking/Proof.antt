@@ -1,13 +1,4 @@
-use mathlib.Core.Path.{_≡_, sym, _∙_}
-use mathlib.Core.Bool.{true}
-use Prim.Native.Nat.{_≤_, _-_}
-use native.Mathlib.Omega.{arith}
-use borrow.Author.Needs.{needs}
-use borrow.Author.Tests.{eqb-false, not-true, not-false}
-use lib.Dec.{eqb}
-use lib.ListN.{length}
-use Rattle.basics.specs.Search.{occurrences, everyBelow}
-use Rattle.basics.proofs.Below.{every-start, every-next}
+use Rattle.basics.proofs.Words.{_≡_, sym, _∙_, true, _≤_, _-_, arith, length, eqb, occurrences, everyBelow, needs, eqb-false, not-true, not-false, every-start, every-next}
 use Rattle.refusals.proofs.Refusals.{passes-with, refuses-with}
 use Rattle.ranking.specs.Lemmas.Rankings.{wrong-length, not-once, each-once}
 use Rattle.ranking.proofs.rankings.check_ranking.Statement.{statement}
@@ -65,7 +56,6 @@ check-ranking-spec =
     loop-holds
     (λ c κs. search needs)
     returns-2
-    (λ c. search needs)
-    (λ c. search needs)
+    (λ c. search needs) (λ c. search needs)
     loop-again
     returns-3)

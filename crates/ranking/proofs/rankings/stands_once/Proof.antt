@@ -1,14 +1,4 @@
-use mathlib.Core.Path.{_≡_, sym, ap}
-use mathlib.Core.Logic.{⊎-elim}
-use Prim.Native.Nat.{ℕ, _≤_, _+_, _-_}
-use native.Mathlib.Omega.{arith}
-use borrow.Author.Needs.{needs}
-use borrow.Author.Tests.{ne-eqb}
-use lib.Dec.{eqb}
-use lib.ListN.{length, drop}
-use Rattle.basics.specs.Search.{occurrences}
-use Rattle.basics.proofs.Search.{left-next, left-none}
-use Rattle.basics.proofs.Occurrences.{occurs-none, occurs-here, occurs-later}
+use Rattle.basics.proofs.Words.{_≡_, sym, ap, ⊎-elim, ℕ, _≤_, _+_, _-_, arith, length, drop, eqb, occurrences, needs, ne-eqb, left-next, left-none, occurs-none, occurs-here, occurs-later}
 use Rattle.ranking.proofs.rankings.stands_once.Statement.{statement}
 use Rattle.ranking.proofs.rankings.stands_once.Tie as tie
 

@@ -1,9 +1,5 @@
-use mathlib.Core.Path.{sym}
-use Prim.Native.Nat.{_*_}
-use native.Mathlib.Omega.{arith}
+use Rattle.basics.proofs.Words.{sym, _*_, arith, needs, le-leb, lt-leb}
 use Rattle.refusals.proofs.Refusals.{passes-with, refuses-with}
-use borrow.Author.Tests.{le-leb, lt-leb}
-use borrow.Author.Needs.{needs}
 use Rattle.readout.proofs.checks.check_answer.Statement.{statement}
 use Rattle.readout.proofs.checks.check_answer.Tie as tie
 

@@ -1,5 +1,4 @@
-use mathlib.Core.Path.{_≡_, refl, sym, ap, _∙_}
-use mathlib.Core.Option.{Option, some}
+use Rattle.basics.proofs.Words.{_≡_, refl, sym, ap, _∙_, Option, some, needs}
 use Rattle.paths.specs.Ranked.{Ranked}
 use Rattle.tables.specs.LabelCost.{costOf}
 use Rattle.tables.specs.Work.{labelOf}
@@ -7,7 +6,6 @@ use Rattle.refusals.specs.Refusals.{checkedNumber}
 use Rattle.readout.specs.Searching.{labelRefusal}
 use Rattle.refusals.proofs.Refusals.{refused-number}
 use Rattle.readout.proofs.Labels.{not-there, is-there}
-use borrow.Author.Needs.{needs}
 use Rattle.readout.proofs.checks.check_best.Statement.{statement}
 use Rattle.readout.proofs.checks.check_best.Tie as tie
 
@@ -33,10 +31,7 @@ pub check-best-spec : {M : Type 1} → statement M
 check-best-spec =
     tie.close
     (tie.spec
-    (λ c κs. search needs)
-    (λ c. search needs)
-    (λ c. search needs)
+    (λ c κs. search needs) (λ c. search needs) (λ c. search needs)
     returns
-    (λ c κs. search needs)
-    (λ c κs. search needs)
+    (λ c κs. search needs) (λ c κs. search needs)
     returns-2)

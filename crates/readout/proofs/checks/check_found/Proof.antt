@@ -1,7 +1,4 @@
-use mathlib.Core.Path.{sym, ap}
-use mathlib.Core.Option.{Option}
-use borrow.Author.Tests.{not-true, not-false}
-use borrow.Author.Needs.{needs}
+use Rattle.basics.proofs.Words.{sym, ap, Option, needs, not-true, not-false}
 use Rattle.refusals.specs.Refusals.{refuse}
 use Rattle.candidate.specs.Candidates.{isSome}
 use Rattle.paths.specs.Ranked.{Ranked}

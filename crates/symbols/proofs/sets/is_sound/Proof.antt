@@ -1,6 +1,4 @@
-use mathlib.Core.Path.{ap}
-use mathlib.Core.Bool.{Bool, not, _&&_}
-use lib.Dec.{eqb}
+use Rattle.basics.specs.Words.{ap, Bool, not, _&&_, eqb}
 use Rattle.symbols.proofs.SymbolSets.{half-below}
 use Rattle.symbols.proofs.sets.is_sound.Statement.{statement}
 use Rattle.symbols.proofs.sets.is_sound.Tie as tie

@@ -1,7 +1,5 @@
-use mathlib.Core.Path.{refl}
-use native.Mathlib.Omega.{arith}
+use Rattle.basics.proofs.Words.{refl, arith, needs}
 use lib.Count.{trailing-le}
-use borrow.Author.Needs.{needs}
 use Rattle.symbols.proofs.SymbolSets.{least-at}
 use Rattle.symbols.proofs.sets.least.Statement.{statement}
 use Rattle.symbols.proofs.sets.least.Tie as tie

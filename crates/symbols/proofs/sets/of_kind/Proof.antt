@@ -1,5 +1,4 @@
-use borrow.Author.Needs.{needs}
-use mathlib.Core.Path.{_∙_}
+use Rattle.basics.proofs.Words.{_∙_, needs}
 use Rattle.symbols.proofs.Partners.{any-partners, same-partners, unlike-partners}
 use Rattle.symbols.proofs.sets.of_kind.Statement.{statement}
 use Rattle.symbols.proofs.sets.of_kind.Tie as tie

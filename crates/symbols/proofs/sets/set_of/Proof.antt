@@ -1,9 +1,5 @@
-use native.Mathlib.Omega.{arith}
-use native.Mathlib.Nat.{one-mul}
-use mathlib.Core.Path.{_∙_}
-use Prim.Native.Nat.{_^_}
+use Rattle.basics.proofs.Words.{_∙_, _^_, arith, one-mul, needs}
 use lib.Pow.{shl-exact}
-use borrow.Author.Needs.{needs}
 use Rattle.symbols.proofs.sets.set_of.Statement.{statement}
 use Rattle.symbols.proofs.sets.set_of.Tie as tie
 

@@ -1,5 +1,4 @@
-use mathlib.Core.Path.{ap}
-use Prim.Native.Nat.{ℕ}
+use Rattle.basics.specs.Words.{ap, ℕ}
 use lib.Bits.{bitAnd, bitXor}
 use Rattle.symbols.proofs.sets.without.Statement.{statement}
 use Rattle.symbols.proofs.sets.without.Tie as tie

@@ -1,5 +1,4 @@
-use borrow.Author.Needs.{needs}
-use mathlib.Core.Path.{refl}
+use Rattle.basics.proofs.Words.{refl, needs}
 use Rattle.symbols.specs.Symbols.{emptySymbol}
 use Rattle.symbols.proofs.sets.without_empty.Statement.{statement}
 use Rattle.symbols.proofs.sets.without_empty.Tie as tie

@@ -1,7 +1,5 @@
-use native.Mathlib.Omega.{arith}
-use Prim.Native.Nat.{_-_}
+use Rattle.basics.proofs.Words.{_-_, arith, needs}
 use lib.Bits.{and-le-r}
-use borrow.Author.Needs.{needs}
 use Rattle.symbols.proofs.SymbolSets.{without-least}
 use Rattle.symbols.proofs.sets.without_least.Statement.{statement}
 use Rattle.symbols.proofs.sets.without_least.Tie as tie

@@ -1,10 +1,4 @@
-use mathlib.Core.Path.{sym, ap, _∙_}
-use mathlib.Core.Bool.{Bool}
-use mathlib.Core.List.{[], _∷_}
-use Prim.Native.Nat.{_*_, _%_}
-use native.Mathlib.Omega.{arith}
-use lib.Dec.{leb}
-use borrow.Author.Tests.{lt-ltb, le-ltb, le-leb, lt-leb}
+use Rattle.basics.proofs.Words.{sym, ap, _∙_, Bool, [], _∷_, _*_, _%_, arith, leb, lt-ltb, le-ltb, le-leb, lt-leb}
 use Rattle.refusals.specs.Refusals.{refuse, firstOf}
 use Rattle.tables.specs.SumLabels.{noLabel}
 use Rattle.weights.proofs.checks.check_best.Statement.{statement}

@@ -1,10 +1,4 @@
-use mathlib.Core.Path.{_≡_, sym, _∙_}
-use mathlib.Core.List.{List, [], _∷_}
-use Prim.Native.Nat.{ℕ, _+_, _*_}
-use native.Mathlib.Omega.{arith}
-use lib.Dec.{leb}
-use lib.ListN.{length}
-use borrow.Author.Needs.{needs}
+use Rattle.basics.proofs.Words.{_≡_, sym, _∙_, List, [], _∷_, ℕ, _+_, _*_, arith, length, leb, needs}
 use Rattle.refusals.specs.Refusals.{refuse, firstOf, checkedNumber}
 use Rattle.refusals.proofs.Refusals.{passed-number, refused-number, goes-up, first-on}
 use Rattle.card.specs.Layout.{machineCount, symbolCount}
@@ -60,10 +54,7 @@ pub check-input-spec : {M : Type 1} → statement M
 check-input-spec =
     tie.close
     (tie.spec
-    (λ c κs. search needs)
-    (λ c. search needs)
-    (λ c. search needs)
-    (λ c κs. search needs)
+    (λ c κs. search needs) (λ c. search needs) (λ c. search needs) (λ c κs. search needs)
     returns
     grid-of-requires
     check-word-requires

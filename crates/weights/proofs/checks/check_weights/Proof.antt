@@ -1,10 +1,4 @@
-use mathlib.Core.Path.{_≡_, refl, sym}
-use Prim.Native.Nat.{_-_}
-use native.Mathlib.Omega.{arith}
-use lib.Dec.{leb}
-use lib.ListN.{length, drop}
-use borrow.Author.Needs.{needs}
-use Rattle.basics.specs.Search.{allOf}
+use Rattle.basics.proofs.Words.{_≡_, refl, sym, _-_, arith, length, drop, leb, allOf, needs}
 use Rattle.refusals.proofs.Refusals.{passes-with, refuses-with}
 use Rattle.weights.proofs.Checking.{other-count, one-above, none-above, one-passes}
 use Rattle.weights.proofs.checks.check_weights.Statement.{statement}

@@ -1,11 +1,4 @@
-use mathlib.Core.Path.{_≡_, sym, _∙_}
-use mathlib.Core.Bool.{true}
-use mathlib.Core.List.{[], _∷_}
-use Prim.Native.Nat.{_+_, _*_}
-use native.Mathlib.Omega.{arith}
-use lib.Dec.{leb, lit<}
-use lib.ListN.{length}
-use borrow.Author.Needs.{needs}
+use Rattle.basics.proofs.Words.{_≡_, sym, _∙_, true, [], _∷_, _+_, _*_, arith, length, leb, lit<, needs}
 use Rattle.refusals.specs.Refusals.{refuse}
 use Rattle.refusals.proofs.Refusals.{was-true, goes-up, last-one}
 use Rattle.product.specs.Optimizing.{soundWord}
@@ -56,13 +49,9 @@ pub check-word-spec : {M : Type 1} → statement M
 check-word-spec =
     tie.close
     (tie.spec
-    (λ c κs. search needs)
-    (λ c. search needs)
-    (λ c. search needs)
+    (λ c κs. search needs) (λ c. search needs) (λ c. search needs)
     returns
-    (λ c κs. search needs)
-    (λ c. search needs)
-    (λ c. search needs)
+    (λ c κs. search needs) (λ c. search needs) (λ c. search needs)
     returns-2
     check-work-requires
     returns-3)

@@ -1,7 +1,4 @@
-use mathlib.Core.Path.{_≡_}
-use Prim.Native.Nat.{ℕ}
-use lib.ListN.{length}
-use borrow.Author.Needs.{length-unmapped, needs}
+use Rattle.basics.proofs.Words.{_≡_, ℕ, length, length-unmapped, needs}
 use Rattle.writing.proofs.Lists.{six-numbers, six-below}
 use Rattle.writing.proofs.answers.wide_counts.Statement.{statement}
 use Rattle.writing.proofs.answers.wide_counts.Tie as tie
@@ -24,16 +21,7 @@ pub wide-counts-spec : {M : Type 1} → statement M
 wide-counts-spec =
     tie.close
     (tie.spec
-    (λ c. search needs)
-    (λ c κs. search needs)
-    (λ c. search needs)
-    (λ c κs. search needs)
-    (λ c. search needs)
-    (λ c κs. search needs)
-    (λ c. search needs)
-    (λ c κs. search needs)
-    (λ c. search needs)
-    (λ c κs. search needs)
-    (λ c. search needs)
-    (λ c κs. search needs)
+    (λ c. search needs) (λ c κs. search needs) (λ c. search needs) (λ c κs. search needs) (λ c. search needs)
+    (λ c κs. search needs) (λ c. search needs) (λ c κs. search needs) (λ c. search needs) (λ c κs. search needs)
+    (λ c. search needs) (λ c κs. search needs)
     returns)

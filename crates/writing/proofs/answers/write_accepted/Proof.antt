@@ -1,8 +1,4 @@
-use Prim.Native.Nat.{_≤_}
-use native.Mathlib.Omega.{arith}
-use native.Mathlib.Nat.{le-trans}
-use lib.ListN.{length}
-use borrow.Author.Needs.{needs}
+use Rattle.basics.proofs.Words.{_≤_, arith, length, le-trans, needs}
 use Rattle.writing.specs.Writing.{acceptedLine}
 use Rattle.writing.proofs.Writes.{written-append, written-length, front-place, front-bytes}
 use Rattle.writing.proofs.Texts.{accepted-length, accepted-fits}

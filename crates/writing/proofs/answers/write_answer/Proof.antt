@@ -1,10 +1,4 @@
-use mathlib.Core.Path.{_≡_, refl, ap, sym, _∙_}
-use Prim.Native.Nat.{ℕ, _*_}
-use native.Mathlib.Omega.{arith}
-use lib.Dec.{lit<}
-use lib.ListN.{take, length-take, length}
-use lib.Seq.{length-take-le}
-use borrow.Author.Needs.{length-unmapped, needs}
+use Rattle.basics.proofs.Words.{_≡_, refl, ap, sym, _∙_, ℕ, _*_, arith, take, length-take, length, lit<, length-take-le, length-unmapped, needs}
 use Rattle.writing.proofs.Lists.{take-least, take-below}
 use Rattle.writing.proofs.Texts.{line-refused, line-accepted}
 use Rattle.writing.proofs.answers.write_answer.Statement.{statement}
@@ -55,14 +49,9 @@ pub write-answer-spec : {M : Type 1} → statement M
 write-answer-spec =
     tie.close
     (tie.spec
-    (λ c κs. search needs)
-    (λ c. search needs)
+    (λ c κs. search needs) (λ c. search needs)
     returns
-    (λ c κs. search needs)
-    (λ c κs. search needs)
-    (λ c. search needs)
-    (λ c. search needs)
-    (λ c κs. search needs)
+    (λ c κs. search needs) (λ c κs. search needs) (λ c. search needs) (λ c. search needs) (λ c κs. search needs)
     array-share-prefix-counts
     slice-aggregate-write-accepted
     slice-aggregate-write-accepted-2

@@ -1,9 +1,4 @@
-use mathlib.Core.Path.{_≡_}
-use Prim.Native.Nat.{_+_, _≤_}
-use native.Mathlib.Omega.{arith}
-use native.Mathlib.Nat.{le-trans}
-use lib.ListN.{length}
-use borrow.Author.Needs.{needs}
+use Rattle.basics.proofs.Words.{_≡_, _+_, _≤_, arith, length, le-trans, needs}
 use Rattle.writing.specs.Writing.{answeredLine, totalLine, closingLines}
 use Rattle.writing.proofs.Writes.{written-append, written-length, front-place, front-bytes}
 use Rattle.writing.proofs.Texts.{answered-length, closing-length, closing-fits}
@@ -97,8 +92,7 @@ pub write-closing-spec : {M : Type 1} → statement M
 write-closing-spec =
     tie.close
     (tie.spec
-    (λ c. search needs)
-    (λ c κs. search needs)
+    (λ c. search needs) (λ c κs. search needs)
     write-number-requires
     (λ c. search needs)
     write-text-requires-2

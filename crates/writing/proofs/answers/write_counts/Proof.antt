@@ -1,5 +1,4 @@
-use native.Mathlib.Omega.{arith}
-use borrow.Author.Needs.{needs}
+use Rattle.basics.proofs.Words.{arith, needs}
 use Rattle.writing.proofs.Writes.{written-nil, written-append, written-length}
 use Rattle.writing.proofs.Texts.{counts-first-length, counts-none, counts-first}
 use Rattle.writing.proofs.answers.write_counts.Statement.{statement}
@@ -30,9 +29,7 @@ write-counts-spec =
     returns
     (λ c. search needs)
     write-number-requires
-    (λ c. search needs)
-    (λ c. search needs)
-    (λ c. search needs)
+    (λ c. search needs) (λ c. search needs) (λ c. search needs)
     write-next-counts-requires
     (λ c. search needs)
     returns-2)

@@ -1,8 +1,4 @@
-use Prim.Native.Nat.{_-_, _≤_}
-use native.Mathlib.Omega.{arith}
-use lib.ListN.{length, drop}
-use borrow.Author.Needs.{needs}
-use Rattle.basics.specs.Search.{joined}
+use Rattle.basics.proofs.Words.{_-_, _≤_, arith, length, drop, joined, needs}
 use Rattle.writing.specs.Writing.{nextCount}
 use Rattle.writing.proofs.Writes.{Ahead, ahead-start, ahead-end, ahead-length, ahead-next}
 use Rattle.writing.proofs.Texts.{counts-room, counts-next, counts-end}
@@ -46,8 +42,7 @@ write-next-counts-spec =
     Inv-loop
     μ-loop
     loop-holds
-    (λ c. search needs)
-    (λ c. search needs)
+    (λ c. search needs) (λ c. search needs)
     write-next-count-requires
     add-i
     loop-less

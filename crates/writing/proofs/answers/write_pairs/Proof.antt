@@ -1,7 +1,4 @@
-use Prim.Native.Nat.{_-_, _≤_}
-use native.Mathlib.Omega.{arith}
-use lib.ListN.{length, drop}
-use borrow.Author.Needs.{needs}
+use Rattle.basics.proofs.Words.{_-_, _≤_, arith, length, drop, needs}
 use Rattle.writing.specs.Writing.{pairsText}
 use Rattle.writing.proofs.Writes.{Ahead, ahead-start, ahead-end, ahead-length, ahead-next}
 use Rattle.writing.proofs.Texts.{pairs-room, pairs-next, pairs-end}
@@ -49,9 +46,7 @@ write-pairs-spec =
     μ-loop
     loop-holds
     add-loop
-    (λ c. search needs)
-    (λ c. search needs)
-    (λ c. search needs)
+    (λ c. search needs) (λ c. search needs) (λ c. search needs)
     write-pair-requires
     add-i
     loop-less

@@ -1,6 +1,4 @@
-use native.Mathlib.Nat.{le-trans}
-use native.Mathlib.Omega.{arith}
-use borrow.Author.Needs.{needs}
+use Rattle.basics.proofs.Words.{arith, le-trans, needs}
 use Rattle.writing.specs.Writing.{refusedLine}
 use Rattle.writing.proofs.Writes.{written-append, written-length, front-place, front-bytes}
 use Rattle.writing.proofs.Texts.{byte-length, refused-fits}
@@ -36,8 +34,7 @@ pub write-refused-spec : {M : Type 1} → statement M
 write-refused-spec =
     tie.close
     (tie.spec
-    (λ c. search needs)
-    (λ c κs. search needs)
+    (λ c. search needs) (λ c κs. search needs)
     write-number-requires
     write-byte-requires
     (λ c. search needs)

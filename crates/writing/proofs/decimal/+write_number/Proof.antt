@@ -1,8 +1,5 @@
 -- The call for the digits before the last has a smaller number.
-use Prim.Native.Nat.{ℕ, _<_}
-use native.Mathlib.Omega.{arith}
-use lib.ListN.{length-set}
-use borrow.Author.Needs.{needs}
+use Rattle.basics.proofs.Words.{ℕ, _<_, arith, length-set, needs}
 use borrow.Fn.Kinds.{In}
 use borrow.Fn.PlainCycle.{Measures, is, falls, and}
 use Rattle.writing.proofs.Decimals.{digit-length, more-length}
@@ -53,15 +50,13 @@ pub +write-number-spec : {M : Type 1} → statement M
 +write-number-spec =
     close μ
     λ t. lts.spec (asked t, reads.Post) (given t) reads.Post
-    (λ c. search needs)
-    (λ c. search needs)
+    (λ c. search needs) (λ c. search needs)
     (write-out t)
     (add-result t)
     (λ c. simp length-set)
     (λ c. written-digit _ _ _ (c .if1 .taken))
     (requires t)
-    (λ c. search needs)
-    (λ c. search needs)
+    (λ c. search needs) (λ c. search needs)
     (write-out-2 t)
     (add-result-2 t)
     (same-length-2 t)

@@ -1,9 +1,4 @@
-use mathlib.Core.Path.{sym, _≡_, _∙_}
-use Prim.Native.Nat.{_-_, _≤_}
-use lib.ListN.{length, drop, drop-of-length-le}
-use borrow.Author.Tests.{not-true, not-false}
-use borrow.Author.Needs.{needs}
-use Rattle.basics.specs.Search.{allOf}
+use Rattle.basics.proofs.Words.{sym, _≡_, _∙_, _-_, _≤_, length, drop, drop-of-length-le, allOf, needs, not-true, not-false}
 use Rattle.writing.specs.Decimal.{isDigit}
 use Rattle.writing.proofs.Lists.{rest-cons, all-next, all-fails, all-end}
 use Rattle.writing.proofs.decimal.are_digits.Statement.{statement}
@@ -34,11 +29,8 @@ are-digits-spec =
     (tie.spec
     Inv-loop
     μ-loop
-    (λ c. search needs)
-    (λ c. search needs)
-    (λ c κs. search needs)
+    (λ c. search needs) (λ c. search needs) (λ c κs. search needs)
     returns
-    (λ c. search needs)
-    (λ c. search needs)
+    (λ c. search needs) (λ c. search needs)
     loop-again
     returns-2)

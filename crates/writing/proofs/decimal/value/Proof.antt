@@ -1,11 +1,4 @@
-use mathlib.Core.Path.{_≡_, refl}
-use mathlib.Core.Bool.{true}
-use Prim.Native.Nat.{_-_, _^_, _<_, _≤_}
-use native.Mathlib.Omega.{arith}
-use lib.Dec.{lit<}
-use lib.ListN.{length, getD, drop}
-use borrow.Author.Needs.{needs}
-use Rattle.basics.specs.Search.{allOf}
+use Rattle.basics.proofs.Words.{_≡_, refl, true, _-_, _^_, _<_, _≤_, arith, length, getD, drop, lit<, allOf, needs}
 use Rattle.writing.specs.Decimal.{isDigit, valueFrom, valueOf}
 use Rattle.writing.proofs.Lists.{rest-cons, all-first, all-rest}
 use Rattle.writing.proofs.Decimals.{Digit, digit-facts, value-next, value-end, power-next, power-small}
@@ -56,7 +49,6 @@ value-spec =
     sub-wide
     (λ c κs. search needs)
     add-n
-    (λ c. search needs)
-    (λ c. search needs)
+    (λ c. search needs) (λ c. search needs)
     loop-again
     returns)

@@ -1,7 +1,4 @@
-use mathlib.Core.Path.{_≡_}
-use Prim.Native.Nat.{_+_, _-_, _≤_}
-use lib.ListN.{length, drop}
-use borrow.Author.Needs.{needs}
+use Rattle.basics.proofs.Words.{_≡_, _+_, _-_, _≤_, length, drop, needs}
 use Rattle.writing.specs.Text.{before}
 use Rattle.writing.proofs.Cutting.{before-here, before-on, before-end}
 use Rattle.writing.proofs.text.length_before.Statement.{statement}
@@ -28,10 +25,8 @@ length-before-spec =
     (tie.spec
     Inv-loop
     μ-loop
-    (λ c. search needs)
-    (λ c. search needs)
+    (λ c. search needs) (λ c. search needs)
     returns
-    (λ c. search needs)
-    (λ c. search needs)
+    (λ c. search needs) (λ c. search needs)
     loop-again
     returns-2)

@@ -1,9 +1,4 @@
-use mathlib.Core.Path.{_≡_}
-use Prim.Native.Nat.{_+_, _-_, _≤_}
-use native.Mathlib.Omega.{arith}
-use lib.ListN.{length, drop, length-set, drop-of-length-le}
-use lib.Seq.{sets}
-use borrow.Author.Needs.{needs}
+use Rattle.basics.proofs.Words.{_≡_, _+_, _-_, _≤_, arith, length, drop, length-set, drop-of-length-le, sets, needs}
 use Rattle.writing.proofs.Lists.{rest-cons, sets-next, sets-end}
 use Rattle.writing.proofs.text.write_text.Statement.{statement}
 use Rattle.writing.proofs.text.write_text.Tie as tie
@@ -29,12 +24,7 @@ write-text-spec =
     (tie.spec
     Inv-loop
     μ-loop
-    (λ c. search needs)
-    (λ c. search needs)
-    (λ c. search needs)
-    (λ c. search needs)
-    (λ c. search needs)
-    (λ c. search needs)
+    (λ c. search needs) (λ c. search needs) (λ c. search needs) (λ c. search needs) (λ c. search needs) (λ c. search needs)
     loop-again
     same-length
     returns)

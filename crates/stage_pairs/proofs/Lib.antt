@@ -1,2 +1,0 @@
-pub mod Fours
-pub mod Listing
