@@ -1,10 +1,12 @@
--- How the reading of the lengths goes on. Assumes nothing.
-use Rattle.basics.specs.Words.{_≡_, _∙_, List, ℕ, suc, _<_, arith, length, getD, set, getD-set-same, getD-set-other, ℕ-discrete}
+-- Six lengths that are read one by one. Assumes nothing.
+use Rattle.basics.specs.Words.{_≡_, [], _∷_, ℕ, zero, suc, _<_, _≤_, arith, getD}
 
--- a list that agrees below i, with element i stored
-pub stored : (l : List ℕ) (i v : ℕ) (f : ℕ → ℕ) → i < length l → ((k : ℕ) → k < i → getD l k 0 ≡ f k) → v ≡ f i → (k : ℕ) → k < suc i → getD (set l i v) k 0 ≡ f k
-stored l i v f h g e k q = go (ℕ-discrete k i)
-  where
-    go : Dec (k ≡ i) → getD (set l i v) k 0 ≡ f k
-    go (yes p) = rw p (getD-set-same l i v 0 h ∙ e)
-    go (no p) = getD-set-other l i k v 0 p ∙ g k (omega arith)
+pub six-lengths : (L : ℕ → ℕ) {K : ℕ} (a b c d e f : ℕ) → K ≤ 6 → (0 < K → a ≡ L 0) → (1 < K → b ≡ L 1) → (2 < K → c ≡ L 2) → (3 < K → d ≡ L 3) → (4 < K → e ≡ L 4) → (5 < K → f ≡ L 5)
+    → (i : ℕ) → i < K → getD (a ∷ b ∷ c ∷ d ∷ e ∷ f ∷ []) i 0 ≡ L i
+six-lengths L a b c d e f k p q r s t u zero h = p h
+six-lengths L a b c d e f k p q r s t u (suc zero) h = q h
+six-lengths L a b c d e f k p q r s t u (suc (suc zero)) h = r h
+six-lengths L a b c d e f k p q r s t u (suc (suc (suc zero))) h = s h
+six-lengths L a b c d e f k p q r s t u (suc (suc (suc (suc zero)))) h = t h
+six-lengths L a b c d e f k p q r s t u (suc (suc (suc (suc (suc zero))))) h = u h
+six-lengths L a b c d e f k p q r s t u (suc (suc (suc (suc (suc (suc i)))))) h = omega (arith, k, h)

@@ -36,15 +36,28 @@ pub fn check_layout(card: &[u8]) -> Checked
     tested(layout::is_laid_out(card, card[0]), Refusal::Layout)
 }
 
-// The lengths of a card's parts; places from K on are 0.
+// The length of a part, 0 where the card has no such part.
+fn length_at(card: &[u8], machine: u8) -> u16
+    requires { ⌜ 2 + 4 * machineCount (now card) ≤ length (now card) ⌝ }
+    ensures { λ r. ⌜ (machine < machineCount (now (card .entry)) → r ≡ lengthOf (now (card .entry)) machine) ⌝ }
+{
+    if machine < card[0] {
+        return layout::part_length(card, index(machine)) as u16;
+    }
+    0
+}
+
+// The lengths of a card's parts; places from K on are 0. Six calls, and no loop: the check of a card is then long enough to be laid out once.
 pub fn read_lengths(card: &[u8]) -> [u16; 6]
     requires { ⌜ (machineCount (now card) ≤ 6) × (2 + 4 * machineCount (now card) ≤ length (now card)) ⌝ }
     ensures { λ r. ⌜ (length r ≡ 6) × ((i : ℕ) → i < machineCount (now (card .entry)) → getD r i 0 ≡ lengthOf (now (card .entry)) i) ⌝ }
 {
-    let mut lengths = [0u16; 6];
-    let machines = index(card[0]);
-    for i in 0..machines {
-        lengths[i] = layout::part_length(card, i) as u16;
-    }
-    lengths
+    [
+        length_at(card, 0),
+        length_at(card, 1),
+        length_at(card, 2),
+        length_at(card, 3),
+        length_at(card, 4),
+        length_at(card, 5),
+    ]
 }

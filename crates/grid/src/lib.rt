@@ -23,16 +23,24 @@ pub fn no_grid() -> Grid {
     }
 }
 
-// The sizes of an accepted card.
+// The sizes of an accepted card; the counts from K on are 0.
 pub fn grid_of(card: &[u8]) -> Grid
     requires { ⌜ cardRefusal (now card) ≡ 0 ⌝ }
     ensures { λ r. ⌜ GridOf (now (card .entry)) r ⌝ }
 {
-    let counts = tables::state_counts(card);
     let machines = card::machine_count(card);
     let symbols = card::symbol_count(card);
-    let states = columns::width_of(&counts[..machines]);
-    let size = tables::joint_states(&counts[..machines]);
+    let mut counts = [0u8; 6];
+    let mut states = 0;
+    let mut size = 1;
+    let mut m = 0;
+    while m < machines {
+        let count = machine::state_count(card::part(card, m));
+        counts[m] = count as u8;
+        states += count;
+        size *= count;
+        m += 1;
+    }
     Grid {
         machines,
         symbols,

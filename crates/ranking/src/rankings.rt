@@ -44,13 +44,15 @@ pub fn check_ranking(machines: u8, ranking: &[u8]) -> Checked
     Checked::Passed
 }
 
-// Refusals 1 and 7.
+// Refusals 1 and 7. The ranking is looked at first, though 1 is answered first: of a number that is known to be at most 6 the compiler would lay the loop
+// over the machines out six times.
 pub fn check(machines: u8, ranking: &[u8]) -> Checked
     ensures { λ r. ⌜ checkedNumber r ≡ firstOf (refuse 1 (isMachineCount machines) ∷ refuse 7 (isRanking machines (now (ranking .entry))) ∷ []) ⌝ }
 {
+    let ranked = check_ranking(machines, ranking);
     let answer = check_machine_count(machines);
     let Checked::Passed = answer else {
         return answer;
     };
-    check_ranking(machines, ranking)
+    ranked
 }

@@ -1,13 +1,9 @@
-// What the search writes down: steps and labels as numbers; the state counts of a card's machines, the number of joint states, the start node; a
-// ranking as six places.
-ghost use Rattle.basics.specs.Words.{_≡_, List, getD, take};
+// What the search writes down: steps and labels as numbers; the start node; a ranking as six places.
+ghost use Rattle.basics.specs.Words.{_≡_, List, getD};
 ghost use Rattle.machine.specs.Machine.{Machine};
-ghost use Rattle.card.specs.Layout.{machineCount};
-ghost use Rattle.card.specs.Card.{machinesOf, cardRefusal};
-ghost use Rattle.product.specs.Nodes.{stateCounts, product};
+ghost use Rattle.product.specs.Nodes.{stateCounts};
 ghost use Rattle.product.specs.ProductGraph.{startNode};
 ghost use Rattle.tables.specs.Places.{sixPlaces};
-ghost use Rattle.tables.specs.Tables.{CountsOfSome};
 use basics::index;
 use machine::Position;
 
@@ -18,35 +14,6 @@ pub const NO_STEP: u16 = 65535;
 
 // In the place of a node's label by sums: it has none.
 pub const NO_SUM: u64 = 18446744073709551615;
-
-// The state counts of an accepted card's machines; places from K on are 0.
-pub fn state_counts(card: &[u8]) -> [u8; 6]
-    requires { ⌜ cardRefusal (now card) ≡ 0 ⌝ }
-    ensures { λ r. ⌜ take (machineCount (now (card .entry))) r ≡ stateCounts (machinesOf (now (card .entry))) ⌝ }
-{
-    let mut counts = [0u8; 6];
-    let machines = card::machine_count(card);
-    let mut m = 0;
-    while m < machines {
-        counts[m] = machine::state_count(card::part(card, m)) as u8;
-        m += 1;
-    }
-    counts
-}
-
-// P, the number of joint states.
-pub fn joint_states(counts: &[u8]) -> usize
-    requires { ⌜ CountsOfSome (now counts) ⌝ }
-    ensures { λ r. ⌜ r ≡ product (now (counts .entry)) ⌝ }
-{
-    let mut states = 1;
-    let mut m = 0;
-    while m < counts.len() {
-        states *= index(counts[m]);
-        m += 1;
-    }
-    states
-}
 
 // The start node: the first position, whose nodes are the codes, with every machine in its start state.
 pub fn start_node(counts: &[u8]) -> usize

@@ -14,7 +14,7 @@ use Rattle.tables.proofs.Machines.{counts-length}
 use Rattle.cells.specs.declared.Cell.{Cell}
 use Rattle.cells.specs.Cells.{places}
 use Rattle.columns.specs.Filling.{FillPre}
-use Rattle.columns.specs.Laws.Places.{places-small}
+use Rattle.columns.specs.Laws.Places.{places-few, places-small}
 use Rattle.tight.specs.Labels.{cellOf, HasLabel}
 use Rattle.walk.specs.WalkLabels.{WalkLabels, WalkPre}
 use Rattle.walk.proofs.Nodes.{Ground, Reached}
@@ -33,6 +33,9 @@ module _ {ranked sums card counts ws sets : List ℕ} {size room : ℕ} (pre : W
 
   pub places-of-few : size ≤ 16 → places counts ≤ 21
   places-of-few h = places-small counts-ok (omega (arith, pre .size-is))
+
+  pub places-of-any : places counts ≤ 40
+  places-of-any = places-few counts-ok
 
   -- one to six machines
   pub machines-are : length counts ≡ length (machinesOf card)

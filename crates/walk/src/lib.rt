@@ -149,12 +149,12 @@ fn walk_few(
     weights: &[u64],
     sets: &[u64],
     size: usize,
+    room: usize,
     answer: &mut [u8],
 ) -> Written
-    requires { ⌜ WalkPre (now ranked) (now sums) (now card) (now counts) (now weights) (now sets) size (length (now answer)) × (size ≤ 16) ⌝ }
+    requires { ⌜ WalkPre (now ranked) (now sums) (now card) (now counts) (now weights) (now sets) size (length (now answer)) × (size ≤ 16) × (room ≡ 65 * places (now counts)) ⌝ }
     ensures { λ r. ⌜ ((L : Labels (rankedCosts 1)) → WalkLabels (now (ranked .entry)) (now (sums .entry)) (now (card .entry)) (now (counts .entry)) (now (weights .entry)) (now (sets .entry)) (length (now (answer .entry))) L → Walked (now (card .entry)) (now (weights .entry)) (now (sets .entry)) (now (answer .entry)) (now (answer .exit)) L r) ⌝ }
 {
-    let room = 65 * columns::width_of(counts);
     let mut insertions = [65535u16; 1365];
     walk_by(
         ranked,
@@ -178,12 +178,12 @@ fn walk_many(
     weights: &[u64],
     sets: &[u64],
     size: usize,
+    room: usize,
     answer: &mut [u8],
 ) -> Written
-    requires { ⌜ WalkPre (now ranked) (now sums) (now card) (now counts) (now weights) (now sets) size (length (now answer)) ⌝ }
+    requires { ⌜ WalkPre (now ranked) (now sums) (now card) (now counts) (now weights) (now sets) size (length (now answer)) × (room ≡ 65 * places (now counts)) ⌝ }
     ensures { λ r. ⌜ ((L : Labels (rankedCosts 1)) → WalkLabels (now (ranked .entry)) (now (sums .entry)) (now (card .entry)) (now (counts .entry)) (now (weights .entry)) (now (sets .entry)) (length (now (answer .entry))) L → Walked (now (card .entry)) (now (weights .entry)) (now (sets .entry)) (now (answer .entry)) (now (answer .exit)) L r) ⌝ }
 {
-    let room = 65 * columns::width_of(counts);
     let mut insertions = [65535u16; 2600];
     walk_by(
         ranked,
@@ -213,9 +213,30 @@ pub fn walk(
     requires { ⌜ WalkPre (now ranked) (now sums) (now card) (now counts) (now weights) (now sets) size (length (now answer)) ⌝ }
     ensures { λ r. ⌜ ((L : Labels (rankedCosts 1)) → WalkLabels (now (ranked .entry)) (now (sums .entry)) (now (card .entry)) (now (counts .entry)) (now (weights .entry)) (now (sets .entry)) (length (now (answer .entry))) L → Walked (now (card .entry)) (now (weights .entry)) (now (sets .entry)) (now (answer .entry)) (now (answer .exit)) L r) ⌝ }
 {
+    let room = 65 * columns::width_of(counts);
     if size <= 16 {
-        walk_few(ranked, sums, card, counts, weights, sets, size, answer)
+        walk_few(
+            ranked,
+            sums,
+            card,
+            counts,
+            weights,
+            sets,
+            size,
+            room,
+            answer,
+        )
     } else {
-        walk_many(ranked, sums, card, counts, weights, sets, size, answer)
+        walk_many(
+            ranked,
+            sums,
+            card,
+            counts,
+            weights,
+            sets,
+            size,
+            room,
+            answer,
+        )
     }
 }

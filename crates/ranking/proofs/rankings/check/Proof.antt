@@ -7,7 +7,7 @@ use Rattle.ranking.proofs.rankings.check.Tie as tie
 
 returns : tie.Need-returns
 returns c =
-    let a = c .before .before .before .before .args in
+    let a = c .before .before .before .before .before .args in
     goes-up (c .enum-told2 .given .1) (refuse 1 (isMachineCount (a .machines))) (refuse 7 (isRanking (a .machines) (a .ranking .now)) ∷ [])
     (c .before .before .check-machine-count .ensures)
 
@@ -15,15 +15,14 @@ returns-2 : tie.Need-returns-2
 returns-2 c =
     let a = c .before .before .before .before .before .args in
     let n = refuse 7 (isRanking (a .machines) (a .ranking .now)) in
-    c .check-ranking .ensures
+    c .before .before .before .check-ranking .ensures
     ∙ sym (last-one n)
-    ∙ sym (goes-on (c .before .enum-told .given .1) (refuse 1 (isMachineCount (a .machines))) (n ∷ []) (c .before .before .before .check-machine-count .ensures))
+    ∙ sym (goes-on (c .enum-told .given .1) (refuse 1 (isMachineCount (a .machines))) (n ∷ []) (c .before .before .check-machine-count .ensures))
 
 pub check-spec : {M : Type 1} → statement M
 check-spec =
     tie.close
     (tie.spec
-    (λ c κs. search needs) (λ c. search needs) (λ c. search needs)
+    (λ c κs. search needs) (λ c κs. search needs) (λ c. search needs) (λ c. search needs)
     returns
-    (λ c κs. search needs)
     returns-2)
