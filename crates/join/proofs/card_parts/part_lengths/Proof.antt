@@ -1,6 +1,6 @@
 use Rattle.basics.proofs.Words.{_≡_, refl, [], ℕ, _-_, _<_, _≤_, arith, length, getD, length-set, needs}
 use Rattle.card.specs.Layout.{partsOf}
-use Rattle.card.proofs.Lengths.{stored}
+use Rattle.join.proofs.Lengths.{stored}
 use Rattle.join.specs.JoinedCard.{joinedParts, lower, other}
 use Rattle.join.proofs.CardParts.{second-in, few-machines, lengths-told}
 use Rattle.join.proofs.card_parts.part_lengths.Statement.{statement}
