@@ -1,3 +1,3 @@
 pub mod Cells
-pub mod Joining
+pub mod Adding
 pub mod Laws

@@ -2,7 +2,7 @@
 // step.
 ghost use Rattle.basics.specs.Words.{_≡_, ℕ, _^_, _<_, _≤_, length, getD};
 ghost use Rattle.adding.specs.Cells.{highCell, lowCell};
-ghost use Rattle.adding.specs.Joining.{CellsPre, CellsAt, AddCellsPre, CellsAdded, AddStatePre, StateAdded, MachinePre, MachineJoined, JoinPre, Joined};
+ghost use Rattle.adding.specs.Adding.{CellsPre, CellsAt, AddCellsPre, CellsAdded, AddStatePre, StateAdded, MachinePre, MachineAdded, MachinesPre, MachinesAdded};
 use basics::index;
 use tables::NO_STEP;
 
@@ -80,9 +80,9 @@ fn add_state(table: &mut [u64], cells: &[u64], codes: usize, first: usize)
     }
 }
 
-// Joins a machine to those behind it, whose sums are those of the first `codes` codes. Its last state is the first, since the sums of its first
+// Adds a machine to those behind it, whose sums are those of the first `codes` codes. Its last state is the first, since the sums of its first
 // state stand in the place of the others.
-fn join_machine(
+fn add_machine(
     steps: &[u16],
     width: usize,
     four: [u8; 4],
@@ -96,7 +96,7 @@ fn join_machine(
     low: &mut [u64],
 )
     requires { ⌜ MachinePre (now steps) four (now high) (now low) width place states codes scale upper lower ⌝ }
-    ensures { λ _. ⌜ MachineJoined (now (steps .entry)) four (now (high .entry)) (now (high .exit)) (now (low .entry)) (now (low .exit)) width place states codes scale upper lower ⌝ }
+    ensures { λ _. ⌜ MachineAdded (now (steps .entry)) four (now (high .entry)) (now (high .exit)) (now (low .entry)) (now (low .exit)) width place states codes scale upper lower ⌝ }
 {
     let mut high_cells = [0u64; 4];
     let mut low_cells = [0u64; 4];
@@ -133,7 +133,7 @@ fn begin(table: &mut [u64])
 
 // The joint steps with four outputs of some machines that follow one another, for each code of their states. Their places end before `end`.
 // `weights` has three numbers a machine: what a state counts in a code, what a mark counts in high, and in low.
-pub fn join(
+pub fn add_machines(
     steps: &[u16],
     width: usize,
     four: [u8; 4],
@@ -143,8 +143,8 @@ pub fn join(
     high: &mut [u64],
     low: &mut [u64],
 )
-    requires { ⌜ JoinPre (now steps) four (now counts) (now weights) (now high) (now low) width end ⌝ }
-    ensures { λ _. ⌜ Joined (now (steps .entry)) four (now (counts .entry)) (now (weights .entry)) (now (high .exit)) (now (low .exit)) width end ⌝ }
+    requires { ⌜ MachinesPre (now steps) four (now counts) (now weights) (now high) (now low) width end ⌝ }
+    ensures { λ _. ⌜ MachinesAdded (now (steps .entry)) four (now (counts .entry)) (now (weights .entry)) (now (high .exit)) (now (low .exit)) width end ⌝ }
 {
     begin(high);
     begin(low);
@@ -156,7 +156,7 @@ pub fn join(
         let states = index(counts[m]);
         place -= states;
         let at = 3 * m;
-        join_machine(
+        add_machine(
             steps,
             width,
             four,

@@ -1,11 +1,11 @@
 // Candidates: their evaluation. What a candidate is, and which is the best, stands in specs/.
-ghost use Rattle.basics.specs.Words.{_≡_, true, _+_, _%_, _<_, _≤_, length, eqb, allOf};
+ghost use Rattle.basics.specs.Words.{_≡_, true, _+_, _%_, _<_, _≤_, length, eqb};
 ghost use Rattle.machine.specs.Symbols.{emptySymbol};
-ghost use Rattle.machine.specs.Part.{machineOf, partRefusal};
+ghost use Rattle.machine.specs.Part.{machineOf};
 ghost use Rattle.refusals.specs.Refusals.{refuse, checkedNumber};
 ghost use Rattle.card.specs.Layout.{symbolCount};
 ghost use Rattle.card.specs.Card.{cardRefusal, machinesOf};
-ghost use Rattle.candidate.specs.Scoring.{Scores};
+ghost use Rattle.candidate.specs.Scoring.{RunPre, Scores};
 ghost use Rattle.candidate.specs.Candidates.{pairAt, pairsOf, spelled, marksOf};
 ghost use Rattle.candidate.specs.Evaluating.{marked, soundPair, soundCandidate, refused, evaluating};
 use machine::Ending;
@@ -46,9 +46,8 @@ pub fn pair_at(candidate: &[u8], at: usize) -> Pair
 }
 
 // Takes a candidate's pairs in turn on one machine, and ends.
-fn run(part: &[u8], candidate: &[u8], symbols: u8) -> Marks
-    requires { ⌜ (partRefusal symbols (now part) ≡ 0) × (symbols < 64) ⌝ }
-    requires { ⌜ (length (now candidate) % 2 ≡ 0) × (length (now candidate) ≤ 6398) × (allOf (soundPair symbols) (pairsOf (now candidate)) ≡ true) ⌝ }
+fn run(part: &[u8], candidate: &[u8]) -> Marks
+    requires { ⌜ RunPre (now part) (now candidate) ⌝ }
     ensures { λ r. ⌜ marked r ≡ marksOf (pairsOf (now (candidate .entry))) (machineOf (now (part .entry))) ⌝ }
 {
     let mut position = Position::start();
@@ -135,9 +134,8 @@ pub fn score(card: &[u8], candidate: &[u8]) -> Scored
 {
     let mut counts = Profile::ZERO.counts;
     let machines = card::machine_count(card);
-    let symbols = card::symbol_count(card);
     for machine in 0..machines {
-        let Marks::Complete(marks) = run(card::part(card, machine), candidate, symbols) else {
+        let Marks::Complete(marks) = run(card::part(card, machine), candidate) else {
             return Scored {
                 checked: Checked::Refused(Refusal::NotComplete),
                 profile: Profile::zero(),

@@ -10,7 +10,7 @@ labels = 511 ∷ 7 ∷ nowhere ∷ replicate 253 0
 pub can-close : ClosePre (replicate 16 0) [] labels (replicate 256 0) 0 2
 can-close = record {
   counts = λ e. record { nodes = omega (arith, length-replicate {A = ℕ} 16 0); high = high };
-  numbers = λ n. absurd (n refl);
+  in-sums = λ n. absurd (n refl);
   pass = record { few = omega arith; own-size = omega (arith, length-replicate {A = ℕ} 253 0); next-size = length-replicate {A = ℕ} 256 0; last = last; low = low };
 }
   where

@@ -1,5 +1,5 @@
 pub mod Passing
 pub mod Writing
 pub mod ClosingCodes
-pub mod ClosingNumbers
+pub mod ClosingSums
 pub mod ClosingExample

@@ -3,7 +3,7 @@ use Rattle.basics.specs.Words.{_≡_, cond, List, Option, some, _⊎_, _≢_, �
 use Rattle.paths.specs.Ranked.{Ranked}
 use Rattle.tables.specs.Work.{HasNodes, labelOf}
 use Rattle.tables.specs.LabelCost.{AllShort}
-use Rattle.tables.specs.SumLabels as numbers
+use Rattle.tables.specs.SumLabels as sumLabels
 use Rattle.settling.specs.Packing.{packedPath}
 use Rattle.cells.specs.declared.Cell.{Cell}
 use Rattle.cells.specs.Cells.{nowhere}
@@ -19,14 +19,14 @@ pub record CountsHeld (work : List ℕ) (u : ℕ) (o : Option (Ranked 1)) : Type
   pub stored : o ≡ packedPath countsPacking (labelOf work u)
   pub short : (k : Ranked 6) → labelOf work u ≡ some k → AllShort 6 k
 
--- as one number
-abbrev pub NumberHeld : (work : List ℕ) (u : ℕ) (o : Option (Ranked 1)) → Type 0
-NumberHeld work u o = o ≡ numbers.labelOf work u
+-- as a sum
+abbrev pub SumHeld : (work : List ℕ) (u : ℕ) (o : Option (Ranked 1)) → Type 0
+SumHeld work u o = o ≡ sumLabels.labelOf work u
 
 -- in the slice that is there
 pub record Held (ranked sums : List ℕ) (u : ℕ) (o : Option (Ranked 1)) : Type 0 where
   pub counts : length sums ≡ 0 → CountsHeld ranked u o
-  pub number : length sums ≢ 0 → NumberHeld sums u o
+  pub in-sum : length sums ≢ 0 → SumHeld sums u o
 
 -- ---- writing labels
 
@@ -50,18 +50,18 @@ pub record CountsClosed (work work′ own : List ℕ) (base n : ℕ) : Type 0 wh
   pub size : length work′ ≡ length work
   pub written : Written (CountsHeld work) (CountsHeld work′) own base n
 
--- the number of a cell's label
-unfoldable pub numberOf : Cell → ℕ
-numberOf x = cond (ltb (x .high) nowhere) (x .high / 256 * 4096 + x .low) numbers.noLabel
+-- the sum of a cell's label
+unfoldable pub sumOf : Cell → ℕ
+sumOf x = cond (ltb (x .high) nowhere) (x .high / 256 * 4096 + x .low) sumLabels.noLabel
 
--- a label's number is below that of none
-pub record NumbersPre (work own : List ℕ) (base P : ℕ) : Type 0 where
+-- a label's sum is below that of none
+pub record SumsPre (work own : List ℕ) (base P : ℕ) : Type 0 where
   pub nodes : base + P ≤ length work
   pub few : (c : ℕ) → c < P → cellAt own c .high < nowhere → (cellAt own c .high < 2 ^ 59) × (cellAt own c .low < 4096)
 
-pub record NumbersClosed (work work′ own : List ℕ) (base n : ℕ) : Type 0 where
+pub record SumsClosed (work work′ own : List ℕ) (base n : ℕ) : Type 0 where
   pub size : length work′ ≡ length work
-  pub written : Written (NumberHeld work) (NumberHeld work′) own base n
+  pub written : Written (SumHeld work) (SumHeld work′) own base n
 
 -- ---- passing labels on
 
@@ -105,7 +105,7 @@ pub record AllPassed (own own′ next next′ : List ℕ) (P : ℕ) : Type 0 whe
 
 pub record ClosePre (ranked sums own next : List ℕ) (base P : ℕ) : Type 0 where
   pub counts : length sums ≡ 0 → CountsPre ranked own base P
-  pub numbers : length sums ≢ 0 → NumbersPre sums own base P
+  pub in-sums : length sums ≢ 0 → SumsPre sums own base P
   pub pass : PassAllPre own next P
 
 pub record ClosedAt (ranked ranked′ sums sums′ own own′ next next′ : List ℕ) (base P : ℕ) : Type 0 where

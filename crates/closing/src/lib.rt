@@ -1,8 +1,8 @@
-// Closing a position: its labels are written into a work slice, as ranked counts or as one number, and become those of the next position.
+// Closing a position: its labels are written into a work slice, as ranked counts or as a sum, and become those of the next position.
 ghost use Rattle.basics.specs.Words.{_≡_, _^_, _<_};
 ghost use Rattle.tables.specs.Work.{HasNode};
 ghost use Rattle.cells.specs.Cells.{nowhere};
-ghost use Rattle.closing.specs.Closing.{orNone, numberOf, CountsPre, CountsClosed, NumbersPre, NumbersClosed, CountsStored, PassPre, Passed, PassAllPre, AllPassed};
+ghost use Rattle.closing.specs.Closing.{orNone, sumOf, CountsPre, CountsClosed, SumsPre, SumsClosed, CountsStored, PassPre, Passed, PassAllPre, AllPassed};
 use cells::Cell;
 use cells::NOWHERE;
 
@@ -89,10 +89,10 @@ pub fn close_counts(
     pass_all(own, next, size);
 }
 
-// The number of a label by weights: its sum times 4,096, and its pairs; all bits set where there is none.
-fn number_of(high: u64, low: u64) -> u64
+// The sum of a label by weights, times 4,096, and its pairs; all bits set where there is none.
+fn sum_of(high: u64, low: u64) -> u64
     requires { ⌜ (high < nowhere → (high < 2 ^ 59) × (low < 4096)) ⌝ }
-    ensures { λ r. ⌜ r ≡ numberOf (record { high = high; low = low }) ⌝ }
+    ensures { λ r. ⌜ r ≡ sumOf (record { high = high; low = low }) ⌝ }
 {
     if NOWHERE <= high {
         return tables::NO_SUM;
@@ -100,20 +100,20 @@ fn number_of(high: u64, low: u64) -> u64
     high / 256 * 4096 + low
 }
 
-// Closes the position of the size nodes from base on, in numbers.
-pub fn close_numbers(
+// Closes the position of the size nodes from base on, in sums.
+pub fn close_sums(
     work: &mut [u64],
     base: usize,
     size: usize,
     own: &mut [u64; 256],
     next: &mut [u64; 256],
 )
-    requires { ⌜ NumbersPre (now work) (now own) base size × PassAllPre (now own) (now next) size ⌝ }
-    ensures { λ _. ⌜ NumbersClosed (now (work .entry)) (now (work .exit)) (now (own .entry)) base size × AllPassed (now (own .entry)) (now (own .exit)) (now (next .entry)) (now (next .exit)) size ⌝ }
+    requires { ⌜ SumsPre (now work) (now own) base size × PassAllPre (now own) (now next) size ⌝ }
+    ensures { λ _. ⌜ SumsClosed (now (work .entry)) (now (work .exit)) (now (own .entry)) base size × AllPassed (now (own .entry)) (now (own .exit)) (now (next .entry)) (now (next .exit)) size ⌝ }
 {
     let mut code = 0;
     while code < size {
-        work[base + code] = number_of(own[code * 2], own[code * 2 + 1]);
+        work[base + code] = sum_of(own[code * 2], own[code * 2 + 1]);
         code += 1;
     }
     pass_all(own, next, size);

@@ -10,7 +10,7 @@ use Rattle.paths.specs.Positions.{Done, Entering, done-start}
 use Rattle.product.specs.Nodes.{stateCountOf}
 use Rattle.tables.specs.Laws.Cards.{card-machines}
 use Rattle.product.specs.ProductGraph.{pairs}
-use Rattle.product.specs.Setting.{placeOf, Setting}
+use Rattle.product.specs.Setting.{positionOf, Setting}
 use Rattle.product.specs.Laws.Setting.{symbols-few, few-nodes}
 use Rattle.cells.specs.declared.Groups.{Groups}
 use Rattle.product.specs.Laws.Letters.{over-positioned}
@@ -62,9 +62,9 @@ blank-end B q = rw q at B
 pub tables-kept : {card counts ws steps steps′ : List ℕ} {g : Groups} → length steps′ ≡ length steps → ListPre card counts ws steps g → ListPre card counts ws steps′ g
 tables-kept e T = record { accepted = T .accepted; counts-are = T .counts-are; weights = T .weights; groups = T .groups; few = T .few; room = omega (arith, e, T .room) }
 
-pub lent-kept : {card ranking counts ws steps steps′ high high′ low low′ : List ℕ} {g : Groups} {P : ℕ} → LentTables card ranking counts ws steps high low g P → length steps′ ≡ length steps → length high′ ≡ length high → length low′ ≡ length low
-    → LentTables card ranking counts ws steps′ high′ low′ g P
-lent-kept L a b c = record { tables = tables-kept a (L .tables); order = L .order; codes = L .codes; high-size = b ∙ L .high-size; low-size = c ∙ L .low-size }
+pub lent-kept : {card counts ws steps steps′ high high′ low low′ : List ℕ} {g : Groups} {P : ℕ} → LentTables card counts ws steps high low g P → length steps′ ≡ length steps → length high′ ≡ length high → length low′ ≡ length low
+    → LentTables card counts ws steps′ high′ low′ g P
+lent-kept L a b c = record { tables = tables-kept a (L .tables); codes = L .codes; high-size = b ∙ L .high-size; low-size = c ∙ L .low-size }
 
 -- ---- one symbol of the set at a position after the other
 
@@ -74,7 +74,7 @@ pub record SymbolsTried (card ws xs ys : List ℕ) (set left : ℕ) (at : Site) 
   pub counts : (j w : ℕ) → j < at .stage → countOf ys j w ≡ countOf xs j w
   pub inside : (x : ℕ) → member left x ≡ true → member set x ≡ true
   pub enters : (ranking sets : List ℕ) (i : ℕ) (A : SymbolsAt card ranking sets ws xs set i at)
-      → Entering (stageGraph card ranking sets (A .later .fewest) (at .stage)) (placeOf card) (stageLabel xs (at .stage)) (stageLabel ys (at .stage)) i (λ _. ⊥) (NotLeft left)
+      → Entering (stageGraph card ranking sets (A .later .fewest) (at .stage)) (positionOf card) (stageLabel xs (at .stage)) (stageLabel ys (at .stage)) i (λ _. ⊥) (NotLeft left)
 
 pub symbols-start : {card ws xs : List ℕ} {set : ℕ} {at : Site} → SymbolsTried card ws xs xs set set at
 symbols-start {card} {ws} {xs} {set} {at} = record {
@@ -82,7 +82,7 @@ symbols-start {card} {ws} {xs} {set} {at} = record {
   counts = λ j w h. refl;
   inside = λ x m. m;
   enters = λ ranking sets i A.
-      subst (λ (n : ℕ). Entering (stageGraph card ranking sets (A .later .fewest) (at .stage)) (placeOf card) (stageLabel xs (at .stage)) (stageLabel xs (at .stage)) i (λ _. ⊥) (NotLeft n)) (sym (A .set-is))
+      subst (λ (n : ℕ). Entering (stageGraph card ranking sets (A .later .fewest) (at .stage)) (positionOf card) (stageLabel xs (at .stage)) (stageLabel xs (at .stage)) i (λ _. ⊥) (NotLeft n)) (sym (A .set-is))
       (symbols-begun (A .setting) (stage-over (A .setting) ranking (A .later .fewest) (at .stage) (A .later .culled)) (A .later .done));
 }
 
@@ -131,7 +131,7 @@ symbols-end {card} {ws} {xs} {ys} {set} {left} {at} T z = record {
     fewest = A .later .fewest;
     culled = culled-kept (T .counts) (A .later .culled);
     entered = symbols-entered (A .setting) (stage-over (A .setting) ranking (A .later .fewest) (at .stage) (A .later .culled)) (A .within) (A .later .done)
-        (subst (λ (n : ℕ). Entering (stageGraph card ranking sets (A .later .fewest) (at .stage)) (placeOf card) (stageLabel xs (at .stage)) (stageLabel ys (at .stage)) i (λ _. ⊥) (NotLeft n)) none-left (T .enters ranking sets i A));
+        (subst (λ (n : ℕ). Entering (stageGraph card ranking sets (A .later .fewest) (at .stage)) (positionOf card) (stageLabel xs (at .stage)) (stageLabel ys (at .stage)) i (λ _. ⊥) (NotLeft n)) none-left (T .enters ranking sets i A));
   };
 }
   where
@@ -141,8 +141,8 @@ symbols-end {card} {ws} {xs} {ys} {set} {left} {at} T z = record {
 -- ---- a position
 
 -- the position i, past which the positions are done
-pub record PositionPre (card ranking sets cs entries ends xs : List ℕ) (P i k : ℕ) : Type 0 where
-  pub given : CullPre card ranking sets cs entries ends xs P k
+pub record PositionPre (card ranking sets cs ws entries ends xs : List ℕ) (P i k : ℕ) : Type 0 where
+  pub given : CullPre card ranking sets cs ws entries ends xs P k
   pub within : i ≤ length sets
   pub later : StageAt card ranking sets xs k (suc i)
 
@@ -151,14 +151,14 @@ pub record PositionDone (card ranking sets xs ys : List ℕ) (i k : ℕ) : Type 
   pub done : StageAt card ranking sets ys k i
 
 -- the last position
-module _ {card ranking sets cs entries ends xs ws steps high low : List ℕ} {g : Groups} {P k : ℕ} (Q : PositionPre card ranking sets cs entries ends xs P (length sets) k) (L : LentTables card ranking cs ws steps high low g P) where
+module _ {card ranking sets cs ws entries ends xs steps high low : List ℕ} {g : Groups} {P k : ℕ} (Q : PositionPre card ranking sets cs ws entries ends xs P (length sets) k) (L : LentTables card cs ws steps high low g P) where
   abbrev last : Site
   last = record { groups = g; base = length sets * P; stage = k }
 
   pub last-pre : LastPre xs card cs ws steps high low last
   last-pre =
       let t = position-there (Q .given .setting) (length sets) (omega arith) in
-      let p : length sets * P + g .front * g .back ≡ length sets * P + P = ap (λ (n : ℕ). length sets * P + n) (sym (L .codes)) in
+      let p : length sets * P + g .size ≡ length sets * P + P = ap (λ (n : ℕ). length sets * P + n) (sym (L .codes)) in
       record {
         nodes = omega (arith, Q .given .room, t, p);
         few-nodes = omega (arith, t, p, few-nodes (Q .given .setting));
@@ -177,17 +177,17 @@ module _ {card ranking sets cs entries ends xs ws steps high low : List ℕ} {g 
   }
     where
       T : EndsTried card ranking sets xs ys k (length sets * P) (length sets * P + P)
-      T = R .ends ranking sets P (Q .given .setting) (L .codes) refl (L .order)
+      T = R .ends ranking sets P (Q .given .setting) (L .codes) refl (Q .given .order)
 
 -- a position before the last one
-module _ {card ranking sets cs entries ends xs ws steps high low : List ℕ} {g : Groups} {P i k : ℕ} (Q : PositionPre card ranking sets cs entries ends xs P i k) (L : LentTables card ranking cs ws steps high low g P) (h : i < length sets) where
+module _ {card ranking sets cs ws entries ends xs steps high low : List ℕ} {g : Groups} {P i k : ℕ} (Q : PositionPre card ranking sets cs ws entries ends xs P i k) (L : LentTables card cs ws steps high low g P) (h : i < length sets) where
   abbrev here : Site
   here = record { groups = g; base = i * P; stage = k }
 
   symbols-at : SymbolsAt card ranking sets ws xs (getD sets i 0) i here
   symbols-at = record {
     setting = subst (λ (n : ℕ). Setting card sets n) (L .codes) (Q .given .setting);
-    order = L .order;
+    order = Q .given .order;
     within = h;
     set-is = refl;
     base-is = ap (λ (n : ℕ). i * n) (L .codes);
@@ -202,7 +202,7 @@ module _ {card ranking sets cs entries ends xs ws steps high low : List ℕ} {g 
   pub position-entered : {ys : List ℕ} → SymbolsEntered card ws xs ys (getD sets i 0) here → PositionEntered card ranking sets xs ys i k
   position-entered E = E .enters ranking sets i symbols-at
 
-module _ {card ranking sets cs entries ends xs : List ℕ} {P i k : ℕ} (Q : PositionPre card ranking sets cs entries ends xs P i k) where
+module _ {card ranking sets cs ws entries ends xs : List ℕ} {P i k : ℕ} (Q : PositionPre card ranking sets cs ws entries ends xs P i k) where
   module _ {ys : List ℕ} (E : PositionEntered card ranking sets xs ys i k) where
     pub settle-ready : SettlePre ys entries ends k (i * P) P
     settle-ready = insertion-ready (Q .given .setting) ranking (E .fewest) k (Q .given .stage) (E .size ∙ Q .given .room) (E .culled) i (Q .within) (Q .given .lists) (E .entered .attained)
@@ -219,18 +219,18 @@ module _ {card ranking sets cs entries ends xs : List ℕ} {P i k : ℕ} (Q : Po
 
 -- ---- a stage
 
-pub stage-given : {card ranking sets cs entries ends xs ys : List ℕ} {P j k : ℕ} → length ys ≡ length xs → k < 6 → CullPre card ranking sets cs entries ends xs P j → CullPre card ranking sets cs entries ends ys P k
-stage-given e h Q = record { setting = Q .setting; counts-are = Q .counts-are; lists = Q .lists; room = e ∙ Q .room; ranked = Q .ranked; stage = h }
+pub stage-given : {card ranking sets cs ws entries ends xs ys : List ℕ} {P j k : ℕ} → length ys ≡ length xs → k < 6 → CullPre card ranking sets cs ws entries ends xs P j → CullPre card ranking sets cs ws entries ends ys P k
+stage-given e h Q = record { setting = Q .setting; counts-are = Q .counts-are; order = Q .order; lists = Q .lists; room = e ∙ Q .room; ranked = Q .ranked; stage = h }
 
-given-next : {card ranking sets cs entries ends xs ys : List ℕ} {P k : ℕ} → length ys ≡ length xs → CullPre card ranking sets cs entries ends xs P k → CullPre card ranking sets cs entries ends ys P k
+given-next : {card ranking sets cs ws entries ends xs ys : List ℕ} {P k : ℕ} → length ys ≡ length xs → CullPre card ranking sets cs ws entries ends xs P k → CullPre card ranking sets cs ws entries ends ys P k
 given-next e Q = stage-given e (Q .stage) Q
 
 pub position-passed : {card ranking sets xs ys zs : List ℕ} {i k : ℕ} → length ys ≡ length xs → PositionDone card ranking sets ys zs i k → PositionDone card ranking sets xs zs i k
 position-passed e D = record { size = D .size ∙ e; done = D .done }
 
-module _ {card ranking sets cs entries ends xs : List ℕ} {P k : ℕ} (Q : StagePre card ranking sets cs entries ends xs P k) where
+module _ {card ranking sets cs ws entries ends xs : List ℕ} {P k : ℕ} (Q : StagePre card ranking sets cs ws entries ends xs P k) where
   -- no label is there: the last position is the first to be labelled
-  pub last-ready : {ys : List ℕ} → Blanked xs ys ((length sets + 1) * P) → PositionPre card ranking sets cs entries ends ys P (length sets) k
+  pub last-ready : {ys : List ℕ} → Blanked xs ys ((length sets + 1) * P) → PositionPre card ranking sets cs ws entries ends ys P (length sets) k
   last-ready {ys} B = record {
     given = given-next (B .size) (Q .given);
     within = omega arith;
@@ -244,20 +244,17 @@ module _ {card ranking sets cs entries ends xs : List ℕ} {P k : ℕ} (Q : Stag
       unlabelled u (yes h) = stage-unlabelled ys k u (B .states u h)
       unlabelled u (no h) = stage-unlabelled ys k u (List·getD-eq-default ys 0 (omega (arith, B .size, Q .given .room)))
 
-      nothing : Done (stageGraph card ranking sets (fewestIn xs) k) (placeOf card) (stageLabel ys k) (suc (length sets))
-      nothing = done-start (stageGraph card ranking sets (fewestIn xs) k) (placeOf card) (over-positioned (stage-over (Q .given .setting) ranking (fewestIn xs) k culled)) (stageLabel ys k) (λ u. unlabelled u (decLt u ((length sets + 1) * P)))
+      nothing : Done (stageGraph card ranking sets (fewestIn xs) k) (positionOf card) (stageLabel ys k) (suc (length sets))
+      nothing = done-start (stageGraph card ranking sets (fewestIn xs) k) (positionOf card) (over-positioned (stage-over (Q .given .setting) ranking (fewestIn xs) k culled)) (stageLabel ys k) (λ u. unlabelled u (decLt u ((length sets + 1) * P)))
 
-  pub last-labelled : {ys zs vs ws steps high low : List ℕ} {g : Groups} → LentTables card ranking cs ws steps high low g P → Blanked xs ys ((length sets + 1) * P)
+  pub last-labelled : {ys zs vs steps high low : List ℕ} {g : Groups} → LentTables card cs ws steps high low g P → Blanked xs ys ((length sets + 1) * P)
       → LastTried card ws ys zs (record { groups = g; base = length sets * P; stage = k }) → SettledBy zs vs entries ends k (length sets * P) P → PositionDone card ranking sets xs vs (length sets) k
   last-labelled L B T D =
       let q = last-ready B in
       position-passed (B .size) (position-labelled q (last-entered q L T) D)
 
-  pub position-ready : {ys : List ℕ} (i : ℕ) → 0 < i → i ≤ length sets → PositionDone card ranking sets xs ys i k → PositionPre card ranking sets cs entries ends ys P (i - 1) k
+  pub position-ready : {ys : List ℕ} (i : ℕ) → 0 < i → i ≤ length sets → PositionDone card ranking sets xs ys i k → PositionPre card ranking sets cs ws entries ends ys P (i - 1) k
   position-ready i a b D = let q : suc (i - 1) ≡ i = omega arith in record { given = given-next (D .size) (Q .given); within = omega arith; later = rw q (D .done) }
-
-pub position-begun : {card ranking sets xs ys : List ℕ} {i k : ℕ} → PositionDone card ranking sets xs ys i k → PositionDone card ranking sets ys ys i k
-position-begun D = record { size = refl; done = D .done }
 
 -- all positions are done: so is the stage
 pub stage-end : {card ranking sets xs ys : List ℕ} {i k : ℕ} → PositionDone card ranking sets xs ys i k → i ≤ 0 → StageDone card ranking sets xs ys k
@@ -296,7 +293,7 @@ stages-next A D = stages-done (record { size = D .size ∙ A .size; before = D .
 machines-few : {card sets : List ℕ} {P : ℕ} → Setting card sets P → length (machinesOf card) ≤ 6
 machines-few {card} s = card-machines card (s .accepted) .machines
 
-module _ {card ranking sets cs entries ends xs : List ℕ} {P j : ℕ} (Q : CullPre card ranking sets cs entries ends xs P j) where
+module _ {card ranking sets cs ws entries ends xs : List ℕ} {P j : ℕ} (Q : CullPre card ranking sets cs ws entries ends xs P j) where
   counts-length : length cs ≡ length (machinesOf card)
   counts-length = ap length (Q .counts-are) ∙ length-map (machinesOf card) stateCountOf
 
@@ -341,7 +338,7 @@ done-carried {card} {ranking} {sets} {xs} {ys} {zs} {k} e same D = record {
     fewest i l = let q = same i (omega arith) in λ j u. stageMarks (q j u)
 
 -- a constraint that the machines do not have: its place is cleared, and its stage is done
-pub stages-idle : {card ranking sets xs ys zs vs cs entries ends : List ℕ} {P j k : ℕ} → CullPre card ranking sets cs entries ends vs P j → length ys ≡ length vs → length cs ≤ k → k < 6 → StagesGone card ranking sets xs ys k → PlaceCleared ys zs ((length sets + 1) * P) k
+pub stages-idle : {card ranking sets xs ys zs vs cs ws entries ends : List ℕ} {P j k : ℕ} → CullPre card ranking sets cs ws entries ends vs P j → length ys ≡ length vs → length cs ≤ k → k < 6 → StagesGone card ranking sets xs ys k → PlaceCleared ys zs ((length sets + 1) * P) k
     → StagesGone card ranking sets xs zs (k + 1)
 stages-idle {card} {ranking} {sets} {xs} {ys} {zs} {cs = cs} {P = P} {k = zero} Q room past few A C = absurd (omega (arith, past, counts-some Q))
 stages-idle {card} {ranking} {sets} {xs} {ys} {zs} {cs = cs} {P = P} {k = suc j} Q room past few A C = stages-done (record {

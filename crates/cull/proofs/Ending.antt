@@ -22,19 +22,19 @@ use Rattle.cells.specs.Cells.{nowhere, places, highAt, lowAt, cellSum}
 use Rattle.cells.specs.Laws.Numbers.{high-small, low-small}
 use Rattle.cells.specs.Laws.Sums.{sum-small}
 use Rattle.cells.specs.Columns.{WeightsOf}
-use Rattle.cells.specs.Groups.{GroupsOf, sumAt, FourPre, FourJoined}
-use Rattle.cells.specs.Laws.Groups.{all-codes}
+use Rattle.cells.specs.Groups.{GroupsOf, sumAt, FourPre, FourAdded}
+use Rattle.cells.specs.Laws.Groups.{all-codes, size-codes}
 use Rattle.cells.specs.Laws.Tried.{laneSum}
 use Rattle.columns.specs.Filling.{Small}
 use Rattle.columns.specs.Endings.{EndingsFilled}
 use Rattle.columns.specs.Endings as columns
-use Rattle.columns.specs.Laws.Endings.{EndingCell, endings-four-pre, ending-sum}
+use Rattle.columns.specs.Laws.Endings.{EndingCell, endings-pre, ending-sum}
 use Rattle.insertions.specs.Laws.Ranked.{ranked-high, ranked-low}
 use Rattle.insertions.proofs.Steps.{marks-are}
 use Rattle.tables.specs.Endings.{endingCosts}
 use Rattle.tables.specs.JointNumbers.{endingNumber, endingFrom}
 use Rattle.tables.specs.Laws.Endings.{ending-edge}
-use Rattle.product.specs.Setting.{placeOf, Setting}
+use Rattle.product.specs.Setting.{positionOf, Setting}
 use Rattle.product.specs.Laws.Setting.{machines-sound}
 use Rattle.product.specs.Laws.Entering.{no-ending-tried, ending-tried, endings-begun, endings-entered}
 use Rattle.tables.specs.Engine.{engineGraph}
@@ -97,8 +97,8 @@ module _ {card sets : List ℕ} {P : ℕ} (s : Setting card sets P) (ranking : L
           L = subst (λ (n : ℕ). Lowered xs ys k (length sets * P + z) (n, 0) b) e L₀
 
   -- every ending was tried: the last position is entered
-  pub ends-entered : {k : ℕ} {xs ys : List ℕ} (f : ℕ → ℕ → Option ℕ) → Culled card ranking sets f xs k → Done (stageGraph card ranking sets f k) (placeOf card) (stageLabel xs k) (suc (length sets))
-      → EndsTried card ranking sets xs ys k (length sets * P) (length sets * P + P) → Entered (stageGraph card ranking sets f k) (placeOf card) (stageLabel ys k) (length sets)
+  pub ends-entered : {k : ℕ} {xs ys : List ℕ} (f : ℕ → ℕ → Option ℕ) → Culled card ranking sets f xs k → Done (stageGraph card ranking sets f k) (positionOf card) (stageLabel xs k) (suc (length sets))
+      → EndsTried card ranking sets xs ys k (length sets * P) (length sets * P + P) → Entered (stageGraph card ranking sets f k) (positionOf card) (stageLabel ys k) (length sets)
   ends-entered {k} {xs} f C d T = endings-entered s (stage-over s ranking f k C) d (T .enters f C (stageLabel xs k) (endings-begun s (stage-over s ranking f k C) d))
 
 -- ---- by two numbers
@@ -157,7 +157,7 @@ first-sum table front back c =
     λ i. getD table (p i) 0 + getD table (q i) 0
 
 pub ending-places : {xs high low : List ℕ} {at : Site} → EndingsPre xs high low at → (code : ℕ) → code < codesAt at → CodePlaces code (at .groups .front) (at .groups .back)
-ending-places Q code h = record { front-is = div-lt-iff-lt-mul (Q .some-back) .1 h; back-is = mod-lt code (Q .some-back) }
+ending-places Q code h = record { front-is = div-lt-iff-lt-mul (Q .some-back) .1 (omega (arith, h, Q .size-is)); back-is = mod-lt code (Q .some-back) }
 
 module _ {xs card counts ws steps high low : List ℕ} {at : Site} (Q : LastPre xs card counts ws steps high low at) where
   abbrev g : Groups
@@ -172,18 +172,21 @@ module _ {xs card counts ws steps high low : List ℕ} {at : Site} (Q : LastPre 
   N : GroupsOf (stateCounts (machinesOf card)) g
   N = subst (λ (l : List ℕ). GroupsOf l g) (Q .tables .counts-are) (Q .tables .groups)
 
-  codes-are : g .front * g .back ≡ product (stateCounts (machinesOf card))
-  codes-are = all-codes N
+  codes-are : g .size ≡ product (stateCounts (machinesOf card))
+  codes-are = N .size-is
 
   some-back : 0 < g .back
   some-back = positive (g .back) refl
     where
       some-codes : 0 < g .front * g .back
-      some-codes = rw codes-are (product-positive (stateCounts (machinesOf card)) (counts-positive (M .sound)))
+      some-codes = rw (all-codes N) (product-positive (stateCounts (machinesOf card)) (counts-positive (M .sound)))
 
       positive : (n : ℕ) → g .back ≡ n → 0 < g .back
       positive zero e = let z : g .front * g .back ≡ 0 = ap (λ (k : ℕ). g .front * k) e ∙ omega arith in absurd (omega (arith, z, some-codes))
       positive (suc n) e = omega arith
+
+  front-below : (c : ℕ) → c < g .size → c / g .back < g .front
+  front-below c h = div-lt-iff-lt-mul some-back .1 (omega (arith, h, size-codes N))
 
   pub fill-ready : columns.EndingsPre card counts steps
   fill-ready = record { accepted = Q .tables .accepted; counts-are = Q .tables .counts-are; room = omega (arith, Q .tables .room) }
@@ -192,10 +195,10 @@ module _ {xs card counts ws steps high low : List ℕ} {at : Site} (Q : LastPre 
     room : 65 * W ≤ length ys
     room = omega (arith, w, E .size, Q .tables .room)
 
-    pub join-ready : {high′ low′ : List ℕ} → length high′ ≡ 264 → length low′ ≡ 264 → FourPre ys (0 ∷ 64 ∷ 64 ∷ 64 ∷ []) counts ws high′ low′ W g
-    join-ready {high′} {low′} eh el =
+    pub add-ready : {high′ low′ : List ℕ} → length high′ ≡ 264 → length low′ ≡ 264 → FourPre ys (0 ∷ 64 ∷ 64 ∷ 64 ∷ []) counts ws high′ low′ W g
+    add-ready {high′} {low′} eh el =
         subst (λ (l : List ℕ). FourPre ys (0 ∷ 64 ∷ 64 ∷ 64 ∷ []) l ws high′ low′ W g) (sym (Q .tables .counts-are))
-        (endings-four-pre M E Z N (0 ∷ 64 ∷ 64 ∷ 64 ∷ []) high′ low′ small (w ∙ ap places (Q .tables .counts-are)) room (Q .tables .few) outputs eh el)
+        (endings-pre M E Z N (0 ∷ 64 ∷ 64 ∷ 64 ∷ []) high′ low′ small (w ∙ ap places (Q .tables .counts-are)) room outputs (omega (arith, Q .tables .few, eh)) (omega (arith, Q .tables .few, el)))
       where
         outputs : (j : ℕ) → getD (0 ∷ 64 ∷ 64 ∷ 64 ∷ []) j 0 ≤ 64
         outputs zero = omega arith
@@ -204,12 +207,12 @@ module _ {xs card counts ws steps high low : List ℕ} {at : Site} (Q : LastPre 
         outputs (suc (suc (suc zero))) = omega arith
         outputs (suc (suc (suc (suc j)))) = omega arith
 
-    module _ {high′ low′ : List ℕ} (eh : length high′ ≡ 264) (el : length low′ ≡ 264) (J : FourJoined ys (0 ∷ 64 ∷ 64 ∷ 64 ∷ []) counts ws high′ low′ W g) where
-      cell-at : (c : ℕ) → c < g .front * g .back → EndingCell ws (codeEnding (machinesOf card) c) (laneSum high′ g c 0) (laneSum low′ g c 0)
+    module _ {high′ low′ : List ℕ} (eh : length high′ ≡ 264) (el : length low′ ≡ 264) (J : FourAdded ys (0 ∷ 64 ∷ 64 ∷ 64 ∷ []) counts ws high′ low′ W g) where
+      cell-at : (c : ℕ) → c < g .size → EndingCell ws (codeEnding (machinesOf card) c) (laneSum high′ g c 0) (laneSum low′ g c 0)
       cell-at c h =
-          let a : c / g .back < g .front = div-lt-iff-lt-mul some-back .1 h in
+          let a : c / g .back < g .front = front-below c h in
           let e : c / g .back * g .back + c % g .back ≡ c = div-add-mod' c (g .back) in
-          let z = ending-sum M E Z N (subst (λ (l : List ℕ). FourJoined ys (0 ∷ 64 ∷ 64 ∷ 64 ∷ []) l ws high′ low′ W g) (Q .tables .counts-are) J) (c / g .back) (c % g .back) 0 a (mod-lt c some-back) (omega arith) refl in
+          let z = ending-sum M E Z N (subst (λ (l : List ℕ). FourAdded ys (0 ∷ 64 ∷ 64 ∷ 64 ∷ []) l ws high′ low′ W g) (Q .tables .counts-are) J) (c / g .back) (c % g .back) 0 a (mod-lt c some-back) (omega arith) refl in
           rw e at z
 
       pub endings-ready : EndingsPre xs high′ low′ at
@@ -219,15 +222,16 @@ module _ {xs card counts ws steps high low : List ℕ} {at : Site} (Q : LastPre 
         stage = Q .stage;
         few = omega (arith, codes-are, M .joint-states);
         small = Q .tables .few;
+        size-is = size-codes N;
         some-back = some-back;
         high-room = omega (arith, eh, Q .tables .few);
         low-room = omega (arith, el, Q .tables .few);
-        high-sums = λ c h. omega (arith, first-sum high′ (g .front) (g .back) c, J .highs (c / g .back) (c % g .back) 0 (div-lt-iff-lt-mul some-back .1 h) (mod-lt c some-back) (omega arith), mul-le-mul-right nowhere (R .machines), highs (c / g .back * g .back + c % g .back));
-        low-sums = λ c h. omega (arith, first-sum low′ (g .front) (g .back) c, J .lows (c / g .back) (c % g .back) 0 (div-lt-iff-lt-mul some-back .1 h) (mod-lt c some-back) (omega arith), mul-le-mul-right nowhere (R .machines), lows (c / g .back * g .back + c % g .back));
+        high-sums = λ c h. omega (arith, first-sum high′ (g .front) (g .back) c, J .highs (c / g .back) (c % g .back) 0 (front-below c h) (mod-lt c some-back) (omega arith), mul-le-mul-right nowhere (R .machines), highs (c / g .back * g .back + c % g .back));
+        low-sums = λ c h. omega (arith, first-sum low′ (g .front) (g .back) c, J .lows (c / g .back) (c % g .back) 0 (front-below c h) (mod-lt c some-back) (omega arith), mul-le-mul-right nowhere (R .machines), lows (c / g .back * g .back + c % g .back));
       }
         where
           R : FourPre ys (0 ∷ 64 ∷ 64 ∷ 64 ∷ []) counts ws high′ low′ W g
-          R = join-ready eh el
+          R = add-ready eh el
 
           highs : (n : ℕ) → cellSum (highAt ys ws W 0) 0 0 counts n ≤ length counts * nowhere
           highs n = sum-small nowhere (highAt ys ws W 0) (λ m p. high-small _ _ _ (R .columns .small _) (R .weights m .scale-few) (R .weights m .high-few)) 0 0 counts n

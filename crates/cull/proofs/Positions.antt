@@ -18,8 +18,8 @@ use Rattle.tables.specs.JointNumbers.{numbered, jointFrom}
 use Rattle.machine.proofs.SetLoops.{with-true}
 use Rattle.product.specs.Laws.Entering.{NotLeft}
 use Rattle.machine.specs.Symbols.{emptySymbol, isPair}
-use Rattle.product.specs.Setting.{placeOf, Setting}
-use Rattle.product.specs.Laws.Setting.{machines-sound, symbols-few, few-codes, few-nodes, place-low, place-high, place-inside}
+use Rattle.product.specs.Setting.{positionOf, Setting}
+use Rattle.product.specs.Laws.Setting.{machines-sound, symbols-few, few-codes, few-nodes, node-low, node-high, node-inside}
 use Rattle.product.specs.Laws.Letters.{LetterAt, OverSets, letter-at, over-positioned, part-over}
 use Rattle.product.specs.Laws.Edges.{edge-counts, ending-counts}
 use Rattle.tables.specs.Engine.{engineGraph}
@@ -48,13 +48,13 @@ module _ {card sets : List ℕ} {P : ℕ} (s : Setting card sets P) where
   pub position-there : (i : ℕ) → i ≤ length sets → i * P + P ≤ (length sets + 1) * P
   position-there i h = let m : suc i * P ≤ (length sets + 1) * P = mul-le-mul-right P (omega arith) in omega (arith, suc-mul i P)
 
-  outside : (i w : ℕ) → placeOf card w ≢ i → (w < i * P) ⊎ (i * P + P ≤ w)
+  outside : (i w : ℕ) → positionOf card w ≢ i → (w < i * P) ⊎ (i * P + P ≤ w)
   outside i w n = go (decLt w (i * P)) (decLt w (i * P + P))
     where
       go : Dec (w < i * P) → Dec (w < i * P + P) → (w < i * P) ⊎ (i * P + P ≤ w)
       go (yes h) _ = inl h
       go (no h) (no l) = inr (omega arith)
-      go (no h) (yes l) = absurd (n (place-inside s w i (omega arith) l))
+      go (no h) (yes l) = absurd (n (node-inside s w i (omega arith) l))
 
   module _ (ranking : List ℕ) (fewest : ℕ → ℕ → Option ℕ) (k : ℕ) where
     abbrev G : Graph (rankedCosts 6) pairs
@@ -153,7 +153,7 @@ module _ {card sets : List ℕ} {P : ℕ} (s : Setting card sets P) where
       pub symbol-entering : {ys ws : List ℕ} {K : Labels (rankedCosts 1)} (left after x : ℕ) → member (getD sets i 0) x ≡ true → InOrder ranking ws
           → ((n : ℕ) → member after n ≡ (member left n && not (eqb n x)))
           → InputTried card ws xs ys x (i * P) P k
-          → Entering S (placeOf card) K (stageLabel xs k) i (λ _. ⊥) (NotLeft left) → Entering S (placeOf card) K (stageLabel ys k) i (λ _. ⊥) (NotLeft after)
+          → Entering S (positionOf card) K (stageLabel xs k) i (λ _. ⊥) (NotLeft left) → Entering S (positionOf card) K (stageLabel ys k) i (λ _. ⊥) (NotLeft after)
       symbol-entering {ys} {K = K} left after x m O f R E = record {
         attained = T .attained;
         others = λ w n. others w n ∙ E .others w n;
@@ -165,14 +165,14 @@ module _ {card sets : List ℕ} {P : ℕ} (s : Setting card sets P) where
           T : Relaxes S (stageLabel xs k) (stageLabel ys k) (Among x (i * P) P)
           T = R .relaxes ranking O S (symbol-linked x m) (E .attained)
 
-          others : (w : ℕ) → placeOf card w ≢ i → stageLabel ys k w ≡ stageLabel xs k w
+          others : (w : ℕ) → positionOf card w ≢ i → stageLabel ys k w ≡ stageLabel xs k w
           others w n = R .others w (outside i w n)
 
-          leaving : (u : ℕ) (p : Pair) (e : Edge (Ranked 1)) (c : Ranked 1) → placeOf card u ≡ i → placeOf card (e .target) ≢ i → member after (p .input) ≡ false → S .edge u p ≡ some e → stageLabel xs k (e .target) ≡ some c
+          leaving : (u : ℕ) (p : Pair) (e : Edge (Ranked 1)) (c : Ranked 1) → positionOf card u ≡ i → positionOf card (e .target) ≢ i → member after (p .input) ≡ false → S .edge u p ≡ some e → stageLabel xs k (e .target) ≡ some c
               → (b : Bool) → eqb (p .input) x ≡ b → AtMost (Less 1) (stageLabel ys k u) (add 1 (e .cost) c)
           leaving u p e c a b z h l true q =
               let o = letter-at (stage-over C) u p e i a h .pair .output-there in
-              T .tried u p e c (eqb-true (p .input) x q, place-low s u i a, place-high s u i a, omega (arith, o, symbols-few s)) h l
+              T .tried u p e c (eqb-true (p .input) x q, node-low s u i a, node-high s u i a, omega (arith, o, symbols-few s)) h l
           leaving u p e c a b z h l false q =
               let n : member left (p .input) ≡ false = sym (f (p .input) ∙ ap (λ (t : Bool). member left (p .input) && not t) q ∙ with-true (member left (p .input))) ∙ z in
               T .falls u (add 1 (e .cost) c) (E .leaving u p e c a b n h l)
@@ -219,8 +219,8 @@ module _ {card sets : List ℕ} {P : ℕ} (s : Setting card sets P) where
               go (inr (inl c)) (some w) q = absurd (no-edge (c z))
               go (inr (inr c)) (some w) q = stepped w q c
 
-        pub position-settled : Entered S (placeOf card) (stageLabel xs k) i → Done S (placeOf card) (stageLabel ys k) i
-        position-settled E = position-done S (placeOf card) (over-positioned (stage-over C)) (λ u. yes tt) E settling (λ w a n. absurd (n tt))
+        pub position-settled : Entered S (positionOf card) (stageLabel xs k) i → Done S (positionOf card) (stageLabel ys k) i
+        position-settled E = position-done S (positionOf card) (over-positioned (stage-over C)) (λ u. yes tt) E settling (λ w a n. absurd (n tt))
           where
             some-output : (p : Pair) → isPair p ≡ true → p .input ≡ 0 → 0 < p .output
             some-output p t z = no (p .output) refl
@@ -229,18 +229,18 @@ module _ {card sets : List ℕ} {P : ℕ} (s : Setting card sets P) where
                 no zero q = let w : isPair p ≡ false = rw (z, q) in absurd (clash t w)
                 no (suc y) q = omega arith
 
-            by : (u : ℕ) (p : Pair) (f : Edge (Ranked 1)) (d : Ranked 1) → placeOf card u ≡ i → placeOf card (f .target) ≡ i → LetterAt card sets i p (f .target) → (p .input ≡ emptySymbol) ⊎ ((p .input ≢ emptySymbol) × (member (getD sets i 0) (p .input) ≡ true))
+            by : (u : ℕ) (p : Pair) (f : Edge (Ranked 1)) (d : Ranked 1) → positionOf card u ≡ i → positionOf card (f .target) ≡ i → LetterAt card sets i p (f .target) → (p .input ≡ emptySymbol) ⊎ ((p .input ≢ emptySymbol) × (member (getD sets i 0) (p .input) ≡ true))
                 → S .edge u p ≡ some f → stageLabel ys k (f .target) ≡ some d → AtMost (Less 1) (stageLabel ys k u) (add 1 (f .cost) d)
             by u p f d a b t (inr x) h l = absurd (omega (arith, b, t .leaves (x .0) .1))
             by u p f d a b t (inl x) h l =
                 let z = u - i * P in
-                let q : i * P + z ≡ u = omega (arith, place-low s u i a) in
+                let q : i * P + z ≡ u = omega (arith, node-low s u i a) in
                 let r : _≡_ {A = Pair} p (record { input = 0; output = p .output }) = (λ j. record { input = x j; output = p .output }) in
                 let e : S .edge (i * P + z) (record { input = 0; output = p .output }) ≡ some f = (λ j. S .edge (q j) (sym r j)) ∙ h in
                 subst (λ (w : ℕ). AtMost (Less 1) (stageLabel ys k w) (add 1 (f .cost) d)) q
-                (insertion-closed z (p .output) (omega (arith, place-high s u i a, place-low s u i a)) (some-output p (t .pair .is-pair) x) (omega (arith, t .pair .output-there, symbols-few s)) f d e l)
+                (insertion-closed z (p .output) (omega (arith, node-high s u i a, node-low s u i a)) (some-output p (t .pair .is-pair) x) (omega (arith, t .pair .output-there, symbols-few s)) f d e l)
 
-            settling : Settling S (placeOf card) i (stageLabel xs k) (stageLabel ys k) (λ _. Unit {0})
+            settling : Settling S (positionOf card) i (stageLabel xs k) (stageLabel ys k) (λ _. Unit {0})
             settling = record {
               attained = D .attained S (insertion-arcs here N) (E .attained);
               others = λ w n. D .others w (outside i w n);

@@ -11,7 +11,7 @@ use Rattle.product.specs.Nodes.{stateCounts}
 use Rattle.product.specs.ProductGraph.{pairs}
 use Rattle.product.specs.Laws.Edges.{product-sized}
 use Rattle.tables.specs.Places.{sixPlaces}
-use Rattle.product.specs.Setting.{placeOf, Setting}
+use Rattle.product.specs.Setting.{positionOf, Setting}
 use Rattle.tables.specs.Engine.{engineGraph}
 use Rattle.tables.specs.JointNumbers.{endingFrom}
 use Rattle.cells.specs.declared.Groups.{Groups}
@@ -46,12 +46,13 @@ leftBy card ranking sets xs k = left (engineGraph (machinesOf card) ranking sets
 pub record StageAt (card ranking sets xs : List ℕ) (k i : ℕ) : Type 0 where
   pub fewest : ℕ → ℕ → Option ℕ
   pub culled : Culled card ranking sets fewest xs k
-  pub done : Done (stageGraph card ranking sets fewest k) (placeOf card) (stageLabel xs k) i
+  pub done : Done (stageGraph card ranking sets fewest k) (positionOf card) (stageLabel xs k) i
 
--- what a stage is given: an accepted card, a ranking and sets, tables to look up, and the insertions in lists
-pub record CullPre (card ranking sets cs entries ends xs : List ℕ) (P k : ℕ) : Type 0 where
+-- what a stage is given: an accepted card, a ranking and sets, the weights of the machines in the order of the ranking, and the insertions in lists
+pub record CullPre (card ranking sets cs ws entries ends xs : List ℕ) (P k : ℕ) : Type 0 where
   pub setting : Setting card sets P
   pub counts-are : cs ≡ stateCounts (machinesOf card)
+  pub order : InOrder ranking ws
   pub lists : ListsOf card ranking entries ends
   pub room : length xs ≡ (length sets + 1) * P * 8
   pub ranked : length ranking ≡ length cs
@@ -62,13 +63,12 @@ pub record PositionEntered (card ranking sets xs ys : List ℕ) (i k : ℕ) : Ty
   pub size : length ys ≡ length xs
   pub fewest : ℕ → ℕ → Option ℕ
   pub culled : Culled card ranking sets fewest ys k
-  pub entered : Entered (stageGraph card ranking sets fewest k) (placeOf card) (stageLabel ys k) i
+  pub entered : Entered (stageGraph card ranking sets fewest k) (positionOf card) (stageLabel ys k) i
 
--- what a position is lent: the tables of the machines, with their weights in the order of the ranking; room for columns and for four joint steps
-pub record LentTables (card ranking counts ws steps high low : List ℕ) (g : Groups) (P : ℕ) : Type 0 where
+-- what a position is lent: the tables of the machines, room for columns and for four joint steps
+pub record LentTables (card counts ws steps high low : List ℕ) (g : Groups) (P : ℕ) : Type 0 where
   pub tables : ListPre card counts ws steps g
-  pub order : InOrder ranking ws
-  pub codes : P ≡ g .front * g .back
+  pub codes : P ≡ g .size
   pub high-size : length high ≡ 264
   pub low-size : length low ≡ 264
 
@@ -107,8 +107,8 @@ pub record LastPre (xs card counts ws steps high low : List ℕ) (at : Site) : T
   pub low-size : length low ≡ 264
 
 -- before the stage k: the counts below k are the fewest marks of the stages below k
-pub record StagePre (card ranking sets cs entries ends xs : List ℕ) (P k : ℕ) : Type 0 where
-  pub given : CullPre card ranking sets cs entries ends xs P k
+pub record StagePre (card ranking sets cs ws entries ends xs : List ℕ) (P k : ℕ) : Type 0 where
+  pub given : CullPre card ranking sets cs ws entries ends xs P k
   pub before : FewestBelow (engineGraph (machinesOf card) ranking sets) (countAt 6) (fewestIn xs) k
 
 -- after the stage k: they still are, and the labels are the least in what those stages left
@@ -136,8 +136,8 @@ pub record EndsTried (card ranking sets xs ys : List ℕ) (k u u′ : ℕ) : Typ
   pub size : length ys ≡ length xs
   pub counts : (i w : ℕ) → i < k → countOf ys i w ≡ countOf xs i w
   pub enters : (fewest : ℕ → ℕ → Option ℕ) → Culled card ranking sets fewest xs k → (K : Labels (rankedCosts 1))
-      → Entering (stageGraph card ranking sets fewest k) (placeOf card) K (stageLabel xs k) (length sets) (λ w. w < u) (λ _ _. ⊥)
-      → Entering (stageGraph card ranking sets fewest k) (placeOf card) K (stageLabel ys k) (length sets) (λ w. w < u′) (λ _ _. ⊥)
+      → Entering (stageGraph card ranking sets fewest k) (positionOf card) K (stageLabel xs k) (length sets) (λ w. w < u) (λ _ _. ⊥)
+      → Entering (stageGraph card ranking sets fewest k) (positionOf card) K (stageLabel ys k) (length sets) (λ w. w < u′) (λ _ _. ⊥)
 
 -- the first n of the nodes from b on were tried by their endings: by those of a card, if the numbers are theirs
 pub record CodesEnded (xs ys high low : List ℕ) (front back k b n : ℕ) : Type 0 where

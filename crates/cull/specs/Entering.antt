@@ -1,5 +1,5 @@
 -- Entering the last position in a stage by its endings.
-use Rattle.basics.specs.Words.{List, ℕ, _+_, _*_, _/_, _%_, _^_, _≤_, _<_, length, getD}
+use Rattle.basics.specs.Words.{_≡_, List, ℕ, _+_, _*_, _/_, _%_, _^_, _≤_, _<_, length, getD}
 use Rattle.stage_entering.specs.declared.Site.{Site}
 use Rattle.stage_entering.specs.Entering.{codesAt}
 
@@ -13,6 +13,7 @@ pub record EndingsPre (xs high low : List ℕ) (at : Site) : Type 0 where
   pub few-nodes : at .base + codesAt at ≤ 3200
   pub stage : at .stage < 6
   pub few : codesAt at ≤ 128
+  pub size-is : codesAt at ≡ at .groups .front * at .groups .back
   pub small : at .groups .front + at .groups .back ≤ 66
   pub some-back : 0 < at .groups .back
   pub high-room : (at .groups .front + at .groups .back) * 4 ≤ length high

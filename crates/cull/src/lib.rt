@@ -1,18 +1,14 @@
 // Ellison's cull as an engine: constraint by constraint, the fewest marks from each node to an end are found, and the arcs and the endings that
 // cost more are dropped.
-ghost use Rattle.basics.specs.Words.{_≡_, true, _<_};
+ghost use Rattle.basics.specs.Words.{List, ℕ, _<_};
 ghost use Rattle.tables.specs.Work.{HasNodes};
-ghost use Rattle.tables.specs.Places.{sixPlaces};
-ghost use Rattle.insertions.specs.RankedWeights.{RankedWeights};
-ghost use Rattle.ranking.specs.Rankings.{isRanking};
-ghost use Rattle.card.specs.Layout.{machineCount};
 ghost use Rattle.labelling.specs.Labelling.{LabelPre, PositionsDone};
 ghost use Rattle.optimizer.specs.Optimizes.{Optimizes, OptimizesSets};
 ghost use Rattle.product.specs.Best.{best};
 ghost use Rattle.product.specs.Sets.{bestOfSets};
 ghost use Rattle.readout.specs.Searching.{SetsPre, SearchPre, Searched};
 ghost use Rattle.grid.specs.Grids.{GridOf};
-ghost use Rattle.cull.specs.Tables.{TablesPre};
+ghost use Rattle.cull.specs.Tables.{TablesPre, RankedBy};
 ghost use Rattle.stage_entering.specs.Entering.{codesAt};
 ghost use Rattle.cull.specs.Entering.{EndingsPre};
 ghost use Rattle.cull.specs.Culling.{LentTables, CullPre, SymbolsPre, SymbolsEntered, CodesEnded, LastPre, LastTried, StagePre, StageDone, Blanked, PlaceCleared};
@@ -72,7 +68,7 @@ fn enter_symbols(
     let g = at.groups;
     let base = at.base;
     let stage = at.stage;
-    let size = g.front * g.back;
+    let size = g.size;
     let mut ahead = [0u64; 128];
     look_ahead(work, &mut ahead, base + size, size, stage);
     let mut left = set;
@@ -104,7 +100,7 @@ fn try_endings(work: &mut [u16], high: &[u64], low: &[u64], at: Site)
     let back = g.back;
     let base = at.base;
     let stage = at.stage;
-    let size = front * back;
+    let size = g.size;
     let mut code = 0;
     while code < size {
         let a = code / back * 4;
@@ -114,7 +110,7 @@ fn try_endings(work: &mut [u16], high: &[u64], low: &[u64], at: Site)
     }
 }
 
-// Enters the last position. The endings are joined as a column of their own; `steps`, `high` and `low` are overwritten.
+// Enters the last position. The endings are added up as a column of their own; `steps`, `high` and `low` are overwritten.
 fn enter_last(
     work: &mut [u16],
     card: &[u8],
@@ -129,10 +125,10 @@ fn enter_last(
     ensures { λ _. ⌜ LastTried (now (card .entry)) (now (weights .entry)) (now (work .entry)) (now (work .exit)) at ⌝ }
 {
     let g = at.groups;
-    let width = columns::width_of(counts);
+    let width = g.states;
     columns::fill_endings(steps, card, counts);
     let four = [0u8, 64, 64, 64];
-    cells::join_four(steps, width, &four, counts, weights, g, high, low);
+    cells::add_four(steps, width, &four, counts, weights, g, high, low);
     try_endings(work, high, low, at);
 }
 
@@ -140,7 +136,6 @@ fn enter_last(
 fn label_stage(
     work: &mut [u16],
     card: &[u8],
-    ranking: &[u8],
     sets: &[u64],
     counts: &[u8],
     weights: &[u64],
@@ -150,12 +145,12 @@ fn label_stage(
     high: &mut [u64],
     low: &mut [u64],
     g: Groups,
-    size: usize,
     stage: usize,
 )
-    requires { ⌜ StagePre (now card) (now ranking) (now sets) (now counts) (now entries) (now ends) (now work) size stage × LentTables (now card) (now ranking) (now counts) (now weights) (now steps) (now high) (now low) g size ⌝ }
-    ensures { λ _. ⌜ StageDone (now (card .entry)) (now (ranking .entry)) (now (sets .entry)) (now (work .entry)) (now (work .exit)) stage ⌝ }
+    requires { ⌜ ((ranking : List ℕ) × StagePre (now card) ranking (now sets) (now counts) (now weights) (now entries) (now ends) (now work) (g .size) stage) × LentTables (now card) (now counts) (now weights) (now steps) (now high) (now low) g (g .size) ⌝ }
+    ensures { λ _. ⌜ ((ranking : List ℕ) → StagePre (now (card .entry)) ranking (now (sets .entry)) (now (counts .entry)) (now (weights .entry)) (now (entries .entry)) (now (ends .entry)) (now (work .entry)) (g .size) stage → StageDone (now (card .entry)) ranking (now (sets .entry)) (now (work .entry)) (now (work .exit)) stage) ⌝ }
 {
+    let size = g.size;
     blank(work, (sets.len() + 1) * size);
     let mut position = sets.len();
     let base = position * size;
@@ -193,7 +188,6 @@ fn label_stage(
 fn label_stages(
     work: &mut [u16],
     card: &[u8],
-    ranking: &[u8],
     sets: &[u64],
     counts: &[u8],
     weights: &[u64],
@@ -203,17 +197,16 @@ fn label_stages(
     high: &mut [u64],
     low: &mut [u64],
     g: Groups,
-    size: usize,
 )
-    requires { ⌜ CullPre (now card) (now ranking) (now sets) (now counts) (now entries) (now ends) (now work) size 0 × LentTables (now card) (now ranking) (now counts) (now weights) (now steps) (now high) (now low) g size ⌝ }
-    ensures { λ _. ⌜ PositionsDone (now (card .entry)) (now (ranking .entry)) (now (sets .entry)) (now (work .entry)) (now (work .exit)) 0 ⌝ }
+    requires { ⌜ ((ranking : List ℕ) × CullPre (now card) ranking (now sets) (now counts) (now weights) (now entries) (now ends) (now work) (g .size) 0) × LentTables (now card) (now counts) (now weights) (now steps) (now high) (now low) g (g .size) ⌝ }
+    ensures { λ _. ⌜ ((ranking : List ℕ) → CullPre (now (card .entry)) ranking (now (sets .entry)) (now (counts .entry)) (now (weights .entry)) (now (entries .entry)) (now (ends .entry)) (now (work .entry)) (g .size) 0 → PositionsDone (now (card .entry)) ranking (now (sets .entry)) (now (work .entry)) (now (work .exit)) 0) ⌝ }
 {
+    let size = g.size;
     let mut stage = 0;
     while stage < counts.len() {
         label_stage(
             work,
             card,
-            ranking,
             sets,
             counts,
             weights,
@@ -223,7 +216,6 @@ fn label_stages(
             high,
             low,
             g,
-            size,
             stage,
         );
         stage += 1;
@@ -234,21 +226,19 @@ fn label_stages(
     }
 }
 
-// Labels all nodes, by the weights of the machines in the order of the ranking.
+// Labels all nodes, by the weights of the machines in the order of a ranking.
 fn label_by(
     work: &mut [u16],
     card: &[u8],
-    ranking: &[u8],
     counts: &[u8],
     weights: &[u64],
     sets: &[u64],
     steps: &mut [u16],
     g: Groups,
 )
-    requires { ⌜ TablesPre (now work) (now card) (now counts) (now weights) (now sets) (now steps) g × RankedWeights (sixPlaces (now ranking)) (now weights) × (isRanking (machineCount (now card)) (now ranking) ≡ true) ⌝ }
-    ensures { λ _. ⌜ PositionsDone (now (card .entry)) (now (ranking .entry)) (now (sets .entry)) (now (work .entry)) (now (work .exit)) 0 ⌝ }
+    requires { ⌜ TablesPre (now work) (now card) (now counts) (now weights) (now sets) (now steps) g × ((ranking : List ℕ) × RankedBy (now card) ranking (now weights)) ⌝ }
+    ensures { λ _. ⌜ ((ranking : List ℕ) → RankedBy (now (card .entry)) ranking (now (weights .entry)) → PositionsDone (now (card .entry)) ranking (now (sets .entry)) (now (work .entry)) (now (work .exit)) 0) ⌝ }
 {
-    let size = g.front * g.back;
     let mut high = [0u64; 264];
     let mut low = [0u64; 264];
     let mut entries = [0u32; 8064];
@@ -267,7 +257,6 @@ fn label_by(
     label_stages(
         work,
         card,
-        ranking,
         sets,
         counts,
         weights,
@@ -277,7 +266,6 @@ fn label_by(
         &mut high,
         &mut low,
         g,
-        size,
     );
 }
 
@@ -289,16 +277,15 @@ fn label(work: &mut [u16], card: &[u8], grid: Grid, ranking: &[u8], sets: &[u64]
     let all = grid.counts;
     let machines = grid.machines;
     let counts = &all[..machines];
-    let numbers = machine_weights::ranked_weights(counts, ranking);
+    let weights = machine_weights::ranked_weights(counts, ranking);
     let columns = grid.states * 65;
-    let g = cells::grouped(counts, grid.size);
+    let g = cells::grouped(counts, grid.states, grid.size);
     let mut steps = [65535u16; 2600];
     label_by(
         work,
         card,
-        ranking,
         counts,
-        &numbers[..3 * machines],
+        &weights[..3 * machines],
         sets,
         &mut steps[..columns],
         g,

@@ -10,9 +10,9 @@ use Rattle.paths.specs.Positions.{Entering, entering-skip}
 use Rattle.product.specs.Nodes.{stateCounts, product}
 use Rattle.product.specs.ProductGraph.{Move}
 use Rattle.product.specs.Codes.{codeStep}
-use Rattle.product.specs.Setting.{placeOf}
+use Rattle.product.specs.Setting.{positionOf}
 use Rattle.product.specs.Laws.Codes.{pricedStep, symbol-edge}
-use Rattle.product.specs.Laws.Setting.{place-low, place-high, symbols-few}
+use Rattle.product.specs.Laws.Setting.{node-low, node-high, symbols-few}
 use Rattle.product.specs.Laws.Letters.{letter-at, priced-over}
 use Rattle.product.specs.Laws.Entering.{NotLeft, TriedBefore}
 use Rattle.tables.specs.Tables.{CardMachines, CountsOfSome}
@@ -21,7 +21,7 @@ use Rattle.cells.specs.declared.Groups.{Groups}
 use Rattle.cells.specs.Cells.{nowhere, places}
 use Rattle.cells.specs.Columns.{WeightsOf}
 use Rattle.cells.specs.Fours.{nextFour, withoutFour}
-use Rattle.cells.specs.Groups.{GroupsOf, FourPre, FourJoined}
+use Rattle.cells.specs.Groups.{GroupsOf, FourPre, FourAdded}
 use Rattle.cells.specs.Labels.{nextCell}
 use Rattle.cells.specs.Trying.{labelFrom, cellPrice}
 use Rattle.cells.specs.Laws.Fours.{four-most, four-or-left}
@@ -63,7 +63,7 @@ pub record FoursTried (card ws own own′ next : List ℕ) (x kept left : ℕ) :
 pub fours-start : {card ws own next : List ℕ} {x kept : ℕ} → Position own (codes card) → FoursTried card ws own own next x kept kept
 fours-start {card} {ws} {x = x} {kept} O = record {
   position = O;
-  enters = λ sets K L i rest A t S. entering-skip (cellGraph ws card sets) (placeOf card) S (λ _. ⊥) (KeptTried rest x kept kept) (λ u c a d h. d) (λ u p e c a b d h l. go rest p d);
+  enters = λ sets K L i rest A t S. entering-skip (cellGraph ws card sets) (positionOf card) S (λ _. ⊥) (KeptTried rest x kept kept) (λ u c a d h. d) (λ u p e c a b d h l. go rest p d);
 }
   where
     go : (rest : ℕ) (p : Pair) → (member rest (p .input) ≡ false) ⊎ ((p .input ≡ x) × (member kept (p .output) ≡ true) × (member kept (p .output) ≡ false)) → member rest (p .input) ≡ false
@@ -114,14 +114,14 @@ module _ {card counts ws own steps : List ℕ} {W : ℕ} {g : Groups} (R : Ready
         subst (λ (l : List ℕ). FourPre steps′ four l ws high low W g) (sym (R .counts-are))
         (four-pre its-machines (Q .columns) weights-are groups-are four high low outputs rh rl)
 
-    module _ {own′ next : List ℕ} (N : NextRoom next ws (length counts) (product counts)) (O : Position own′ (codes card)) (J : FourJoined steps′ four counts ws high low W g) where
-      joined-are : FourJoined steps′ four (stateCounts (machinesOf card)) ws high low W g
-      joined-are = subst (λ (l : List ℕ). FourJoined steps′ four l ws high low W g) (R .counts-are) J
+    module _ {own′ next : List ℕ} (N : NextRoom next ws (length counts) (product counts)) (O : Position own′ (codes card)) (J : FourAdded steps′ four counts ws high low W g) where
+      added-are : FourAdded steps′ four (stateCounts (machinesOf card)) ws high low W g
+      added-are = subst (λ (l : List ℕ). FourAdded steps′ four l ws high low W g) (R .counts-are) J
 
       pub try-ready : TryPre own′ next high low (g .front) (g .back) × SkipPre own′ next high (g .front) (g .back) 0 (g .front * g .back)
       try-ready = (
-        try-pre its-machines (Q .columns) weights-are groups-are joined-are outputs rh rl (O .size) (N .fits),
-        skip-pre its-machines (Q .columns) weights-are groups-are joined-are outputs (room-is N .labels) (O .labels),
+        try-pre its-machines (Q .columns) weights-are groups-are added-are outputs rh rl (O .size) (N .fits),
+        skip-pre its-machines (Q .columns) weights-are groups-are added-are outputs (room-is N .labels) (O .labels),
       )
 
       -- ---- four outputs more
@@ -130,13 +130,13 @@ module _ {card counts ws own steps : List ℕ} {W : ℕ} {g : Groups} (R : Ready
         fits : (c j : ℕ) → c < codes card → j < 4 → (v : Move) → codeStep (machinesOf card) c (lanePair x four j) ≡ some v → nextCell next (v .target) .high < nowhere → wayBy next (laneSum high g c j) (laneSum low g c j) .high < nowhere
         fits c j h k =
             way-fits its-machines (room-is N) c (lanePair x four j)
-            (code-step-is its-machines (Q .columns) weights-are groups-are (try-ready .0 .some .1) joined-are outputs c j h k)
+            (code-step-is its-machines (Q .columns) weights-are groups-are (try-ready .0 .some .1) added-are outputs c j h k)
 
         -- no label is of a set: those of the law are the set of x alone
         still-labels : Position own″ (codes card)
         still-labels = record {
           size = T .size ∙ O .size;
-          labels = position-own its-machines (Q .columns) weights-are groups-are (try-ready .0 .some .1) joined-are outputs (2 ^ x ∷ []) next 0 (λ e. omega arith) (member-one x x ∙ eq-eqb x x refl) (room-is N .labels) fits
+          labels = position-own its-machines (Q .columns) weights-are groups-are (try-ready .0 .some .1) added-are outputs (2 ^ x ∷ []) next 0 (λ e. omega arith) (member-one x x ∙ eq-eqb x x refl) (room-is N .labels) fits
               (λ w. labelFrom (nextCell next (w - (0 + 1) * codes card))) (λ t h. let e : (0 + 1) * codes card + t - (0 + 1) * codes card ≡ t = omega arith in ap (λ (n : ℕ). labelFrom (nextCell next n)) e) (O .labels) T;
         }
 
@@ -145,10 +145,10 @@ module _ {card counts ws own steps : List ℕ} {W : ℕ} {g : Groups} (R : Ready
         fours-next {left = left} {after} or-left A = record {
           position = still-labels;
           enters = λ sets K L i rest B t S.
-              entering-skip (cellGraph ws card sets) (placeOf card)
-              (position-tried its-machines (Q .columns) weights-are groups-are (try-ready .0 .some .1) joined-are outputs sets next i (λ e. omega arith) t (room-is N .labels) fits
+              entering-skip (cellGraph ws card sets) (positionOf card)
+              (position-tried its-machines (Q .columns) weights-are groups-are (try-ready .0 .some .1) added-are outputs sets next i (λ e. omega arith) t (room-is N .labels) fits
               (KeptTried rest x kept left) L (B .nexts) (O .labels) T (A .enters sets K L i rest B t S))
-              (λ _. ⊥) (KeptTried rest x kept after) (λ u c a d h. d) (λ u p e c a b d h l. done i rest u p (place-low (B .setting) u i a) (place-high (B .setting) u i a) d);
+              (λ _. ⊥) (KeptTried rest x kept after) (λ u c a d h. d) (λ u p e c a b d h l. done i rest u p (node-low (B .setting) u i a) (node-high (B .setting) u i a) d);
         }
           where
             done : (i rest u : ℕ) (p : Pair) → i * codes card ≤ u → u < i * codes card + codes card → KeptTried rest x kept after u p → DidTo (i * codes card) (lanePair x four) (KeptTried rest x kept left) (codes card) 0 u p
@@ -168,11 +168,11 @@ pub fours-end : {card ws own own′ next steps : List ℕ} {x W kept left : ℕ}
 fours-end {card} {ws} {next = next} {x = x} {kept = kept} {left = left} ok reads Q z A = record {
   position = A .position;
   enters = λ sets K L i rest B t S.
-      entering-alike (cellGraph ws card sets) (placeOf card) (A .enters sets K L i rest B t S) (TriedBefore rest x (i * codes card + codes card) 0)
+      entering-alike (cellGraph ws card sets) (positionOf card) (A .enters sets K L i rest B t S) (TriedBefore rest x (i * codes card + codes card) 0)
       (λ u p e a d h. serves sets i rest B t u p e a h d);
 }
   where
-    serves : (sets : List ℕ) {L : Labels (rankedCosts 1)} (i rest : ℕ) → Ahead card sets next i L → member (getD sets i 0) x ≡ true → (u : ℕ) (p : Pair) (e : Edge (Ranked 1)) → placeOf card u ≡ i → cellGraph ws card sets .edge u p ≡ some e
+    serves : (sets : List ℕ) {L : Labels (rankedCosts 1)} (i rest : ℕ) → Ahead card sets next i L → member (getD sets i 0) x ≡ true → (u : ℕ) (p : Pair) (e : Edge (Ranked 1)) → positionOf card u ≡ i → cellGraph ws card sets .edge u p ≡ some e
         → TriedBefore rest x (i * codes card + codes card) 0 u p → (q : Pair) × KeptTried rest x kept left u q × (cellGraph ws card sets .edge u q ≡ some e)
     serves sets i rest B t u p e a h (inl d) = (p, inl d, h)
     serves sets i rest B t u p e a h (inr d) = go (Q .covers (p .output) few)
@@ -184,11 +184,11 @@ fours-end {card} {ws} {next = next} {x = x} {kept = kept} {left = left} ok reads
         step y = codeStep (machinesOf card) (u - i * codes card) (record { input = x; output = y })
 
         below : u - i * codes card < codes card
-        below = omega (arith, place-low (B .setting) u i a, place-high (B .setting) u i a)
+        below = omega (arith, node-low (B .setting) u i a, node-high (B .setting) u i a)
 
         edge-is : (y : ℕ) → cellGraph ws card sets .edge u (record { input = x; output = y }) ≡ pricedStep (cellPrice ws) ((i + 1) * codes card) (step y)
         edge-is y =
-            let q : i * codes card + (u - i * codes card) ≡ u = omega (arith, place-low (B .setting) u i a) in
+            let q : i * codes card + (u - i * codes card) ≡ u = omega (arith, node-low (B .setting) u i a) in
             rw q at (symbol-edge (cellPrice ws) sets (machinesOf card) i (u - i * codes card) below (record { input = x; output = y }) (λ n. omega arith) t)
 
         this : p ≡ record { input = x; output = p .output }

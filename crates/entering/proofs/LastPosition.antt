@@ -8,7 +8,7 @@ use Rattle.paths.specs.Ranked.{Ranked, rankedCosts}
 use Rattle.paths.specs.Positions.{Done, Entering, Entered, done-start}
 use Rattle.product.specs.Nodes.{stateCounts, product}
 use Rattle.product.specs.ProductGraph.{pricedEnding}
-use Rattle.product.specs.Setting.{placeOf, Setting}
+use Rattle.product.specs.Setting.{positionOf, Setting}
 use Rattle.product.specs.Codes.{codeEnding}
 use Rattle.product.specs.Laws.Codes.{ending-edge}
 use Rattle.product.specs.Laws.Letters.{OverSets, priced-over, over-positioned}
@@ -21,12 +21,12 @@ use Rattle.cells.specs.declared.Cell.{Cell}
 use Rattle.cells.specs.declared.Groups.{Groups}
 use Rattle.cells.specs.Cells.{nowhere, highOf, lowOf, highAt, lowAt, cellSum, places}
 use Rattle.cells.specs.Columns.{weighed, WeightsOf}
-use Rattle.cells.specs.Groups.{GroupsOf, sumAt, FourPre, FourJoined}
+use Rattle.cells.specs.Groups.{GroupsOf, sumAt, FourPre, FourAdded}
 use Rattle.cells.specs.Labels.{noLabel, cellAt, OwnCell}
 use Rattle.cells.specs.Trying.{labelFrom, cellPrice}
 use Rattle.cells.specs.Laws.Numbers.{high-small, low-small}
 use Rattle.cells.specs.Laws.Sums.{sum-small}
-use Rattle.cells.specs.Laws.Groups.{all-codes}
+use Rattle.cells.specs.Laws.Groups.{all-codes, size-codes}
 use Rattle.cells.specs.Laws.Labels.{written, written-here, written-other}
 use Rattle.cells.specs.Laws.Trying.{label-there, label-none}
 use Rattle.cells.specs.Laws.Position.{placed, placed-in, placed-before, placed-after}
@@ -82,10 +82,10 @@ module _ {own high low : List ℕ} {front back : ℕ} (R : WritePre own high low
       go c k (yes q) = rw q (written-here xs code x (omega (arith, W .size, R .few)) ∙ e)
       go c k (no q) = written-other xs code x c q ∙ W .label c (omega arith)
 
-pub written-end : {xs high low : List ℕ} {front back code : ℕ} → EndingsWritten xs high low front back code → code ≤ front * back → front * back ≤ code → EndingsWritten xs high low front back (front * back)
-written-end {front = front} {back = back} {code = code} W a b = let e : code ≡ front * back = omega arith in rw e at W
+pub written-end : {xs high low : List ℕ} {front back n code : ℕ} → EndingsWritten xs high low front back code → code ≤ n → n ≤ code → EndingsWritten xs high low front back n
+written-end {n = n} {code = code} W a b = let e : code ≡ n = omega arith in rw e at W
 
--- ---- what joining leaves is small enough to be added
+-- ---- the sums are small enough to be added
 
 first-sum : (table : List ℕ) (front a b : ℕ) → firstSum table front a b ≡ sumAt table front a b 0
 first-sum table front a b =
@@ -100,7 +100,7 @@ back-some {g = g} G h = positive (g .back) (g .front) (rw (mul-comm (g .back) (g
     positive zero n h = absurd (omega arith)
     positive (suc m) n h = omega arith
 
-write-pre : {steps four counts ws own high low : List ℕ} {W : ℕ} {g : Groups} → FourPre steps four counts ws high low W g → FourJoined steps four counts ws high low W g
+write-pre : {steps four counts ws own high low : List ℕ} {W : ℕ} {g : Groups} → FourPre steps four counts ws high low W g → FourAdded steps four counts ws high low W g
     → length own ≡ 256 → 0 < product counts → g .front + g .back ≤ 66 → WritePre own high low (g .front) (g .back)
 write-pre {steps} {four} {counts} {ws} {high = high} {low = low} {W = W} {g = g} Q J size codes few = record {
   size = size;
@@ -158,8 +158,8 @@ module _ {card sets : List ℕ} {P : ℕ} (s : Setting card sets P) (ws : List �
   over : OverSets (cellGraph ws card sets) card sets
   over = priced-over (cellPrice ws) card sets (s .accepted)
 
-  done : Done (cellGraph ws card sets) (placeOf card) (λ _. none) (suc (length sets))
-  done = done-start (cellGraph ws card sets) (placeOf card) (over-positioned over) (λ _. none) (λ u. refl)
+  done : Done (cellGraph ws card sets) (positionOf card) (λ _. none) (suc (length sets))
+  done = done-start (cellGraph ws card sets) (positionOf card) (over-positioned over) (λ _. none) (λ u. refl)
 
   -- the labels of the codes below z
   abbrev upto : ℕ → Labels (rankedCosts 1)
@@ -197,7 +197,7 @@ module _ {card sets : List ℕ} {P : ℕ} (s : Setting card sets P) (ws : List �
       go w (no q) = sym (upto-other z w q)
 
   abbrev EnteringTo : ℕ → Labels (rankedCosts 1) → Type 0
-  EnteringTo z L = Entering (cellGraph ws card sets) (placeOf card) (λ _. none) L (length sets) (λ w. w < length sets * P + z) (λ _ _. ⊥)
+  EnteringTo z L = Entering (cellGraph ws card sets) (positionOf card) (λ _. none) L (length sets) (λ w. w < length sets * P + z) (λ _ _. ⊥)
 
   code-entered : (z : ℕ) → z < P → EnteringTo z (upto z) → EnteringTo (z + 1) (upto (z + 1))
   code-entered z h S = go (cellGraph ws card sets .ending (length sets * P + z)) refl
@@ -212,13 +212,13 @@ module _ {card sets : List ℕ} {P : ℕ} (s : Setting card sets P) (ws : List �
   codes-entered : (z : ℕ) → z ≤ P → EnteringTo z (upto z)
   codes-entered zero h =
       let e : length sets * P + 0 ≡ length sets * P = omega arith in
-      subst (λ (n : ℕ). Entering (cellGraph ws card sets) (placeOf card) (λ _. none) (upto 0) (length sets) (λ w. w < n) (λ _ _. ⊥)) (sym e)
-      (subst (λ (L : Labels (rankedCosts 1)). Entering (cellGraph ws card sets) (placeOf card) (λ _. none) L (length sets) (λ w. w < length sets * P) (λ _ _. ⊥)) (sym upto-none) (endings-begun s over done))
+      subst (λ (n : ℕ). Entering (cellGraph ws card sets) (positionOf card) (λ _. none) (upto 0) (length sets) (λ w. w < n) (λ _ _. ⊥)) (sym e)
+      (subst (λ (L : Labels (rankedCosts 1)). Entering (cellGraph ws card sets) (positionOf card) (λ _. none) L (length sets) (λ w. w < length sets * P) (λ _ _. ⊥)) (sym upto-none) (endings-begun s over done))
   codes-entered (suc z) h =
       let e : suc z ≡ z + 1 = omega arith in
       rw e (code-entered z (omega arith) (codes-entered z (omega arith)))
 
-  all-entered : Entered (cellGraph ws card sets) (placeOf card) (upto P) (length sets)
+  all-entered : Entered (cellGraph ws card sets) (positionOf card) (upto P) (length sets)
   all-entered = endings-entered s over done (codes-entered P (omega arith))
 
 -- ---- all together
@@ -237,10 +237,10 @@ module _ {card counts ws own steps : List ℕ} {W : ℕ} {g : Groups} (R : Ready
   pub fill-ready : EndingsPre card counts steps
   fill-ready = record { accepted = R .accepted; counts-are = R .counts-are; room = omega (arith, R .room, R .width) }
 
-  -- what joining asks
-  pub join-ready : {ys : List ℕ} → Small steps → EndingsFilled (machinesOf card) steps ys → (high low : List ℕ) → (g .front + g .back) * 4 ≤ length high → (g .front + g .back) * 4 ≤ length low
+  -- what adding asks
+  pub add-ready : {ys : List ℕ} → Small steps → EndingsFilled (machinesOf card) steps ys → (high low : List ℕ) → (g .front + g .back) * 4 ≤ length high → (g .front + g .back) * 4 ≤ length low
       → FourPre ys (0 ∷ 64 ∷ 64 ∷ 64 ∷ []) counts ws high low W g
-  join-ready small E high low rh rl =
+  add-ready small E high low rh rl =
       let w : W ≡ places (stateCounts (machinesOf card)) = R .width ∙ ap places (R .counts-are) in
       let p = endings-pre M E Z G (0 ∷ 64 ∷ 64 ∷ 64 ∷ []) high low small w (omega (arith, R .room, E .size)) outputs rh rl in
       rw (R .counts-are) p
@@ -256,12 +256,12 @@ module _ {card counts ws own steps : List ℕ} {W : ℕ} {g : Groups} (R : Ready
   codes-some = rw (R .counts-are) (product-positive (stateCounts (machinesOf card)) (counts-positive (M .sound)))
 
   -- what writing asks
-  pub write-ready : {ys high low : List ℕ} → Small steps → EndingsFilled (machinesOf card) steps ys → FourJoined ys (0 ∷ 64 ∷ 64 ∷ 64 ∷ []) counts ws high low W g → (g .front + g .back) * 4 ≤ length high
-      → (g .front + g .back) * 4 ≤ length low → WritePre own high low (g .front) (g .back)
-  write-ready {high = high} {low = low} small E J rh rl = write-pre (join-ready small E high low rh rl) J (R .size) codes-some (R .few)
+  pub write-ready : {ys high low : List ℕ} → Small steps → EndingsFilled (machinesOf card) steps ys → FourAdded ys (0 ∷ 64 ∷ 64 ∷ 64 ∷ []) counts ws high low W g → (g .front + g .back) * 4 ≤ length high
+      → (g .front + g .back) * 4 ≤ length low → WritePre own high low (g .front) (g .back) × (g .size ≡ g .front * g .back)
+  write-ready {high = high} {low = low} small E J rh rl = (write-pre (add-ready small E high low rh rl) J (R .size) codes-some (R .few), size-codes (R .groups))
 
-  pub last-entered : {ys high low own′ : List ℕ} → EndingsFilled (machinesOf card) steps ys → FourJoined ys (0 ∷ 64 ∷ 64 ∷ 64 ∷ []) counts ws high low W g
-      → EndingsWritten own′ high low (g .front) (g .back) (g .front * g .back) → EndingsEntered card ws own′
+  pub last-entered : {ys high low own′ : List ℕ} → EndingsFilled (machinesOf card) steps ys → FourAdded ys (0 ∷ 64 ∷ 64 ∷ 64 ∷ []) counts ws high low W g
+      → EndingsWritten own′ high low (g .front) (g .back) (g .size) → EndingsEntered card ws own′
   last-entered {high = high} {low = low} {own′ = own′} E J Y = record {
     position = record { size = Y .size; labels = λ c h. ended-own (codeEnding (machinesOf card) c) (ended c h) };
     entered = λ sets P s. all-entered s ws (cellAt own′) (λ c h. labelled sets P s c h);
@@ -276,7 +276,7 @@ module _ {card counts ws own steps : List ℕ} {W : ℕ} {g : Groups} (R : Ready
           let e : c / g .back * g .back + c % g .back ≡ c = div-add-mod' c (g .back) in
           let z = ending-sum M E Z G (rw (R .counts-are) at J) (c / g .back) (c % g .back) 0 a (mod-lt c back) (omega arith) refl in
           let y = rw e at z in
-          rw (Y .label c (omega (arith, all-codes G)), first-sum high (g .front) (c / g .back) (c % g .back), first-sum low (g .front) (c / g .back) (c % g .back)) (ended-as (Z .whole) y)
+          rw (Y .label c (omega (arith, G .size-is)), first-sum high (g .front) (c / g .back) (c % g .back), first-sum low (g .front) (c / g .back) (c % g .back)) (ended-as (Z .whole) y)
 
       labelled : (sets : List ℕ) (P : ℕ) → Setting card sets P → (c : ℕ) → c < P → labelFrom (cellAt own′ c) ≡ cellGraph ws card sets .ending (length sets * P + c)
       labelled sets P s c h =

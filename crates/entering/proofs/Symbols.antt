@@ -5,8 +5,8 @@ use Rattle.paths.specs.Costs.{Labels}
 use Rattle.paths.specs.Ranked.{rankedCosts}
 use Rattle.paths.specs.Positions.{Done, Entering, Entered}
 use Rattle.product.specs.Nodes.{product}
-use Rattle.product.specs.Setting.{placeOf, Setting}
-use Rattle.product.specs.Laws.Setting.{place-inside}
+use Rattle.product.specs.Setting.{positionOf, Setting}
+use Rattle.product.specs.Laws.Setting.{node-inside}
 use Rattle.product.specs.Laws.Letters.{OverSets, priced-over}
 use Rattle.product.specs.Laws.Entering.{NotLeft, symbol-tried, symbols-begun, symbols-entered}
 use Rattle.cells.specs.declared.Cell.{Cell}
@@ -74,19 +74,19 @@ module _ (card : List ℕ) (ok : cardRefusal card ≡ 0) where
   pub symbols-end : {ws next own own′ : List ℕ} {symbols left : ℕ} → left ≤ 0 → Blank own (codes card) → SymbolsTried card ws own own′ next symbols left → SymbolsEntered card ws own′ next symbols
   symbols-end {ws} {next} {own} {own′} {symbols} {left} z b A = record { position = A .position; entered = entered }
     where
-      at-codes : (sets : List ℕ) (i : ℕ) (L : Labels (rankedCosts 1)) → Ahead card sets next i L → getD sets i 0 ≡ symbols → Done (cellGraph ws card sets) (placeOf card) L (suc i)
-          → Entered (cellGraph ws card sets) (placeOf card) (placed (i * codes card) (codes card) L (cellAt own′)) i
+      at-codes : (sets : List ℕ) (i : ℕ) (L : Labels (rankedCosts 1)) → Ahead card sets next i L → getD sets i 0 ≡ symbols → Done (cellGraph ws card sets) (positionOf card) L (suc i)
+          → Entered (cellGraph ws card sets) (positionOf card) (placed (i * codes card) (codes card) L (cellAt own′)) i
       at-codes sets i L B e d =
           let l : left ≡ 0 = omega arith in
           let S = symbols-begun (B .setting) (over ws sets) d in
-          let q = blank-same own (i * codes card) L b (λ w h k. d .blank w (omega (arith, place-inside (B .setting) w i h k))) in
-          let U : EnteringBy card ws sets own L L i (NotLeft symbols) = subst (λ (M : Labels (rankedCosts 1)). Entering (cellGraph ws card sets) (placeOf card) L M i (λ _. ⊥) (NotLeft symbols)) q (rw e at S) in
+          let q = blank-same own (i * codes card) L b (λ w h k. d .blank w (omega (arith, node-inside (B .setting) w i h k))) in
+          let U : EnteringBy card ws sets own L L i (NotLeft symbols) = subst (λ (M : Labels (rankedCosts 1)). Entering (cellGraph ws card sets) (positionOf card) L M i (λ _. ⊥) (NotLeft symbols)) q (rw e at S) in
           symbols-entered (B .setting) (over ws sets) (B .below) d (rw l at (A .enters sets L L i B e U))
 
-      entered : (sets : List ℕ) (P i : ℕ) (L : Labels (rankedCosts 1)) → Setting card sets P → i < length sets → getD sets i 0 ≡ symbols → Done (cellGraph ws card sets) (placeOf card) L (suc i)
-          → ((t : ℕ) → t < P → L ((i + 1) * P + t) ≡ labelFrom (nextCell next t)) → Entered (cellGraph ws card sets) (placeOf card) (placed (i * P) P L (cellAt own′)) i
+      entered : (sets : List ℕ) (P i : ℕ) (L : Labels (rankedCosts 1)) → Setting card sets P → i < length sets → getD sets i 0 ≡ symbols → Done (cellGraph ws card sets) (positionOf card) L (suc i)
+          → ((t : ℕ) → t < P → L ((i + 1) * P + t) ≡ labelFrom (nextCell next t)) → Entered (cellGraph ws card sets) (positionOf card) (placed (i * P) P L (cellAt own′)) i
       entered sets P i L s h e d n =
-          subst (λ (k : ℕ). Entered (cellGraph ws card sets) (placeOf card) (placed (i * k) k L (cellAt own′)) i) (sym (s .states))
+          subst (λ (k : ℕ). Entered (cellGraph ws card sets) (positionOf card) (placed (i * k) k L (cellAt own′)) i) (sym (s .states))
           (at-codes sets i L (record {
             setting = record { accepted = s .accepted; few = s .few; symbols = s .symbols; states = refl };
             below = h;

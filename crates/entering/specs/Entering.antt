@@ -7,7 +7,7 @@ use Rattle.paths.specs.Graph.{Graph}
 use Rattle.paths.specs.Positions.{Done, Entered}
 use Rattle.product.specs.Nodes.{stateCounts, product}
 use Rattle.product.specs.ProductGraph.{pairs, pricedGraph}
-use Rattle.product.specs.Setting.{placeOf, Setting}
+use Rattle.product.specs.Setting.{positionOf, Setting}
 use Rattle.cells.specs.declared.Groups.{Groups}
 use Rattle.cells.specs.Cells.{nowhere, highOf, places}
 use Rattle.cells.specs.Columns.{weighed, WeightsOf}
@@ -54,10 +54,10 @@ pub record Position (own : List ℕ) (P : ℕ) : Type 0 where
 pub record SymbolsEntered (card ws own′ next : List ℕ) (symbols : ℕ) : Type 0 where
   pub position : Position own′ (product (stateCounts (machinesOf card)))
   pub entered : (sets : List ℕ) (P i : ℕ) (L : Labels (rankedCosts 1)) → Setting card sets P → i < length sets → getD sets i 0 ≡ symbols
-      → Done (cellGraph ws card sets) (placeOf card) L (suc i) → ((t : ℕ) → t < P → L ((i + 1) * P + t) ≡ labelFrom (nextCell next t))
-      → Entered (cellGraph ws card sets) (placeOf card) (placed (i * P) P L (cellAt own′)) i
+      → Done (cellGraph ws card sets) (positionOf card) L (suc i) → ((t : ℕ) → t < P → L ((i + 1) * P + t) ≡ labelFrom (nextCell next t))
+      → Entered (cellGraph ws card sets) (positionOf card) (placed (i * P) P L (cellAt own′)) i
 
 -- own′ has the endings
 pub record EndingsEntered (card ws own′ : List ℕ) : Type 0 where
   pub position : Position own′ (product (stateCounts (machinesOf card)))
-  pub entered : (sets : List ℕ) (P : ℕ) → Setting card sets P → Entered (cellGraph ws card sets) (placeOf card) (placed (length sets * P) P (λ _. none) (cellAt own′)) (length sets)
+  pub entered : (sets : List ℕ) (P : ℕ) → Setting card sets P → Entered (cellGraph ws card sets) (positionOf card) (placed (length sets * P) P (λ _. none) (cellAt own′)) (length sets)

@@ -6,7 +6,7 @@ use Rattle.paths.specs.Costs.{Labels}
 use Rattle.paths.specs.Ranked.{rankedCosts}
 use Rattle.paths.specs.Positions.{Entering}
 use Rattle.product.specs.Nodes.{stateCounts, product}
-use Rattle.product.specs.Setting.{placeOf, Setting}
+use Rattle.product.specs.Setting.{positionOf, Setting}
 use Rattle.product.specs.Laws.Entering.{NotLeft, TriedBefore}
 use Rattle.cells.specs.Labels.{cellAt, nextCell}
 use Rattle.cells.specs.Trying.{labelFrom}
@@ -25,7 +25,7 @@ pub record Ahead (card sets next : List ℕ) (i : ℕ) (L : Labels (rankedCosts 
 
 -- while the position i is entered: its labels are those of own
 abbrev pub EnteringBy : (card ws sets own : List ℕ) (K L : Labels (rankedCosts 1)) (i : ℕ) (Did : ℕ → Pair → Type 0) → Type 0
-EnteringBy card ws sets own K L i Did = Entering (cellGraph ws card sets) (placeOf card) K (placed (i * codes card) (codes card) L (cellAt own)) i (λ _. ⊥) Did
+EnteringBy card ws sets own K L i Did = Entering (cellGraph ws card sets) (positionOf card) K (placed (i * codes card) (codes card) L (cellAt own)) i (λ _. ⊥) Did
 
 -- own became own′ by the pairs with the input x, at any position whose set has x
 pub record InputTried (card ws own own′ next : List ℕ) (x : ℕ) : Type 0 where

@@ -1,4 +1,4 @@
-// The labels of the last position: the endings, joined as a column of their own.
+// The labels of the last position: the endings, added up as a column of their own.
 ghost use Rattle.basics.specs.Words.{_≡_, _+_, _*_, _≤_, length};
 ghost use Rattle.columns.specs.Filling.{Small};
 ghost use Rattle.entering.specs.Entering.{Ready, EndingsEntered};
@@ -27,11 +27,13 @@ fn ending_label(ending: u64, rest: u64) -> Cell
 }
 
 // Writes the labels of all codes, by the endings of both groups; an ending is the first of four numbers.
-fn write_endings(own: &mut [u64], front: usize, back: usize, high: &[u64], low: &[u64])
-    requires { ⌜ WritePre (now own) (now high) (now low) front back ⌝ }
-    ensures { λ _. ⌜ EndingsWritten (now (own .exit)) (now (high .entry)) (now (low .entry)) front back (front * back) ⌝ }
+fn write_endings(own: &mut [u64], g: Groups, high: &[u64], low: &[u64])
+    requires { ⌜ WritePre (now own) (now high) (now low) (g .front) (g .back) × (g .size ≡ g .front * g .back) ⌝ }
+    ensures { λ _. ⌜ EndingsWritten (now (own .exit)) (now (high .entry)) (now (low .entry)) (g .front) (g .back) (g .size) ⌝ }
 {
-    let size = front * back;
+    let front = g.front;
+    let back = g.back;
+    let size = g.size;
     let mut code = 0;
     while code < size {
         let a = code / back * 4;
@@ -61,6 +63,6 @@ pub fn enter_endings(
 {
     columns::fill_endings(steps, card, counts);
     let four = [0u8, 64, 64, 64];
-    cells::join_four(steps, width, &four, counts, weights, g, high, low);
-    write_endings(own, g.front, g.back, high, low);
+    cells::add_four(steps, width, &four, counts, weights, g, high, low);
+    write_endings(own, g, high, low);
 }

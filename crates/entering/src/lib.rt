@@ -26,11 +26,11 @@ fn enter_input(
     requires { ⌜ Ready (now card) (now counts) (now weights) (now own) (now steps) (places (now counts)) g × Position (now own) (codes (now card)) × NextRoom (now next) (now weights) (length (now counts)) (product (now counts)) × (1 ≤ input) × (input ≤ symbolCount (now card)) × ((g .front + g .back) * 4 ≤ length (now high)) × ((g .front + g .back) * 4 ≤ length (now low)) ⌝ }
     ensures { λ _. ⌜ InputTried (now (card .entry)) (now (weights .entry)) (now (own .entry)) (now (own .exit)) (now (next .entry)) input ⌝ }
 {
-    let width = columns::width_of(counts);
+    let width = g.states;
     let mut outputs = columns::prepare(steps, card, counts, width, input);
     while outputs > 0 {
         let four = cells::fours::next_four(outputs);
-        cells::join_four(steps, width, &four, counts, weights, g, high, low);
+        cells::add_four(steps, width, &four, counts, weights, g, high, low);
         lanes::try_four(own, next, g.front, g.back, high, low);
         outputs = cells::fours::without_four(outputs);
     }

@@ -6,7 +6,7 @@ use Rattle.product.specs.Laws.JointStep.{counts-positive}
 use Rattle.cells.specs.declared.Groups.{Groups}
 use Rattle.cells.specs.Cells.{highAt, lowAt, cellSum}
 use Rattle.cells.specs.Columns.{WeightsOf}
-use Rattle.cells.specs.Groups.{GroupsOf, sumAt, FourPre, FourJoined}
+use Rattle.cells.specs.Groups.{GroupsOf, sumAt, FourPre, FourAdded}
 use Rattle.cells.specs.Fours.{nextFour}
 use Rattle.cells.specs.Laws.Fours.{four-most}
 use Rattle.cells.specs.Laws.Joint.{joint-cell}
@@ -53,9 +53,9 @@ module _ {steps counts ws : List ℕ} {W kept : ℕ} {g : Groups} (R : ListPre s
       subst (λ (qs : List ℕ). FourPre steps four qs ws high low W g) (sym (R .of .counts-are))
       (four-pre (R .of .machines) (R .of .columns) own-weights own-groups four high low (λ j. subst (λ (ys : List ℕ). getD ys j 0 ≤ 64) (sym e) (four-most set j)) a b)
 
-  module _ (q : ℕ) {four high low : List ℕ} (e : four ≡ nextFour (afterFours q kept)) (J : FourJoined steps four counts ws high low W g) where
-    own-joined : FourJoined steps four (stateCounts (R .machines)) ws high low W g
-    own-joined = subst (λ (qs : List ℕ). FourJoined steps four qs ws high low W g) (R .of .counts-are) J
+  module _ (q : ℕ) {four high low : List ℕ} (e : four ≡ nextFour (afterFours q kept)) (J : FourAdded steps four counts ws high low W g) where
+    own-added : FourAdded steps four (stateCounts (R .machines)) ws high low W g
+    own-added = subst (λ (qs : List ℕ). FourAdded steps four qs ws high low W g) (R .of .counts-are) J
 
     output-few : (j : ℕ) → getD four j 0 ≤ 64
     output-few j = subst (λ (ys : List ℕ). getD ys j 0 ≤ 64) (sym e) (four-most (afterFours q kept) j)
@@ -65,7 +65,7 @@ module _ {steps counts ws : List ℕ} {W kept : ℕ} {g : Groups} (R : ListPre s
       few = omega (arith, codes-are, codes-few);
       some = (positive (g .front) (g .back) (omega (arith, codes-are, codes-some)), positive (g .back) (g .front) (rw (mul-comm (g .back) (g .front)) (omega (arith, codes-are, codes-some))));
       room = room;
-      sums = λ a b j h k l. omega (arith, joint-sum (R .of .machines) (R .of .columns) own-weights own-groups own-joined a b j h k l (output-few j) .high-most);
+      sums = λ a b j h k l. omega (arith, joint-sum (R .of .machines) (R .of .columns) own-weights own-groups own-added a b j h k l (output-few j) .high-most);
     }
 
     pub low-pre : (g .front + g .back) * 4 ≤ length low → TablePre low (g .front) (g .back)
@@ -73,7 +73,7 @@ module _ {steps counts ws : List ℕ} {W kept : ℕ} {g : Groups} (R : ListPre s
       few = omega (arith, codes-are, codes-few);
       some = (positive (g .front) (g .back) (omega (arith, codes-are, codes-some)), positive (g .back) (g .front) (rw (mul-comm (g .back) (g .front)) (omega (arith, codes-are, codes-some))));
       room = room;
-      sums = λ a b j h k l. omega (arith, joint-sum (R .of .machines) (R .of .columns) own-weights own-groups own-joined a b j h k l (output-few j) .low-most);
+      sums = λ a b j h k l. omega (arith, joint-sum (R .of .machines) (R .of .columns) own-weights own-groups own-added a b j h k l (output-few j) .low-most);
     }
 
     -- the lanes of the tables are those of the columns

@@ -1,7 +1,7 @@
 -- The loops over the kept outputs, four at a time: the fours so far are counted, or written.
 use Rattle.basics.specs.Words.{_≡_, sym, _∙_, ap, subst, List, [], ℕ, zero, suc, _+_, _-_, _*_, _/_, _^_, _<_, _≤_, arith, length, getD, replicate, length-replicate, getD-replicate, List·getD-eq-default, mod-lt, suc-mul, mul-le-mul-right, ℕ-discrete, decLt, add-one, product}
 use Rattle.cells.specs.declared.Groups.{Groups}
-use Rattle.cells.specs.Groups.{FourJoined}
+use Rattle.cells.specs.Groups.{FourAdded}
 use Rattle.cells.specs.Fours.{nextFour, withoutFour}
 use Rattle.insertions.specs.Lanes.{Lane, bumped, placed, countTo, startOf}
 use Rattle.insertions.specs.Tables.{fourLane, afterFours, keptLane, FoursOf, CountRoom, EntryRoom}
@@ -82,7 +82,7 @@ module _ {steps counts ws : List ℕ} {W kept : ℕ} {g : Groups} (R : ListPre s
   pub room-for-four : CountRoom ends (g .front * g .back * 4)
   room-for-four = record { size = count-size; fits = λ i. omega (arith, count-few i, codes-are R, codes-few R) }
 
-  pub four-counted : 0 < left → {four high low ends′ : List ℕ} {after : ℕ} → four ≡ nextFour left → FourJoined steps four counts ws high low W g → ends′ ≡ bumped 2 (fourLane high [] (g .front) (g .back)) (g .front * g .back * 4) ends → after ≡ withoutFour left
+  pub four-counted : 0 < left → {four high low ends′ : List ℕ} {after : ℕ} → four ≡ nextFour left → FourAdded steps four counts ws high low W g → ends′ ≡ bumped 2 (fourLane high [] (g .front) (g .back)) (g .front * g .back * 4) ends → after ≡ withoutFour left
       → CountTo steps counts ws W kept ends′ after
   four-counted some {four} {high} {low} d J e a = record {
     fours = C .fours + 1;
@@ -117,7 +117,7 @@ module _ {steps counts ws : List ℕ} {W kept : ℕ} {g : Groups} (R : ListPre s
       ap (sumTo ends) e ∙ sum-next ends (l + 2) ∙ omega (arith, sums l (omega arith), a)
 
   -- there is no list of another code
-  none-behind : (i : ℕ) → g .front * g .back * 4 + 2 ≤ i → getD ends i 0 ≡ 0
+  none-behind : (i : ℕ) → g .size * 4 + 2 ≤ i → getD ends i 0 ≡ 0
   none-behind i h = go (decLt i 514)
     where
       f : ℕ → Lane
@@ -132,25 +132,25 @@ module _ {steps counts ws : List ℕ} {W kept : ℕ} {g : Groups} (R : ListPre s
           ap (λ (m : ℕ). getD ends m 0) e
           ∙ ap (λ (ns : List ℕ). getD ns (i - 2 + 2) 0) (C .ends-are)
           ∙ bumped-at 2 f (C .zeros) (omega arith) (C .are-zeros .size) n (i - 2) (omega arith)
-          ∙ omega (arith, C .are-zeros .zero-at (i - 2 + 2), count-none f (i - 2) n (λ m. omega (arith, list-below R m, codes-are R)))
+          ∙ omega (arith, C .are-zeros .zero-at (i - 2 + 2), count-none f (i - 2) n (λ m. omega (arith, list-below R m, R .groups .size-is)))
 
   all-sum : sumTo ends 514 ≤ 63 * product counts
   all-sum =
       let e : sumTo ends 514 ≡ startOf (keptLane steps ws counts W kept) (C .fours * product counts * 4) 512 = sums 512 (omega arith) in
       omega (arith, e, start-most (keptLane steps ws counts W kept) (C .fours * product counts * 4) 512, few-listed R small (C .fours))
 
-  pub add-pre : AddPre ends (g .front * g .back * 4 + 2)
+  pub add-pre : AddPre ends (g .size * 4 + 2)
   add-pre = record {
     size = count-size;
     some = omega arith;
-    within = omega (arith, codes-are R, codes-few R);
+    within = omega (arith, R .groups .size-is, codes-few R);
     fits =
-        let e : g .front * g .back * 4 + 2 + (512 - g .front * g .back * 4) ≡ 514 = omega (arith, codes-are R, codes-few R) in
-        let m : sumTo ends (g .front * g .back * 4 + 2) ≤ sumTo ends 514 = rw e at (sum-mono ends (g .front * g .back * 4 + 2) (512 - g .front * g .back * 4)) in
+        let e : g .size * 4 + 2 + (512 - g .size * 4) ≡ 514 = omega (arith, R .groups .size-is, codes-few R) in
+        let m : sumTo ends (g .size * 4 + 2) ≤ sumTo ends 514 = rw e at (sum-mono ends (g .size * 4 + 2) (512 - g .size * 4)) in
         omega (arith, m, all-sum, codes-few R);
   }
 
-  pub counted : left ≤ 0 → {added ends′ : List ℕ} → AddedUp ends added (g .front * g .back * 4 + 2) → FilledOn added ends′ (g .front * g .back * 4 + 2) → Counted steps counts ws W kept ends′
+  pub counted : left ≤ 0 → {added ends′ : List ℕ} → AddedUp ends added (g .size * 4 + 2) → FilledOn added ends′ (g .size * 4 + 2) → Counted steps counts ws W kept ends′
   counted h {added} {ends′} A B = record {
     size = B .size;
     fours = C .fours;
@@ -200,7 +200,7 @@ module _ {steps counts ws : List ℕ} {W kept : ℕ} {g : Groups} (R : ListPre s
         fits = λ l h. omega (arith, C .few, codes-few R, C .starts l (omega arith), start-next f n l, start-order f n (l + 1) 512 (omega arith), C .starts 512 (omega arith));
       }
 
-  module _ (some : 0 < left) {four high low : List ℕ} (d : four ≡ nextFour left) (J : FourJoined steps four counts ws high low W g) where
+  module _ (some : 0 < left) {four high low : List ℕ} (d : four ≡ nextFour left) (J : FourAdded steps four counts ws high low W g) where
     its-lanes : (j : ℕ) → j < g .front * g .back * 4 → keptLane steps ws counts W kept (L .fours * product counts * 4 + j) ≡ fourLane high low (g .front) (g .back) j
     its-lanes = four-lanes R (L .fours) (d ∙ ap nextFour (L .fours-to .left-is)) J
 

@@ -14,7 +14,7 @@ const MARKS: u32 = 16777216;
 const FIRST: u64 = 1099511627776;
 
 // Three counts below 16 from 16 bits each to four bits each.
-fn narrow(three: u64) -> u64
+pub fn narrow(three: u64) -> u64
     requires { ⌜ three < 2 ^ 56 ⌝ }
     ensures { λ r. ⌜ r ≡ narrowed three ⌝ }
 {
@@ -154,11 +154,11 @@ pub fn count(
     let mut left = kept;
     while left > 0 {
         let four = fours::next_four(left);
-        cells::join_four(steps, width, &four, counts, weights, g, high, low);
+        cells::add_four(steps, width, &four, counts, weights, g, high, low);
         count_four(ends, front, back, high);
         left = fours::without_four(left);
     }
-    let lists = front * back * 4 + 2;
+    let lists = g.size * 4 + 2;
     add_up(ends, lists);
     fill_on(ends, lists);
     ends[513] as usize
@@ -265,7 +265,7 @@ pub fn list(
     let mut left = kept;
     while left > 0 {
         let four = fours::next_four(left);
-        cells::join_four(steps, width, &four, counts, weights, g, high, low);
+        cells::add_four(steps, width, &four, counts, weights, g, high, low);
         list_four(entries, ends, front, back, high, low);
         left = fours::without_four(left);
     }

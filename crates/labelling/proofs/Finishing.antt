@@ -4,8 +4,9 @@ use Rattle.card.specs.Card.{machinesOf}
 use Rattle.paths.specs.Costs.{Labels}
 use Rattle.paths.specs.Ranked.{rankedCosts}
 use Rattle.paths.specs.Positions.{Done, Entered}
-use Rattle.product.specs.Setting.{placeOf, Setting}
+use Rattle.product.specs.Setting.{positionOf, Setting}
 use Rattle.product.specs.Laws.Setting.{few-codes, node-below}
+use Rattle.settling.specs.Insertions.{listsOf}
 use Rattle.settling.specs.Settling.{SettlePre, Settled}
 use Rattle.settling.proofs.PositionDone.{Tied}
 use Rattle.cells.specs.Cells.{nowhere}
@@ -15,7 +16,7 @@ use Rattle.cells.specs.Laws.Trying.{label-there}
 use Rattle.columns.specs.Prepared.{Prepared}
 use Rattle.insertions.specs.Listed.{Listed}
 use Rattle.entering.specs.Entering.{cellGraph, Blank, Position, NextRoom}
-use Rattle.labelling.specs.Kinds.{inCounts, listsBy}
+use Rattle.labelling.specs.Kinds.{inCounts}
 use Rattle.closing.specs.Closing.{ClosePre, ClosedAt}
 use Rattle.labelling.specs.Labelling.{KeptShort, OrderPre, Room, Labelled, FinishPre, Finished}
 use Rattle.labelling.specs.Laws.Settled.{numberGraph, settled-last, settled-position}
@@ -34,20 +35,20 @@ pub record PositionClosed (card ws sets ranked sums own next : List ℕ) (K P i 
 
 module _ {card ws hs marks sets steps entries ends : List ℕ} {P W kept : ℕ} {counts : Bool} (s : Setting card sets P) (O : OrderPre counts card sets ws hs marks P) (X : Prepared (machinesOf card) 0 W steps kept)
     (Y : Listed (machinesOf card) (O .order) kept entries ends) {i : ℕ} (within : i ≤ length sets)
-    {own : List ℕ} (L : Labels (rankedCosts 1)) (A : Position own P) (E : Entered (cellGraph ws card sets) (placeOf card) (placed (i * P) P L (cellAt own)) i) where
-  ties : Tied (numberGraph ws card sets) (placeOf card) i (listsBy counts hs entries ends) (i * P) P
+    {own : List ℕ} (L : Labels (rankedCosts 1)) (A : Position own P) (E : Entered (cellGraph ws card sets) (positionOf card) (placed (i * P) P L (cellAt own)) i) where
+  ties : Tied (numberGraph ws card sets) (positionOf card) i (listsOf entries ends hs counts) (i * P) P
   ties = tied s i within ws counts (O .weights) (O .same) X Y
 
   its-node : (c : ℕ) → c < P → i * P + c < (length sets + 1) * P
   its-node c b = node-below s i (i * P + c) within (omega arith)
 
-  settle-pre : SettlePre (listsBy counts hs entries ends) own P
+  settle-pre : SettlePre (listsOf entries ends hs counts) own P
   settle-pre =
-      settle-ready counts (few-codes s) A Y (s .states) (O .highs-few) (O .lows-few) (O .if-ranked)
+      settle-ready counts (few-codes s) A Y (s .states) (O .highs-few) (O .if-ranked)
       (settle-fits counts (few-codes s) A entries ends {top = nowhere} (omega arith) (λ c x b l. O .short (E .attained) (i * P + c) x (its-node c b) (placed-in (i * P) P L (cellAt own) c b ∙ l) .room))
 
-  module _ {ys : List ℕ} (S : Settled (listsBy counts hs entries ends) own ys) where
-    done : Done (cellGraph ws card sets) (placeOf card) (placed (i * P) P L (cellAt ys)) i
+  module _ {ys : List ℕ} (S : Settled (listsOf entries ends hs counts) own ys) where
+    done : Done (cellGraph ws card sets) (positionOf card) (placed (i * P) P L (cellAt ys)) i
     done = settled-position ws s ties A (S .size) S L E
 
     last : (c : ℕ) → c < P → cellAt ys c .high < nowhere → cellAt ys c .high % 256 ≡ 255
@@ -61,9 +62,9 @@ module _ {card ws hs marks sets steps entries ends : List ℕ} {P W kept : ℕ} 
         let m : suc i * P ≤ (length sets + 1) * P = mul-le-mul-right P (omega arith) in
         record {
           counts = λ z. record { nodes = omega (arith, R .counts z, suc-mul i P); high = λ c b h. omega (arith, short c b h .in-counts (kind ∙ eq-eqb (length sums) 0 z)) };
-          numbers = λ z. record {
-            nodes = omega (arith, R .numbers z, suc-mul i P);
-            few = λ c b h. let k = short c b h .in-number (kind ∙ ne-eqb (length sums) 0 z) in (omega (arith, k .0), k .1);
+          in-sums = λ z. record {
+            nodes = omega (arith, R .in-sums z, suc-mul i P);
+            few = λ c b h. let k = short c b h .in-sum (kind ∙ ne-eqb (length sums) 0 z) in (omega (arith, k .0), k .1);
           };
           pass = record { few = few-codes s; own-size = S .size; next-size = e; last = last; low = λ c b h. omega (arith, short c b h .room .low) };
         }
@@ -92,10 +93,10 @@ module _ {card ws hs marks sets steps entries ends : List ℕ} {P W kept : ℕ} 
   module _ {ranked sums : List ℕ} (kind : counts ≡ inCounts sums) where
     pub finish-ready : {next : List ℕ} → Room ranked sums ((length sets + 1) * P) → length next ≡ 256 → FinishPre ranked sums hs own next entries ends (i * P) P
     finish-ready R e = record {
-      settle = subst (λ (k : Bool). SettlePre (listsBy k hs entries ends) own P) kind settle-pre;
-      close = λ ys S. close-ready (subst (λ (k : Bool). Settled (listsBy k hs entries ends) own ys) (sym kind) S) kind R e;
+      settle = subst (λ (k : Bool). SettlePre (listsOf entries ends hs k) own P) kind settle-pre;
+      close = λ ys S. close-ready (subst (λ (k : Bool). Settled (listsOf entries ends hs k) own ys) (sym kind) S) kind R e;
     }
 
     pub finished : {ranked′ sums′ own′ next next′ : List ℕ} (K : ℕ) → K ≤ 6 → Labelled card ws sets ranked sums (suc i) L → NextFits next
         → Finished ranked ranked′ sums sums′ hs own own′ next next′ entries ends (i * P) P → PositionClosed card ws sets ranked′ sums′ own′ next′ K P i
-    finished K six B N F = closed-next (subst (λ (k : Bool). Settled (listsBy k hs entries ends) own (F .labels)) (sym kind) (F .settled)) K six B N (F .closed)
+    finished K six B N F = closed-next (subst (λ (k : Bool). Settled (listsOf entries ends hs k) own (F .labels)) (sym kind) (F .settled)) K six B N (F .closed)

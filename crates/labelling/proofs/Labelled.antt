@@ -3,11 +3,11 @@ use Rattle.basics.specs.Words.{_≡_, refl, sym, _∙_, ap, subst, List, Option
 use Rattle.paths.specs.Costs.{Labels}
 use Rattle.paths.specs.Ranked.{Ranked, rankedCosts}
 use Rattle.paths.specs.Positions.{Done, done-start}
-use Rattle.product.specs.Setting.{placeOf, Setting}
-use Rattle.product.specs.Laws.Setting.{place-low, place-high}
+use Rattle.product.specs.Setting.{positionOf, Setting}
+use Rattle.product.specs.Laws.Setting.{node-low, node-high}
 use Rattle.product.specs.Laws.Letters.{over-positioned, priced-over}
 use Rattle.tables.proofs.Work.{past-end}
-use Rattle.tables.specs.SumLabels as numbers
+use Rattle.tables.specs.SumLabels as sumLabels
 use Rattle.tables.proofs.SumLabels.{label-none}
 use Rattle.settling.specs.Packing.{packedPath}
 use Rattle.cells.specs.Labels.{cellAt, nextCell}
@@ -28,36 +28,36 @@ past-held {ranked} {sums} {n} R u h = record {
   counts = λ e.
       let is = past-end ranked u (omega (arith, R .counts e)) in
       record { stored = ap (packedPath countsPacking) (sym is); short = λ c l. absurd (Option·none-ne-some c (sym is ∙ l)) };
-  number = λ z. sym (ap numbers.labelFrom (List·getD-eq-default sums numbers.noLabel (omega (arith, R .numbers z))) ∙ label-none numbers.noLabel (omega arith));
+  in-sum = λ z. sym (ap sumLabels.labelFrom (List·getD-eq-default sums sumLabels.noLabel (omega (arith, R .in-sums z))) ∙ label-none sumLabels.noLabel (omega arith));
 }
 
 module _ {card ws sets : List ℕ} {P : ℕ} (s : Setting card sets P) where
   -- past the last position there is nothing
   pub labelled-start : {ranked sums : List ℕ} → Room ranked sums ((length sets + 1) * P) → Labelled card ws sets ranked sums (suc (length sets)) (λ _. none)
   labelled-start R = record {
-    done = done-start (cellGraph ws card sets) (placeOf card) (over-positioned (priced-over (cellPrice ws) card sets (s .accepted))) (λ _. none) (λ u. refl);
+    done = done-start (cellGraph ws card sets) (positionOf card) (over-positioned (priced-over (cellPrice ws) card sets (s .accepted))) (λ _. none) (λ u. refl);
     held = λ u h. past-held R u (past u h);
   }
     where
-      past : (u : ℕ) → suc (length sets) ≤ placeOf card u → (length sets + 1) * P ≤ u
+      past : (u : ℕ) → suc (length sets) ≤ positionOf card u → (length sets + 1) * P ≤ u
       past u h =
-          let m : suc (length sets) * P ≤ placeOf card u * P = mul-le-mul-right P h in
+          let m : suc (length sets) * P ≤ positionOf card u * P = mul-le-mul-right P h in
           let q : (length sets + 1) * P ≡ suc (length sets) * P = ap (λ (k : ℕ). k * P) (omega arith) in
-          omega (arith, place-low s u (placeOf card u) refl)
+          omega (arith, node-low s u (positionOf card u) refl)
 
   module _ {ranked sums : List ℕ} {i : ℕ} {L : Labels (rankedCosts 1)} (A : Labelled card ws sets ranked sums (suc i) L) where
     -- closing a position that is done: one position more
-    pub labelled-next : {ranked′ sums′ own own′ next next′ : List ℕ} → Done (cellGraph ws card sets) (placeOf card) (placed (i * P) P L (cellAt own)) i
+    pub labelled-next : {ranked′ sums′ own own′ next next′ : List ℕ} → Done (cellGraph ws card sets) (positionOf card) (placed (i * P) P L (cellAt own)) i
         → ClosedAt ranked ranked′ sums sums′ own own′ next next′ (i * P) P → Labelled card ws sets ranked′ sums′ i (placed (i * P) P L (cellAt own))
-    labelled-next {ranked′} {sums′} {own} D C = record { done = D; held = λ u h. held u h (ℕ-discrete (placeOf card u) i) }
+    labelled-next {ranked′} {sums′} {own} D C = record { done = D; held = λ u h. held u h (ℕ-discrete (positionOf card u) i) }
       where
-        held : (u : ℕ) → i ≤ placeOf card u → Dec (placeOf card u ≡ i) → Held ranked′ sums′ u (placed (i * P) P L (cellAt own) u)
+        held : (u : ℕ) → i ≤ positionOf card u → Dec (positionOf card u ≡ i) → Held ranked′ sums′ u (placed (i * P) P L (cellAt own) u)
         held u h (yes e) =
-            let b : u - i * P < P = omega (arith, place-low s u i e, place-high s u i e) in
-            let q : i * P + (u - i * P) ≡ u = omega (arith, place-low s u i e) in
+            let b : u - i * P < P = omega (arith, node-low s u i e, node-high s u i e) in
+            let q : i * P + (u - i * P) ≡ u = omega (arith, node-low s u i e) in
             subst (λ (w : ℕ). Held ranked′ sums′ w (placed (i * P) P L (cellAt own) w)) q
             (subst (λ (o : Option (Ranked 1)). Held ranked′ sums′ (i * P + (u - i * P)) o) (sym (placed-in (i * P) P L (cellAt own) (u - i * P) b)) (C .written .held (u - i * P) b))
         held u h (no n) =
-            let m : suc i * P ≤ placeOf card u * P = mul-le-mul-right P (omega arith) in
-            let b : i * P + P ≤ u = omega (arith, suc-mul i P, place-low s u (placeOf card u) refl) in
+            let m : suc i * P ≤ positionOf card u * P = mul-le-mul-right P (omega arith) in
+            let b : i * P + P ≤ u = omega (arith, suc-mul i P, node-low s u (positionOf card u) refl) in
             subst (λ (o : Option (Ranked 1)). Held ranked′ sums′ u o) (sym (placed-after (i * P) P L (cellAt own) u b)) (C .written .others u (L u) (inr b) (A .held u (omega arith)))

@@ -3,7 +3,7 @@ use Rattle.basics.specs.Words.{_≡_, refl, sym, _∙_, ap, subst, List, none, 
 use Rattle.card.specs.Card.{machinesOf}
 use Rattle.paths.specs.Positions.{Entered}
 use Rattle.product.specs.Nodes.{stateCounts, product}
-use Rattle.product.specs.Setting.{placeOf, Setting}
+use Rattle.product.specs.Setting.{positionOf, Setting}
 use Rattle.product.specs.Laws.Setting.{few-nodes}
 use Rattle.cells.specs.declared.Groups.{Groups}
 use Rattle.cells.specs.Columns.{WeightsOf}
@@ -21,7 +21,7 @@ use Rattle.labelling.proofs.Finishing.{PositionClosed, finish-ready, fi
 
 -- slices of other contents and the same lengths
 room-kept : {ranked ranked′ sums sums′ : List ℕ} {n : ℕ} → length ranked′ ≡ length ranked → length sums′ ≡ length sums → Room ranked sums n → Room ranked′ sums′ n
-room-kept r s R = record { counts = λ e. r ∙ R .counts (sym s ∙ e); numbers = λ z. s ∙ R .numbers (λ e. z (s ∙ e)) }
+room-kept r s R = record { counts = λ e. r ∙ R .counts (sym s ∙ e); in-sums = λ z. s ∙ R .in-sums (λ e. z (s ∙ e)) }
 
 kind-kept : (sums sums′ : List ℕ) → length sums′ ≡ length sums → inCounts sums ≡ inCounts sums′
 kind-kept sums sums′ s = ap (λ (n : ℕ). eqb n 0) (sym s)
@@ -76,7 +76,7 @@ module _ {ranked sums card : List ℕ} {grid : Grid} {ws hs sets steps entries e
     next-there = subst (λ (n : ℕ). NextRoom next ws (length (take (grid .machines) (grid .counts))) n) (size-is (its-setting .accepted) (Z .search .grid-of)) (B .room)
 
     module _ {own′ : List ℕ} (E : SymbolsEntered card ws own′ next (getD sets i 0)) (sums-size : length sums′ ≡ length sums) where
-      entered : Entered (cellGraph ws card sets) (placeOf card) (placed (i * grid .size) (grid .size) (B .labels) (cellAt own′)) i
+      entered : Entered (cellGraph ws card sets) (positionOf card) (placed (i * grid .size) (grid .size) (B .labels) (cellAt own′)) i
       entered =
           let q : i + 1 ≡ suc i = omega arith in
           E .entered sets (grid .size) i (B .labels) its-setting below refl (B .labelled .done) (λ t h. ap (λ (n : ℕ). B .labels (n * grid .size + t)) q ∙ B .followed .labels t h)

@@ -10,7 +10,7 @@ use Rattle.tables.specs.Laws.Cards.{card-machines}
 use Rattle.tables.proofs.Counts.{all-positive}
 use Rattle.tables.proofs.Prefix.{places-six}
 use Rattle.settling.specs.Prices.{rankedHighs}
-use Rattle.settling.proofs.Prices.{ranked-highs-few, ranked-lows-few}
+use Rattle.settling.proofs.Prices.{ranked-highs-few}
 use Rattle.cells.specs.declared.Groups.{Groups}
 use Rattle.cells.specs.Columns.{WeightsOf}
 use Rattle.cells.specs.Groups.{GroupsOf}
@@ -95,16 +95,15 @@ module _ {card ranking sets work : List ℕ} {grid : Grid} (Q : LabelPre card ra
       ranked = R;
       same = ranked-tie R refl;
       highs-few = ranked-highs-few;
-      lows-few = ranked-lows-few;
-      if-ranked = record { high = λ _. refl; low = λ _. refl; no-low = λ e. absurd (true≢false e) };
+      if-ranked = λ _. refl;
       most = λ K six. ranked-most-high ranking R K six;
       short = λ T u c h l.
           let r = ranked-room (Q .setting) ranking W R T u c h l in
-          record { room = record { high = omega (arith, r .high); low = r .low }; in-counts = λ _. omega (arith, r .high); in-number = λ e. absurd (true≢false e) };
+          record { room = record { high = omega (arith, r .high); low = r .low }; in-counts = λ _. omega (arith, r .high); in-sum = λ e. absurd (true≢false e) };
     }
 
     pub search-ready : SearchPre work [] card grid ws rankedHighs ws sets
-    search-ready = record { setting = Q .setting; grid-of = G; order-pre = ranked-order; room = record { counts = λ _. Q .room; numbers = λ z. absurd (z refl) } }
+    search-ready = record { setting = Q .setting; grid-of = G; order-pre = ranked-order; room = record { counts = λ _. Q .room; in-sums = λ z. absurd (z refl) } }
 
     -- all nodes are labelled, in the order of the ranking
     pub label-done : {work′ sums′ : List ℕ} → AllLabelled card ws sets work work′ [] sums′ → PositionsDone card ranking sets work work′ 0

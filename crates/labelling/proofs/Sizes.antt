@@ -42,17 +42,17 @@ module _ {card : List ℕ} {grid : Grid} (ok : cardRefusal card ≡ 0) (G : Grid
   pub states-small : grid .size ≤ 16 → grid .states ≤ 21
   states-small h = omega (arith, states-are, places-small counts-some (omega (arith, size-is)))
 
-  -- three numbers for each of them, in front of others
-  module _ (numbers : List ℕ) where
-    three-each : take (3 * length (take (grid .machines) (grid .counts))) numbers ≡ take (3 * grid .machines) numbers
-    three-each = ap (λ (n : ℕ). take (3 * n) numbers) (sym counts-length)
+  -- three weights for each of them, in front of others
+  module _ (weights : List ℕ) where
+    three-each : take (3 * length (take (grid .machines) (grid .counts))) weights ≡ take (3 * grid .machines) weights
+    three-each = ap (λ (n : ℕ). take (3 * n) weights) (sym counts-length)
 
-    pub numbers-length : length numbers ≡ 18 → 3 * grid .machines ≡ length (take (3 * grid .machines) numbers)
-    numbers-length e = sym (length-take-le (3 * grid .machines) numbers (omega (arith, machines-few)))
+    pub weights-front-length : length weights ≡ 18 → 3 * grid .machines ≡ length (take (3 * grid .machines) weights)
+    weights-front-length e = sym (length-take-le (3 * grid .machines) weights (omega (arith, machines-few)))
 
-    pub weights-front : WeightsOf (take (grid .machines) (grid .counts)) (take (3 * length (take (grid .machines) (grid .counts))) numbers)
-        → WeightsOf (stateCounts (machinesOf card)) (take (3 * grid .machines) numbers)
-    weights-front W = subst (λ (ws : List ℕ). WeightsOf (stateCounts (machinesOf card)) ws) three-each (subst (λ (l : List ℕ). WeightsOf l (take (3 * length (take (grid .machines) (grid .counts))) numbers)) counts-are W)
+    pub weights-front : WeightsOf (take (grid .machines) (grid .counts)) (take (3 * length (take (grid .machines) (grid .counts))) weights)
+        → WeightsOf (stateCounts (machinesOf card)) (take (3 * grid .machines) weights)
+    weights-front W = subst (λ (ws : List ℕ). WeightsOf (stateCounts (machinesOf card)) ws) three-each (subst (λ (l : List ℕ). WeightsOf l (take (3 * length (take (grid .machines) (grid .counts))) weights)) counts-are W)
 
-  pub in-front : (B : List ℕ → Type 0) (numbers : List ℕ) → B (take (3 * length (take (grid .machines) (grid .counts))) numbers) → B (take (3 * grid .machines) numbers)
-  in-front B numbers h = subst B (three-each numbers) h
+  pub in-front : (B : List ℕ → Type 0) (weights : List ℕ) → B (take (3 * length (take (grid .machines) (grid .counts))) weights) → B (take (3 * grid .machines) weights)
+  in-front B weights h = subst B (three-each weights) h

@@ -1,6 +1,6 @@
 // The labels of all nodes, position by position, from the last to the first. Labels are two numbers while a position is at hand; then they stand in one
 // of two work slices, the other being empty: as ranked counts, or as one number by weights.
-ghost use Rattle.basics.specs.Words.{_≡_, _+_, _*_, _≤_, length, take};
+ghost use Rattle.basics.specs.Words.{_+_, _*_, _≤_, length, take};
 ghost use Rattle.cells.specs.Groups.{GroupsOf};
 ghost use Rattle.grid.specs.Grids.{GridOf};
 ghost use Rattle.labelling.specs.Labelling.{LabelPre, PositionsDone, FinishPre, Finished, PositionsPre, SearchPre, JointRoom, AllLabelled};
@@ -24,13 +24,11 @@ fn finish(
     ensures { λ _. ⌜ Finished (now (ranked .entry)) (now (ranked .exit)) (now (sums .entry)) (now (sums .exit)) highs (now (own .entry)) (now (own .exit)) (now (next .entry)) (now (next .exit)) (now (entries .entry)) (now (ends .entry)) base size ⌝ }
 {
     if sums.len() == 0 {
-        let lows = machine_weights::LOWS;
-        settling::settle(own, entries, ends, &highs, &lows, true, size);
+        settling::settle(own, entries, ends, &highs, true, size);
         closing::close_counts(ranked, base, size, own, next);
     } else {
-        let lows = [0u64; 6];
-        settling::settle(own, entries, ends, &highs, &lows, false, size);
-        closing::close_numbers(sums, base, size, own, next);
+        settling::settle(own, entries, ends, &highs, false, size);
+        closing::close_sums(sums, base, size, own, next);
     }
 }
 
@@ -40,7 +38,7 @@ fn label_positions(
     sums: &mut [u64],
     card: &[u8],
     grid: Grid,
-    numbers: &[u64],
+    weights: &[u64],
     highs: [u64; 6],
     sets: &[u64],
     steps: &mut [u16],
@@ -50,8 +48,8 @@ fn label_positions(
     high: &mut [u64],
     low: &mut [u64],
 )
-    requires { ⌜ PositionsPre (now ranked) (now sums) (now card) grid (now numbers) highs (now sets) (now steps) (now entries) (now ends) × GroupsOf (take (grid .machines) (grid .counts)) g × (g .front + g .back ≤ 66) × ((g .front + g .back) * 4 ≤ length (now high)) × ((g .front + g .back) * 4 ≤ length (now low)) ⌝ }
-    ensures { λ _. ⌜ AllLabelled (now (card .entry)) (now (numbers .entry)) (now (sets .entry)) (now (ranked .entry)) (now (ranked .exit)) (now (sums .entry)) (now (sums .exit)) ⌝ }
+    requires { ⌜ PositionsPre (now ranked) (now sums) (now card) grid (now weights) highs (now sets) (now steps) (now entries) (now ends) × GroupsOf (take (grid .machines) (grid .counts)) g × (g .front + g .back ≤ 66) × ((g .front + g .back) * 4 ≤ length (now high)) × ((g .front + g .back) * 4 ≤ length (now low)) ⌝ }
+    ensures { λ _. ⌜ AllLabelled (now (card .entry)) (now (weights .entry)) (now (sets .entry)) (now (ranked .entry)) (now (ranked .exit)) (now (sums .entry)) (now (sums .exit)) ⌝ }
 {
     let all = grid.counts;
     let machines = grid.machines;
@@ -65,7 +63,7 @@ fn label_positions(
         steps,
         card,
         counts,
-        numbers,
+        weights,
         grid.states,
         g,
         high,
@@ -90,7 +88,7 @@ fn label_positions(
             steps,
             card,
             counts,
-            numbers,
+            weights,
             g,
             sets[position],
             high,
@@ -110,14 +108,14 @@ fn label_positions(
     }
 }
 
-// Labels all nodes. `marks` has the numbers by which the lists have the marks, `highs` what these count in high, by their places; `steps`, `entries`,
+// Labels all nodes. `marks` has the weights by which the lists have the marks, `highs` what these count in high, by their places; `steps`, `entries`,
 // `high` and `low` are overwritten.
 fn label_with(
     ranked: &mut [u16],
     sums: &mut [u64],
     card: &[u8],
     grid: Grid,
-    numbers: &[u64],
+    weights: &[u64],
     highs: [u64; 6],
     marks: &[u64],
     sets: &[u64],
@@ -126,14 +124,14 @@ fn label_with(
     high: &mut [u64],
     low: &mut [u64],
 )
-    requires { ⌜ SearchPre (now ranked) (now sums) (now card) grid (now numbers) highs (now marks) (now sets) × (65 * grid .states ≤ length (now steps)) × (63 * grid .size ≤ length (now entries)) × JointRoom (grid .size) (now high) × JointRoom (grid .size) (now low) ⌝ }
-    ensures { λ _. ⌜ AllLabelled (now (card .entry)) (now (numbers .entry)) (now (sets .entry)) (now (ranked .entry)) (now (ranked .exit)) (now (sums .entry)) (now (sums .exit)) ⌝ }
+    requires { ⌜ SearchPre (now ranked) (now sums) (now card) grid (now weights) highs (now marks) (now sets) × (65 * grid .states ≤ length (now steps)) × (63 * grid .size ≤ length (now entries)) × JointRoom (grid .size) (now high) × JointRoom (grid .size) (now low) ⌝ }
+    ensures { λ _. ⌜ AllLabelled (now (card .entry)) (now (weights .entry)) (now (sets .entry)) (now (ranked .entry)) (now (ranked .exit)) (now (sums .entry)) (now (sums .exit)) ⌝ }
 {
     let all = grid.counts;
     let machines = grid.machines;
     let states = grid.states;
     let counts = &all[..machines];
-    let g = cells::grouped(counts, grid.size);
+    let g = cells::grouped(counts, grid.states, grid.size);
     let mut ends = [0u16; 514];
     let kept = columns::prepare(steps, card, counts, states, Pair::EMPTY);
     insertions::count(&mut ends, steps, kept, states, counts, marks, g, high, low);
@@ -154,7 +152,7 @@ fn label_with(
         sums,
         card,
         grid,
-        numbers,
+        weights,
         highs,
         sets,
         steps,
@@ -172,13 +170,13 @@ fn label_few(
     sums: &mut [u64],
     card: &[u8],
     grid: Grid,
-    numbers: &[u64],
+    weights: &[u64],
     highs: [u64; 6],
     marks: &[u64],
     sets: &[u64],
 )
-    requires { ⌜ SearchPre (now ranked) (now sums) (now card) grid (now numbers) highs (now marks) (now sets) × (grid .size ≤ 16) ⌝ }
-    ensures { λ _. ⌜ AllLabelled (now (card .entry)) (now (numbers .entry)) (now (sets .entry)) (now (ranked .entry)) (now (ranked .exit)) (now (sums .entry)) (now (sums .exit)) ⌝ }
+    requires { ⌜ SearchPre (now ranked) (now sums) (now card) grid (now weights) highs (now marks) (now sets) × (grid .size ≤ 16) ⌝ }
+    ensures { λ _. ⌜ AllLabelled (now (card .entry)) (now (weights .entry)) (now (sets .entry)) (now (ranked .entry)) (now (ranked .exit)) (now (sums .entry)) (now (sums .exit)) ⌝ }
 {
     let places = 65 * grid.states;
     let mut steps = [65535u16; 1365];
@@ -190,7 +188,7 @@ fn label_few(
         sums,
         card,
         grid,
-        numbers,
+        weights,
         highs,
         marks,
         sets,
@@ -207,13 +205,13 @@ fn label_many(
     sums: &mut [u64],
     card: &[u8],
     grid: Grid,
-    numbers: &[u64],
+    weights: &[u64],
     highs: [u64; 6],
     marks: &[u64],
     sets: &[u64],
 )
-    requires { ⌜ SearchPre (now ranked) (now sums) (now card) grid (now numbers) highs (now marks) (now sets) ⌝ }
-    ensures { λ _. ⌜ AllLabelled (now (card .entry)) (now (numbers .entry)) (now (sets .entry)) (now (ranked .entry)) (now (ranked .exit)) (now (sums .entry)) (now (sums .exit)) ⌝ }
+    requires { ⌜ SearchPre (now ranked) (now sums) (now card) grid (now weights) highs (now marks) (now sets) ⌝ }
+    ensures { λ _. ⌜ AllLabelled (now (card .entry)) (now (weights .entry)) (now (sets .entry)) (now (ranked .entry)) (now (ranked .exit)) (now (sums .entry)) (now (sums .exit)) ⌝ }
 {
     let places = 65 * grid.states;
     let mut steps = [65535u16; 2600];
@@ -225,7 +223,7 @@ fn label_many(
         sums,
         card,
         grid,
-        numbers,
+        weights,
         highs,
         marks,
         sets,
@@ -236,24 +234,24 @@ fn label_many(
     );
 }
 
-// Labels all nodes, in the order that the numbers of the machines make. Few codes take a small table, since a table has to be written whole when it is made.
+// Labels all nodes, in the order that the weights of the machines make. Few codes take a small table, since a table has to be written whole when it is made.
 pub fn label_all(
     ranked: &mut [u16],
     sums: &mut [u64],
     card: &[u8],
     grid: Grid,
-    numbers: &[u64],
+    weights: &[u64],
     highs: [u64; 6],
     marks: &[u64],
     sets: &[u64],
 )
-    requires { ⌜ SearchPre (now ranked) (now sums) (now card) grid (now numbers) highs (now marks) (now sets) ⌝ }
-    ensures { λ _. ⌜ AllLabelled (now (card .entry)) (now (numbers .entry)) (now (sets .entry)) (now (ranked .entry)) (now (ranked .exit)) (now (sums .entry)) (now (sums .exit)) ⌝ }
+    requires { ⌜ SearchPre (now ranked) (now sums) (now card) grid (now weights) highs (now marks) (now sets) ⌝ }
+    ensures { λ _. ⌜ AllLabelled (now (card .entry)) (now (weights .entry)) (now (sets .entry)) (now (ranked .entry)) (now (ranked .exit)) (now (sums .entry)) (now (sums .exit)) ⌝ }
 {
     if grid.size <= 16 {
-        label_few(ranked, sums, card, grid, numbers, highs, marks, sets);
+        label_few(ranked, sums, card, grid, weights, highs, marks, sets);
     } else {
-        label_many(ranked, sums, card, grid, numbers, highs, marks, sets);
+        label_many(ranked, sums, card, grid, weights, highs, marks, sets);
     }
 }
 
@@ -264,8 +262,8 @@ pub fn label(work: &mut [u16], card: &[u8], grid: Grid, ranking: &[u8], sets: &[
 {
     let all = grid.counts;
     let machines = grid.machines;
-    let numbers = machine_weights::ranked_weights(&all[..machines], ranking);
-    let used = &numbers[..3 * machines];
+    let weights = machine_weights::ranked_weights(&all[..machines], ranking);
+    let used = &weights[..3 * machines];
     let highs = machine_weights::HIGHS;
     label_all(work, &mut [], card, grid, used, highs, used, sets);
 }

@@ -11,7 +11,7 @@ use Rattle.cells.specs.Laws.Sums.{product-drop}
 use Rattle.settling.specs.Prices.{SixWeights, rankedHighs, rankedLows}
 use Rattle.insertions.specs.RankedWeights.{weightBy, RankedWeights}
 
--- ---- six numbers
+-- ---- six weights
 
 six : (Q : ℕ → Type 0) (a b c d e f : ℕ) → Q a → Q b → Q c → Q d → Q e → Q f → Q 0 → (i : ℕ) → Q (getD (a ∷ b ∷ c ∷ d ∷ e ∷ f ∷ []) i 0)
 six Q a b c d e f qa qb qc qd qe qf q zero = qa
@@ -73,35 +73,35 @@ weight-whole (a ∷ r) (n ∷ ns) m b = go (eqb a m) (weight-whole r ns m (λ i.
 -- ---- the loop over the places
 
 -- the sum so far, of the places below i, and the weight by the others
-pub record SumTo (order numbers : List ℕ) (machine i sum : ℕ) : Type 0 where
+pub record SumTo (order weights : List ℕ) (machine i sum : ℕ) : Type 0 where
   pub within : i ≤ 6
   pub few : sum ≤ i * 2 ^ 48
-  pub rest : sum + weightBy (drop i order) (drop i numbers) machine ≡ weightBy order numbers machine
+  pub rest : sum + weightBy (drop i order) (drop i weights) machine ≡ weightBy order weights machine
 
-pub sum-start : {order numbers : List ℕ} {machine : ℕ} → SumTo order numbers machine 0 0
+pub sum-start : {order weights : List ℕ} {machine : ℕ} → SumTo order weights machine 0 0
 sum-start = record { within = omega arith; few = omega arith; rest = omega arith }
 
-module _ {order numbers : List ℕ} {machine i sum : ℕ} (S : SumTo order numbers machine i sum) (h : i < 6) (p : length order ≡ 6) (n : length numbers ≡ 6) where
-  next-place : weightBy (drop i order) (drop i numbers) machine ≡ cond (eqb (getD order i 0) machine) (getD numbers i 0) 0 + weightBy (drop (i + 1) order) (drop (i + 1) numbers) machine
+module _ {order weights : List ℕ} {machine i sum : ℕ} (S : SumTo order weights machine i sum) (h : i < 6) (p : length order ≡ 6) (n : length weights ≡ 6) where
+  next-place : weightBy (drop i order) (drop i weights) machine ≡ cond (eqb (getD order i 0) machine) (getD weights i 0) 0 + weightBy (drop (i + 1) order) (drop (i + 1) weights) machine
   unfolding weightBy
-  next-place = rw (add-one, drop-cons order i 0 (omega arith), drop-cons numbers i 0 (omega arith))
+  next-place = rw (add-one, drop-cons order i 0 (omega arith), drop-cons weights i 0 (omega arith))
 
-  pub sum-taken : SixWeights numbers → getD order i 0 ≡ machine → SumTo order numbers machine (i + 1) (sum + getD numbers i 0)
+  pub sum-taken : SixWeights weights → getD order i 0 ≡ machine → SumTo order weights machine (i + 1) (sum + getD weights i 0)
   sum-taken N e = record {
     within = omega arith;
     few = omega (arith, S .few, N .most i);
     rest = let q : eqb (getD order i 0) machine ≡ true = eq-eqb (getD order i 0) machine e in omega (arith, S .rest, rw q at next-place);
   }
 
-  pub sum-passed : getD order i 0 ≢ machine → SumTo order numbers machine (i + 1) sum
+  pub sum-passed : getD order i 0 ≢ machine → SumTo order weights machine (i + 1) sum
   sum-passed e = record {
     within = omega arith;
     few = omega (arith, S .few);
     rest = let q : eqb (getD order i 0) machine ≡ false = ne-eqb (getD order i 0) machine e in omega (arith, S .rest, rw q at next-place);
   }
 
-pub sum-end : {order numbers : List ℕ} {machine i sum : ℕ} → SumTo order numbers machine i sum → 6 ≤ i → length order ≡ 6 → sum ≡ weightBy order numbers machine
-sum-end {order} {numbers} {machine} {i} S h p = omega (arith, S .rest, weight-end (drop i order) (drop i numbers) machine (ap length (drop-of-length-le order {i = i} (omega arith))))
+pub sum-end : {order weights : List ℕ} {machine i sum : ℕ} → SumTo order weights machine i sum → 6 ≤ i → length order ≡ 6 → sum ≡ weightBy order weights machine
+sum-end {order} {weights} {machine} {i} S h p = omega (arith, S .rest, weight-end (drop i order) (drop i weights) machine (ap length (drop-of-length-le order {i = i} (omega arith))))
 
 -- ---- the places of a ranking
 

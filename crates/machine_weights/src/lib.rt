@@ -14,18 +14,18 @@ use basics::index;
 pub const HIGHS: [u64; 6] = [1099511627776, 16777216, 256, 0, 0, 0];
 
 // And in a low number: 16 bits for each of the others, above the 16 of the pairs.
-pub const LOWS: [u64; 6] = [0, 0, 0, 281474976710656, 4294967296, 65536];
+const LOWS: [u64; 6] = [0, 0, 0, 281474976710656, 4294967296, 65536];
 
 // What a mark of a machine counts, where the machine at each place counts the number at that place.
-fn weight(places: &[u8; 6], numbers: &[u64; 6], machine: u8) -> u64
-    requires { ⌜ (length (now places) ≡ 6) × (length (now numbers) ≡ 6) × SixWeights (now numbers) ⌝ }
-    ensures { λ r. ⌜ r ≡ weightBy (now (places .entry)) (now (numbers .entry)) machine ⌝ }
+fn weight(places: &[u8; 6], weights: &[u64; 6], machine: u8) -> u64
+    requires { ⌜ (length (now places) ≡ 6) × (length (now weights) ≡ 6) × SixWeights (now weights) ⌝ }
+    ensures { λ r. ⌜ r ≡ weightBy (now (places .entry)) (now (weights .entry)) machine ⌝ }
 {
     let mut sum = 0;
     let mut i = 0;
     while i < 6 {
         if places[i] == machine {
-            sum += numbers[i];
+            sum += weights[i];
         }
         i += 1;
     }
@@ -55,27 +55,27 @@ pub fn ranked_weights(counts: &[u8], ranking: &[u8]) -> [u64; 18]
 }
 
 // What a mark of a machine counts in high, 0 past the last one.
-fn high_at(numbers: &[u64], machine: usize) -> u64
+fn high_at(weights: &[u64], machine: usize) -> u64
     requires { ⌜ machine < 6 ⌝ }
-    ensures { λ r. ⌜ r ≡ highOf (now (numbers .entry)) machine ⌝ }
+    ensures { λ r. ⌜ r ≡ highOf (now (weights .entry)) machine ⌝ }
 {
     let at = 3 * machine + 1;
-    if at < numbers.len() {
-        return numbers[at];
+    if at < weights.len() {
+        return weights[at];
     }
     0
 }
 
 // What marks of six machines count in high.
-pub fn six_highs(numbers: &[u64]) -> [u64; 6]
-    ensures { λ r. ⌜ r ≡ sixHighs (now (numbers .entry)) ⌝ }
+pub fn six_highs(weights: &[u64]) -> [u64; 6]
+    ensures { λ r. ⌜ r ≡ sixHighs (now (weights .entry)) ⌝ }
 {
     [
-        high_at(numbers, 0),
-        high_at(numbers, 1),
-        high_at(numbers, 2),
-        high_at(numbers, 3),
-        high_at(numbers, 4),
-        high_at(numbers, 5),
+        high_at(weights, 0),
+        high_at(weights, 1),
+        high_at(weights, 2),
+        high_at(weights, 3),
+        high_at(weights, 4),
+        high_at(weights, 5),
     ]
 }

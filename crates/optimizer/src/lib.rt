@@ -80,7 +80,7 @@ fn label_sets(card: &[u8], grid: Grid, ranking: &[u8], sets: &[u64], work: &mut 
     ensures { λ r. ⌜ TellsBest (bestOfSets (now (card .entry)) (now (ranking .entry)) (now (sets .entry))) (now (work .entry)) (now (work .exit)) r ⌝ }
 {
     labelling::label(work, card, grid, ranking, sets);
-    let label = tables::labels::load(work, readout::start_node(card, grid));
+    let label = tables::labels::load(work, readout::start_node(grid));
     profile_of(label, ranking)
 }
 

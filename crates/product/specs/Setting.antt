@@ -5,8 +5,8 @@ use Rattle.card.specs.Card.{machinesOf, cardRefusal}
 use Rattle.product.specs.Nodes.{product, stateCounts, positionAt}
 
 -- the input position of a node
-abbrev pub placeOf : List ℕ → ℕ → ℕ
-placeOf card u = positionAt (stateCounts (machinesOf card)) u
+abbrev pub positionOf : List ℕ → ℕ → ℕ
+positionOf card u = positionAt (stateCounts (machinesOf card)) u
 
 -- an accepted card, and at most 24 sets of its symbols; P is the product of the state counts
 pub record Setting (card sets : List ℕ) (P : ℕ) : Type 0 where

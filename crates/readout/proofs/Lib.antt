@@ -2,6 +2,6 @@ pub mod Found
 pub mod Searched
 pub mod SetsCalls
 pub mod Labels
-pub mod Stages
+pub mod Reading
 pub mod Walking
 pub mod Words

@@ -23,19 +23,19 @@ use Rattle.readout.specs.Searching.{BestPre}
 pub label-pre : {card ranking sets work : List ℕ} {size room : ℕ} → BestPre card ranking sets work size room → LabelPre card ranking sets work size
 label-pre Q = record { setting = Q .sets-pre .setting; ranks = Q .sets-pre .ranks; room = Q .sets-pre .room }
 
--- the state counts of k machines are at the front of r, and their weights at the front of `numbers`
-module _ {card ranking sets work : List ℕ} {size room : ℕ} (Q : BestPre card ranking sets work size room) (r : List ℕ) (k : ℕ) (q : k ≡ machineCount card) (e : take (machineCount card) r ≡ stateCounts (machinesOf card)) (numbers : List ℕ)
-    (ensured : WeightsOf (take k r) (take (3 * length (take k r)) numbers) × RankedWeights (sixPlaces ranking) (take (3 * length (take k r)) numbers) × (length numbers ≡ 18)) where
+-- the state counts of k machines are at the front of r, and their weights at the front of `ws`
+module _ {card ranking sets work : List ℕ} {size room : ℕ} (Q : BestPre card ranking sets work size room) (r : List ℕ) (k : ℕ) (q : k ≡ machineCount card) (e : take (machineCount card) r ≡ stateCounts (machinesOf card)) (ws : List ℕ)
+    (ensured : WeightsOf (take k r) (take (3 * length (take k r)) ws) × RankedWeights (sixPlaces ranking) (take (3 * length (take k r)) ws) × (length ws ≡ 18)) where
   are : take k r ≡ stateCounts (machinesOf card)
   are = front-is card (Q .sets-pre .setting .accepted) r k q e
 
-  three : take (3 * length (take k r)) numbers ≡ take (3 * k) numbers
-  three = ap (λ (n : ℕ). take (3 * n) numbers) (sym (front-length card (Q .sets-pre .setting .accepted) r k q e))
+  three : take (3 * length (take k r)) ws ≡ take (3 * k) ws
+  three = ap (λ (n : ℕ). take (3 * n) ws) (sym (front-length card (Q .sets-pre .setting .accepted) r k q e))
 
-  weights : WeightsOf (stateCounts (machinesOf card)) (take (3 * k) numbers)
-  weights = subst (λ (l : List ℕ). WeightsOf l (take (3 * k) numbers)) are (subst (λ (ws : List ℕ). WeightsOf (take k r) ws) three (ensured .0))
+  weights : WeightsOf (stateCounts (machinesOf card)) (take (3 * k) ws)
+  weights = subst (λ (l : List ℕ). WeightsOf l (take (3 * k) ws)) are (subst (λ (ws : List ℕ). WeightsOf (take k r) ws) three (ensured .0))
 
-  by-ranking : RankedWeights (sixPlaces ranking) (take (3 * k) numbers)
+  by-ranking : RankedWeights (sixPlaces ranking) (take (3 * k) ws)
   by-ranking = subst (λ (ws : List ℕ). RankedWeights (sixPlaces ranking) ws) three (ensured .1)
 
   size-is : size ≡ product (take k r)
@@ -45,20 +45,20 @@ module _ {card ranking sets work : List ℕ} {size room : ℕ} (Q : BestPre card
   setting = subst (λ (n : ℕ). Setting card sets n) size-is (Q .sets-pre .setting)
 
   -- the weights are there
-  pub weights-fit : 3 * k ≤ length numbers
+  pub weights-fit : 3 * k ≤ length ws
   weights-fit = omega (arith, q, accepted card (Q .sets-pre .setting .accepted) .head .counts .machines, ensured .2)
 
-  pub weights-length : 3 * k ≡ length (take (3 * k) numbers)
-  weights-length = sym (length-take-le (3 * k) numbers weights-fit)
+  pub weights-length : 3 * k ≡ length (take (3 * k) ws)
+  weights-length = sym (length-take-le (3 * k) ws weights-fit)
 
   -- there are no sums, since the labels are counts
   module _ (sums : List ℕ) (no-sums : length sums ≡ 0) where
-    pub walk-pre : WalkPre work sums card (take k r) (take (3 * k) numbers) sets size room
+    pub walk-pre : WalkPre work sums card (take k r) (take (3 * k) ws) sets size room
     walk-pre =
         ranked-walk-pre (take k r) setting ranking weights by-ranking work (Q .done .done) (costAt work (cardStart card)) (Q .start .label-is) sums no-sums room (Q .start .fits) are size size-is
         (Q .sets-pre .room ∙ ap (λ (n : ℕ). (length sets + 1) * n * 8) size-is)
 
-    pub best-walked : {before after : List ℕ} {w : Written} → ((L : Labels (rankedCosts 1)) → WalkLabels work sums card (take k r) (take (3 * k) numbers) sets room L → Walked card (take (3 * k) numbers) sets before after L w)
+    pub best-walked : {before after : List ℕ} {w : Written} → ((L : Labels (rankedCosts 1)) → WalkLabels work sums card (take k r) (take (3 * k) ws) sets room L → Walked card (take (3 * k) ws) sets before after L w)
         → RankedWalked card ranking sets before after (costAt work (cardStart card)) w
     best-walked {before} {after} {w} h =
         ranked-walked (take k r) setting ranking weights by-ranking work (Q .done .done) (costAt work (cardStart card)) (Q .start .label-is) before after w

@@ -1,6 +1,5 @@
 // Reading the answer off the labels of all nodes: the checks 10 and 12, the walk, the result. Every engine that labels in ranked order ends with it.
-ghost use Rattle.basics.specs.Words.{_≡_, length};
-ghost use Rattle.card.specs.Card.{cardRefusal};
+ghost use Rattle.basics.specs.Words.{_≡_, List, ℕ, _≤_, length};
 ghost use Rattle.product.specs.Sets.{bestOfSets};
 ghost use Rattle.product.specs.ProductGraph.{cardStart};
 ghost use Rattle.tables.specs.Work.{costAt};
@@ -16,10 +15,10 @@ use walk::Written;
 
 mod checks; // checks.rt: the checks of the best candidate
 
-// The start node: the first position, every machine of an accepted card in its start state.
-pub fn start_node(card: &[u8], grid: Grid) -> usize
-    requires { ⌜ (cardRefusal (now card) ≡ 0) × GridOf (now card) grid ⌝ }
-    ensures { λ r. ⌜ r ≡ cardStart (now (card .entry)) ⌝ }
+// The start node: the first position, every machine of the card in its start state.
+pub fn start_node(grid: Grid) -> usize
+    requires { ⌜ grid .machines ≤ length (grid .counts) ⌝ }
+    ensures { λ r. ⌜ ((card : List ℕ) → GridOf card grid → r ≡ cardStart card) ⌝ }
 {
     let counts = grid.counts;
     tables::start_node(&counts[..grid.machines])
@@ -40,14 +39,14 @@ fn walk_ranked(
     let all = grid.counts;
     let machines = grid.machines;
     let counts = &all[..machines];
-    let numbers = machine_weights::ranked_weights(counts, ranking);
+    let weights = machine_weights::ranked_weights(counts, ranking);
     let no_sums = [0u64; 0];
     walk::walk(
         work,
         &no_sums,
         card,
         counts,
-        &numbers[..3 * machines],
+        &weights[..3 * machines],
         sets,
         grid.size,
         answer,
@@ -66,7 +65,7 @@ pub fn read_out(
     requires { ⌜ SetsPre (now card) (now ranking) (now sets) (now work) (grid .size) × PositionsDone (now card) (now ranking) (now sets) (now work) (now work) 0 × GridOf (now card) grid ⌝ }
     ensures { λ r. ⌜ Searched (bestOfSets (now (card .entry)) (now (ranking .entry)) (now (sets .entry))) (now (sets .entry)) (now (work .entry)) (now (work .entry)) (now (answer .entry)) (now (answer .exit)) r ⌝ }
 {
-    let start = start_node(card, grid);
+    let start = start_node(grid);
     let found = checks::check_best(work, start, answer.len());
     let Checked::Passed = found else {
         return refused(found.number());

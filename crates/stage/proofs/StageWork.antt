@@ -9,7 +9,7 @@ use Rattle.tables.specs.Work.{stateOf}
 use Rattle.stage.specs.Below.{Below, below-none}
 use Rattle.stage.specs.StageLabels.{countOf, pairCountOf, stageLabel}
 use Rattle.stage.specs.Relaxing.{Makes, countsOf, LeftTold, Compared, Written, Lowered, ArcPre, ArcTried}
-use Rattle.stage.proofs.Totals.{weight-less, total-less}
+use Rattle.stage.proofs.Totals.{height-less, total-less}
 
 -- ---- what a label is
 
@@ -149,7 +149,7 @@ module _ {xs : List ℕ} {k u : ℕ} (c : Ranked 1) where
     counts = W .counts;
     label = record { here = lowered a (W .label); others = W .others };
     same = λ q. absurd (false≢true (sym q));
-    less = λ _. total-less (stageLabel xs k) (stageLabel ys k) u (rw (W .label) (weight-less (stageLabel xs k u) c a h l)) (W .others);
+    less = λ _. total-less (stageLabel xs k) (stageLabel ys k) u (rw (W .label) (height-less (stageLabel xs k u) c a h l)) (W .others);
   }
 
 -- ---- one arc

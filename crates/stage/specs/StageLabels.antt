@@ -15,11 +15,11 @@ unfoldable pub stageLabel : List ℕ → ℕ → ℕ → Option (Ranked 1)
 stageLabel xs k u = cond (eqb (stateOf xs u) 0) none (some (countOf xs k u, pairCountOf xs u))
 
 -- a number that falls when the label does
-abbrev pub weight : Option (Ranked 1) → ℕ
-weight none = 4294967296
-weight (some c) = c .0 * 65536 + c .1
+abbrev pub height : Option (Ranked 1) → ℕ
+height none = 4294967296
+height (some c) = c .0 * 65536 + c .1
 
 -- the sum of those of the P nodes from b on
 unfoldable pub total : (ℕ → Option (Ranked 1)) → ℕ → ℕ → ℕ
 total L b zero = 0
-total L b (suc P) = weight (L (b + P)) + total L b P
+total L b (suc P) = height (L (b + P)) + total L b P

@@ -22,9 +22,9 @@ use Rattle.tables.specs.Laws.Packing.{six-number}
 use Rattle.cells.specs.declared.Groups.{Groups}
 use Rattle.cells.specs.Cells.{nowhere}
 use Rattle.cells.specs.Columns.{WeightsOf, JointCell}
-use Rattle.cells.specs.Groups.{GroupsOf, FourJoined}
-use Rattle.cells.specs.Groups as joining
-use Rattle.cells.specs.Laws.Groups.{all-codes}
+use Rattle.cells.specs.Groups.{GroupsOf, FourAdded}
+use Rattle.cells.specs.Groups as adding
+use Rattle.cells.specs.Laws.Groups.{all-codes, size-codes}
 use Rattle.cells.specs.Laws.Meeting.{four-pre}
 use Rattle.cells.specs.Laws.Tried.{lanePair, laneSum, code-step-is}
 use Rattle.columns.specs.Prepared.{NoSteps, Covered, Prepared}
@@ -87,32 +87,33 @@ module _ {card counts ws steps : List ℕ} {g : Groups} (T : ListPre card counts
   groups-are : GroupsOf (stateCounts (machinesOf card)) g
   groups-are = subst (λ (l : List ℕ). GroupsOf l g) (T .counts-are) (T .groups)
 
-  pub codes-are : g .front * g .back ≡ product (stateCounts (machinesOf card))
-  codes-are = all-codes groups-are
+  pub codes-are : g .size ≡ product (stateCounts (machinesOf card))
+  codes-are = groups-are .size-is
 
   back-some : 0 < g .back
   back-some = positive (g .back) refl
     where
       some-codes : 0 < g .front * g .back
-      some-codes = rw codes-are (product-positive (stateCounts (machinesOf card)) (counts-positive (machines .sound)))
+      some-codes = rw (all-codes groups-are) (product-positive (stateCounts (machinesOf card)) (counts-positive (machines .sound)))
 
       positive : (n : ℕ) → g .back ≡ n → 0 < g .back
       positive zero e = let z : g .front * g .back ≡ 0 = ap (λ (k : ℕ). g .front * k) e ∙ omega arith in absurd (omega (arith, z, some-codes))
       positive (suc n) e = omega arith
 
   module _ {steps′ four high low : List ℕ} {x W kept : ℕ} (X : Prepared (machinesOf card) x W steps′ kept) (outputs : (j : ℕ) → getD four j 0 ≤ 64) (eh : length high ≡ 264) (el : length low ≡ 264) where
-    pub join-ready : joining.FourPre steps′ four counts ws high low W g
-    join-ready = subst (λ (l : List ℕ). joining.FourPre steps′ four l ws high low W g) (sym (T .counts-are)) (four-pre machines (X .columns) weights-are groups-are four high low outputs (omega (arith, T .few)) (omega (arith, T .few)))
+    pub add-ready : adding.FourPre steps′ four counts ws high low W g
+    add-ready = subst (λ (l : List ℕ). adding.FourPre steps′ four l ws high low W g) (sym (T .counts-are)) (four-pre machines (X .columns) weights-are groups-are four high low outputs (omega (arith, T .few)) (omega (arith, T .few)))
 
-    module _ (J : FourJoined steps′ four counts ws high low W g) where
-      cells-are : (c j : ℕ) → c < g .front * g .back → j < 4 → JointCell ws (product (stateCounts (machinesOf card))) (codeStep (machinesOf card) c (lanePair x four j)) (laneSum high g c j) (laneSum low g c j)
-      cells-are c j h k = code-step-is machines (X .columns) weights-are groups-are back-some (subst (λ (l : List ℕ). FourJoined steps′ four l ws high low W g) (T .counts-are) J) outputs c j (omega (arith, codes-are)) k
+    module _ (J : FourAdded steps′ four counts ws high low W g) where
+      cells-are : (c j : ℕ) → c < g .size → j < 4 → JointCell ws (product (stateCounts (machinesOf card))) (codeStep (machinesOf card) c (lanePair x four j)) (laneSum high g c j) (laneSum low g c j)
+      cells-are c j h k = code-step-is machines (X .columns) weights-are groups-are back-some (subst (λ (l : List ℕ). FourAdded steps′ four l ws high low W g) (T .counts-are) J) outputs c j (omega (arith, codes-are)) k
 
-      pub four-ready : {ys ahead ranking : List ℕ} (b k : ℕ) → InOrder ranking ws → NodesPre ys b (g .front * g .back) k → AheadOf ys k (b + g .front * g .back) (g .front * g .back) ahead
+      pub four-ready : {ys ahead ranking : List ℕ} (b k : ℕ) → InOrder ranking ws → NodesPre ys b (g .size) k → AheadOf ys k (b + g .size) (g .size) ahead
           → FourPre ys ahead high low (record { groups = g; base = b; stage = k })
       four-ready b k O N A = record {
         given = N;
         few = omega (arith, codes-are, machines .joint-states);
+        size-is = size-codes groups-are;
         small = T .few;
         some-back = back-some;
         high-room = omega (arith, T .few);
@@ -124,8 +125,8 @@ module _ {card counts ws steps : List ℕ} {g : Groups} (T : ListPre card counts
         ahead-is = A;
       }
 
-      pub lanes-linked : {S : Graph (rankedCosts 1) pairs} {xs ranking : List ℕ} {k b t : ℕ} → InOrder ranking ws → SymbolLinked S xs card ranking k x b t (g .front * g .back)
-          → (c j : ℕ) → c < g .front * g .back → j < 4 → LinkedEntry S xs k (b + c) (lanePair x four j) t (laneStep (laneSum high g c j) (laneSum low g c j))
+      pub lanes-linked : {S : Graph (rankedCosts 1) pairs} {xs ranking : List ℕ} {k b t : ℕ} → InOrder ranking ws → SymbolLinked S xs card ranking k x b t (g .size)
+          → (c j : ℕ) → c < g .size → j < 4 → LinkedEntry S xs k (b + c) (lanePair x four j) t (laneStep (laneSum high g c j) (laneSum low g c j))
       lanes-linked {S} {xs} {ranking} {k} {b} {t} O E c j h l =
           subst (λ (o : Option (ℕ × ℕ)). LinkedEntry S xs k (b + c) (lanePair x four j) t o) (sym (lane-step machines O c (lanePair x four j) (cells-are c j h l))) (E .entry c (getD four j 0) h)
 
@@ -157,23 +158,23 @@ pub nodes-kept : {xs ys : List ℕ} {b P k : ℕ} → length ys ≡ length xs �
 nodes-kept e f Q = record { nodes = omega (arith, e, Q .nodes); few = Q .few; stage = Q .stage; fits = λ v d a b l. Q .fits v d a b (sym (f v (inr a)) ∙ l) }
 
 module _ {card counts ws steps : List ℕ} {g : Groups} (T : ListPre card counts ws steps g) {steps′ four high low : List ℕ} {x W kept : ℕ} (X : Prepared (machinesOf card) x W steps′ kept) (outputs : (j : ℕ) → getD four j 0 ≤ 64)
-    (eh : length high ≡ 264) (el : length low ≡ 264) (J : FourJoined steps′ four counts ws high low W g) where
+    (eh : length high ≡ 264) (el : length low ≡ 264) (J : FourAdded steps′ four counts ws high low W g) where
   pub fours-next : {xs ys zs : List ℕ} {b k left after : ℕ} → ((y : ℕ) → member left y ≡ true → ((j : ℕ) × (j < 4) × (getD four j 0 ≡ y)) ⊎ (member after y ≡ true))
-      → FoursTried card ws xs ys x b (g .front * g .back) k kept left → CodesTried ys zs high low (g .front) (g .back) k b (b + g .front * g .back) (g .front * g .back) → FoursTried card ws xs zs x b (g .front * g .back) k kept after
+      → FoursTried card ws xs ys x b (g .size) k kept left → CodesTried ys zs high low (g .front) (g .back) k b (b + g .size) (g .size) → FoursTried card ws xs zs x b (g .size) k kept after
   fours-next {xs} {ys} {zs} {b} {k} {left} {after} or-left F C = record {
     size = C .size ∙ F .size;
     counts = λ i w h. C .counts i w h ∙ F .counts i w h;
     others = λ w d. C .others w d ∙ F .others w d;
     relaxes = λ ranking O S E A.
         let R = F .relaxes ranking O S E A in
-        relaxes-then S R (C .relaxes S (lanePair x four) (lanes-linked T X outputs eh el J O (symbol-kept (F .counts) E)) (R .attained)) (KeptTried x b (g .front * g .back) kept after) (λ w q z. pick w q z (member left (q .output)) refl);
+        relaxes-then S R (C .relaxes S (lanePair x four) (lanes-linked T X outputs eh el J O (symbol-kept (F .counts) E)) (R .attained)) (KeptTried x b (g .size) kept after) (λ w q z. pick w q z (member left (q .output)) refl);
   }
     where
-      pick : (w : ℕ) (q : Pair) → KeptTried x b (g .front * g .back) kept after w q → (t : Bool) → member left (q .output) ≡ t → KeptTried x b (g .front * g .back) kept left w q ⊎ FoursOf (lanePair x four) b (g .front * g .back) w q
+      pick : (w : ℕ) (q : Pair) → KeptTried x b (g .size) kept after w q → (t : Bool) → member left (q .output) ≡ t → KeptTried x b (g .size) kept left w q ⊎ FoursOf (lanePair x four) b (g .size) w q
       pick w q z false e = inl (z .0, z .1, z .2, z .3, e)
       pick w q z true e = lane (or-left (q .output) e)
         where
-          lane : ((j : ℕ) × (j < 4) × (getD four j 0 ≡ q .output)) ⊎ (member after (q .output) ≡ true) → KeptTried x b (g .front * g .back) kept left w q ⊎ FoursOf (lanePair x four) b (g .front * g .back) w q
+          lane : ((j : ℕ) × (j < 4) × (getD four j 0 ≡ q .output)) ⊎ (member after (q .output) ≡ true) → KeptTried x b (g .size) kept left w q ⊎ FoursOf (lanePair x four) b (g .size) w q
           lane (inl y) = inr (z .1, z .2, (y .0, y .1, λ i. record { input = z .0 i; output = sym (y .2) i }))
           lane (inr y) = absurd (clash y (z .4))
 

@@ -142,7 +142,7 @@ pub record CodePlaces (code front back : ℕ) : Type 0 where
   pub back-is : code % back < back
 
 pub code-places : {xs ahead high low : List ℕ} {at : Site} → FourPre xs ahead high low at → (code : ℕ) → code < codesAt at → CodePlaces code (at .groups .front) (at .groups .back)
-code-places Q code h = record { front-is = div-lt-iff-lt-mul (Q .some-back) .1 h; back-is = mod-lt code (Q .some-back) }
+code-places Q code h = record { front-is = div-lt-iff-lt-mul (Q .some-back) .1 (omega (arith, h, Q .size-is)); back-is = mod-lt code (Q .some-back) }
 
 pub code-ready : {xs ys ahead high low : List ℕ} {at : Site} {n : ℕ} → FourPre xs ahead high low at → CodesTried xs ys high low (at .groups .front) (at .groups .back) (at .stage) (at .base) (at .base + codesAt at) n → n < codesAt at
     → CodePre ys ahead high low (n / at .groups .back * 4) ((at .groups .front + n % at .groups .back) * 4) (at .base + n) (at .base + codesAt at) (at .stage)
@@ -186,8 +186,8 @@ pub lanes-at : (front : ℕ) {ys zs high low : List ℕ} {code back a b u t k : 
 lanes-at front {ys} {zs} {high} {low} {code} {back} {a} {b} {u} {t} {k} A L =
     subst (λ (n : ℕ). LanesTried ys zs high low (n * 4) ((front + code % back) * 4) u t k 4) (sym (at-front A)) (subst (λ (n : ℕ). LanesTried ys zs high low (a * 4) ((front + n) * 4) u t k 4) (sym (at-back A)) L)
 
-pub front-is : {code back front a b : ℕ} → AtPlaces code back a b → code < front * back → a < front
-front-is {code} {back} {front} A h = let q : code / back < front = div-lt-iff-lt-mul {k = back} {x = code} {y = front} (omega (arith, A .within)) .1 h in omega (arith, q, at-front A)
+pub front-is : {code back front n a b : ℕ} → AtPlaces code back a b → n ≡ front * back → code < n → a < front
+front-is {code} {back} {front} A e h = let q : code / back < front = div-lt-iff-lt-mul {k = back} {x = code} {y = front} (omega (arith, A .within)) .1 (omega (arith, e, h)) in omega (arith, q, at-front A)
 
 pub places-start : {back : ℕ} → 0 < back → AtPlaces 0 back 0 0
 places-start h = record { is = omega arith; within = h }

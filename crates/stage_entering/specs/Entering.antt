@@ -97,7 +97,7 @@ pub record CodePre (xs ahead high low : List ℕ) (a b u t k : ℕ) : Type 0 whe
 
 -- how many codes a position has
 abbrev pub codesAt : Site → ℕ
-codesAt at = at .groups .front * at .groups .back
+codesAt at = at .groups .size
 
 -- a position whose nodes are from b on, and the next one behind it
 pub record NodesPre (xs : List ℕ) (b P k : ℕ) : Type 0 where
@@ -109,6 +109,7 @@ pub record NodesPre (xs : List ℕ) (b P k : ℕ) : Type 0 where
 pub record FourPre (xs ahead high low : List ℕ) (at : Site) : Type 0 where
   pub given : NodesPre xs (at .base) (codesAt at) (at .stage)
   pub few : codesAt at ≤ 128
+  pub size-is : codesAt at ≡ at .groups .front * at .groups .back
   pub small : at .groups .front + at .groups .back ≤ 66
   pub some-back : 0 < at .groups .back
   pub high-room : (at .groups .front + at .groups .back) * 4 ≤ length high

@@ -1,12 +1,12 @@
 // Entering a position in a stage of the cull: trying its nodes by joint steps, four outputs at a time, and a node by its ending.
-ghost use Rattle.basics.specs.Words.{_≡_, _+_, _*_, _^_, _≤_, _<_, length};
+ghost use Rattle.basics.specs.Words.{_≡_, _+_, _*_, _≤_, _<_, length};
 ghost use Rattle.tables.specs.Work.{HasNodes};
-ghost use Rattle.insertions.specs.Lanes.{narrowed};
 ghost use Rattle.stage.specs.Relaxing.{NodePre};
 ghost use Rattle.stage.specs.StageLabels.{countOf, stageLabel};
 ghost use Rattle.stage_entering.specs.Entering.{marksBy, topOf, FrontCounts, BehindFront, AheadOf, LanePre, LaneTried, CodePre, LanesTried, codesAt, FourPre, CodesTried, laneEnding, EndingTried};
 use cells::Groups;
 use cells::NOWHERE;
+use insertions::narrow;
 
 pub mod pairs; // pairs.rt: the pairs of a card with one input, the insertions in lists
 
@@ -72,14 +72,6 @@ fn behind_front(stage: usize) -> u64
 }
 
 // ---- the joint steps of a symbol
-
-// Three counts below 16 from 16 bits each to four bits each.
-fn narrow(three: u64) -> u64
-    requires { ⌜ three < 2 ^ 56 ⌝ }
-    ensures { λ r. ⌜ r ≡ narrowed three ⌝ }
-{
-    (three + three / 4096 + three / 16777216) % 4096
-}
 
 // The marks of a joint step by its two numbers.
 fn marks_of(step: u64, rest: u64) -> u32
@@ -190,7 +182,7 @@ pub fn try_four(work: &mut [u16], ahead: &[u64; 128], high: &[u64], low: &[u64],
     let back = g.back;
     let base = at.base;
     let stage = at.stage;
-    let size = front * back;
+    let size = g.size;
     let mut a = 0;
     let mut b = 0;
     let mut code = 0;

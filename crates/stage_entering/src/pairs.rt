@@ -26,11 +26,11 @@ pub fn enter_input(
     ensures { λ _. ⌜ InputTried (now (card .entry)) (now (weights .entry)) (now (work .entry)) (now (work .exit)) input (at .base) (codesAt at) (at .stage) ⌝ }
 {
     let g = at.groups;
-    let width = columns::width_of(counts);
+    let width = g.states;
     let mut outputs = columns::prepare(steps, card, counts, width, input);
     while outputs > 0 {
         let four = cells::fours::next_four(outputs);
-        cells::join_four(steps, width, &four, counts, weights, g, high, low);
+        cells::add_four(steps, width, &four, counts, weights, g, high, low);
         try_four(work, ahead, high, low, at);
         outputs = cells::fours::without_four(outputs);
     }
@@ -51,7 +51,7 @@ pub fn list_insertions(
     requires { ⌜ ListPre (now card) (now counts) (now weights) (now steps) g × (length (now ends) ≡ 514) × (8064 ≤ length (now entries)) × (length (now high) ≡ 264) × (length (now low) ≡ 264) ⌝ }
     ensures { λ _. ⌜ ((ranking : List ℕ) → RankedWeights (sixPlaces ranking) (now (weights .entry)) → SixPlaces (sixPlaces ranking) → ListsOf (now (card .entry)) ranking (now (entries .exit)) (now (ends .exit))) ⌝ }
 {
-    let width = columns::width_of(counts);
+    let width = g.states;
     let kept = columns::prepare(steps, card, counts, width, machine::Pair::EMPTY);
     insertions::count(ends, steps, kept, width, counts, weights, g, high, low);
     insertions::list(

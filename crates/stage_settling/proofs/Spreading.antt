@@ -13,7 +13,7 @@ use Rattle.settling.proofs.Insertions.{listed-low, listed-high}
 use Rattle.settling.proofs.OpenCodes.{one-in, chosen-front, chosen-back}
 use Rattle.stage.specs.StageLabels.{countOf, stageLabel}
 use Rattle.stage.specs.Relaxing.{ArcTried, unlabelled, dropped, lowered as lowered-arc}
-use Rattle.stage_settling.specs.Settling.{Kept, wayBy, marksOf, fromOf, ArcsOf, SettlePre, EntryPre, EntryTried, OpenIn, SomeIn, openCount, turns, Fell, RelaxedAt, Spread, SettledBy}
+use Rattle.stage_settling.specs.Settling.{Kept, wayBy, marksOf, fromOf, ArcsOf, SettlePre, EntryPre, EntryTried, OpenIn, SomeIn, openCount, turns, Fell, RelaxedAt, FromFirst, Spread, SettledBy}
 use Rattle.stage.proofs.Trying.{StepFacts, arc-facts, arc-falls}
 
 -- ---- the number of open codes
@@ -172,17 +172,17 @@ module _ {xs ys os ps : List ℕ} (entries ends : List ℕ) {k b : ℕ} (P v at 
 -- ---- the entries to one code
 
 -- those at places before `at` were tried
-pub record Spreading (xs ys os ps entries ends : List ℕ) (k b P v at : ℕ) : Type 0 where
-  pub fell : Fell xs ys os ps entries ends k b P
+pub record Spreading (xs ys os ps entries ends : List ℕ) (k b v at : ℕ) : Type 0 where
+  pub fell : (P : ℕ) → FromFirst entries ends v P → Fell xs ys os ps entries ends k b P
   pub label : stageLabel ys k (b + v) ≡ stageLabel xs k (b + v)
   pub relaxed : (n : ℕ) → isListed ends v n ≡ true → n < at → RelaxedAt ys entries k b v n
 
-pub spreading-start : {xs os entries ends : List ℕ} {k b P v at : ℕ} → at ≡ getD ends (4 * v) 0 → Spreading xs xs os os entries ends k b P v at
-spreading-start {ends = ends} {v = v} q = record { fell = fell-nothing; label = refl; relaxed = λ n p h. absurd (omega (arith, q, h, listed-low ends v n p)) }
+pub spreading-start : {xs os entries ends : List ℕ} {k b v at : ℕ} → at ≡ getD ends (4 * v) 0 → Spreading xs xs os os entries ends k b v at
+spreading-start {ends = ends} {v = v} q = record { fell = λ P f. fell-nothing; label = refl; relaxed = λ n p h. absurd (omega (arith, q, h, listed-low ends v n p)) }
 
-pub spreading-step : {xs ys zs os ps qs entries ends : List ℕ} {k b P v at : ℕ} → Spreading xs ys os ps entries ends k b P v at → isListed ends v at ≡ true → codeIn (getD entries at 0) < P
-    → EntryTried ys zs ps qs (getD entries at 0) k b v → Spreading xs zs os qs entries ends k b P v (at + 1)
-spreading-step {xs} {ys} {zs} {os} {ps} {qs} {entries} {ends} {k} {b} {P} {v} {at} S p h T = record { fell = fell-then (S .fell) (entry-fell entries ends P v at p h T); label = t ∙ S .label; relaxed = λ n z l. relaxed n z l (ℕ-discrete n at) }
+pub spreading-step : {xs ys zs os ps qs entries ends : List ℕ} {k b v at : ℕ} → Spreading xs ys os ps entries ends k b v at → isListed ends v at ≡ true → EntryTried ys zs ps qs (getD entries at 0) k b v
+    → Spreading xs zs os qs entries ends k b v (at + 1)
+spreading-step {xs} {ys} {zs} {os} {ps} {qs} {entries} {ends} {k} {b} {v} {at} S p T = record { fell = λ P f. fell-then (S .fell P f) (entry-fell entries ends P v at p (f at p) T); label = t ∙ S .label; relaxed = λ n z l. relaxed n z l (ℕ-discrete n at) }
   where
     t : stageLabel zs k (b + v) ≡ stageLabel ys k (b + v)
     t = target-same (T .tried)
@@ -194,7 +194,7 @@ spreading-step {xs} {ys} {zs} {os} {ps} {qs} {entries} {ends} {k} {b} {P} {v} {a
     relaxed n z l (no d) = λ c e f. arc-falls (T .tried) _ _ (S .relaxed n z (omega arith) c (sym t ∙ e) (kept-back ys zs k C (fromOf entries b n) (b + v) (marksOf entries n) f))
     relaxed n z l (yes q) = subst (λ (j : ℕ). RelaxedAt zs entries k b v j) (sym q) (λ c e f. arc-relaxed (T .tried) c (sym t ∙ e) (kept-back ys zs k C (fromOf entries b at) (b + v) (marksOf entries at) f))
 
-pub spreading-end : {xs ys os ps entries ends : List ℕ} {k b P v at : ℕ} → Spreading xs ys os ps entries ends k b P v at → getD ends (4 * v + 4) 0 ≤ at → Spread xs ys os ps entries ends k b P v
+pub spreading-end : {xs ys os ps entries ends : List ℕ} {k b v at : ℕ} → Spreading xs ys os ps entries ends k b v at → getD ends (4 * v + 4) 0 ≤ at → Spread xs ys os ps entries ends k b v
 spreading-end {ends = ends} {v = v} S h = record { fell = S .fell; relaxed = λ n p. S .relaxed n p (omega (arith, h, listed-high ends v n p)) }
 
 -- what the functions are given while labels fall
@@ -275,17 +275,20 @@ module _ {xs ys os entries ends : List ℕ} {k b P n : ℕ} (Z : Settling xs ys 
   pub settling-end : n ≤ 0 → ((w : ℕ) → isOpen os w ≡ false) → SettledBy xs ys entries ends k b P
   settling-end z o = record { size = Z .size; counts = Z .counts; others = Z .others; falls = Z .falls; attained = Z .attained; closed = λ v at p. Z .relaxed v at (omega arith) p (o v) }
 
-  module _ {zs qs ps : List ℕ} {v : ℕ} (o : OneLess os qs v) (T : Spread ys zs qs ps entries ends k b P v) where
+  module _ {zs qs ps : List ℕ} {v : ℕ} (f : FromFirst entries ends v P) (o : OneLess os qs v) (T : Spread ys zs qs ps entries ends k b v) where
+    fall : Fell ys zs qs ps entries ends k b P
+    fall = T .fell P f
+
     -- and with v the codes from m on
     pub settling-step : (m : ℕ) → ((w : ℕ) → m ≤ w → w ≢ v → n ≤ w) → Settling xs zs ps entries ends k b P m
     settling-step m up = record {
-      size = T .fell .size ∙ Z .size;
-      counts = λ i w h. T .fell .counts i w h ∙ Z .counts i w h;
-      others = λ w d. T .fell .others w d ∙ Z .others w d;
-      falls = λ w c m. T .fell .falls w c (Z .falls w c m);
-      attained = λ S E A. T .fell .attained S (arcs-kept (Z .counts) E) (Z .attained S E A);
-      bits = T .fell .bits ∙ o .size ∙ Z .bits;
-      inside = λ w h. inside w (T .fell .inside w h);
+      size = fall .size ∙ Z .size;
+      counts = λ i w h. fall .counts i w h ∙ Z .counts i w h;
+      others = λ w d. fall .others w d ∙ Z .others w d;
+      falls = λ w c m. fall .falls w c (Z .falls w c m);
+      attained = λ S E A. fall .attained S (arcs-kept (Z .counts) E) (Z .attained S E A);
+      bits = fall .bits ∙ o .size ∙ Z .bits;
+      inside = λ w h. inside w (fall .inside w h);
       relaxed = λ w at l p h. relaxed w at l p h (ℕ-discrete w v);
     }
       where
@@ -300,12 +303,12 @@ module _ {xs ys os entries ends : List ℕ} {k b P n : ℕ} (Z : Settling xs ys 
         relaxed : (w at : ℕ) → m ≤ w → isListed ends w at ≡ true → isOpen ps w ≡ false → Dec (w ≡ v) → RelaxedAt zs entries k b w at
         relaxed w at a p h (yes q) = subst (λ (n : ℕ). RelaxedAt zs entries k b n at) (sym q) (T .relaxed at (subst (λ (n : ℕ). isListed ends n at ≡ true) q p))
         relaxed w at a p h (no d′) = λ d l f.
-            let still : isOpen qs w ≡ false = fails (isOpen qs w) (λ t. clash (T .fell .stays w t) h) in
-            T .fell .falls _ _ (Z .relaxed w at (up w a d′) p (sym (o .others w d′) ∙ still) d (sym (T .fell .same w h) ∙ l) (kept-back ys zs k (T .fell .counts) (fromOf entries b at) (b + w) (marksOf entries at) f))
+            let still : isOpen qs w ≡ false = fails (isOpen qs w) (λ t. clash (fall .stays w t) h) in
+            fall .falls _ _ (Z .relaxed w at (up w a d′) p (sym (o .others w d′) ∙ still) d (sym (fall .same w h) ∙ l) (kept-back ys zs k (fall .counts) (fromOf entries b at) (b + w) (marksOf entries at) f))
 
     -- a turn: an open code is closed, and spread
     pub turn-less : isOpen os v ≡ true → turns zs ps k b P < turns ys os k b P
-    turn-less h = omega (arith, T .fell .fewer, count-less o h P (Z .inside v h))
+    turn-less h = omega (arith, fall .fewer, count-less o h P (Z .inside v h))
 
 -- ---- choosing an open code
 

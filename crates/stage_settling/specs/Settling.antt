@@ -50,6 +50,13 @@ pub record SettlePre (xs entries ends : List ℕ) (k b P : ℕ) : Type 0 where
   pub to : (v at : ℕ) → isListed ends v at ≡ true → v < P
   pub from : (v at : ℕ) → isListed ends v at ≡ true → codeIn (getD entries at 0) < P
 
+-- the same of some number of codes, and one of these
+pub record SpreadPre (xs os entries ends : List ℕ) (k b v : ℕ) : Type 0 where
+  pub codes : ℕ
+  pub given : SettlePre xs entries ends k b codes
+  pub code : v < codes
+  pub bits : length os ≡ 2
+
 pub record EntryPre (xs os : List ℕ) (entry k b v : ℕ) : Type 0 where
   pub arc : ArcPre xs (b + codeIn entry) (b + v) (marksIn entry) k
   pub few : b ≤ 3200
@@ -105,9 +112,13 @@ abbrev pub RelaxedAt : (ys entries : List ℕ) (k b v at : ℕ) → Type 0
 RelaxedAt ys entries k b v at =
     (d : Ranked 1) → stageLabel ys k (b + v) ≡ some d → Kept ys k (fromOf entries b at) (b + v) (marksOf entries at) → AtMost (Less 1) (stageLabel ys k (fromOf entries b at)) (wayBy k (marksOf entries at) d)
 
+-- the insertions to v lead from the first P codes
+abbrev pub FromFirst : (entries ends : List ℕ) (v P : ℕ) → Type 0
+FromFirst entries ends v P = (at : ℕ) → isListed ends v at ≡ true → codeIn (getD entries at 0) < P
+
 -- the insertions to v were tried
-pub record Spread (xs ys os ps entries ends : List ℕ) (k b P v : ℕ) : Type 0 where
-  pub fell : Fell xs ys os ps entries ends k b P
+pub record Spread (xs ys os ps entries ends : List ℕ) (k b v : ℕ) : Type 0 where
+  pub fell : (P : ℕ) → FromFirst entries ends v P → Fell xs ys os ps entries ends k b P
   pub relaxed : (at : ℕ) → isListed ends v at ≡ true → RelaxedAt ys entries k b v at
 
 -- no insertion gives a node less

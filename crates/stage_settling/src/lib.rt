@@ -1,20 +1,15 @@
 // Settling a position in a stage of the cull: its labels fall by insertions until none falls.
-ghost use Rattle.basics.specs.Words.{_≡_, _^_, _<_, length};
+ghost use Rattle.basics.specs.Words.{_<_};
 ghost use Rattle.tables.specs.Work.{HasNode};
 ghost use Rattle.settling.specs.OpenCodes.{OneIn, Chosen};
 ghost use Rattle.stage.specs.Relaxing.{NodePre};
-ghost use Rattle.stage_settling.specs.Settling.{OpenIn, SomeIn, EntryPre, EntryTried, SettlePre, Spread, SettledBy};
+ghost use Rattle.stage_settling.specs.Settling.{OpenIn, SomeIn, EntryPre, EntryTried, SettlePre, SpreadPre, Spread, SettledBy};
+use settling::place;
 use settling::put;
 use settling::take;
 
 // In an entry of a list of insertions the code that one leads from stands in front of its marks, four bits a place of the ranking.
 const MARKS: u32 = 16777216;
-
-fn place(x: u16) -> usize
-    ensures { λ r. ⌜ (r ≡ x) × (r < 2 ^ 16) ⌝ }
-{
-    x as usize
-}
 
 // Whether the marks and the pairs of the node a are fewer than those of b, both labelled.
 fn is_before(work: &[u16], a: usize, b: usize, stage: usize) -> bool
@@ -91,12 +86,11 @@ fn spread(
     entries: &[u32],
     ends: &[u16; 514],
     base: usize,
-    size: usize,
     to: usize,
     stage: usize,
 )
-    requires { ⌜ SettlePre (now work) (now entries) (now ends) stage base size × (length (now opened) ≡ 2) × (to < size) ⌝ }
-    ensures { λ _. ⌜ Spread (now (work .entry)) (now (work .exit)) (now (opened .entry)) (now (opened .exit)) (now (entries .entry)) (now (ends .entry)) stage base size to ⌝ }
+    requires { ⌜ SpreadPre (now work) (now opened) (now entries) (now ends) stage base to ⌝ }
+    ensures { λ _. ⌜ Spread (now (work .entry)) (now (work .exit)) (now (opened .entry)) (now (opened .exit)) (now (entries .entry)) (now (ends .entry)) stage base to ⌝ }
 {
     let end = place(ends[4 * to + 4]);
     let mut at = place(ends[4 * to]);
@@ -123,7 +117,7 @@ pub fn settle(
     while left > 0 {
         left -= 1;
         take(&mut opened, left);
-        spread(work, &mut opened, entries, ends, base, size, left, stage);
+        spread(work, &mut opened, entries, ends, base, left, stage);
     }
     loop {
         let code = choose(work, &opened, base, stage);
@@ -131,6 +125,6 @@ pub fn settle(
             return;
         }
         take(&mut opened, code);
-        spread(work, &mut opened, entries, ends, base, size, code, stage);
+        spread(work, &mut opened, entries, ends, base, code, stage);
     }
 }

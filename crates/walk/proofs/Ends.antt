@@ -15,7 +15,7 @@ use Rattle.product.specs.JointStep.{jointEnding}
 use Rattle.product.specs.Codes.{codeEnding}
 use Rattle.product.specs.Laws.Codes.{ending-edge}
 use Rattle.product.specs.Laws.Letters.{priced-over}
-use Rattle.product.specs.Laws.Setting.{node-place, node-below}
+use Rattle.product.specs.Laws.Setting.{node-position, node-below}
 use Rattle.product.specs.Laws.Nodes.{states-of-code}
 use Rattle.product.specs.Laws.JointStep.{jointMarks, joint-marks-end, starts-below}
 use Rattle.product.specs.Laws.Candidates.{starts, marks-complete}
@@ -117,7 +117,7 @@ module _ {ranked sums card ws sets : List ℕ} {size : ℕ} {L : Labels (rankedC
     ends = go (ends-or-tight (cellGraph ws card sets) L (G .labelled .closed) (G .labelled .attained) (at .position * size + at .code) (R .follows .rest) (R .follows .walking .label))
       where
         last : cellGraph ws card sets .ending (at .position * size + at .code) ≡ some (R .follows .rest) → at .position ≡ length sets
-        last h = sym (node-place (G .labelled .setting) (at .position) (at .code) (R .code)) ∙ priced-over (cellPrice ws) card sets (G .labelled .setting .accepted) .ends (at .position * size + at .code) (R .follows .rest) h
+        last h = sym (node-position (G .labelled .setting) (at .position) (at .code) (R .code)) ∙ priced-over (cellPrice ws) card sets (G .labelled .setting .accepted) .ends (at .position * size + at .code) (R .follows .rest) h
 
         here : at .position ≡ length sets → cellGraph ws card sets .ending (at .position * size + at .code) ≡ pricedEnding (cellPrice ws) sets (machinesOf card) (codeEnding (machinesOf card) (at .code))
         here e =

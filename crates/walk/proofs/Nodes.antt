@@ -15,7 +15,7 @@ use Rattle.product.specs.ProductGraph.{pairs, cardStart}
 use Rattle.product.specs.Codes.{codeStep}
 use Rattle.product.specs.Laws.Codes.{pricedStep, code-step-below}
 use Rattle.product.specs.Laws.Letters.{PairAt, priced-over, letter-at}
-use Rattle.product.specs.Laws.Setting.{few-nodes, symbols-few, node-below, node-place}
+use Rattle.product.specs.Laws.Setting.{few-nodes, symbols-few, node-below, node-position}
 use Rattle.product.specs.Laws.JointStep.{jointMarks}
 use Rattle.product.specs.Laws.Candidates.{starts}
 use Rattle.product.specs.Laws.Following.{Following, following-room, pair-more}
@@ -97,7 +97,7 @@ module _ {ranked sums card ws sets : List ℕ} {size : ℕ} {L : Labels (rankedC
 
     -- a pair that keeps to the labels is one of the position's
     pub tight-pair : (q : Pair) → Tight (cellGraph ws card sets) L (at .position * size + at .code) q → PairAt card sets (at .position) q
-    tight-pair q t = letter-at (priced-over (cellPrice ws) card sets (K .setting .accepted)) here q (t .to) (at .position) (node-place (K .setting) (at .position) (at .code) (R .code)) (t .edge-is) .pair
+    tight-pair q t = letter-at (priced-over (cellPrice ws) card sets (K .setting .accepted)) here q (t .to) (at .position) (node-position (K .setting) (at .position) (at .code) (R .code)) (t .edge-is) .pair
 
     -- ---- the pairs with the input x, which lead to the position j
 

@@ -14,7 +14,7 @@ use Rattle.paths.specs.Best.{Before, before-total, IsBest, IsCheapest, cheapest
 use Rattle.paths.specs.Positions.{Done}
 use Rattle.product.specs.Nodes.{product, stateCounts}
 use Rattle.product.specs.ProductGraph.{pairs, cardStart}
-use Rattle.product.specs.Setting.{placeOf, Setting}
+use Rattle.product.specs.Setting.{positionOf, Setting}
 use Rattle.tables.specs.LabelCost.{AllShort}
 use Rattle.tables.specs.Work.{stateOf, costAt, labelOf}
 use Rattle.tables.specs.Engine.{engineGraph}
@@ -136,7 +136,7 @@ ranked-cell xs sums z u h = rw z (go (eqb (stateOf xs u) 0) h)
 -- ---- the walk
 
 module _ {card sets : List ℕ} (counts : List ℕ) (s : Setting card sets (product counts)) (ranking : List ℕ) {ws : List ℕ} (W : WeightsOf (stateCounts (machinesOf card)) ws) (R : RankedWeights (sixPlaces ranking) ws) (xs : List ℕ)
-    (D : Done (engineGraph (machinesOf card) ranking sets) (placeOf card) (labelOf xs) 0) (c : Ranked 6) (label : labelOf xs (cardStart card) ≡ some c) where
+    (D : Done (engineGraph (machinesOf card) ranking sets) (positionOf card) (labelOf xs) 0) (c : Ranked 6) (label : labelOf xs (cardStart card) ≡ some c) where
   abbrev G : Graph (rankedCosts 6) pairs
   G = engineGraph (machinesOf card) ranking sets
 

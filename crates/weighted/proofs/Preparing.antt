@@ -7,7 +7,7 @@ use Rattle.paths.specs.Costs.{Labels}
 use Rattle.paths.specs.Ranked.{rankedCosts}
 use Rattle.paths.specs.Positions.{Done}
 use Rattle.product.specs.Nodes.{stateCounts}
-use Rattle.product.specs.Setting.{placeOf}
+use Rattle.product.specs.Setting.{positionOf}
 use Rattle.product.specs.Laws.Accepted.{accepted-machines}
 use Rattle.tables.specs.Places.{sixPlaces}
 use Rattle.tables.proofs.Prefix.{places-six}
@@ -27,7 +27,7 @@ use Rattle.weighted.specs.FirstPlace.{cardPlaces, firstPut}
 use Rattle.weighted.specs.Labelling.{LabelPre}
 use Rattle.weighted.specs.Laws.Sound.{Sound, sound-are}
 use Rattle.weighted.specs.Laws.FirstPlace.{first-ranking, first-place, first-most}
-use Rattle.weighted.specs.Laws.Prices.{weights-tie, highs-few, lows-few}
+use Rattle.weighted.specs.Laws.Prices.{weights-tie, highs-few}
 use Rattle.weighted.specs.Laws.Room.{weighted-most-high, weighted-room, few-pairs}
 use Rattle.weighted.specs.Laws.Done.{weighted-done}
 
@@ -88,15 +88,14 @@ module _ {card weights sets work : List ℕ} {grid : Grid} (Q : LabelPre card we
         ranked = R;
         same = weights-tie Y (record { size = refl; below = six-machines below; place = first-place (grid .machines) k ws (its-machine below) few its-size });
         highs-few = highs-few sound Y k (six-machines below);
-        lows-few = lows-few;
-        if-ranked = record { high = λ e. absurd (false≢true e); low = λ e. absurd (false≢true e); no-low = λ _. refl };
+        if-ranked = λ e. absurd (false≢true e);
         most = λ K six. omega (arith, weighted-most-high Y K six, first-most ws k (six-machines below));
         short = λ T u c h l.
             let r = weighted-room (Q .setting) sound W Y T u c h l in
             record {
               room = record { high = omega (arith, r .high, first-most ws k (six-machines below)); low = r .low };
               in-counts = λ e. absurd (false≢true e);
-              in-number = λ _. (omega (arith, r .high), few-pairs (Q .setting) sound W Y T u c h l);
+              in-sum = λ _. (omega (arith, r .high), few-pairs (Q .setting) sound W Y T u c h l);
             };
       }
 
@@ -105,15 +104,15 @@ module _ {card weights sets work : List ℕ} {grid : Grid} (Q : LabelPre card we
         setting = Q .setting;
         grid-of = G;
         order-pre = subst (λ (b : Bool). OrderPre b card sets ws (firstPut k (sixHighs ws)) marks (grid .size)) (sym (ne-eqb (length work) 0 some-nodes)) weighted-order;
-        room = record { counts = λ z. absurd (some-nodes z); numbers = λ _. Q .room };
+        room = record { counts = λ z. absurd (some-nodes z); in-sums = λ _. Q .room };
       }
 
     -- all nodes are labelled, by the weights
     pub label-done : {none work′ : List ℕ} → AllLabelled card ws sets [] none work work′ → AllDone card weights sets work work′
     label-done {work′ = work′} A =
         let there : length work′ ≡ 0 → ⊥ = λ z. some-nodes (sym (A .sums-size) ∙ z) in
-        let same : A .labels ≡ labelOf work′ = λ i u. A .labelled .held u (omega arith) .number there i in
+        let same : A .labels ≡ labelOf work′ = λ i u. A .labelled .held u (omega arith) .in-sum there i in
         record {
           size = A .sums-size;
-          done = weighted-done Y card sets (subst (λ (L : Labels (rankedCosts 1)). Done (cellGraph ws card sets) (placeOf card) L 0) same (A .labelled .done));
+          done = weighted-done Y card sets (subst (λ (L : Labels (rankedCosts 1)). Done (cellGraph ws card sets) (positionOf card) L 0) same (A .labelled .done));
         }

@@ -14,7 +14,7 @@ use Rattle.paths.specs.Positions.{Done}
 use Rattle.product.specs.Best.{Contender, contenderOf}
 use Rattle.product.specs.Nodes.{product, stateCounts}
 use Rattle.product.specs.Sets.{bestOfSetsIn}
-use Rattle.product.specs.Setting.{placeOf, Setting}
+use Rattle.product.specs.Setting.{positionOf, Setting}
 use Rattle.product.specs.Answering.{callRefusal, evaluationOf}
 use Rattle.product.specs.ProductGraph.{cardStart}
 use Rattle.product.specs.LabelTheorem.{BestAt, no-label-no-best, label-best}
@@ -46,7 +46,7 @@ label-ready pre = record { setting = pre .setting; weighs = pre .weighs; room = 
 
 -- ---- what the start's label says
 
-module _ {card weights sets xs : List ℕ} {P : ℕ} (pre : SetsPre card weights sets xs P) (D : Done (weightedGraph card weights sets) (placeOf card) (labelOf xs) 0) where
+module _ {card weights sets xs : List ℕ} {P : ℕ} (pre : SetsPre card weights sets xs P) (D : Done (weightedGraph card weights sets) (positionOf card) (labelOf xs) 0) where
   closed : Closed (weightedGraph card weights sets) (labelOf xs)
   closed u = D .closed u (omega arith)
 

@@ -10,7 +10,7 @@ use Rattle.paths.specs.Best.{IsBest}
 use Rattle.paths.specs.Positions.{Done}
 use Rattle.product.specs.Nodes.{product, stateCounts}
 use Rattle.product.specs.ProductGraph.{cardStart}
-use Rattle.product.specs.Setting.{placeOf, Setting}
+use Rattle.product.specs.Setting.{positionOf, Setting}
 use Rattle.cells.specs.declared.Cell.{Cell}
 use Rattle.cells.specs.Columns.{WeightsOf}
 use Rattle.cells.specs.Labels.{OwnCell}
@@ -61,9 +61,9 @@ module _ (x : ℕ) where
     fits = record { high-fits = omega arith; low-fits = omega arith };
   }
 
-module _ {card sets : List ℕ} (work counts : List ℕ) (s : Setting card sets (product counts)) (weights : List ℕ) (sound : soundWeights (machineCount card) weights ≡ true) (nodes : length work ≡ (length sets + 1) * product counts) (D : Done (weightedGraph card weights sets) (placeOf card) (labelOf work) 0)
+module _ {card sets : List ℕ} (work counts : List ℕ) (s : Setting card sets (product counts)) (weights : List ℕ) (sound : soundWeights (machineCount card) weights ≡ true) (nodes : length work ≡ (length sets + 1) * product counts) (D : Done (weightedGraph card weights sets) (positionOf card) (labelOf work) 0)
     (counts-are : counts ≡ stateCounts (machinesOf card)) {ws : List ℕ} (Z : WeightsOf counts ws) (W : WeighsBy weights ws) where
-  done : Done (cellGraph ws card sets) (placeOf card) (labelOf work) 0
+  done : Done (cellGraph ws card sets) (positionOf card) (labelOf work) 0
   done = cells-done W card sets D
 
   own-weights : WeightsOf (stateCounts (machinesOf card)) ws

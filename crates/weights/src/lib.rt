@@ -2,7 +2,7 @@
 ghost use mathlib.Core.Path.{_≡_};
 ghost use Rattle.paths.specs.Positions.{Done};
 ghost use Rattle.product.specs.Sets.{bestOfSetsIn};
-ghost use Rattle.product.specs.Setting.{placeOf};
+ghost use Rattle.product.specs.Setting.{positionOf};
 ghost use Rattle.grid.specs.Grids.{GridOf};
 ghost use Rattle.product.specs.Weights.{bySum, bestByWeights};
 ghost use Rattle.product.specs.WeightedPaths.{weightedGraph};
@@ -41,7 +41,7 @@ fn read_out(
     work: &[u64],
     answer: &mut [u8],
 ) -> Weighing
-    requires { ⌜ SetsPre (now card) (now weights) (now sets) (now work) (grid .size) × Done (weightedGraph (now card) (now weights) (now sets)) (placeOf (now card)) (labelOf (now work)) 0 × GridOf (now card) grid ⌝ }
+    requires { ⌜ SetsPre (now card) (now weights) (now sets) (now work) (grid .size) × Done (weightedGraph (now card) (now weights) (now sets)) (positionOf (now card)) (labelOf (now work)) 0 × GridOf (now card) grid ⌝ }
     ensures { λ r. ⌜ Searched (now (weights .entry)) (bestOfSetsIn (bySum (now (weights .entry))) (now (card .entry)) (now (sets .entry))) (now (sets .entry)) (now (work .entry)) (now (work .entry)) (now (answer .entry)) (now (answer .exit)) r ⌝ }
 {
     let all = grid.counts;

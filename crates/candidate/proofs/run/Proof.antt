@@ -14,15 +14,15 @@ use Rattle.candidate.proofs.run.Statement.{statement}
 use Rattle.candidate.proofs.run.Tie as tie
 
 abbrev Inv-loop : tie.InvT-loop
-Inv-loop part candidate symbols position₀ marks₀ at₀ position marks at =
+Inv-loop part candidate position₀ marks₀ at₀ position marks at =
     (at % 2 ≡ 0)
     × (at ≤ length candidate)
     × (2 * marks ≤ 15 * at)
-    × (allOf (soundPair symbols) (pairsOf (drop at candidate)) ≡ true)
+    × ((S : ℕ) → allOf (soundPair S) (pairsOf candidate) ≡ true → allOf (soundPair S) (pairsOf (drop at candidate)) ≡ true)
     × (addMarks marks (marksFrom (machineOf part) (position .state) (pairsOf (drop at candidate))) ≡ marksOf (pairsOf candidate) (machineOf part))
 
 abbrev μ-loop : tie.MeasureT-loop
-μ-loop part candidate symbols position₀ marks₀ at₀ position marks at = length candidate - at
+μ-loop part candidate position₀ marks₀ at₀ position marks at = length candidate - at
 
 -- the numbers of a pair more
 two-more : (at n : ℕ) → at % 2 ≡ 0 → n % 2 ≡ 0 → at < n → at + 2 ≤ n
@@ -51,14 +51,14 @@ loop-holds c =
     let s = c .before .before .before in
     let m = machineOf (s .args .part .now) in
     let ps = pairsOf (s .args .candidate .now) in
-    (search needs, search needs, search needs, s .pre .1 .2, ap (λ (q : ℕ). addMarks 0 (marksFrom m q ps)) (c .start .ensures) ∙ add-zero-marks (marksFrom m startState ps))
+    (search needs, search needs, search needs, (λ S h. h), ap (λ (q : ℕ). addMarks 0 (marksFrom m q ps)) (c .start .ensures) ∙ add-zero-marks (marksFrom m startState ps))
 
 -- a pair more is there
 here : (c : tie.In-loop Inv-loop μ-loop) → c .before .loop .at + 2 ≤ length (c .before .before .before .before .before .args .candidate .now)
 here c =
     let k = c .before in
     let s = k .before .before .before .before in
-    two-more (k .loop .at) (length (s .args .candidate .now)) (k .loop .inv .0) (s .pre .1 .0) (c .loop-test .taken)
+    two-more (k .loop .at) (length (s .args .candidate .now)) (k .loop .inv .0) (s .pre .even) (c .loop-test .taken)
 
 pair-at-requires : tie.Need-pair-at-requires Inv-loop μ-loop
 pair-at-requires c κs = here c
@@ -67,14 +67,14 @@ step-requires : tie.Need-step-requires Inv-loop μ-loop
 step-requires c κs =
     let k = c .before .before in
     let s = k .before .before .before .before in
-    let S = s .args .symbols in
+    let S = s .pre .symbols in
     let p = pairAt (s .args .candidate .now) (k .loop .at) in
-    let w = sound-facts S p (pair-here (soundPair S) (s .args .candidate .now) (k .loop .at) (here (c .before)) (k .loop .inv .3)) in
+    let w = sound-facts S p (pair-here (soundPair S) (s .args .candidate .now) (k .loop .at) (here (c .before)) (k .loop .inv .3 S (s .pre .sound))) in
     let q = c .pair-at .result in
     let e = c .pair-at .ensures in (
-      accepted S (s .args .part .now) (s .pre .0 .0) .shape,
-      below (q .input) (p .input) S (ap (λ (p : Pair). p .input) e) (w .0) (s .pre .0 .1),
-      below (q .output) (p .output) S (ap (λ (p : Pair). p .output) e) (w .1) (s .pre .0 .1),
+      accepted S (s .args .part .now) (s .pre .accepted) .shape,
+      below (q .input) (p .input) S (ap (λ (p : Pair). p .input) e) (w .0) (s .pre .few),
+      below (q .output) (p .output) S (ap (λ (p : Pair). p .output) e) (w .1) (s .pre .few),
     )
 
 -- the step, as the machine has it
@@ -104,18 +104,18 @@ moved c =
 few : (c : tie.After-wide Inv-loop μ-loop) → c .wide .result ≤ 15
 few c =
     let s = c .before .before .before .before .before .before .before .before .before .before .before in
-    step-bounds (s .args .symbols) (s .args .part .now) (s .pre .0 .0) _ _ _ (moved c) .marks
+    step-bounds (s .pre .symbols) (s .args .part .now) (s .pre .accepted) _ _ _ (moved c) .marks
 
 add-marks : tie.Need-add-marks Inv-loop μ-loop
 add-marks c =
     let k = c .before .before .before .before .before .before .before in
     let s = k .before .before .before .before in
-    marks-fit (k .loop .marks) (k .loop .at) (length (s .args .candidate .now)) (c .wide .result) (k .loop .inv .2) (k .loop .inv .1) (s .pre .1 .1) (few c)
+    marks-fit (k .loop .marks) (k .loop .at) (length (s .args .candidate .now)) (c .wide .result) (k .loop .inv .2) (k .loop .inv .1) (s .pre .short) (few c)
 
 add-at : tie.Need-add-at Inv-loop μ-loop
 add-at c =
     let at-loop = c .before .before .before .before .before .before .before .loop in
-    let s = c .before .before .before .before .before .before .before .before .before .before .before in place-fits (at-loop .at) (length (s .args .candidate .now)) (here (c .before .before .before .before .before .before)) (s .pre .1 .1)
+    let s = c .before .before .before .before .before .before .before .before .before .before .before in place-fits (at-loop .at) (length (s .args .candidate .now)) (here (c .before .before .before .before .before .before)) (s .pre .short)
 
 loop-less : tie.Need-loop-less Inv-loop μ-loop
 loop-less c = nearer (c .before .before .before .before .before .before .before .loop .at) (length (c .before .before .before .before .before .before .before .before .before .before .before .args .candidate .now)) (c .before .before .before .before .before .before .loop-test .taken)
@@ -128,12 +128,12 @@ loop-again c =
       still-even (k .loop .at) (k .loop .inv .0),
       b,
       marks-more (k .loop .marks) (k .loop .at) (c .wide .result) (k .loop .inv .2) (few c),
-      pairs-after (soundPair (a .symbols)) (a .candidate .now) (k .loop .at) b (k .loop .inv .3),
+      (λ S h. pairs-after (soundPair S) (a .candidate .now) (k .loop .at) b (k .loop .inv .3 S h)),
       marks-next (machineOf (a .part .now)) (k .loop .position .state) (k .loop .marks) (pairs-next (a .candidate .now) (k .loop .at) b) (moved c) ∙ k .loop .inv .4,
     )
 
 ending-requires : tie.Need-ending-requires Inv-loop μ-loop
-ending-requires c κs = let s = c .before .before .before .before .before in accepted (s .args .symbols) (s .args .part .now) (s .pre .0 .0) .shape
+ending-requires c κs = let s = c .before .before .before .before .before in accepted (s .pre .symbols) (s .args .part .now) (s .pre .accepted) .shape
 
 returns-2 : tie.Need-returns-2 Inv-loop μ-loop
 returns-2 c =
@@ -150,13 +150,13 @@ ending c = sym (c .before .before .before .before .ending .ensures) ∙ ap ended
 few-more : (c : tie.After-wide2 Inv-loop μ-loop) → c .wide2 .result ≤ 15
 few-more c =
     let s = c .before .before .before .before .before .before .before .before .before .before in
-    ending-bounds (s .args .symbols) (s .args .part .now) (s .pre .0 .0) _ _ (ending c) .1
+    ending-bounds (s .pre .symbols) (s .args .part .now) (s .pre .accepted) _ _ (ending c) .1
 
 add-total : tie.Need-add-total Inv-loop μ-loop
 add-total c =
     let k = c .before .before .before .before .before .before in
     let s = k .before .before .before .before in
-    marks-fit (k .loop .marks) (k .loop .at) (length (s .args .candidate .now)) (c .wide2 .result) (k .loop .inv .2) (k .loop .inv .1) (s .pre .1 .1) (few-more c)
+    marks-fit (k .loop .marks) (k .loop .at) (length (s .args .candidate .now)) (c .wide2 .result) (k .loop .inv .2) (k .loop .inv .1) (s .pre .short) (few-more c)
 
 returns-3 : tie.Need-returns-3 Inv-loop μ-loop
 returns-3 c =

@@ -11,37 +11,36 @@ use Rattle.candidate.proofs.score.Statement.{statement}
 use Rattle.candidate.proofs.score.Tie as tie
 
 abbrev Inv-loop : tie.InvT-loop
-Inv-loop card candidate counts₀ machines symbols machine₀ counts machine = (machine ≤ machines) × (machines ≤ 6) × ScoredBelow card (pairsOf candidate) machine counts
+Inv-loop card candidate counts₀ machines machine₀ counts machine = (machine ≤ machines) × (machines ≤ 6) × ScoredBelow card (pairsOf candidate) machine counts
 
 abbrev μ-loop : tie.MeasureT-loop
-μ-loop card candidate counts₀ machines symbols machine₀ counts machine = machines - machine
+μ-loop card candidate counts₀ machines machine₀ counts machine = machines - machine
 
 loop-holds : tie.Need-loop-holds Inv-loop μ-loop
 loop-holds c =
-    let s = c .before .before .before .before .before in
-    (search needs, omega (arith, c .before .machine-count .ensures, accepted (s .args .card .now) (s .pre .0) .head), scored-start (s .args .card .now) (pairsOf (s .args .candidate .now)))
+    let s = c .before .before .before .before in
+    (search needs, omega (arith, c .machine-count .ensures, accepted (s .args .card .now) (s .pre .0) .head), scored-start (s .args .card .now) (pairsOf (s .args .candidate .now)))
 
 part-requires : tie.Need-part-requires Inv-loop μ-loop
 part-requires c κs =
-    let s = c .before .before .before .before .before .before .before in
-    (s .pre .0, omega (arith, c .before .before .before .machine-count .ensures))
+    let s = c .before .before .before .before .before .before in
+    (s .pre .0, omega (arith, c .before .before .machine-count .ensures))
 
 run-requires : tie.Need-run-requires Inv-loop μ-loop
 run-requires c κs =
     let k = c .before .before in
-    let s = k .before .before .before .before .before .before in
+    let s = k .before .before .before .before .before in
     let a = accepted (s .args .card .now) (s .pre .0) in
-    let m : k .loop .machine < machineCount (s .args .card .now) = omega (arith, k .before .before .machine-count .ensures) in
-    let e = k .before .symbol-count .ensures in
+    let m : k .loop .machine < machineCount (s .args .card .now) = omega (arith, k .before .machine-count .ensures) in
     let h = sound-shape (symbolCount (s .args .card .now)) (s .args .candidate .now) (s .pre .1) in
-    ((rw (e, c .part .ensures) (a .part (k .loop .machine) m), omega (arith, a .head)), (h .0, h .1, rw e (h .2)))
+    record { symbols = symbolCount (s .args .card .now); few = omega (arith, a .head); accepted = rw (c .part .ensures) (a .part (k .loop .machine) m); even = h .0; short = h .1; sound = h .2 }
 
 returns : tie.Need-returns Inv-loop μ-loop
 returns c =
     let k = c .before .before .before .before .before .before in
-    let s = k .before .before .before .before .before .before in
+    let s = k .before .before .before .before .before in
     let l = s .args .card .now in
-    let f = not-complete l (pairsOf (s .args .candidate .now)) (k .loop .machine) (omega (arith, k .before .before .machine-count .ensures))
+    let f = not-complete l (pairsOf (s .args .candidate .now)) (k .loop .machine) (omega (arith, k .before .machine-count .ensures))
     (ap (λ (part : List ℕ). marksOf (pairsOf (s .args .candidate .now)) (machineOf part)) (sym (c .before .before .before .before .part .ensures))
     ∙ sym (c .before .before .before .run .ensures) ∙ ap marked (c .before .enum-told .given .1)) in
     record { checked = sym (refuses-with 14 f); profile = λ t. absurd (clash t f) }
@@ -55,7 +54,7 @@ array-write-counts c = omega arith
 loop-again : tie.Need-loop-again Inv-loop μ-loop
 loop-again c =
     let k = c .before .before .before .before .before .before in
-    let s = k .before .before .before .before .before .before in
+    let s = k .before .before .before .before .before in
     let l = s .args .card .now in (
       omega arith,
       omega arith,
@@ -67,9 +66,9 @@ loop-again c =
 returns-2 : tie.Need-returns-2 Inv-loop μ-loop
 returns-2 c =
     let k = c .before in
-    let s = k .before .before .before .before .before .before in
+    let s = k .before .before .before .before .before in
     let l = s .args .card .now in
-    let e : k .loop .machine ≡ machineCount l = omega (arith, k .before .before .machine-count .ensures) in
+    let e : k .loop .machine ≡ machineCount l = omega (arith, k .before .machine-count .ensures) in
     let S = rw e at (k .loop .inv .2) in
     record {
       checked = sym (passes-with 14 (all-complete l (pairsOf (s .args .candidate .now)) (k .loop .counts) S));
@@ -82,7 +81,7 @@ score-spec =
     (tie.spec
     Inv-loop
     μ-loop
-    (λ c κs. search needs) (λ c κs. search needs)
+    (λ c κs. search needs)
     loop-holds
     part-requires
     run-requires

@@ -1,75 +1,70 @@
 -- `enter_last` meets its contract.
 use Rattle.basics.specs.Words.{_∙_, arith}
-use Rattle.tables.specs.Laws.Cards.{card-counts}
 use Rattle.columns.specs.Filling.{Small}
-use Rattle.cull.proofs.Ending.{fill-ready, join-ready, endings-ready, endings-tried}
+use Rattle.cull.proofs.Ending.{fill-ready, add-ready, endings-ready, endings-tried}
 use Rattle.cull.proofs.enter_last.Statement.{statement}
 use Rattle.cull.proofs.enter_last.Tie as tie
 
 -- ---- the places on the way, from the last to the first
 
 abbrev start : tie.After-fill-endings → tie.Start
-start c = c .before .before .before .before .before .before .before .before .before .before .before
+start c = c .before .before .before .before .before .before .before .before .before .before
 
-abbrev filled : tie.After-join-four-arg3 → tie.After-fill-endings
+abbrev filled : tie.After-add-four-arg3 → tie.After-fill-endings
 filled c = c .before .before .before .before .before .before
 
-abbrev joined : tie.After-try-endings-arg3 → tie.After-join-four
-joined c = c .before .before .before .before .before .before .before
+abbrev added : tie.After-try-endings-arg3 → tie.After-add-four
+added c = c .before .before .before .before .before .before .before
 
 -- ---- what each place asks for
 
 -- the slice's numbers have 16 bits, whatever was in it
 small : (c : tie.After-fill-endings) → Small (start c .args .steps .now)
-small c i = omega (arith, c .before .before .before .before .before .before .slice-known2 .given i)
-
-width-of-requires : tie.Need-width-of-requires
-width-of-requires c κs = let t = c .before .before .before .before .before .before .before .before .pre .tables in card-counts _ (t .accepted) (t .counts-are)
+small c i = omega (arith, c .before .before .before .before .before .slice-known2 .given i)
 
 fill-endings-requires : tie.Need-fill-endings-requires
-fill-endings-requires c κs = fill-ready (c .before .before .before .before .before .before .before .before .before .before .pre)
+fill-endings-requires c κs = fill-ready (c .before .before .before .before .before .before .before .before .before .pre)
 
-join-four-requires : tie.Need-join-four-requires
-join-four-requires c κs =
+add-four-requires : tie.Need-add-four-requires
+add-four-requires c κs =
     let f = filled c in
     let s = start f in
-    join-ready (s .pre) (small f) (f .fill-endings .ensures) (f .before .before .width-of .ensures .0) (s .pre .high-size) (s .pre .low-size)
+    add-ready (s .pre) (small f) (f .fill-endings .ensures) (s .pre .tables .groups .states-are) (s .pre .high-size) (s .pre .low-size)
 
 try-endings-requires : tie.Need-try-endings-requires
 try-endings-requires c κs =
-    let j = joined c in
+    let j = added c in
     let f = filled (j .before) in
     let s = start f in
-    let k = j .join-four .kept .1 .1 .1 .1 .1 .1 in
-    endings-ready (s .pre) (small f) (f .fill-endings .ensures) (f .before .before .width-of .ensures .0) (k .0 ∙ s .pre .high-size) (k .1 .0 ∙ s .pre .low-size) (j .join-four .ensures)
+    let k = j .add-four .kept .1 .1 .1 .1 .1 .1 in
+    endings-ready (s .pre) (small f) (f .fill-endings .ensures) (s .pre .tables .groups .states-are) (k .0 ∙ s .pre .high-size) (k .1 .0 ∙ s .pre .low-size) (j .add-four .ensures)
 
 same-length : tie.Need-same-length
 same-length c = c .before .before .try-endings .ensures .size
 
 same-length-2 : tie.Need-same-length-2
-same-length-2 c = filled (joined (c .before .before .before) .before) .fill-endings .ensures .size
+same-length-2 c = filled (added (c .before .before .before) .before) .fill-endings .ensures .size
 
 same-length-3 : tie.Need-same-length-3
-same-length-3 c = joined (c .before .before .before) .join-four .kept .1 .1 .1 .1 .1 .1 .0
+same-length-3 c = added (c .before .before .before) .add-four .kept .1 .1 .1 .1 .1 .1 .0
 
 same-length-4 : tie.Need-same-length-4
-same-length-4 c = joined (c .before .before .before) .join-four .kept .1 .1 .1 .1 .1 .1 .1 .0
+same-length-4 c = added (c .before .before .before) .add-four .kept .1 .1 .1 .1 .1 .1 .1 .0
 
 returns : tie.Need-returns
 returns c =
-    let j = joined (c .before .before .before) in
+    let j = added (c .before .before .before) in
     let f = filled (j .before) in
     let s = start f in
-    let k = j .join-four .kept .1 .1 .1 .1 .1 .1 in
-    endings-tried (s .pre) (small f) (f .fill-endings .ensures) (f .before .before .width-of .ensures .0) (k .0 ∙ s .pre .high-size) (k .1 .0 ∙ s .pre .low-size) (j .join-four .ensures) (c .before .before .try-endings .ensures)
+    let k = j .add-four .kept .1 .1 .1 .1 .1 .1 in
+    endings-tried (s .pre) (small f) (f .fill-endings .ensures) (s .pre .tables .groups .states-are) (k .0 ∙ s .pre .high-size) (k .1 .0 ∙ s .pre .low-size) (j .add-four .ensures) (c .before .before .try-endings .ensures)
 
 pub enter-last-spec : {M : Type 1} → statement M
 enter-last-spec =
     tie.close
     (tie.spec
-    width-of-requires
     fill-endings-requires
-    join-four-requires
+    add-four-requires
     try-endings-requires
     same-length
     same-length-2

@@ -16,19 +16,16 @@ abbrev μ-loop : tie.MeasureT-loop
 -- ---- the place on the way: the call
 
 abbrev start : tie.At-loop Inv-loop μ-loop → tie.Start Inv-loop μ-loop
-start l = l .before .before .before .before .before .before .before .before .before .before .before .before .before
+start l = l .before .before .before .before .before .before .before .before .before .before .before .before
 
 -- ---- what each place asks for
 
-mul-size : tie.Need-mul-size Inv-loop μ-loop
-mul-size c = omega (arith, few-codes (c .before .before .before .before .before .before .before .before .before .pre .given .setting))
-
 add-look-ahead : tie.Need-add-look-ahead Inv-loop μ-loop
-add-look-ahead c = omega (arith, nodes-there (c .before .before .before .before .before .before .before .before .before .before .before .pre .given) symbols-start .few)
+add-look-ahead c = omega (arith, nodes-there (c .before .before .before .before .before .before .before .before .before .before .pre .given) symbols-start .few)
 
 look-ahead-requires : tie.Need-look-ahead-requires Inv-loop μ-loop
 look-ahead-requires c κs =
-    let A = c .before .before .before .before .before .before .before .before .before .before .before .pre .given in
+    let A = c .before .before .before .before .before .before .before .before .before .before .pre .given in
     let N = nodes-there A symbols-start in
     (N .nodes, N .few, few-codes (A .setting), N .stage, length-replicate {A = ℕ} 128 0)
 
@@ -83,7 +80,6 @@ enter-symbols-spec =
     (tie.spec
     Inv-loop
     μ-loop
-    mul-size
     add-look-ahead
     look-ahead-requires
     loop-holds

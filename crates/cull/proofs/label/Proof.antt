@@ -4,8 +4,9 @@ use Rattle.product.specs.Setting.{Setting}
 use Rattle.tables.specs.Places.{sixPlaces}
 use Rattle.cells.specs.Columns.{WeightsOf}
 use Rattle.insertions.specs.RankedWeights.{RankedWeights}
-use Rattle.labelling.proofs.Sizes.{counts-are, counts-fit, counts-length, counts-some, machines-few, size-is, states-are, states-few, numbers-length, in-front}
+use Rattle.labelling.proofs.Sizes.{counts-are, counts-fit, counts-length, counts-some, machines-few, size-is, states-are, states-few, weights-front-length, in-front}
 use Rattle.labelling.proofs.Preparing.{counts-ranked}
+use Rattle.cull.specs.Tables.{RankedBy}
 use Rattle.cull.proofs.Columns.{columns-small, columns-length}
 use Rattle.cull.proofs.label.Statement.{statement}
 use Rattle.cull.proofs.label.Tie as tie
@@ -23,25 +24,33 @@ mul-columns : tie.Need-mul-columns
 mul-columns c = let s = c .before .before .before .before .before .before .before .before in omega (arith, states-few (s .pre .0 .setting .accepted) (s .pre .1))
 
 grouped-requires : tie.Need-grouped-requires
-grouped-requires c κs = let s = c .before .before .before .before .before .before .before .before in (counts-some (s .pre .0 .setting .accepted) (s .pre .1), size-is (s .pre .0 .setting .accepted) (s .pre .1))
+grouped-requires c κs = let s = c .before .before .before .before .before .before .before .before in (counts-some (s .pre .0 .setting .accepted) (s .pre .1), states-are (s .pre .0 .setting .accepted) (s .pre .1), size-is (s .pre .0 .setting .accepted) (s .pre .1))
 
-mul-numbers : tie.Need-mul-numbers
-mul-numbers c = let s = c .before .before .before .before .before .before .before .before .before .before in omega (arith, machines-few (s .pre .0 .setting .accepted) (s .pre .1))
+mul-weights : tie.Need-mul-weights
+mul-weights c = let s = c .before .before .before .before .before .before .before .before .before .before in omega (arith, machines-few (s .pre .0 .setting .accepted) (s .pre .1))
 
-array-share-prefix-numbers : tie.Need-array-share-prefix-numbers
-array-share-prefix-numbers c = let s = c .before .before .before .before .before .before .before .before .before .before in omega (arith, machines-few (s .pre .0 .setting .accepted) (s .pre .1), c .before .before .before .ranked-weights .ensures .2)
+array-share-prefix-weights : tie.Need-array-share-prefix-weights
+array-share-prefix-weights c = let s = c .before .before .before .before .before .before .before .before .before .before in omega (arith, machines-few (s .pre .0 .setting .accepted) (s .pre .1), c .before .before .before .ranked-weights .ensures .2)
 
 slice-aggregate-label-by : tie.Need-slice-aggregate-label-by
 slice-aggregate-label-by c =
     let s = c .before .before .before .before .before .before .before .before .before .before .before in
     let w = c .before .before .before .before .ranked-weights in
-    numbers-length (s .pre .0 .setting .accepted) (s .pre .1) (w .result) (w .ensures .2)
+    weights-front-length (s .pre .0 .setting .accepted) (s .pre .1) (w .result) (w .ensures .2)
 
 array-borrow-prefix-steps : tie.Need-array-borrow-prefix-steps
 array-borrow-prefix-steps c = let s = c .before .before .before .before .before .before .before .before .before .before .before in omega (arith, states-few (s .pre .0 .setting .accepted) (s .pre .1))
 
 slice-aggregate-label-by-2 : tie.Need-slice-aggregate-label-by-2
 slice-aggregate-label-by-2 c = let s = c .before .before .before .before .before .before .before .before .before .before .before .before in sym (columns-length (s .args .grid .states * 65) (omega (arith, states-few (s .pre .0 .setting .accepted) (s .pre .1))))
+
+-- the weights are in the order of the ranking
+ranked-by : (w : tie.After-ranked-weights) →
+    let a = w .before .before .before .before .before .before .before .args in RankedBy (a .card .now) (a .ranking .now) (take (3 * a .grid .machines) (w .ranked-weights .result))
+ranked-by w =
+    let s = w .before .before .before .before .before .before .before in
+    let n = w .ranked-weights in
+    record { weights = in-front (s .pre .0 .setting .accepted) (s .pre .1) (RankedWeights (sixPlaces (s .args .ranking .now))) (n .result) (n .ensures .1); ranks = s .pre .0 .ranks }
 
 label-by-requires : tie.Need-label-by-requires
 label-by-requires c κs =
@@ -59,12 +68,11 @@ label-by-requires c κs =
         columns = omega (arith, columns-length (s .args .grid .states * 65) (omega (arith, states-few (s .pre .0 .setting .accepted) (s .pre .1))), states-are (s .pre .0 .setting .accepted) (s .pre .1));
         small = columns-small (s .args .grid .states * 65);
       },
-      in-front (s .pre .0 .setting .accepted) (s .pre .1) (RankedWeights (sixPlaces (s .args .ranking .now))) (w .result) (w .ensures .1),
-      s .pre .0 .ranks,
+      (s .args .ranking .now, ranked-by (c .before .before .before .before .before)),
     )
 
 returns : tie.Need-returns
-returns c = c .before .before .before .label-by .ensures
+returns c = let b = c .before .before .before in b .label-by .ensures _ (ranked-by (b .before .before .before .before .before .before))
 
 pub label-spec : {M : Type 1} → statement M
 label-spec =
@@ -75,8 +83,8 @@ label-spec =
     ranked-weights-requires
     mul-columns
     grouped-requires
-    mul-numbers
-    array-share-prefix-numbers
+    mul-weights
+    array-share-prefix-weights
     slice-aggregate-label-by
     array-borrow-prefix-steps
     slice-aggregate-label-by-2

@@ -1,16 +1,12 @@
 -- `label_by` meets its contract.
-use Rattle.basics.proofs.Words.{refl, sym, _∙_, ℕ, arith, length-replicate, needs}
-use Rattle.tables.proofs.Prefix.{places-six}
-use Rattle.cull.proofs.Listing.{size-few, list-ready, cull-ready, lent-ready}
+use Rattle.basics.proofs.Words.{sym, _∙_, ℕ, arith, length-replicate, needs}
+use Rattle.cull.proofs.Listing.{list-ready, cull-ready, lent-ready}
 use Rattle.cull.proofs.label_by.Statement.{statement}
 use Rattle.cull.proofs.label_by.Tie as tie
 
-mul-size : tie.Need-mul-size
-mul-size c = omega (arith, size-few (c .before .before .before .before .before .before .before .before .pre .0))
-
 list-insertions-requires : tie.Need-list-insertions-requires
 list-insertions-requires c κs =
-    (list-ready (c .before .before .before .before .before .before .before .before .before .before .before .before .before .pre .0), length-replicate {A = ℕ} 514 0, omega (arith, length-replicate {A = ℕ} 8064 0), length-replicate {A = ℕ} 264 0, length-replicate {A = ℕ} 264 0)
+    (list-ready (c .before .before .before .before .before .before .before .before .before .before .before .pre .0), length-replicate {A = ℕ} 514 0, omega (arith, length-replicate {A = ℕ} 8064 0), length-replicate {A = ℕ} 264 0, length-replicate {A = ℕ} 264 0)
 
 slice-aggregate-label-stages-2 : tie.Need-slice-aggregate-label-stages-2
 slice-aggregate-label-stages-2 c = sym (c .before .before .before .before .before .before .before .before .before .before .list-insertions .kept .1 .1 .1 .1 .1 .1 .1 .0 ∙ length-replicate {A = ℕ} 264 0)
@@ -20,23 +16,25 @@ slice-aggregate-label-stages-3 c = sym (c .before .before .before .before .befor
 
 label-stages-requires : tie.Need-label-stages-requires
 label-stages-requires c κs =
-    let t = c .before .before .before .before .before .before .before .before .before .before .before .before .before .before .before .before .before .before .before .before .before .before .before .before .before in
+    let t = c .before .before .before .before .before .before .before .before .before .before .before .before .before .before .before .before .before .before .before .before .before .before .before in
     let p = t .pre in
     let l = c .before .before .before .before .before .before .before .before .before .before .before .list-insertions in
-    let k = l .kept .1 .1 .1 .1 .1 .1 .1 in
-    let six = places-six (t .args .card .now) (p .0 .setting .accepted) (t .args .ranking .now) refl (p .2) in (
-      cull-ready (p .0) (t .args .ranking .now) (p .2) (l .ensures _ (p .1) six),
-      lent-ready (p .0) (t .args .ranking .now) (p .1) six (l .kept .1 .1 .0) (k .0 ∙ length-replicate {A = ℕ} 264 0) (k .1 .0 ∙ length-replicate {A = ℕ} 264 0),
+    let k = l .kept .1 .1 .1 .1 .1 .1 .1 in (
+      (p .1 .0, cull-ready (p .0) (p .1 .0) (p .1 .1) (l .ensures _ (p .1 .1 .weights))),
+      lent-ready (p .0) (l .kept .1 .1 .0) (k .0 ∙ length-replicate {A = ℕ} 264 0) (k .1 .0 ∙ length-replicate {A = ℕ} 264 0),
     )
 
 returns : tie.Need-returns
-returns c = c .before .before .before .before .before .before .label-stages .ensures
+returns c =
+    let s = c .before .before .before .before .before .before in
+    let l = s .before .before .before .before .before .before .before .before .before .before .before .before .list-insertions in
+    let t = s .before .before .before .before .before .before .before .before .before .before .before .before .before .before .before .before .before .before .before .before .before .before .before .before in
+    λ ranking R. s .label-stages .ensures ranking (cull-ready (t .pre .0) ranking R (l .ensures _ (R .weights)))
 
 pub label-by-spec : {M : Type 1} → statement M
 label-by-spec =
     tie.close
     (tie.spec
-    mul-size
     (λ c. search needs) (λ c. search needs) (λ c. search needs)
     list-insertions-requires
     (λ c. search needs)

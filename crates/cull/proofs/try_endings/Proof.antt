@@ -12,9 +12,6 @@ Inv-loop work₀ high low front back base stage size code₀ work code =
 abbrev μ-loop : tie.MeasureT-loop
 μ-loop work₀ high low front back base stage size code₀ work code = size - code
 
-mul-size : tie.Need-mul-size Inv-loop μ-loop
-mul-size c = omega (arith, c .before .before .before .before .pre .few)
-
 loop-holds : tie.Need-loop-holds Inv-loop μ-loop
 loop-holds c = (omega arith, ended-start)
 
@@ -122,7 +119,6 @@ try-endings-spec =
     (tie.spec
     Inv-loop
     μ-loop
-    mul-size
     loop-holds
     div-a
     mul-a

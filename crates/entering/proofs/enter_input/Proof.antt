@@ -1,6 +1,6 @@
 use Rattle.basics.proofs.Words.{_≡_, refl, sym, _∙_, _^_, _<_, arith, length, needs}
 use Rattle.cells.specs.Laws.Fours.{without-less}
-use Rattle.entering.proofs.Fours.{FoursTried, four-few, four-or-after, counts-known, of-width, fill-ready, four-ready, try-ready, fours-start, fours-next, fours-end}
+use Rattle.entering.proofs.Fours.{FoursTried, four-few, four-or-after, of-width, fill-ready, four-ready, try-ready, fours-start, fours-next, fours-end}
 use Rattle.entering.proofs.enter_input.Statement.{statement}
 use Rattle.entering.proofs.enter_input.Tie as tie
 
@@ -10,36 +10,31 @@ Inv-loop own₀ next steps card counts weights g input high₀ low₀ width outp
 abbrev μ-loop : tie.MeasureT-loop
 μ-loop own₀ next steps card counts weights g input high₀ low₀ width outputs₀ own high low outputs = outputs
 
-width-of-requires : tie.Need-width-of-requires Inv-loop μ-loop
-width-of-requires c κs = counts-known (c .before .before .before .before .before .before .before .pre .0)
-
 prepare-requires : tie.Need-prepare-requires Inv-loop μ-loop
-prepare-requires c κs = let s = c .before .before .before .before .before .before .before .before .before in fill-ready (of-width (s .pre .0) (c .before .width-of .ensures .0)) (s .pre .4)
+prepare-requires c κs = let s = c .before .before .before .before .before .before .before .before in fill-ready (of-width (s .pre .0) (s .pre .0 .groups .states-are)) (s .pre .4)
 
 loop-holds : tie.Need-loop-holds Inv-loop μ-loop
-loop-holds c = let s = c .before .before .before .before .before .before .before .before .before .before .before .before in (fours-start (s .pre .1), omega (arith, c .before .before .prepare .ok), refl, refl)
+loop-holds c = let s = c .before .before .before .before .before .before .before .before .before .before .before in (fours-start (s .pre .1), omega (arith, c .before .before .prepare .ok), refl, refl)
 
-join-four-requires : tie.Need-join-four-requires Inv-loop μ-loop
-join-four-requires c κs =
+add-four-requires : tie.Need-add-four-requires Inv-loop μ-loop
+add-four-requires c κs =
     let at-next-four = c .before .before .before .before .next-four in
     let at-loop = c .before .before .before .before .before .before .loop in
     let at-prepare = c .before .before .before .before .before .before .before .before .before .prepare in
-    let at-width-of = c .before .before .before .before .before .before .before .before .before .before .before .width-of in
-    let entry = c .before .before .before .before .before .before .before .before .before .before .before .before .before .before .before .before .before .before .before in
+    let entry = c .before .before .before .before .before .before .before .before .before .before .before .before .before .before .before .before .before .before in
     let l = at-loop in
-    four-ready (of-width (entry .pre .0) (at-width-of .ensures .0)) (at-prepare .ensures) (four-few (l .outputs) (at-next-four .ensures)) (omega (arith, entry .pre .5, l .inv .2)) (omega (arith, entry .pre .6, l .inv .3))
+    four-ready (of-width (entry .pre .0) (entry .pre .0 .groups .states-are)) (at-prepare .ensures) (four-few (l .outputs) (at-next-four .ensures)) (omega (arith, entry .pre .5, l .inv .2)) (omega (arith, entry .pre .6, l .inv .3))
 
 try-four-requires : tie.Need-try-four-requires Inv-loop μ-loop
 try-four-requires c κs =
-    let at-join-four = c .before .before .before .before .before .before .before .join-four in
+    let at-add-four = c .before .before .before .before .before .before .before .add-four in
     let at-next-four = c .before .before .before .before .before .before .before .before .before .before .before .before .next-four in
     let at-loop = c .before .before .before .before .before .before .before .before .before .before .before .before .before .before .loop in
     let at-prepare = c .before .before .before .before .before .before .before .before .before .before .before .before .before .before .before .before .before .prepare in
-    let at-width-of = c .before .before .before .before .before .before .before .before .before .before .before .before .before .before .before .before .before .before .before .width-of in
-    let s = c .before .before .before .before .before .before .before .before .before .before .before .before .before .before .before .before .before .before .before .before .before .before .before .before .before .before .before in
+    let s = c .before .before .before .before .before .before .before .before .before .before .before .before .before .before .before .before .before .before .before .before .before .before .before .before .before .before in
     let l = at-loop in
-    let j = at-join-four in
-    try-ready (of-width (s .pre .0) (at-width-of .ensures .0)) (at-prepare .ensures) (four-few (l .outputs) (at-next-four .ensures)) (omega (arith, s .pre .5, j .kept .1 .1 .1 .1 .1 .1 .0, l .inv .2)) (omega (arith, s .pre .6, j .kept .1 .1 .1 .1 .1 .1 .1 .0, l .inv .3)) (s .pre .2) (l .inv .0 .position) (j .ensures)
+    let j = at-add-four in
+    try-ready (of-width (s .pre .0) (s .pre .0 .groups .states-are)) (at-prepare .ensures) (four-few (l .outputs) (at-next-four .ensures)) (omega (arith, s .pre .5, j .kept .1 .1 .1 .1 .1 .1 .0, l .inv .2)) (omega (arith, s .pre .6, j .kept .1 .1 .1 .1 .1 .1 .1 .0, l .inv .3)) (s .pre .2) (l .inv .0 .position) (j .ensures)
 
 loop-less : tie.Need-loop-less Inv-loop μ-loop
 loop-less c =
@@ -50,25 +45,24 @@ loop-less c =
 loop-again : tie.Need-loop-again Inv-loop μ-loop
 loop-again c =
     let at-try-four = c .before .before .before .try-four in
-    let at-join-four = c .before .before .before .before .before .before .before .before .before .before .before .join-four in
+    let at-add-four = c .before .before .before .before .before .before .before .before .before .before .before .add-four in
     let at-next-four = c .before .before .before .before .before .before .before .before .before .before .before .before .before .before .before .before .next-four in
     let at-loop = c .before .before .before .before .before .before .before .before .before .before .before .before .before .before .before .before .before .before .loop in
     let at-prepare = c .before .before .before .before .before .before .before .before .before .before .before .before .before .before .before .before .before .before .before .before .before .prepare in
-    let at-width-of = c .before .before .before .before .before .before .before .before .before .before .before .before .before .before .before .before .before .before .before .before .before .before .before .width-of in
-    let s = c .before .before .before .before .before .before .before .before .before .before .before .before .before .before .before .before .before .before .before .before .before .before .before .before .before .before .before .before .before .before .before in
+    let s = c .before .before .before .before .before .before .before .before .before .before .before .before .before .before .before .before .before .before .before .before .before .before .before .before .before .before .before .before .before .before in
     let l = at-loop in
-    let j = at-join-four in
+    let j = at-add-four in
     let f = at-next-four .ensures in
     let eh = j .kept .1 .1 .1 .1 .1 .1 .0 ∙ l .inv .2 in
     let el = j .kept .1 .1 .1 .1 .1 .1 .1 .0 ∙ l .inv .3 in (
-      fours-next (of-width (s .pre .0) (at-width-of .ensures .0)) (at-prepare .ensures) (four-few (l .outputs) f) (omega (arith, s .pre .5, eh)) (omega (arith, s .pre .6, el)) (s .pre .2) (l .inv .0 .position) (j .ensures) (s .pre .3) (at-try-four .ensures) (four-or-after (l .outputs) (l .inv .1) f (c .without-four .ensures)) (l .inv .0),
+      fours-next (of-width (s .pre .0) (s .pre .0 .groups .states-are)) (at-prepare .ensures) (four-few (l .outputs) f) (omega (arith, s .pre .5, eh)) (omega (arith, s .pre .6, el)) (s .pre .2) (l .inv .0 .position) (j .ensures) (s .pre .3) (at-try-four .ensures) (four-or-after (l .outputs) (l .inv .1) f (c .without-four .ensures)) (l .inv .0),
       omega (arith, c .without-four .ok),
       eh,
       el,
     )
 
 same-length : tie.Need-same-length Inv-loop μ-loop
-same-length c = c .before .loop .inv .0 .position .size ∙ sym (c .before .before .before .before .before .before .before .before .before .before .before .before .before .before .pre .0 .size)
+same-length c = c .before .loop .inv .0 .position .size ∙ sym (c .before .before .before .before .before .before .before .before .before .before .before .before .before .pre .0 .size)
 
 same-length-2 : tie.Need-same-length-2 Inv-loop μ-loop
 same-length-2 c = c .before .before .before .before .prepare .kept .0
@@ -80,7 +74,7 @@ same-length-4 : tie.Need-same-length-4 Inv-loop μ-loop
 same-length-4 c = c .before .loop .inv .3
 
 returns : tie.Need-returns Inv-loop μ-loop
-returns c = let s = c .before .before .before .before .before .before .before .before .before .before .before .before .before .before in fours-end (s .pre .0 .accepted) (s .pre .3) (c .before .before .before .before .prepare .ensures) (omega (arith, c .loop-test .left)) (c .before .loop .inv .0)
+returns c = let s = c .before .before .before .before .before .before .before .before .before .before .before .before .before in fours-end (s .pre .0 .accepted) (s .pre .3) (c .before .before .before .before .prepare .ensures) (omega (arith, c .loop-test .left)) (c .before .loop .inv .0)
 
 pub enter-input-spec : {M : Type 1} → statement M
 enter-input-spec =
@@ -88,11 +82,10 @@ enter-input-spec =
     (tie.spec
     Inv-loop
     μ-loop
-    width-of-requires
     prepare-requires
     loop-holds
     (λ c κs. search needs)
-    join-four-requires
+    add-four-requires
     try-four-requires
     (λ c κs. search needs)
     loop-less

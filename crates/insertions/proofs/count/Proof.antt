@@ -2,7 +2,7 @@ use Rattle.basics.proofs.Words.{_≡_, refl, _∙_, ap, _^_, _<_, arith, length
 use Rattle.cells.specs.Fours.{nextFour}
 use Rattle.cells.specs.Laws.Fours.{without-less}
 use Rattle.insertions.proofs.Fours.{fours-small}
-use Rattle.insertions.proofs.Blocks.{asks-four, high-pre, codes-few, codes-are}
+use Rattle.insertions.proofs.Blocks.{asks-four, high-pre, codes-few}
 use Rattle.insertions.proofs.Loops.{CountTo, zeros-of, count-start, room-for-four, four-counted, add-pre, counted}
 use Rattle.insertions.proofs.count.Statement.{statement}
 use Rattle.insertions.proofs.count.Tie as tie
@@ -22,15 +22,15 @@ clear-requires c κs = c .before .before .before .before .before .before .pre .0
 loop-holds : tie.Need-loop-holds Inv-loop μ-loop
 loop-holds c = let s = c .before .before .before .before .before .before .before in (count-start (zeros-of (s .args .ends .now) (s .pre .0) (c .clear .ensures)), refl, refl)
 
-join-four-requires : tie.Need-join-four-requires Inv-loop μ-loop
-join-four-requires c κs = let l = c .before .before .before .before .before .loop in
+add-four-requires : tie.Need-add-four-requires Inv-loop μ-loop
+add-four-requires c κs = let l = c .before .before .before .before .before .loop in
     let s = c .before .before .before .before .before .before .before .before .before .before .before .before .before in
     asks-four (s .pre .1) (l .left) _ _ (c .before .before .before .next-four .ensures) (omega (arith, s .pre .2, l .inv .1)) (omega (arith, s .pre .3, l .inv .2))
 
 count-four-requires : tie.Need-count-four-requires Inv-loop μ-loop
 count-four-requires c κs = let s = c .before .before .before .before .before .before .before .before .before .before .before .before .before .before .before .before .before .before .before .before in
     let l = c .before .before .before .before .before .before .before .before .before .before .before .before .loop in
-    let j = c .before .before .before .before .before .before .join-four in
+    let j = c .before .before .before .before .before .before .add-four in
     (room-for-four (s .pre .1) (small s) (l .inv .0), high-pre (s .pre .1) (l .inv .0 .fours) (c .before .before .before .before .before .before .before .before .before .before .next-four .ensures ∙ ap nextFour (l .inv .0 .fours-to .left-is)) (j .ensures) (omega (arith, s .pre .2, j .kept .1 .1 .1 .1 .1 .1 .0, l .inv .1)))
 
 loop-less : tie.Need-loop-less Inv-loop μ-loop
@@ -42,13 +42,13 @@ loop-less c =
 
 loop-again : tie.Need-loop-again Inv-loop μ-loop
 loop-again c =
-    let at-join-four = c .before .before .before .before .before .before .before .before .join-four in
+    let at-add-four = c .before .before .before .before .before .before .before .before .add-four in
     let at-next-four = c .before .before .before .before .before .before .before .before .before .before .before .before .next-four in
     let at-loop-test = c .before .before .before .before .before .before .before .before .before .before .before .before .before .loop-test in
     let at-loop = c .before .before .before .before .before .before .before .before .before .before .before .before .before .before .loop in
     let s = c .before .before .before .before .before .before .before .before .before .before .before .before .before .before .before .before .before .before .before .before .before .before in
     let l = at-loop in
-    let j = at-join-four in (
+    let j = at-add-four in (
       four-counted (s .pre .1) (small s) (l .inv .0) (omega (arith, at-loop-test .taken)) (at-next-four .ensures) (j .ensures) (c .before .count-four .ensures) (c .without-four .ensures),
       j .kept .1 .1 .1 .1 .1 .1 .0 ∙ l .inv .1,
       j .kept .1 .1 .1 .1 .1 .1 .1 .0 ∙ l .inv .2,
@@ -56,34 +56,31 @@ loop-again c =
 
 -- there are at most 128 codes
 mul-lists : tie.Need-mul-lists Inv-loop μ-loop
-mul-lists c = let R = c .before .before .before .before .before .before .before .before .before .pre .1 in omega (arith, codes-are R, codes-few R)
-
-mul-lists-2 : tie.Need-mul-lists-2 Inv-loop μ-loop
-mul-lists-2 c = let R = c .before .before .before .before .before .before .before .before .before .pre .1 in omega (arith, codes-are R, codes-few R)
+mul-lists c = let R = c .before .before .before .before .before .before .before .before .before .before .pre .1 in omega (arith, R .groups .size-is, codes-few R)
 
 add-lists : tie.Need-add-lists Inv-loop μ-loop
-add-lists c = let R = c .before .before .before .before .before .before .before .before .before .pre .1 in omega (arith, codes-are R, codes-few R)
+add-lists c = let R = c .before .before .before .before .before .before .before .before .before .before .pre .1 in omega (arith, R .groups .size-is, codes-few R)
 
 add-up-requires : tie.Need-add-up-requires Inv-loop μ-loop
-add-up-requires c κs = let s = c .before .before .before .before .before .before .before .before .before .before in add-pre (s .pre .1) (small s) (c .before .before .loop .inv .0)
+add-up-requires c κs = let s = c .before .before .before .before .before .before .before .before .before .before .before in add-pre (s .pre .1) (small s) (c .before .before .before .loop .inv .0)
 
 fill-on-requires : tie.Need-fill-on-requires Inv-loop μ-loop
-fill-on-requires c κs = let R = c .before .before .before .before .before .before .before .before .before .before .before .before .pre .1 in (c .before .add-up .ensures .size, omega arith, omega (arith, codes-are R, codes-few R))
+fill-on-requires c κs = let R = c .before .before .before .before .before .before .before .before .before .before .before .before .before .pre .1 in (c .before .add-up .ensures .size, omega arith, omega (arith, R .groups .size-is, codes-few R))
 
 cast-result : tie.Need-cast-result Inv-loop μ-loop
-cast-result c = let s = c .before .before .before .before .before .before .before .before .before .before .before .before .before .before in
-    let C = counted (s .pre .1) (small s) (c .before .before .before .before .before .before .loop .inv .0) (omega (arith, c .before .before .before .before .before .loop-test .left)) (c .before .before .before .add-up .ensures) (c .before .fill-on .ensures) in
+cast-result c = let s = c .before .before .before .before .before .before .before .before .before .before .before .before .before .before .before in
+    let C = counted (s .pre .1) (small s) (c .before .before .before .before .before .before .before .loop .inv .0) (omega (arith, c .before .before .before .before .before .before .loop-test .left)) (c .before .before .before .add-up .ensures) (c .before .fill-on .ensures) in
     omega (arith, C .few, codes-few (s .pre .1))
 
 same-length : tie.Need-same-length Inv-loop μ-loop
-same-length c = c .before .before .before .before .before .before .loop .inv .1
+same-length c = c .before .before .before .before .before .before .before .loop .inv .1
 
 same-length-2 : tie.Need-same-length-2 Inv-loop μ-loop
-same-length-2 c = c .before .before .before .before .before .before .loop .inv .2
+same-length-2 c = c .before .before .before .before .before .before .before .loop .inv .2
 
 returns : tie.Need-returns Inv-loop μ-loop
-returns c = let s = c .before .before .before .before .before .before .before .before .before .before .before .before .before .before in
-    (counted (s .pre .1) (small s) (c .before .before .before .before .before .before .loop .inv .0) (omega (arith, c .before .before .before .before .before .loop-test .left)) (c .before .before .before .add-up .ensures) (c .before .fill-on .ensures), refl)
+returns c = let s = c .before .before .before .before .before .before .before .before .before .before .before .before .before .before .before in
+    (counted (s .pre .1) (small s) (c .before .before .before .before .before .before .before .loop .inv .0) (omega (arith, c .before .before .before .before .before .before .loop-test .left)) (c .before .before .before .add-up .ensures) (c .before .fill-on .ensures), refl)
 
 pub count-spec : {M : Type 1} → statement M
 count-spec =
@@ -94,13 +91,12 @@ count-spec =
     clear-requires
     loop-holds
     (λ c κs. search needs)
-    join-four-requires
+    add-four-requires
     count-four-requires
     (λ c κs. search needs)
     loop-less
     loop-again
     mul-lists
-    mul-lists-2
     add-lists
     add-up-requires
     fill-on-requires

@@ -22,15 +22,15 @@ small s = search needs
 loop-holds : tie.Need-loop-holds Inv-loop μ-loop
 loop-holds c = (list-start, refl, refl)
 
-join-four-requires : tie.Need-join-four-requires Inv-loop μ-loop
-join-four-requires c κs = let l = c .before .before .before .before .before .loop in
+add-four-requires : tie.Need-add-four-requires Inv-loop μ-loop
+add-four-requires c κs = let l = c .before .before .before .before .before .loop in
     let s = c .before .before .before .before .before .before .before .before .before .before .before .before in
     asks-four (s .pre .0) (l .left) _ _ (c .before .before .before .next-four .ensures) (omega (arith, s .pre .3, l .inv .1)) (omega (arith, s .pre .4, l .inv .2))
 
 list-four-requires : tie.Need-list-four-requires Inv-loop μ-loop
 list-four-requires c κs = let s = c .before .before .before .before .before .before .before .before .before .before .before .before .before .before .before .before .before .before .before .before .before in
     let l = c .before .before .before .before .before .before .before .before .before .before .before .before .before .before .loop in
-    let j = c .before .before .before .before .before .before .before .before .join-four in
+    let j = c .before .before .before .before .before .before .before .before .add-four in
     let e = c .before .before .before .before .before .before .before .before .before .before .before .before .next-four .ensures in
     let q = l .inv .0 .fours in
     let d = e ∙ ap nextFour (l .inv .0 .fours-to .left-is) in (
@@ -49,13 +49,13 @@ loop-less c =
 loop-again : tie.Need-loop-again Inv-loop μ-loop
 loop-again c =
     let at-list-four = c .before .before .before .list-four in
-    let at-join-four = c .before .before .before .before .before .before .before .before .before .before .before .before .join-four in
+    let at-add-four = c .before .before .before .before .before .before .before .before .before .before .before .before .add-four in
     let at-next-four = c .before .before .before .before .before .before .before .before .before .before .before .before .before .before .before .before .next-four in
     let at-loop-test = c .before .before .before .before .before .before .before .before .before .before .before .before .before .before .before .before .before .loop-test in
     let at-loop = c .before .before .before .before .before .before .before .before .before .before .before .before .before .before .before .before .before .before .loop in
     let s = c .before .before .before .before .before .before .before .before .before .before .before .before .before .before .before .before .before .before .before .before .before .before .before .before .before in
     let l = at-loop in
-    let j = at-join-four in
+    let j = at-add-four in
     let d = at-list-four .ensures in (
       four-listed (s .pre .0) (s .pre .1) (s .pre .2) (l .inv .0) (omega (arith, at-loop-test .taken)) (at-next-four .ensures) (j .ensures) (d .0) (d .1) (c .without-four .ensures),
       j .kept .1 .1 .1 .1 .1 .1 .0 ∙ l .inv .1,
@@ -87,7 +87,7 @@ list-spec =
     μ-loop
     loop-holds
     (λ c κs. search needs)
-    join-four-requires
+    add-four-requires
     list-four-requires
     (λ c κs. search needs)
     loop-less

@@ -4,7 +4,7 @@ use Rattle.product.specs.Nodes.{stateCounts}
 use Rattle.tables.specs.Places.{sixPlaces}
 use Rattle.cells.specs.Columns.{WeightsOf}
 use Rattle.insertions.specs.RankedWeights.{RankedWeights}
-use Rattle.labelling.proofs.Sizes.{counts-fit, counts-length, counts-some, machines-few, numbers-length, weights-front, in-front}
+use Rattle.labelling.proofs.Sizes.{counts-fit, counts-length, counts-some, machines-few, weights-front-length, weights-front, in-front}
 use Rattle.labelling.proofs.Preparing.{counts-ranked, search-ready, label-done}
 use Rattle.labelling.proofs.label.Statement.{statement}
 use Rattle.labelling.proofs.label.Tie as tie
@@ -29,17 +29,17 @@ slice-aggregate-ranked-weights c = let s = c .before .before .before .before .be
 ranked-weights-requires : tie.Need-ranked-weights-requires
 ranked-weights-requires c κs = let s = c .before .before .before .before .before .before in (counts-some (s .pre .0 .setting .accepted) (s .pre .1), counts-ranked (s .pre .0) (s .pre .1))
 
-mul-numbers : tie.Need-mul-numbers
-mul-numbers c = let s = start c in omega (arith, machines-few (s .pre .0 .setting .accepted) (s .pre .1))
+mul-weights : tie.Need-mul-weights
+mul-weights c = let s = start c in omega (arith, machines-few (s .pre .0 .setting .accepted) (s .pre .1))
 
-array-share-prefix-numbers : tie.Need-array-share-prefix-numbers
-array-share-prefix-numbers c = let s = start c in omega (arith, machines-few (s .pre .0 .setting .accepted) (s .pre .1), c .ranked-weights .ensures .2)
+array-share-prefix-weights : tie.Need-array-share-prefix-weights
+array-share-prefix-weights c = let s = start c in omega (arith, machines-few (s .pre .0 .setting .accepted) (s .pre .1), c .ranked-weights .ensures .2)
 
 slice-aggregate-used : tie.Need-slice-aggregate-used
 slice-aggregate-used c =
     let w = c .before in
     let s = start w in
-    numbers-length (s .pre .0 .setting .accepted) (s .pre .1) (w .ranked-weights .result) (w .ranked-weights .ensures .2)
+    weights-front-length (s .pre .0 .setting .accepted) (s .pre .1) (w .ranked-weights .result) (w .ranked-weights .ensures .2)
 
 label-all-requires : tie.Need-label-all-requires
 label-all-requires c κs = let w = c .before .before .before in let s = start w in search-ready (s .pre .0) (s .pre .1) (weights-are w) (by-ranking w)
@@ -54,8 +54,8 @@ label-spec =
     array-share-prefix-all
     slice-aggregate-ranked-weights
     ranked-weights-requires
-    mul-numbers
-    array-share-prefix-numbers
+    mul-weights
+    array-share-prefix-weights
     slice-aggregate-used
     (λ c. search needs)
     label-all-requires

@@ -7,12 +7,12 @@ use Rattle.labelling.proofs.label_positions.Statement.{statement}
 use Rattle.labelling.proofs.label_positions.Tie as tie
 
 abbrev Inv-loop : tie.InvT-loop
-Inv-loop ranked₀ sums₀ card numbers highs sets steps₀ entries ends g high₀ low₀ machines size counts own₀ next₀ position₀ ranked sums steps high low own next position =
-    (position ≤ length sets) × PositionClosed card numbers sets ranked sums own next (length counts) size position × (length ranked ≡ length ranked₀) × (length sums ≡ length sums₀)
+Inv-loop ranked₀ sums₀ card weights highs sets steps₀ entries ends g high₀ low₀ machines size counts own₀ next₀ position₀ ranked sums steps high low own next position =
+    (position ≤ length sets) × PositionClosed card weights sets ranked sums own next (length counts) size position × (length ranked ≡ length ranked₀) × (length sums ≡ length sums₀)
     × (length steps ≡ length steps₀) × (length high ≡ length high₀) × (length low ≡ length low₀)
 
 abbrev μ-loop : tie.MeasureT-loop
-μ-loop ranked₀ sums₀ card numbers highs sets steps₀ entries ends g high₀ low₀ machines size counts own₀ next₀ position₀ ranked sums steps high low own next position = position
+μ-loop ranked₀ sums₀ card weights highs sets steps₀ entries ends g high₀ low₀ machines size counts own₀ next₀ position₀ ranked sums steps high low own next position = position
 
 -- ---- the places on the way, from the last to the first
 

@@ -1,5 +1,5 @@
 use Rattle.basics.proofs.Words.{_∙_, ℕ, _+_, _*_, _≤_, arith, length, length-replicate, needs}
-use Rattle.labelling.proofs.Sizes.{counts-fit, counts-length, counts-some, size-is}
+use Rattle.labelling.proofs.Sizes.{counts-fit, counts-length, counts-some, size-is, states-are}
 use Rattle.labelling.proofs.Preparing.{fill-ready, list-ready, lists-ready, groups-room}
 use Rattle.labelling.proofs.label_with.Statement.{statement}
 use Rattle.labelling.proofs.label_with.Tie as tie
@@ -32,7 +32,7 @@ slice-aggregate-counts : tie.Need-slice-aggregate-counts
 slice-aggregate-counts c = let q = c .before .before .before .before .before .before .before .before .before .before .before .before .pre .0 in counts-length (q .setting .accepted) (q .grid-of)
 
 grouped-requires : tie.Need-grouped-requires
-grouped-requires c κs = let q = c .before .before .before .before .before .before .before .before .before .before .before .before .pre .0 in (counts-some (q .setting .accepted) (q .grid-of), size-is (q .setting .accepted) (q .grid-of))
+grouped-requires c κs = let q = c .before .before .before .before .before .before .before .before .before .before .before .before .pre .0 in (counts-some (q .setting .accepted) (q .grid-of), states-are (q .setting .accepted) (q .grid-of), size-is (q .setting .accepted) (q .grid-of))
 
 prepare-requires : tie.Need-prepare-requires
 prepare-requires c κs = let s = start (c .before) in fill-ready (s .pre .0) (s .pre .1)

@@ -10,7 +10,7 @@ use Rattle.paths.specs.Labels.{ClosedAt, Held, Attained, held→run}
 use Rattle.paths.specs.Positions.{Done}
 use Rattle.product.specs.Nodes.{stateCounts}
 use Rattle.product.specs.ProductGraph.{pairs}
-use Rattle.product.specs.Setting.{placeOf, Setting}
+use Rattle.product.specs.Setting.{positionOf, Setting}
 use Rattle.tables.specs.LabelCost.{AllShort}
 use Rattle.tables.specs.Work.{labelOf}
 use Rattle.tables.specs.Engine.{engineGraph}
@@ -100,14 +100,14 @@ module _ {costs : Costs} (K : Packing costs) where
 abbrev pub numberLabels : List ℕ → Labels (rankedCosts 1)
 numberLabels xs u = packedPath countsPacking (labelOf xs u)
 
-module _ {card sets : List ℕ} {P : ℕ} (s : Setting card sets P) (ranking : List ℕ) (xs : List ℕ) (D : Done (engineGraph (machinesOf card) ranking sets) (placeOf card) (labelOf xs) 0) where
+module _ {card sets : List ℕ} {P : ℕ} (s : Setting card sets P) (ranking : List ℕ) (xs : List ℕ) (D : Done (engineGraph (machinesOf card) ranking sets) (positionOf card) (labelOf xs) 0) where
   -- a label is the cost of a path that passes no node twice
   pub labels-short : (u : ℕ) (c : Ranked 6) → labelOf xs u ≡ some c → AllShort 6 c
   labels-short u c l =
       let a = D .attained u c l in
       distinct-cost-short s ranking u (a .letters) c (held→run (engineGraph (machinesOf card) ranking sets) (a .held)) (a .distinct)
 
-  pub numbers-done : {ws : List ℕ} → WeightsOf (stateCounts (machinesOf card)) ws → RankedWeights (sixPlaces ranking) ws → Done (cellGraph ws card sets) (placeOf card) (numberLabels xs) 0
+  pub numbers-done : {ws : List ℕ} → WeightsOf (stateCounts (machinesOf card)) ws → RankedWeights (sixPlaces ranking) ws → Done (cellGraph ws card sets) (positionOf card) (numberLabels xs) 0
   unfolding countsPacking
   numbers-done {ws} W R = record {
     attained = packed-attained countsPacking G H X (labelOf xs) labels-short (D .attained);

@@ -13,10 +13,10 @@ use Rattle.paths.specs.Positions.{Done}
 use Rattle.product.specs.Nodes.{stateCounts}
 use Rattle.product.specs.Prices.{byRanking}
 use Rattle.product.specs.ProductGraph.{pairs}
-use Rattle.product.specs.Setting.{placeOf, Setting}
+use Rattle.product.specs.Setting.{positionOf, Setting}
 use Rattle.product.specs.Laws.Edges.{product-within, product-sized, product-counts}
 use Rattle.product.specs.Laws.Letters.{LetterAt, OverSets, priced-over}
-use Rattle.product.specs.Laws.Setting.{machines-sound, few-nodes, node-below, place-high}
+use Rattle.product.specs.Laws.Setting.{machines-sound, few-nodes, node-below, node-high}
 use Rattle.tables.specs.LabelCost.{AllShort}
 use Rattle.tables.specs.Work.{labelOf}
 use Rattle.tables.specs.Engine.{engineGraph}
@@ -32,14 +32,14 @@ use Rattle.labelling.specs.Laws.Packed.{ranked-packs}
 -- ---- a path begins at one of the (n + 1) * P nodes
 
 module _ {card sets : List ℕ} {P : ℕ} (s : Setting card sets P) {costs : Costs} {G : Graph costs pairs} (O : OverSets G card sets) where
-  node-within : (u i : ℕ) → placeOf card u ≡ i → i ≤ length sets → u < (length sets + 1) * P
-  node-within u i e h = node-below s i u h (place-high s u i e)
+  node-within : (u i : ℕ) → positionOf card u ≡ i → i ≤ length sets → u < (length sets + 1) * P
+  node-within u i e h = node-below s i u h (node-high s u i e)
 
   pub ending-within : (u : ℕ) (c : costs .Cost) → G .ending u ≡ some c → u < (length sets + 1) * P
   ending-within u c h = node-within u (length sets) (O .ends u c h) (omega arith)
 
   pub edge-within : (u : ℕ) (p : Pair) (e : Edge (costs .Cost)) → G .edge u p ≡ some e → u < (length sets + 1) * P
-  edge-within u p e h = node-within u (placeOf card u) refl (go (O .letters u p e h) (O .letters u p e h .pair .input-there))
+  edge-within u p e h = node-within u (positionOf card u) refl (go (O .letters u p e h) (O .letters u p e h .pair .input-there))
     where
       go : {i v : ℕ} → LetterAt card sets i p v → (p .input ≡ emptySymbol) ⊎ ((p .input ≢ emptySymbol) × (member (getD sets i 0) (p .input) ≡ true)) → i ≤ length sets
       go l (inl z) = l .stays z .0
@@ -90,8 +90,8 @@ module _ {card sets : List ℕ} {P : ℕ} (s : Setting card sets P) (ranking : L
 
   -- ---- labels done by two numbers are done by six counts
   pub ranked-done : {ws : List ℕ} → WeightsOf (stateCounts (machinesOf card)) ws → RankedWeights (sixPlaces ranking) ws → {M : Labels (rankedCosts 1)} (xs : List ℕ)
-      → Done (cellGraph ws card sets) (placeOf card) M 0 → ((u : ℕ) → M u ≡ packedPath countsPacking (labelOf xs u)) → ((u : ℕ) (c : Ranked 6) → labelOf xs u ≡ some c → AllShort 6 c)
-      → Done (engineGraph (machinesOf card) ranking sets) (placeOf card) (labelOf xs) 0
+      → Done (cellGraph ws card sets) (positionOf card) M 0 → ((u : ℕ) → M u ≡ packedPath countsPacking (labelOf xs u)) → ((u : ℕ) (c : Ranked 6) → labelOf xs u ≡ some c → AllShort 6 c)
+      → Done (engineGraph (machinesOf card) ranking sets) (positionOf card) (labelOf xs) 0
   unfolding countsPacking
   ranked-done {ws} W R {M} xs D same short = record {
     attained = attained;

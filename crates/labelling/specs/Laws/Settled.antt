@@ -11,10 +11,10 @@ use Rattle.paths.specs.Graph.{Alphabet, Edge, Graph, nodes, Run}
 use Rattle.paths.specs.Labels.{ClosedAt, Held, Attained, held→run}
 use Rattle.paths.specs.Positions.{Positioned, Entered, Done}
 use Rattle.product.specs.ProductGraph.{pairs}
-use Rattle.product.specs.Setting.{placeOf, Setting}
+use Rattle.product.specs.Setting.{positionOf, Setting}
 use Rattle.product.specs.Laws.Edges.{edge-of}
 use Rattle.product.specs.Laws.Letters.{OverSets, over-positioned, part-over, priced-over}
-use Rattle.product.specs.Laws.Setting.{few-codes, place-inside}
+use Rattle.product.specs.Laws.Setting.{few-codes, node-inside}
 use Rattle.cells.specs.declared.Cell.{Cell}
 use Rattle.cells.specs.Cells.{nowhere}
 use Rattle.cells.specs.Labels.{cellAt}
@@ -161,7 +161,7 @@ module _ (ws : List ℕ) {card sets : List ℕ} {P : ℕ} (s : Setting card sets
       (λ u p f h. let k = packed-from weightedPacking (cellGraph ws card sets .edge u p) f h in (k .edge, k .is, ap (λ (f : Edge (Ranked 1)). f .target) (k .packed-is)))
       (λ u x h. let k = path-of weightedPacking (cellGraph ws card sets .ending u) x h in (k .cost, k .is))
 
-  pub number-positioned : Positioned (numberGraph ws card sets) (placeOf card) (length sets)
+  pub number-positioned : Positioned (numberGraph ws card sets) (positionOf card) (length sets)
   number-positioned = over-positioned number-over
 
 -- ---- a cell as a label and as its numbers
@@ -185,7 +185,7 @@ label-cell own c z h =
 
 -- ---- a settled position
 
-module _ (ws : List ℕ) {card sets : List ℕ} {P i : ℕ} (s : Setting card sets P) {N : Lists} (F : Tied (numberGraph ws card sets) (placeOf card) i N (i * P) P)
+module _ (ws : List ℕ) {card sets : List ℕ} {P i : ℕ} (s : Setting card sets P) {N : Lists} (F : Tied (numberGraph ws card sets) (positionOf card) i N (i * P) P)
     {own own′ : List ℕ} (A : Position own P) (size : length own′ ≡ 256) (S : Settled N own own′) where
   -- an insertion leaves the last byte as it is
   insertion-whole : (u : ℕ) (p : ℕ × ℕ) (e : Edge (Ranked 1)) → insertionAt N u p ≡ some e → e .cost .0 % 256 ≡ 0
@@ -221,18 +221,18 @@ module _ (ws : List ℕ) {card sets : List ℕ} {P i : ℕ} (s : Setting card se
         ∙ cell-numbers (cellAt xs j) (last j b)
         ∙ sym (label-cell xs j z (omega (arith, few-codes s)))
 
-    elsewhere : (w : ℕ) → placeOf card w ≢ i → placed (i * P) P L (cellAt own′) w ≡ placed (i * P) P L (cellAt own) w
+    elsewhere : (w : ℕ) → positionOf card w ≢ i → placed (i * P) P L (cellAt own′) w ≡ placed (i * P) P L (cellAt own) w
     elsewhere w n = go (decLt w (i * P)) (decLt w (i * P + P))
       where
         go : Dec (w < i * P) → Dec (w < i * P + P) → placed (i * P) P L (cellAt own′) w ≡ placed (i * P) P L (cellAt own) w
         go (yes a) b = placed-before (i * P) P L (cellAt own′) w a ∙ sym (placed-before (i * P) P L (cellAt own) w a)
         go (no a) (no b) = placed-after (i * P) P L (cellAt own′) w (omega arith) ∙ sym (placed-after (i * P) P L (cellAt own) w (omega arith))
-        go (no a) (yes b) = absurd (n (place-inside s w i (omega arith) b))
+        go (no a) (yes b) = absurd (n (node-inside s w i (omega arith) b))
 
-    pub settled-position : Entered (cellGraph ws card sets) (placeOf card) (placed (i * P) P L (cellAt own)) i → Done (cellGraph ws card sets) (placeOf card) (placed (i * P) P L (cellAt own′)) i
+    pub settled-position : Entered (cellGraph ws card sets) (positionOf card) (placed (i * P) P L (cellAt own)) i → Done (cellGraph ws card sets) (positionOf card) (placed (i * P) P L (cellAt own′)) i
     settled-position E =
         unpacked-done weightedPacking (cellGraph ws card sets) (numberGraph ws card sets) (number-packs ws card sets) all-short
-        (settled-done (numberGraph ws card sets) (placeOf card) F own own′ S
+        (settled-done (numberGraph ws card sets) (positionOf card) F own own′ S
         (holds own (A .size) (λ c b h. A .labels c b .last))
         (holds own′ size settled-last)
         (λ w n. ap (packedPath weightedPacking) (elsewhere w n))

@@ -10,11 +10,11 @@ use Rattle.paths.specs.Graph.{Edge, EdgeTo}
 use Rattle.product.specs.Nodes.{stateCounts, product, statesAt}
 use Rattle.product.specs.ProductGraph.{Move, move, pricedMove}
 use Rattle.product.specs.Codes.{movedBy}
-use Rattle.product.specs.Setting.{placeOf, Setting}
+use Rattle.product.specs.Setting.{positionOf, Setting}
 use Rattle.product.specs.Laws.Codes.{insertion-move}
 use Rattle.product.specs.Laws.Edges.{moved, step-marks-bound}
 use Rattle.product.specs.Laws.Letters.{LetterAt, letter-at}
-use Rattle.product.specs.Laws.Setting.{machines-sound, symbols-few, node-place, place-low, place-high}
+use Rattle.product.specs.Laws.Setting.{machines-sound, symbols-few, node-position, node-low, node-high}
 use Rattle.tables.specs.Places.{markNumber}
 use Rattle.tables.specs.Laws.Cards.{card-machines}
 use Rattle.tables.specs.Laws.Packing.{six-number}
@@ -24,7 +24,7 @@ use Rattle.cells.specs.Labels.{cellAt}
 use Rattle.cells.specs.Trying.{labelFrom, cellPrice}
 use Rattle.cells.specs.Laws.Weighed.{weighed-whole}
 use Rattle.columns.specs.Prepared.{NoSteps, Covered, Prepared}
-use Rattle.settling.specs.Prices.{SixWeights, RankedIf, marksPrice, mostPrice, insertionCost, rankedHighs, rankedLows}
+use Rattle.settling.specs.Prices.{SixWeights, marksPrice, mostPrice, insertionCost, rankedHighs, rankedLows, lowsBy}
 use Rattle.settling.specs.Insertions.{codeIn, isListed, listsOf}
 use Rattle.settling.specs.Labels.{labelOf}
 use Rattle.settling.specs.Settling.{Fits, SettlePre}
@@ -121,33 +121,33 @@ module _ {card sets : List ℕ} {P : ℕ} (s : Setting card sets P) (i : ℕ) (i
         ap (λ (o : Option Move). packedEdge weightedPacking (pricedMove (cellPrice ws) sets (machinesOf card) o)) (inserting c y b n ∙ ap (movedBy (i * P)) e)
         ∙ ap {B = Option (Edge (Ranked 1))} (λ (k : Ranked 1). some (record { target = i * P + w .target; cost = k })) price-is
 
-  module _ (ws : List ℕ) {places highs lows entries ends steps : List ℕ} {W kept : ℕ} (ranked : Bool) (Z : WeightsOf (stateCounts (machinesOf card)) ws) (T : SamePrices places highs lows ws)
+  module _ (ws : List ℕ) {places highs entries ends steps : List ℕ} {W kept : ℕ} (ranked : Bool) (Z : WeightsOf (stateCounts (machinesOf card)) ws) (T : SamePrices places highs (lowsBy ranked) ws)
       (X : Prepared (machinesOf card) 0 W steps kept) (Y : Listed (machinesOf card) places kept entries ends) where
     -- a kept output is a symbol
     kept-symbol : (y : ℕ) → member kept y ≡ true → y ≢ emptySymbol
     kept-symbol y m q = clash m (ap (member kept) q ∙ X .no-pair refl)
 
-    edges : (v at : ℕ) → isListed ends v at ≡ true → EdgeTo (numberGraph ws card sets) (i * P + codeIn (getD entries at 0)) (i * P + v) (edgeOf (listsOf entries ends highs lows ranked) (v, at) .cost)
+    edges : (v at : ℕ) → isListed ends v at ≡ true → EdgeTo (numberGraph ws card sets) (i * P + codeIn (getD entries at 0)) (i * P + v) (edgeOf (listsOf entries ends highs ranked) (v, at) .cost)
     edges v at h =
         let I = Y .entry v at h in
         record {
           letter = pairOf emptySymbol (I .output);
-          to = insertionEdge (i * P) places highs lows (I .move);
+          to = insertionEdge (i * P) places highs (lowsBy ranked) (I .move);
           edge-is = insertion-is ws (Z .whole) T (codeIn (getD entries at 0)) (I .output) (I .move) (omega (arith, Y .from v at h, s .states)) (kept-symbol (I .output) (I .is-kept)) (I .is);
           target-is = ap (λ (n : ℕ). i * P + n) (I .target-is);
-          cost-is = ap (insertionCost highs lows) (sym (I .marks-are));
+          cost-is = ap (insertionCost highs (lowsBy ranked)) (sym (I .marks-are));
         }
 
     -- an edge between two codes is an insertion, and a kept output has the same one
-    all : (j v : ℕ) (p : Pair) (e : Edge (Ranked 1)) → j < P → v < P → j ≢ v → numberGraph ws card sets .edge (i * P + j) p ≡ some e → e .target ≡ i * P + v → Entry (listsOf entries ends highs lows ranked) j v (e .cost)
+    all : (j v : ℕ) (p : Pair) (e : Edge (Ranked 1)) → j < P → v < P → j ≢ v → numberGraph ws card sets .edge (i * P + j) p ≡ some e → e .target ≡ i * P + v → Entry (listsOf entries ends highs ranked) j v (e .cost)
     all j v p e a b n h t = step (insertionStep (machinesOf card) j (p .output)) refl
       where
         l : LetterAt card sets i p (e .target)
-        l = letter-at (number-over ws s) (i * P + j) p e i (node-place s i j a) h
+        l = letter-at (number-over ws s) (i * P + j) p e i (node-position s i j a) h
 
         no-input : (p .input ≡ emptySymbol) ⊎ ((p .input ≢ emptySymbol) × (member (getD sets i 0) (p .input) ≡ true)) → p .input ≡ emptySymbol
         no-input (inl z) = z
-        no-input (inr z) = absurd (omega (arith, l .leaves (z .0) .1, ap (placeOf card) t, node-place s i v b))
+        no-input (inr z) = absurd (omega (arith, l .leaves (z .0) .1, ap (positionOf card) t, node-position s i v b))
 
         letter-is : p ≡ pairOf emptySymbol (p .output)
         letter-is = let z = no-input (l .pair .input-there) in λ k. record { input = z k; output = p .output }
@@ -158,33 +158,33 @@ module _ {card sets : List ℕ} {P : ℕ} (s : Setting card sets P) (i : ℕ) (i
         edge-is : numberGraph ws card sets .edge (i * P + j) (pairOf emptySymbol (p .output)) ≡ some e
         edge-is = ap (numberGraph ws card sets .edge (i * P + j)) (sym letter-is) ∙ h
 
-        entry-at : (w : Move) → insertionEdge (i * P) places highs lows w ≡ e → w .target ≡ v → Place entries ends (w .target) j (markNumber places (w .marks)) → Entry (listsOf entries ends highs lows ranked) j v (e .cost)
+        entry-at : (w : Move) → insertionEdge (i * P) places highs (lowsBy ranked) w ≡ e → w .target ≡ v → Place entries ends (w .target) j (markNumber places (w .marks)) → Entry (listsOf entries ends highs ranked) j v (e .cost)
         entry-at w f z A = record {
           at = A .at;
           place = subst (λ (v : ℕ). isListed ends v (A .at) ≡ true) z (A .listed);
           from = A .from-is;
-          cost = inr (ap (insertionCost highs lows) (A .marks-are) ∙ ap (λ (f : Edge (Ranked 1)). f .cost) f);
+          cost = inr (ap (insertionCost highs (lowsBy ranked)) (A .marks-are) ∙ ap (λ (f : Edge (Ranked 1)). f .cost) f);
         }
 
-        entry-of : (w : Move) → insertionStep (machinesOf card) j (p .output) ≡ some w → (y : ℕ) → member kept y ≡ true → insertionStep (machinesOf card) j y ≡ some w → Entry (listsOf entries ends highs lows ranked) j v (e .cost)
+        entry-of : (w : Move) → insertionStep (machinesOf card) j (p .output) ≡ some w → (y : ℕ) → member kept y ≡ true → insertionStep (machinesOf card) j y ≡ some w → Entry (listsOf entries ends highs ranked) j v (e .cost)
         entry-of w k y m q =
-            let f : insertionEdge (i * P) places highs lows w ≡ e = cc (insertion-is ws (Z .whole) T j (p .output) w a symbol k, edge-is) in
+            let f : insertionEdge (i * P) places highs (lowsBy ranked) w ≡ e = cc (insertion-is ws (Z .whole) T j (p .output) w a symbol k, edge-is) in
             let z : w .target ≡ v = omega (arith, ap (λ (f : Edge (Ranked 1)). f .target) f, t) in
             entry-at w f z (Y .all j y w (omega (arith, s .states)) m q (λ r. n (sym r ∙ z)))
 
-        told : (w : Move) → insertionStep (machinesOf card) j (p .output) ≡ some w → (_≡_ {A = ℕ} 0 0 × (p .output ≡ 0)) ⊎ (NoSteps (machinesOf card) 0 (p .output) ⊎ Covered (machinesOf card) 0 kept (p .output)) → Entry (listsOf entries ends highs lows ranked) j v (e .cost)
+        told : (w : Move) → insertionStep (machinesOf card) j (p .output) ≡ some w → (_≡_ {A = ℕ} 0 0 × (p .output ≡ 0)) ⊎ (NoSteps (machinesOf card) 0 (p .output) ⊎ Covered (machinesOf card) 0 kept (p .output)) → Entry (listsOf entries ends highs ranked) j v (e .cost)
         told w k (inl z) = absurd (symbol (z .1))
         told w k (inr (inl z)) = absurd (Option·none-ne-some w (sym (z j) ∙ k))
         told w k (inr (inr C)) = entry-of w k (C .other) (C .is-kept) (C .same j (omega (arith, s .states)) ∙ k)
 
-        step : (o : Option Move) → insertionStep (machinesOf card) j (p .output) ≡ o → Entry (listsOf entries ends highs lows ranked) j v (e .cost)
+        step : (o : Option Move) → insertionStep (machinesOf card) j (p .output) ≡ o → Entry (listsOf entries ends highs ranked) j v (e .cost)
         step none k =
             absurd (Option·none-ne-some e (sym (ap (λ (o : Option Move). packedEdge weightedPacking (pricedMove (cellPrice ws) sets (machinesOf card) o)) (inserting j (p .output) a symbol ∙ ap (movedBy (i * P)) k)) ∙ edge-is))
         step (some w) k = told w k (X .covers (p .output) (omega (arith, l .pair .output-there, symbols-few s)))
 
-    pub tied : Tied (numberGraph ws card sets) (placeOf card) i (listsOf entries ends highs lows ranked) (i * P) P
+    pub tied : Tied (numberGraph ws card sets) (positionOf card) i (listsOf entries ends highs ranked) (i * P) P
     tied = record {
-      code = λ u e. (u - i * P, omega (arith, place-low s u i e, place-high s u i e), omega (arith, place-low s u i e));
+      code = λ u e. (u - i * P, omega (arith, node-low s u i e, node-high s u i e), omega (arith, node-low s u i e));
       to-below = λ v at h. omega (arith, Y .to v at h, s .states);
       edges = edges;
       all = all;
@@ -192,11 +192,11 @@ module _ {card sets : List ℕ} {P : ℕ} (s : Setting card sets P) (i : ℕ) (i
 
 -- ---- what settling asks
 
-module _ {highs lows own : List ℕ} {P : ℕ} (ranked : Bool) (few : P ≤ 128) (A : Position own P) where
+module _ {highs own : List ℕ} {P : ℕ} (ranked : Bool) (few : P ≤ 128) (A : Position own P) where
   -- the lists, their weights, and labels with room
-  pub settle-ready : {ms : List Machine} {places entries ends : List ℕ} {kept : ℕ} → Listed ms places kept entries ends → P ≡ product (stateCounts ms) → SixWeights highs → SixWeights lows → RankedIf ranked highs lows
-      → ((c : ℕ) (x : Ranked 1) → c < P → labelOf own c ≡ some x → Fits (listsOf entries ends highs lows ranked) 128 x) → SettlePre (listsOf entries ends highs lows ranked) own P
-  settle-ready Y states h l r fits = record {
+  pub settle-ready : {ms : List Machine} {places entries ends : List ℕ} {kept : ℕ} → Listed ms places kept entries ends → P ≡ product (stateCounts ms) → SixWeights highs → (ranked ≡ true → highs ≡ rankedHighs)
+      → ((c : ℕ) (x : Ranked 1) → c < P → labelOf own c ≡ some x → Fits (listsOf entries ends highs ranked) 128 x) → SettlePre (listsOf entries ends highs ranked) own P
+  settle-ready Y states h r fits = record {
     size = A .size;
     sound = record {
       rising = Y .rising;
@@ -204,7 +204,6 @@ module _ {highs lows own : List ℕ} {P : ℕ} (ranked : Bool) (few : P ≤ 128)
       within = Y .within;
       from = λ v at p. omega (arith, Y .from v at p);
       highs-few = h;
-      lows-few = l;
       if-ranked = r;
     };
     few = few;
@@ -214,10 +213,10 @@ module _ {highs lows own : List ℕ} {P : ℕ} (ranked : Bool) (few : P ≤ 128)
   }
 
   -- the numbers of a label with room
-  pub settle-fits : (entries ends : List ℕ) {top : ℕ} → top ≤ nowhere → ((c : ℕ) (x : Ranked 1) → c < P → labelFrom (cellAt own c) ≡ some x → LabelRoom (mostPrice highs) (mostPrice lows) top x)
-      → (c : ℕ) (x : Ranked 1) → c < P → labelOf own c ≡ some x → Fits (listsOf entries ends highs lows ranked) 128 x
+  pub settle-fits : (entries ends : List ℕ) {top : ℕ} → top ≤ nowhere → ((c : ℕ) (x : Ranked 1) → c < P → labelFrom (cellAt own c) ≡ some x → LabelRoom (mostPrice highs) (mostPrice (lowsBy ranked)) top x)
+      → (c : ℕ) (x : Ranked 1) → c < P → labelOf own c ≡ some x → Fits (listsOf entries ends highs ranked) 128 x
   unfolding weightedPacking
   settle-fits entries ends t room c x b l =
       let k = path-of weightedPacking (labelFrom (cellAt own c)) x (cell-numbers (cellAt own c) (λ _. A .labels c b .last) ∙ sym (label-cell own c (A .size) (omega arith)) ∙ l) in
       let r = room c (k .cost) b (k .is) in
-      subst (λ (x : Ranked 1). Fits (listsOf entries ends highs lows ranked) 128 x) (k .packed-is) (record { high = omega (arith, r .high); low = omega (arith, r .low) })
+      subst (λ (x : Ranked 1). Fits (listsOf entries ends highs ranked) 128 x) (k .packed-is) (record { high = omega (arith, r .high); low = omega (arith, r .low) })

@@ -1,4 +1,4 @@
--- What joining and trying together mean: the labels of a position after the pairs with one symbol and four outputs were tried at each of its codes.
+-- What adding and trying together mean: the labels of a position after the pairs with one symbol and four outputs were tried at each of its codes.
 use Rattle.basics.specs.Words.{_≡_, true, List, some, _≢_, ℕ, suc, _+_, _*_, _<_, _≤_, arith, getD, suc-mul, mul-le-mul-right, member}
 use Rattle.machine.specs.declared.Pair.{Pair}
 use Rattle.machine.specs.Symbols.{emptySymbol}
@@ -15,7 +15,7 @@ use Rattle.tables.specs.Tables.{CardMachines}
 use Rattle.cells.specs.declared.Groups.{Groups}
 use Rattle.cells.specs.Cells.{nowhere}
 use Rattle.cells.specs.Columns.{HoldsColumns, WeightsOf}
-use Rattle.cells.specs.Groups.{GroupsOf, FourJoined}
+use Rattle.cells.specs.Groups.{GroupsOf, FourAdded}
 use Rattle.cells.specs.Labels.{cellAt}
 use Rattle.cells.specs.Trying.{labelFrom, OwnCell, nextCell, cellPrice}
 use Rattle.cells.specs.Laws.Groups.{all-codes}
@@ -25,7 +25,7 @@ use Rattle.lanes.specs.Trying.{wayBy, TriedIn}
 use Rattle.lanes.specs.Laws.Position.{DidTo, Lanes, own-least, four-entered}
 
 module _ {S : ℕ} {ms : List Machine} {x W : ℕ} {steps four ws high low : List ℕ} {g : Groups} (M : CardMachines S ms) (H : HoldsColumns ms x W steps) (Z : WeightsOf (stateCounts ms) ws)
-    (G : GroupsOf (stateCounts ms) g) (back-some : 0 < g .back) (J : FourJoined steps four (stateCounts ms) ws high low W g) (outputs : (j : ℕ) → getD four j 0 ≤ 64) where
+    (G : GroupsOf (stateCounts ms) g) (back-some : 0 < g .back) (J : FourAdded steps four (stateCounts ms) ws high low W g) (outputs : (j : ℕ) → getD four j 0 ≤ 64) where
   module _ (sets next : List ℕ) (i : ℕ) (reads : x ≢ emptySymbol) (there : member (getD sets i 0) x ≡ true) (nexts : (t : ℕ) → t < product (stateCounts ms) → OwnCell (nextCell next t))
       (fits : (c j : ℕ) → c < product (stateCounts ms) → j < 4 → (v : Move) → codeStep ms c (lanePair x four j) ≡ some v → nextCell next (v .target) .high < nowhere → wayBy next (laneSum high g c j) (laneSum low g c j) .high < nowhere) where
     lanes : Lanes ws next (product (stateCounts ms)) (i * product (stateCounts ms)) ((i + 1) * product (stateCounts ms)) (lanePair x four) (λ c j. codeStep ms c (lanePair x four j)) (laneSum high g) (laneSum low g) (productGraph (cellPrice ws) sets ms)

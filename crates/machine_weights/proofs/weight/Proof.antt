@@ -4,10 +4,10 @@ use Rattle.machine_weights.proofs.weight.Statement.{statement}
 use Rattle.machine_weights.proofs.weight.Tie as tie
 
 abbrev Inv-loop : tie.InvT-loop
-Inv-loop places numbers machine sum₀ i₀ sum i = SumTo places numbers machine i sum
+Inv-loop places weights machine sum₀ i₀ sum i = SumTo places weights machine i sum
 
 abbrev μ-loop : tie.MeasureT-loop
-μ-loop places numbers machine sum₀ i₀ sum i = 6 - i
+μ-loop places weights machine sum₀ i₀ sum i = 6 - i
 
 loop-holds : tie.Need-loop-holds Inv-loop μ-loop
 loop-holds c = sum-start

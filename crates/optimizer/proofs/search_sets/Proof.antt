@@ -1,6 +1,6 @@
 -- `search_sets` meets its contract.
 use borrow.Author.Needs.{needs}
-use Rattle.readout.proofs.Stages.{read-out-pre, searched-by}
+use Rattle.readout.proofs.Reading.{read-out-pre, searched-by}
 use Rattle.optimizer.proofs.search_sets.Statement.{statement}
 use Rattle.optimizer.proofs.search_sets.Tie as tie
 

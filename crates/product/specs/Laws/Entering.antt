@@ -11,8 +11,8 @@ use Rattle.paths.specs.Graph.{Edge, Graph}
 use Rattle.paths.specs.Improvement.{Improves}
 use Rattle.paths.specs.Positions.{Done, Entering, Entered, MoreLeaving, entering-start, entering-skip, entering-end, entering-done}
 use Rattle.product.specs.ProductGraph.{pairs}
-use Rattle.product.specs.Setting.{placeOf, Setting}
-use Rattle.product.specs.Laws.Setting.{node-place, place-low, place-high}
+use Rattle.product.specs.Setting.{positionOf, Setting}
+use Rattle.product.specs.Laws.Setting.{node-position, node-low, node-high}
 use Rattle.product.specs.Laws.Letters.{LetterAt, OverSets, letter-at, over-positioned}
 
 -- the pairs whose in is not left were looked at
@@ -27,7 +27,7 @@ module _ {costs : Costs} {G : Graph costs pairs} {card sets : List ℕ} {P : ℕ
   -- ---- the pairs that leave a position
 
   -- one pair more
-  pub one-more : (i left x z y : ℕ) → MoreLeaving G (placeOf card) i (TriedBefore left x (i * P + z) y) (TriedBefore left x (i * P + z) (y + 1)) (λ w q f. (w ≡ i * P + z) × (q ≡ record { input = x; output = y }))
+  pub one-more : (i left x z y : ℕ) → MoreLeaving G (positionOf card) i (TriedBefore left x (i * P + z) y) (TriedBefore left x (i * P + z) (y + 1)) (λ w q f. (w ≡ i * P + z) × (q ≡ record { input = x; output = y }))
   one-more i left x z y w q f a b (inl t) e = inl (inl t)
   one-more i left x z y w q f a b (inr t) e = node (t .1)
     where
@@ -41,10 +41,10 @@ module _ {costs : Costs} {G : Graph costs pairs} {card sets : List ℕ} {P : ℕ
 
   module _ {K L : Labels costs} (i left : ℕ) where
     -- every pair of the node
-    pub node-tried : (x z y : ℕ) → symbolCount card < y → Entering G (placeOf card) K L i (λ _. ⊥) (TriedBefore left x (i * P + z) y) → Entering G (placeOf card) K L i (λ _. ⊥) (TriedBefore left x (i * P + (z + 1)) 0)
-    node-tried x z y past S = entering-skip G (placeOf card) S (λ _. ⊥) (TriedBefore left x (i * P + (z + 1)) 0) (λ u c a t e. t) (λ w q f c a b t e l. go w q f a e t)
+    pub node-tried : (x z y : ℕ) → symbolCount card < y → Entering G (positionOf card) K L i (λ _. ⊥) (TriedBefore left x (i * P + z) y) → Entering G (positionOf card) K L i (λ _. ⊥) (TriedBefore left x (i * P + (z + 1)) 0)
+    node-tried x z y past S = entering-skip G (positionOf card) S (λ _. ⊥) (TriedBefore left x (i * P + (z + 1)) 0) (λ u c a t e. t) (λ w q f c a b t e l. go w q f a e t)
       where
-        go : (w : ℕ) (q : Pair) (f : Edge (costs .Cost)) → placeOf card w ≡ i → G .edge w q ≡ some f → TriedBefore left x (i * P + (z + 1)) 0 w q → TriedBefore left x (i * P + z) y w q
+        go : (w : ℕ) (q : Pair) (f : Edge (costs .Cost)) → positionOf card w ≡ i → G .edge w q ≡ some f → TriedBefore left x (i * P + (z + 1)) 0 w q → TriedBefore left x (i * P + z) y w q
         go w q f a e (inl t) = inl t
         go w q f a e (inr t) = node (t .1)
           where
@@ -56,52 +56,52 @@ module _ {costs : Costs} {G : Graph costs pairs} {card sets : List ℕ} {P : ℕ
             node (inl h) = at h (decLt w (i * P + z))
             node (inr h) = absurd (omega (arith, h .1))
 
-    pub symbol-tried : (x after : ℕ) → ((n : ℕ) → member after n ≡ (member left n && not (eqb n x))) → Entering G (placeOf card) K L i (λ _. ⊥) (TriedBefore left x (i * P + P) 0) → Entering G (placeOf card) K L i (λ _. ⊥) (NotLeft after)
-    symbol-tried x after f S = entering-skip G (placeOf card) S (λ _. ⊥) (NotLeft after) (λ u c a t e. t) (λ w q g c a b t e l. last w q a t)
+    pub symbol-tried : (x after : ℕ) → ((n : ℕ) → member after n ≡ (member left n && not (eqb n x))) → Entering G (positionOf card) K L i (λ _. ⊥) (TriedBefore left x (i * P + P) 0) → Entering G (positionOf card) K L i (λ _. ⊥) (NotLeft after)
+    symbol-tried x after f S = entering-skip G (positionOf card) S (λ _. ⊥) (NotLeft after) (λ u c a t e. t) (λ w q g c a b t e l. last w q a t)
       where
-        last : (w : ℕ) (q : Pair) → placeOf card w ≡ i → member after (q .input) ≡ false → TriedBefore left x (i * P + P) 0 w q
+        last : (w : ℕ) (q : Pair) → positionOf card w ≡ i → member after (q .input) ≡ false → TriedBefore left x (i * P + P) 0 w q
         last w q a t = go (eqb (q .input) x) refl
           where
             go : (b : Bool) → eqb (q .input) x ≡ b → TriedBefore left x (i * P + P) 0 w q
-            go true e = inr (eqb-true (q .input) x e, inl (place-high s w i a))
+            go true e = inr (eqb-true (q .input) x e, inl (node-high s w i a))
             go false e = inl (sym (f (q .input) ∙ ap (λ (b : Bool). member left (q .input) && not b) e ∙ with-true (member left (q .input))) ∙ t)
 
   -- all symbols of the set
-  pub symbols-begun : {K : Labels costs} {i : ℕ} → Done G (placeOf card) K (suc i) → Entering G (placeOf card) K K i (λ _. ⊥) (NotLeft (getD sets i 0))
-  symbols-begun {i = i} d = entering-skip G (placeOf card) (entering-start G (placeOf card) d) (λ _. ⊥) (NotLeft (getD sets i 0)) (λ u c a t e. t) (λ w q f c a b t e l. go q f b t (letter-at O w q f i a e) (letter-at O w q f i a e .pair .input-there))
+  pub symbols-begun : {K : Labels costs} {i : ℕ} → Done G (positionOf card) K (suc i) → Entering G (positionOf card) K K i (λ _. ⊥) (NotLeft (getD sets i 0))
+  symbols-begun {i = i} d = entering-skip G (positionOf card) (entering-start G (positionOf card) d) (λ _. ⊥) (NotLeft (getD sets i 0)) (λ u c a t e. t) (λ w q f c a b t e l. go q f b t (letter-at O w q f i a e) (letter-at O w q f i a e .pair .input-there))
     where
-      go : (q : Pair) (f : Edge (costs .Cost)) → placeOf card (f .target) ≢ i → member (getD sets i 0) (q .input) ≡ false → LetterAt card sets i q (f .target) → (q .input ≡ emptySymbol) ⊎ ((q .input ≢ emptySymbol) × (member (getD sets i 0) (q .input) ≡ true)) → ⊥
+      go : (q : Pair) (f : Edge (costs .Cost)) → positionOf card (f .target) ≢ i → member (getD sets i 0) (q .input) ≡ false → LetterAt card sets i q (f .target) → (q .input ≡ emptySymbol) ⊎ ((q .input ≢ emptySymbol) × (member (getD sets i 0) (q .input) ≡ true)) → ⊥
       go q f b t l (inl e) = b (l .stays e .1)
       go q f b t l (inr n) = clash (n .1) t
 
-  pub symbols-entered : {K L : Labels costs} {i : ℕ} → i < length sets → Done G (placeOf card) K (suc i) → Entering G (placeOf card) K L i (λ _. ⊥) (NotLeft 0) → Entered G (placeOf card) L i
-  symbols-entered h d S = entering-done G (placeOf card) (over-positioned O) d S (λ u c a e. omega (arith, O .ends u c e)) (λ u p e a b g. no-member (p .input))
+  pub symbols-entered : {K L : Labels costs} {i : ℕ} → i < length sets → Done G (positionOf card) K (suc i) → Entering G (positionOf card) K L i (λ _. ⊥) (NotLeft 0) → Entered G (positionOf card) L i
+  symbols-entered h d S = entering-done G (positionOf card) (over-positioned O) d S (λ u c a e. omega (arith, O .ends u c e)) (λ u p e a b g. no-member (p .input))
 
   -- ---- the endings of the last position
 
-  pub endings-begun : {K : Labels costs} → Done G (placeOf card) K (suc (length sets)) → Entering G (placeOf card) K K (length sets) (λ w. w < length sets * P) (λ _ _. ⊥)
-  endings-begun d = entering-skip G (placeOf card) (entering-start G (placeOf card) d) (λ w. w < length sets * P) (λ _ _. ⊥) (λ u c a x e. omega (arith, place-low s u (length sets) a)) (λ w q f c a b x e l. x)
+  pub endings-begun : {K : Labels costs} → Done G (positionOf card) K (suc (length sets)) → Entering G (positionOf card) K K (length sets) (λ w. w < length sets * P) (λ _ _. ⊥)
+  endings-begun d = entering-skip G (positionOf card) (entering-start G (positionOf card) d) (λ w. w < length sets * P) (λ _ _. ⊥) (λ u c a x e. omega (arith, node-low s u (length sets) a)) (λ w q f c a b x e l. x)
 
-  module _ {K L : Labels costs} {z : ℕ} (k : z < P) (S : Entering G (placeOf card) K L (length sets) (λ w. w < length sets * P + z) (λ _ _. ⊥)) where
-    pub no-ending-tried : G .ending (length sets * P + z) ≡ none → Entering G (placeOf card) K L (length sets) (λ w. w < length sets * P + (z + 1)) (λ _ _. ⊥)
-    no-ending-tried n = entering-skip G (placeOf card) S (λ w. w < length sets * P + (z + 1)) (λ _ _. ⊥) (λ w c a x h. go w c x h (ℕ-discrete w (length sets * P + z))) (λ w q f c a b x e l. x)
+  module _ {K L : Labels costs} {z : ℕ} (k : z < P) (S : Entering G (positionOf card) K L (length sets) (λ w. w < length sets * P + z) (λ _ _. ⊥)) where
+    pub no-ending-tried : G .ending (length sets * P + z) ≡ none → Entering G (positionOf card) K L (length sets) (λ w. w < length sets * P + (z + 1)) (λ _ _. ⊥)
+    no-ending-tried n = entering-skip G (positionOf card) S (λ w. w < length sets * P + (z + 1)) (λ _ _. ⊥) (λ w c a x h. go w c x h (ℕ-discrete w (length sets * P + z))) (λ w q f c a b x e l. x)
       where
         go : (w : ℕ) (c : costs .Cost) → w < length sets * P + (z + 1) → G .ending w ≡ some c → Dec (w ≡ length sets * P + z) → w < length sets * P + z
         go w c x h (no n) = omega arith
         go w c x h (yes q) = let e : G .ending (length sets * P + z) ≡ some c = rw (← q) h in absurd (Option·none-ne-some c (sym n ∙ e))
 
-    pub ending-tried : {M : Labels costs} (c : costs .Cost) → G .ending (length sets * P + z) ≡ some c → Improves (costs ._≺_) L (length sets * P + z) c M → Entering G (placeOf card) K M (length sets) (λ w. w < length sets * P + (z + 1)) (λ _ _. ⊥)
-    ending-tried c e I = entering-end G (placeOf card) S (λ w. w < length sets * P + (z + 1)) (length sets * P + z) c (node-place s (length sets) z k) e I (λ w x. at w x (ℕ-discrete w (length sets * P + z)))
+    pub ending-tried : {M : Labels costs} (c : costs .Cost) → G .ending (length sets * P + z) ≡ some c → Improves (costs ._≺_) L (length sets * P + z) c M → Entering G (positionOf card) K M (length sets) (λ w. w < length sets * P + (z + 1)) (λ _ _. ⊥)
+    ending-tried c e I = entering-end G (positionOf card) S (λ w. w < length sets * P + (z + 1)) (length sets * P + z) c (node-position s (length sets) z k) e I (λ w x. at w x (ℕ-discrete w (length sets * P + z)))
       where
         at : (w : ℕ) → w < length sets * P + (z + 1) → Dec (w ≡ length sets * P + z) → (w < length sets * P + z) ⊎ (w ≡ length sets * P + z)
         at w x (yes q) = inr q
         at w x (no n) = inl (omega arith)
 
-  pub endings-entered : {K L : Labels costs} → Done G (placeOf card) K (suc (length sets)) → Entering G (placeOf card) K L (length sets) (λ w. w < length sets * P + P) (λ _ _. ⊥) → Entered G (placeOf card) L (length sets)
+  pub endings-entered : {K L : Labels costs} → Done G (positionOf card) K (suc (length sets)) → Entering G (positionOf card) K L (length sets) (λ w. w < length sets * P + P) (λ _ _. ⊥) → Entered G (positionOf card) L (length sets)
   endings-entered d S =
-      entering-done G (placeOf card) (over-positioned O) d S (λ u c a e. place-high s u (length sets) a)
+      entering-done G (positionOf card) (over-positioned O) d S (λ u c a e. node-high s u (length sets) a)
       (λ u p e a b g. leaves b (letter-at O u p e (length sets) a g) (letter-at O u p e (length sets) a g .pair .input-there))
     where
-      leaves : {p : Pair} {v : ℕ} → placeOf card v ≢ length sets → LetterAt card sets (length sets) p v → (p .input ≡ emptySymbol) ⊎ ((p .input ≢ emptySymbol) × (member (getD sets (length sets) 0) (p .input) ≡ true)) → ⊥
+      leaves : {p : Pair} {v : ℕ} → positionOf card v ≢ length sets → LetterAt card sets (length sets) p v → (p .input ≡ emptySymbol) ⊎ ((p .input ≢ emptySymbol) × (member (getD sets (length sets) 0) (p .input) ≡ true)) → ⊥
       leaves b l (inl e) = b (l .stays e .1)
       leaves b l (inr n) = omega (arith, l .leaves (n .0) .0)

@@ -4,7 +4,7 @@ use Rattle.card.specs.Layout.{symbolCount}
 use Rattle.card.specs.Card.{machinesOf}
 use Rattle.card.specs.Accepted.{accepted}
 use Rattle.paths.specs.Numbering.{position-is, position-low, position-high}
-use Rattle.product.specs.Setting.{placeOf, Setting}
+use Rattle.product.specs.Setting.{positionOf, Setting}
 use Rattle.product.specs.Laws.JointStep.{AllSound}
 use Rattle.product.specs.Laws.Accepted.{accepted-machines}
 
@@ -28,14 +28,14 @@ module _ {card sets : List ℕ} {P : ℕ} (s : Setting card sets P) where
   pub node-below : (i u : ℕ) → i ≤ length sets → u < i * P + P → u < (length sets + 1) * P
   node-below i u a b = let m : suc i * P ≤ (length sets + 1) * P = mul-le-mul-right P (omega arith) in omega (arith, suc-mul i P)
 
-  pub node-place : (i z : ℕ) → z < P → placeOf card (i * P + z) ≡ i
-  node-place i z h = rw (← (s .states)) (position-is P some-code i z h)
+  pub node-position : (i z : ℕ) → z < P → positionOf card (i * P + z) ≡ i
+  node-position i z h = rw (← (s .states)) (position-is P some-code i z h)
 
-  pub place-low : (u i : ℕ) → placeOf card u ≡ i → i * P ≤ u
-  place-low u i e = position-low P some-code u i (rw (s .states) e)
+  pub node-low : (u i : ℕ) → positionOf card u ≡ i → i * P ≤ u
+  node-low u i e = position-low P some-code u i (rw (s .states) e)
 
-  pub place-high : (u i : ℕ) → placeOf card u ≡ i → u < i * P + P
-  place-high u i e = position-high P some-code u i (rw (s .states) e)
+  pub node-high : (u i : ℕ) → positionOf card u ≡ i → u < i * P + P
+  node-high u i e = position-high P some-code u i (rw (s .states) e)
 
-  pub place-inside : (u i : ℕ) → i * P ≤ u → u < i * P + P → placeOf card u ≡ i
-  place-inside u i h k = let q : i * P + (u - i * P) ≡ u = omega arith in rw q at (node-place i (u - i * P) (omega arith))
+  pub node-inside : (u i : ℕ) → i * P ≤ u → u < i * P + P → positionOf card u ≡ i
+  node-inside u i h k = let q : i * P + (u - i * P) ≡ u = omega arith in rw q at (node-position i (u - i * P) (omega arith))

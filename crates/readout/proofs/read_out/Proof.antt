@@ -4,20 +4,21 @@ use Rattle.refusals.specs.Refusals.{checkedNumber}
 use Rattle.refusals.proofs.Refusals.{refused-number}
 use Rattle.product.specs.ProductGraph.{cardStart}
 use Rattle.tables.specs.Work.{labelOf}
+use Rattle.tables.proofs.Prefix.{front-fits}
 use Rattle.readout.specs.Searching.{labelRefusal}
 use Rattle.readout.proofs.Labels.{start-fits}
-use Rattle.readout.proofs.Stages.{start-there, at-start, refused-answered, walked-few, best-answered}
+use Rattle.readout.proofs.Reading.{start-there, at-start, refused-answered, walked-few, best-answered}
 use Rattle.readout.proofs.read_out.Statement.{statement}
 use Rattle.readout.proofs.read_out.Tie as tie
 
 start-node-requires : tie.Need-start-node-requires
-start-node-requires c κs = let s = c .before .before .before .before .before in (s .pre .0 .setting .accepted, s .pre .2)
+start-node-requires c κs = let s = c .before .before .before .before .before in front-fits (s .args .card .now) (s .pre .0 .setting .accepted) (s .args .grid .counts) (s .args .grid .machines) (s .pre .2 .machines) (s .pre .2 .counts)
 
 -- the start has its numbers in the work slice
 check-best-requires : tie.Need-check-best-requires
 check-best-requires c κs =
     let s = c .before .before .before .before .before .before in
-    omega (arith, start-there (s .pre .0) (s .pre .1), c .start-node .ensures)
+    omega (arith, start-there (s .pre .0) (s .pre .1), c .start-node .ensures _ (s .pre .2))
 
 returns : tie.Need-returns
 returns c =
@@ -27,7 +28,7 @@ returns c =
     let s = n .before .before .before .before .before .before in
     let m = c .before .number in
     refused-answered (s .pre .0) (s .pre .1) (s .args .answer .now) (m .result) (c .refused .result)
-    (at-start (s .pre .0) (s .pre .1) _ _ (n .start-node .ensures) (m .ensures ∙ k .check-best .ensures))
+    (at-start (s .pre .0) (s .pre .1) _ _ (n .start-node .ensures _ (s .pre .2)) (m .ensures ∙ k .check-best .ensures))
     (refused-number (t .1) (sym (m .ensures))) (c .refused .ensures)
 
 abbrev start : tie.After-enum-told → tie.Start
@@ -39,7 +40,7 @@ passes c =
     let k = c .before .before in
     let n = k .before in
     let s = start c in
-    sym (at-start (s .pre .0) (s .pre .1) _ _ (n .start-node .ensures) (k .check-best .ensures)) ∙ ap checkedNumber (c .enum-told .given .1)
+    sym (at-start (s .pre .0) (s .pre .1) _ _ (n .start-node .ensures _ (s .pre .2)) (k .check-best .ensures)) ∙ ap checkedNumber (c .enum-told .given .1)
 
 walk-ranked-requires : tie.Need-walk-ranked-requires
 walk-ranked-requires c κs = let s = start (c .before) in (record { sets-pre = s .pre .0; done = s .pre .1; start = start-fits _ _ _ (passes (c .before)) }, s .pre .2)

@@ -18,11 +18,11 @@ slice-aggregate-counts c = let s = start (c .before) in counts-length (s .pre .0
 ranked-weights-requires : tie.Need-ranked-weights-requires
 ranked-weights-requires c κs = let s = start (c .before) in (counts-some (s .pre .0 .sets-pre .setting .accepted) (s .pre .1), counts-ranked (label-pre (s .pre .0)) (s .pre .1))
 
-mul-numbers : tie.Need-mul-numbers
-mul-numbers c = let s = start (c .before .before .before) in omega (arith, machines-few (s .pre .0 .sets-pre .setting .accepted) (s .pre .1))
+mul-weights : tie.Need-mul-weights
+mul-weights c = let s = start (c .before .before .before) in omega (arith, machines-few (s .pre .0 .sets-pre .setting .accepted) (s .pre .1))
 
-array-share-prefix-numbers : tie.Need-array-share-prefix-numbers
-array-share-prefix-numbers c =
+array-share-prefix-weights : tie.Need-array-share-prefix-weights
+array-share-prefix-weights c =
     let w = c .before .ranked-weights in
     let s = start (c .before .before .before) in
     weights-fit (s .pre .0) (s .args .grid .counts) (s .args .grid .machines) (s .pre .1 .machines) (s .pre .1 .counts) (w .result) (w .ensures)
@@ -54,8 +54,8 @@ walk-ranked-spec =
     slice-aggregate-counts
     ranked-weights-requires
     (λ c. search needs)
-    mul-numbers
-    array-share-prefix-numbers
+    mul-weights
+    array-share-prefix-weights
     slice-aggregate-walk-2
     walk-requires
     (λ c. search needs)

@@ -11,14 +11,11 @@ Inv-loop work₀ ahead high low front back base stage size a₀ b₀ code₀ wor
 abbrev μ-loop : tie.MeasureT-loop
 μ-loop work₀ ahead high low front back base stage size a₀ b₀ code₀ work a b code = size - code
 
-mul-size : tie.Need-mul-size Inv-loop μ-loop
-mul-size c = omega (arith, c .before .before .before .before .pre .few)
-
 loop-holds : tie.Need-loop-holds Inv-loop μ-loop
 loop-holds c = (omega arith, codes-start, places-start (c .before .before .before .before .pre .some-back))
 
 mul-try-code : tie.Need-mul-try-code Inv-loop μ-loop
-mul-try-code c = omega (arith, front-is (c .before .before .loop .inv .2) (c .before .loop-test .taken), c .before .before .before .before .before .before .before .pre .small)
+mul-try-code c = omega (arith, front-is (c .before .before .loop .inv .2) (c .before .before .before .before .before .before .before .pre .size-is) (c .before .loop-test .taken), c .before .before .before .before .before .before .before .pre .small)
 
 add-try-code : tie.Need-add-try-code Inv-loop μ-loop
 add-try-code c = omega (arith, c .before .before .loop .inv .2 .within, c .before .before .before .before .before .before .before .pre .small)
@@ -42,7 +39,7 @@ add-b : tie.Need-add-b Inv-loop μ-loop
 add-b c = omega (arith, c .before .before .before .before .before .loop .inv .2 .within, c .before .before .before .before .before .before .before .before .before .before .pre .small)
 
 add-a : tie.Need-add-a Inv-loop μ-loop
-add-a c = omega (arith, front-is (c .before .before .before .before .before .before .loop .inv .2) (c .before .before .before .before .before .loop-test .taken), c .before .before .before .before .before .before .before .before .before .before .before .pre .small)
+add-a c = omega (arith, front-is (c .before .before .before .before .before .before .loop .inv .2) (c .before .before .before .before .before .before .before .before .before .before .before .pre .size-is) (c .before .before .before .before .before .loop-test .taken), c .before .before .before .before .before .before .before .before .before .before .before .pre .small)
 
 loop-less : tie.Need-loop-less Inv-loop μ-loop
 loop-less c = omega (arith, c .before .before .before .before .before .loop-test .taken)
@@ -76,7 +73,6 @@ try-four-spec =
     (tie.spec
     Inv-loop
     μ-loop
-    mul-size
     loop-holds
     mul-try-code
     add-try-code

@@ -32,7 +32,7 @@ spread-requires c κs =
     let at-loop-test = c .before .before .before .before .loop-test in
     let at-loop = c .before .before .before .before .before .loop in
     let entry = c .before .before .before .before .before .before .before .before in
-    (settling-ready (at-loop .inv .1) (entry .pre), at-take .ensures .size ∙ at-loop .inv .1 .bits, omega (arith, at-loop-test .taken, at-loop .inv .0))
+    record { codes = entry .args .size; given = settling-ready (at-loop .inv .1) (entry .pre); code = omega (arith, at-loop-test .taken, at-loop .inv .0); bits = at-take .ensures .size ∙ at-loop .inv .1 .bits }
 
 loop-less : tie.Need-loop-less Inv-loop μ-loop Inv-loop2 μ-loop2
 loop-less c = omega (arith, c .before .before .before .before .before .before .before .loop-test .taken)
@@ -43,7 +43,8 @@ loop-again c =
     let at-take = c .before .before .before .before .before .take in
     let at-loop-test = c .before .before .before .before .before .before .before .loop-test in
     let at-loop = c .before .before .before .before .before .before .before .before .loop in
-    (omega (arith, at-loop .inv .0), settling-step (at-loop .inv .1) (at-take .ensures) (at-spread .ensures) _ (λ w a n. omega (arith, a, n, at-loop-test .taken)))
+    let entry = c .before .before .before .before .before .before .before .before .before .before .before in
+    (omega (arith, at-loop .inv .0), settling-step (at-loop .inv .1) (entry .pre .from _) (at-take .ensures) (at-spread .ensures) _ (λ w a n. omega (arith, a, n, at-loop-test .taken)))
 
 loop2-holds : tie.Need-loop2-holds Inv-loop μ-loop Inv-loop2 μ-loop2
 loop2-holds c = λ xs s. s
@@ -68,7 +69,8 @@ spread-requires-2 c κs =
     let at-loop2 = c .before .before .before .before .before .before .before .before .loop2 in
     let at-loop = c .before .before .before .before .before .before .before .before .before .before .loop in
     let entry = c .before .before .before .before .before .before .before .before .before .before .before .before .before in
-    let Z = at-loop2 .inv _ (at-loop .inv .1) in (settling-ready Z (entry .pre), at-take2 .ensures .size ∙ Z .bits, Z .inside _ (at-choose .ensures .found (omega (arith, at-if1 .left))))
+    let Z = at-loop2 .inv _ (at-loop .inv .1) in
+    record { codes = entry .args .size; given = settling-ready Z (entry .pre); code = Z .inside _ (at-choose .ensures .found (omega (arith, at-if1 .left))); bits = at-take2 .ensures .size ∙ Z .bits }
 
 loop2-less : tie.Need-loop2-less Inv-loop μ-loop Inv-loop2 μ-loop2
 loop2-less c =
@@ -78,10 +80,11 @@ loop2-less c =
     let at-choose = c .before .before .before .before .before .before .before .before .choose in
     let at-loop2 = c .before .before .before .before .before .before .before .before .before .before .before .loop2 in
     let at-loop = c .before .before .before .before .before .before .before .before .before .before .before .before .before .loop in
-    turn-less (at-loop2 .inv _ (at-loop .inv .1)) (at-take2 .ensures) (at-spread2 .ensures) (at-choose .ensures .found (omega (arith, at-if1 .left)))
+    let entry = c .before .before .before .before .before .before .before .before .before .before .before .before .before .before .before .before in
+    turn-less (at-loop2 .inv _ (at-loop .inv .1)) (entry .pre .from _) (at-take2 .ensures) (at-spread2 .ensures) (at-choose .ensures .found (omega (arith, at-if1 .left)))
 
 loop2-again : tie.Need-loop2-again Inv-loop μ-loop Inv-loop2 μ-loop2
-loop2-again c = λ xs s. settling-step (c .before .before .before .before .before .before .before .before .before .before .before .loop2 .inv xs s) (c .before .before .before .before .before .take2 .ensures) (c .before .before .spread2 .ensures) _ (λ w a n. a)
+loop2-again c = λ xs s. settling-step (c .before .before .before .before .before .before .before .before .before .before .before .loop2 .inv xs s) (c .before .before .before .before .before .before .before .before .before .before .before .before .before .before .before .before .pre .from _) (c .before .before .before .before .before .take2 .ensures) (c .before .before .spread2 .ensures) _ (λ w a n. a)
 
 pub settle-spec : {M : Type 1} → statement M
 settle-spec =

@@ -6,25 +6,25 @@ use Rattle.stage_settling.proofs.spread.Statement.{statement}
 use Rattle.stage_settling.proofs.spread.Tie as tie
 
 abbrev Inv-loop : tie.InvT-loop
-Inv-loop work₀ opened₀ entries ends base size to stage end at₀ work opened at = (getD ends (4 * to) 0 ≤ at) × Spreading work₀ work opened₀ opened entries ends stage base size to at
+Inv-loop work₀ opened₀ entries ends base to stage end at₀ work opened at = (getD ends (4 * to) 0 ≤ at) × Spreading work₀ work opened₀ opened entries ends stage base to at
 
 abbrev μ-loop : tie.MeasureT-loop
-μ-loop work₀ opened₀ entries ends base size to stage end at₀ work opened at = end - at
+μ-loop work₀ opened₀ entries ends base to stage end at₀ work opened at = end - at
 
 mul-place : tie.Need-mul-place Inv-loop μ-loop
-mul-place c = omega (arith, c .before .before .pre .2, c .before .before .pre .0 .few)
+mul-place c = omega (arith, c .before .before .pre .code, c .before .before .pre .given .few)
 
 add-place : tie.Need-add-place Inv-loop μ-loop
-add-place c = omega (arith, c .before .before .pre .2, c .before .before .pre .0 .few)
+add-place c = omega (arith, c .before .before .pre .code, c .before .before .pre .given .few)
 
 element-copy-out-place : tie.Need-element-copy-out-place Inv-loop μ-loop
-element-copy-out-place c = omega (arith, c .before .before .pre .2, c .before .before .pre .0 .few)
+element-copy-out-place c = omega (arith, c .before .before .pre .code, c .before .before .pre .given .few)
 
 mul-place-3 : tie.Need-mul-place-3 Inv-loop μ-loop
-mul-place-3 c = omega (arith, c .before .before .before .before .pre .2, c .before .before .before .before .pre .0 .few)
+mul-place-3 c = omega (arith, c .before .before .before .before .pre .code, c .before .before .before .before .pre .given .few)
 
 element-copy-out-place-2 : tie.Need-element-copy-out-place-2 Inv-loop μ-loop
-element-copy-out-place-2 c = omega (arith, c .before .before .before .before .pre .2, c .before .before .before .before .pre .0 .few)
+element-copy-out-place-2 c = omega (arith, c .before .before .before .before .pre .code, c .before .before .before .before .pre .given .few)
 
 loop-holds : tie.Need-loop-holds Inv-loop μ-loop
 loop-holds c = (omega (arith, c .place2 .ensures .0), spreading-start (c .place2 .ensures .0))
@@ -35,7 +35,7 @@ shared-slice-read-try-entry c =
     let at-loop = c .before .before .before .before .loop in
     let at-place = c .before .before .before .before .before .before .before .place in
     let entry = c .before .before .before .before .before .before .before .before .before .before .before in
-    entry .pre .0 .within _ _ (listed _ _ _ (at-loop .inv .0) (omega (arith, at-loop-test .taken, at-place .ensures .0)))
+    entry .pre .given .within _ _ (listed _ _ _ (at-loop .inv .0) (omega (arith, at-loop-test .taken, at-place .ensures .0)))
 
 try-entry-requires : tie.Need-try-entry-requires Inv-loop μ-loop
 try-entry-requires c κs =
@@ -43,7 +43,8 @@ try-entry-requires c κs =
     let at-loop = c .before .before .before .before .loop in
     let at-place = c .before .before .before .before .before .before .before .place in
     let entry = c .before .before .before .before .before .before .before .before .before .before .before in
-    entry-ready _ _ (settle-kept (entry .pre .0) (at-loop .inv .1 .fell)) (at-loop .inv .1 .fell .bits ∙ entry .pre .1) (listed _ _ _ (at-loop .inv .0) (omega (arith, at-loop-test .taken, at-place .ensures .0)))
+    let F = at-loop .inv .1 .fell (entry .pre .codes) (entry .pre .given .from _) in
+    entry-ready _ _ (settle-kept (entry .pre .given) F) (F .bits ∙ entry .pre .bits) (listed _ _ _ (at-loop .inv .0) (omega (arith, at-loop-test .taken, at-place .ensures .0)))
 
 add-at : tie.Need-add-at Inv-loop μ-loop
 add-at c = omega (arith, c .before .before .before .before .before .before .loop-test .taken, c .before .before .before .before .before .before .before .before .before .before .place .ensures)
@@ -58,10 +59,10 @@ loop-again c =
     let at-loop = c .before .before .before .before .before .before .before .loop in
     let at-place = c .before .before .before .before .before .before .before .before .before .before .place in
     let entry = c .before .before .before .before .before .before .before .before .before .before .before .before .before .before in
-    (omega (arith, at-loop .inv .0), spreading-step (at-loop .inv .1) (listed _ _ _ (at-loop .inv .0) (omega (arith, at-loop-test .taken, at-place .ensures .0))) (entry .pre .0 .from _ _ (listed _ _ _ (at-loop .inv .0) (omega (arith, at-loop-test .taken, at-place .ensures .0)))) (at-try-entry .ensures))
+    (omega (arith, at-loop .inv .0), spreading-step (at-loop .inv .1) (listed _ _ _ (at-loop .inv .0) (omega (arith, at-loop-test .taken, at-place .ensures .0))) (at-try-entry .ensures))
 
 same-length : tie.Need-same-length Inv-loop μ-loop
-same-length c = c .before .loop .inv .1 .fell .size
+same-length c = let Q = c .before .before .before .before .before .before .before .before .pre in c .before .loop .inv .1 .fell (Q .codes) (Q .given .from _) .size
 
 returns : tie.Need-returns Inv-loop μ-loop
 returns c = spreading-end (c .before .loop .inv .1) (omega (arith, c .loop-test .left, c .before .before .before .before .place .ensures .0))

@@ -1,7 +1,7 @@
 use Rattle.basics.proofs.Words.{_*_, _-_, _^_, arith, length, needs}
 use Rattle.cells.specs.Cells.{nowhere, highAt, lowAt}
 use Rattle.passing.proofs.Placing.{column-few, column-in}
-use Rattle.tight.proofs.Joining.{SumTo, sum-start, joint-none, joint-whole, highs-next, lows-next, highs-fit, lows-fit}
+use Rattle.tight.proofs.JointSteps.{SumTo, sum-start, joint-none, joint-whole, highs-next, lows-next, highs-fit, lows-fit}
 use Rattle.tight.proofs.joint_at.Statement.{statement}
 use Rattle.tight.proofs.joint_at.Tie as tie
 

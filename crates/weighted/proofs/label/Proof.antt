@@ -6,7 +6,7 @@ use Rattle.tables.specs.Places.{sixPlaces}
 use Rattle.cells.specs.Columns.{WeightsOf}
 use Rattle.insertions.specs.RankedWeights.{RankedWeights}
 use Rattle.labelling.specs.Labelling.{SearchPre}
-use Rattle.labelling.proofs.Sizes.{counts-fit, counts-length, counts-some, machines-few, numbers-length, weights-front, in-front}
+use Rattle.labelling.proofs.Sizes.{counts-fit, counts-length, counts-some, machines-few, weights-front-length, weights-front, in-front}
 use Rattle.weighted.specs.WeighsBy.{WeighsBy}
 use Rattle.weighted.specs.FirstPlace.{cardPlaces, firstPut}
 use Rattle.weighted.proofs.Preparing.{counts-weigh, some-weights, six-machines, counts-ranked, put-length, order-length, search-ready, label-done}
@@ -95,7 +95,7 @@ slice-aggregate-used : tie.Need-slice-aggregate-used
 slice-aggregate-used c =
     let w = c .before in
     let s = start w in
-    numbers-length (s .pre .0 .setting .accepted) (s .pre .1) (w .weights-of .result) (w .weights-of .ensures .2)
+    weights-front-length (s .pre .0 .setting .accepted) (s .pre .1) (w .weights-of .result) (w .weights-of .ensures .2)
 
 heaviest-requires : tie.Need-heaviest-requires
 heaviest-requires c κs = let s = start (c .before) in some-weights (s .pre .0) (s .pre .1)
@@ -125,7 +125,7 @@ slice-aggregate-label-all-2 : tie.Need-slice-aggregate-label-all-2
 slice-aggregate-label-all-2 c =
     let w = c .before .before .before .before in
     let s = origin w in
-    numbers-length (s .pre .0 .setting .accepted) (s .pre .1) (w .ranked-weights .result) (w .ranked-weights .ensures .2)
+    weights-front-length (s .pre .0 .setting .accepted) (s .pre .1) (w .ranked-weights .result) (w .ranked-weights .ensures .2)
 
 label-all-requires : tie.Need-label-all-requires
 label-all-requires c κs =

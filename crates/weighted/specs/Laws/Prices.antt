@@ -112,9 +112,6 @@ module _ {K : ℕ} {weights ws : List ℕ} (A : Sound K weights) (W : WeighsBy w
   unfolding mostPrice
   high-most = omega (arith, high-few 0, high-few 1, high-few 2, high-few 3, high-few 4, high-few 5)
 
-pub lows-few : SixWeights noLows
-lows-few = record { most = λ i. omega (arith, no-low i) }
-
 pub low-most : mostPrice noLows ≡ 0
 unfolding mostPrice
 low-most = refl

@@ -5,10 +5,10 @@ use Rattle.entering.proofs.endings.write_endings.Statement.{statement}
 use Rattle.entering.proofs.endings.write_endings.Tie as tie
 
 abbrev Inv-loop : tie.InvT-loop
-Inv-loop own₀ front back high low size code₀ own code = (code ≤ size) × EndingsWritten own high low front back code
+Inv-loop own₀ high low front back size code₀ own code = (code ≤ size) × EndingsWritten own high low front back code
 
 abbrev μ-loop : tie.MeasureT-loop
-μ-loop own₀ front back high low size code₀ own code = size - code
+μ-loop own₀ high low front back size code₀ own code = size - code
 
 -- ---- the places on the way
 
@@ -19,11 +19,11 @@ abbrev looped : tie.After-ending-label Inv-loop μ-loop → tie.In-loop Inv-loop
 looped c = c .before .before .before .before .before
 
 -- the code that is written
-its-places : (c : tie.In-loop Inv-loop μ-loop) → CodePlaces (start c .args .high .now) (start c .args .low .now) (start c .args .front) (start c .args .back) (c .before .loop .code)
-its-places c = code-places (start c .pre) (c .loop-test .taken)
+its-places : (c : tie.In-loop Inv-loop μ-loop) → CodePlaces (start c .args .high .now) (start c .args .low .now) (start c .args .g .front) (start c .args .g .back) (c .before .loop .code)
+its-places c = code-places (start c .pre .0) (omega (arith, c .loop-test .taken, start c .pre .1))
 
 loop-holds : tie.Need-loop-holds Inv-loop μ-loop
-loop-holds c = (omega arith, written-start (c .before .before .before .pre))
+loop-holds c = (omega arith, written-start (c .before .before .before .pre .0))
 
 mul-a : tie.Need-mul-a Inv-loop μ-loop
 mul-a c = omega (arith, its-places c)
@@ -77,10 +77,10 @@ loop-again : tie.Need-loop-again Inv-loop μ-loop
 loop-again c =
     let i = looped c in
     let h = i .loop-test .taken in
-    (omega arith, written-next (start i .pre) (i .before .loop .inv .1) h (c .ending-label .result) (c .ending-label .ensures))
+    (omega arith, written-next (start i .pre .0) (i .before .loop .inv .1) (omega (arith, h, start i .pre .1)) (c .ending-label .result) (c .ending-label .ensures))
 
 same-length : tie.Need-same-length Inv-loop μ-loop
-same-length c = c .before .loop .inv .1 .size ∙ sym (c .before .before .before .before .before .pre .size)
+same-length c = c .before .loop .inv .1 .size ∙ sym (c .before .before .before .before .before .pre .0 .size)
 
 returns : tie.Need-returns Inv-loop μ-loop
 returns c = written-end (c .before .loop .inv .1) (c .before .loop .inv .0) (c .loop-test .left)
@@ -91,7 +91,6 @@ write-endings-spec =
     (tie.spec
     Inv-loop
     μ-loop
-    (λ c. search needs)
     loop-holds
     (λ c. search needs)
     mul-a

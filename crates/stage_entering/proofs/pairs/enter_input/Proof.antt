@@ -1,11 +1,10 @@
 -- `enter_input` meets its contract.
 use Rattle.basics.proofs.Words.{_≡_, sym, _∙_, inr, _^_, _<_, arith, length, needs}
-use Rattle.tables.specs.Laws.Cards.{card-counts}
 use Rattle.cells.specs.Laws.Fours.{without-less}
 use Rattle.entering.proofs.Fours.{four-few, four-or-after}
 use Rattle.stage_entering.specs.Entering.{codesAt}
 use Rattle.stage_entering.proofs.Front.{ahead-kept}
-use Rattle.stage_entering.proofs.Fours.{FoursTried, fours-start, fours-next, fours-end, join-ready, four-ready, nodes-kept, codes-are}
+use Rattle.stage_entering.proofs.Fours.{FoursTried, fours-start, fours-next, fours-end, add-ready, four-ready, nodes-kept, codes-are}
 use Rattle.stage_entering.proofs.pairs.enter_input.Statement.{statement}
 use Rattle.stage_entering.proofs.pairs.enter_input.Tie as tie
 
@@ -16,40 +15,37 @@ Inv-loop work₀ ahead steps card counts weights at input high₀ low₀ g width
 abbrev μ-loop : tie.MeasureT-loop
 μ-loop work₀ ahead steps card counts weights at input high₀ low₀ g width outputs₀ work high low outputs = outputs
 
-width-of-requires : tie.Need-width-of-requires Inv-loop μ-loop
-width-of-requires c κs = card-counts _ (c .before .before .before .before .before .before .before .before .pre .0 .tables .accepted) (c .before .before .before .before .before .before .before .before .pre .0 .tables .counts-are)
-
 prepare-requires : tie.Need-prepare-requires Inv-loop μ-loop
 prepare-requires c κs =
-    let T = c .before .before .before .before .before .before .before .before .before .before .pre .0 .tables in
-    let w = c .before .width-of .ensures .0 in
-    record { accepted = T .accepted; counts-are = T .counts-are; input = c .before .before .before .before .before .before .before .before .before .before .pre .0 .input; width = w; room = omega (arith, w, T .room) }
+    let T = c .before .before .before .before .before .before .before .before .before .pre .0 .tables in
+    let w = T .groups .states-are in
+    record { accepted = T .accepted; counts-are = T .counts-are; input = c .before .before .before .before .before .before .before .before .before .pre .0 .input; width = w; room = omega (arith, w, T .room) }
 
 loop-holds : tie.Need-loop-holds Inv-loop μ-loop
 loop-holds c =
     let at-prepare = c .before .before .prepare in
-    let entry = c .before .before .before .before .before .before .before .before .before .before .before .before .before in
+    let entry = c .before .before .before .before .before .before .before .before .before .before .before .before in
     (fours-start, omega (arith, at-prepare .ok), entry .pre .0 .high-size, entry .pre .0 .low-size)
 
-join-four-requires : tie.Need-join-four-requires Inv-loop μ-loop
-join-four-requires c κs =
+add-four-requires : tie.Need-add-four-requires Inv-loop μ-loop
+add-four-requires c κs =
     let at-next-four = c .before .before .before .before .next-four in
     let at-loop = c .before .before .before .before .before .before .loop in
     let at-prepare = c .before .before .before .before .before .before .before .before .before .prepare in
-    let entry = c .before .before .before .before .before .before .before .before .before .before .before .before .before .before .before .before .before .before .before .before in
+    let entry = c .before .before .before .before .before .before .before .before .before .before .before .before .before .before .before .before .before .before .before in
     let l = at-loop in
-    join-ready (entry .pre .0 .tables) (at-prepare .ensures) (four-few (l .outputs) (at-next-four .ensures)) (l .inv .2) (l .inv .3)
+    add-ready (entry .pre .0 .tables) (at-prepare .ensures) (four-few (l .outputs) (at-next-four .ensures)) (l .inv .2) (l .inv .3)
 
 try-four-requires : tie.Need-try-four-requires Inv-loop μ-loop
 try-four-requires c κs =
-    let at-join-four = c .before .before .before .before .before .before .before .join-four in
+    let at-add-four = c .before .before .before .before .before .before .before .add-four in
     let at-next-four = c .before .before .before .before .before .before .before .before .before .before .before .before .next-four in
     let at-loop = c .before .before .before .before .before .before .before .before .before .before .before .before .before .before .loop in
     let at-prepare = c .before .before .before .before .before .before .before .before .before .before .before .before .before .before .before .before .before .prepare in
-    let entry = c .before .before .before .before .before .before .before .before .before .before .before .before .before .before .before .before .before .before .before .before .before .before .before .before .before .before .before .before in
+    let entry = c .before .before .before .before .before .before .before .before .before .before .before .before .before .before .before .before .before .before .before .before .before .before .before .before .before .before .before in
     let Q = entry .pre .0 in
     let l = at-loop in
-    let j = at-join-four in
+    let j = at-add-four in
     four-ready (Q .tables) (at-prepare .ensures) (four-few (l .outputs) (at-next-four .ensures)) (j .kept .1 .1 .1 .1 .1 .1 .0 ∙ l .inv .2) (j .kept .1 .1 .1 .1 .1 .1 .1 .0 ∙ l .inv .3) (j .ensures) _ _ (Q .order) (nodes-kept (l .inv .0 .size) (l .inv .0 .others) (Q .given)) (ahead-kept (l .inv .0 .counts) (λ w h. l .inv .0 .others w (inr h)) (Q .ahead-is))
 
 loop-less : tie.Need-loop-less Inv-loop μ-loop
@@ -61,13 +57,13 @@ loop-less c =
 loop-again : tie.Need-loop-again Inv-loop μ-loop
 loop-again c =
     let at-try-four = c .before .before .before .try-four in
-    let at-join-four = c .before .before .before .before .before .before .before .before .before .before .before .join-four in
+    let at-add-four = c .before .before .before .before .before .before .before .before .before .before .before .add-four in
     let at-next-four = c .before .before .before .before .before .before .before .before .before .before .before .before .before .before .before .before .next-four in
     let at-loop = c .before .before .before .before .before .before .before .before .before .before .before .before .before .before .before .before .before .before .loop in
     let at-prepare = c .before .before .before .before .before .before .before .before .before .before .before .before .before .before .before .before .before .before .before .before .before .prepare in
-    let entry = c .before .before .before .before .before .before .before .before .before .before .before .before .before .before .before .before .before .before .before .before .before .before .before .before .before .before .before .before .before .before .before .before in
+    let entry = c .before .before .before .before .before .before .before .before .before .before .before .before .before .before .before .before .before .before .before .before .before .before .before .before .before .before .before .before .before .before .before in
     let l = at-loop in
-    let j = at-join-four in
+    let j = at-add-four in
     let f = at-next-four .ensures in
     let eh = j .kept .1 .1 .1 .1 .1 .1 .0 ∙ l .inv .2 in
     let el = j .kept .1 .1 .1 .1 .1 .1 .1 .0 ∙ l .inv .3 in (
@@ -84,15 +80,15 @@ same-length-2 : tie.Need-same-length-2 Inv-loop μ-loop
 same-length-2 c = c .before .before .before .before .prepare .kept .0
 
 same-length-3 : tie.Need-same-length-3 Inv-loop μ-loop
-same-length-3 c = c .before .loop .inv .2 ∙ sym (c .before .before .before .before .before .before .before .before .before .before .before .before .before .before .before .pre .0 .high-size)
+same-length-3 c = c .before .loop .inv .2 ∙ sym (c .before .before .before .before .before .before .before .before .before .before .before .before .before .before .pre .0 .high-size)
 
 same-length-4 : tie.Need-same-length-4 Inv-loop μ-loop
-same-length-4 c = c .before .loop .inv .3 ∙ sym (c .before .before .before .before .before .before .before .before .before .before .before .before .before .before .before .pre .0 .low-size)
+same-length-4 c = c .before .loop .inv .3 ∙ sym (c .before .before .before .before .before .before .before .before .before .before .before .before .before .before .pre .0 .low-size)
 
 returns : tie.Need-returns Inv-loop μ-loop
 returns c =
     let at-prepare = c .before .before .before .before .prepare in
-    let entry = c .before .before .before .before .before .before .before .before .before .before .before .before .before .before .before in
+    let entry = c .before .before .before .before .before .before .before .before .before .before .before .before .before .before in
     fours-end (codes-are (entry .pre .0 .tables)) (entry .pre .1) (at-prepare .ensures) (omega (arith, c .loop-test .left)) (c .before .loop .inv .0)
 
 pub enter-input-spec : {M : Type 1} → statement M
@@ -101,11 +97,10 @@ enter-input-spec =
     (tie.spec
     Inv-loop
     μ-loop
-    width-of-requires
     prepare-requires
     loop-holds
     (λ c κs. search needs)
-    join-four-requires
+    add-four-requires
     try-four-requires
     (λ c κs. search needs)
     loop-less

@@ -1,25 +1,21 @@
 -- `list_insertions` meets its contract.
 use Rattle.basics.specs.Words.{_∙_, arith}
-use Rattle.tables.specs.Laws.Cards.{card-counts}
 use Rattle.stage_entering.proofs.Listing.{count-ready, codes-few, listed-of}
 use Rattle.stage_entering.proofs.pairs.list_insertions.Statement.{statement}
 use Rattle.stage_entering.proofs.pairs.list_insertions.Tie as tie
 
-width-of-requires : tie.Need-width-of-requires
-width-of-requires c κs = let Q = c .before .before .before .before .before .before .before .pre .0 in card-counts _ (Q .accepted) (Q .counts-are)
-
 prepare-requires : tie.Need-prepare-requires
 prepare-requires c κs =
-    let Q = c .before .before .before .before .before .before .before .before .before .pre .0 in
-    let w = c .before .width-of .ensures .0 in
+    let Q = c .before .before .before .before .before .before .before .before .pre .0 in
+    let w = Q .groups .states-are in
     record { accepted = Q .accepted; counts-are = Q .counts-are; input = omega arith; width = w; room = omega (arith, Q .room, w) }
 
 count-requires : tie.Need-count-requires
-count-requires c κs = let q = c .before .before .before .before .before .before .before .before .before .before .before .before .before .before .before .before .pre in (q .1, count-ready (q .0) (c .before .before .before .before .before .before .prepare .ensures), omega (arith, q .0 .few, q .3), omega (arith, q .0 .few, q .4))
+count-requires c κs = let q = c .before .before .before .before .before .before .before .before .before .before .before .before .before .before .before .pre in (q .1, count-ready (q .0) (c .before .before .before .before .before .before .prepare .ensures), omega (arith, q .0 .few, q .3), omega (arith, q .0 .few, q .4))
 
 list-requires : tie.Need-list-requires
 list-requires c κs =
-    let q = c .before .before .before .before .before .before .before .before .before .before .before .before .before .before .before .before .before .before .before .before .before .before .before .before .before .before .pre in
+    let q = c .before .before .before .before .before .before .before .before .before .before .before .before .before .before .before .before .before .before .before .before .before .before .before .before .before .pre in
     let n = c .before .before .before .before .before .before .before .before .before .count .ensures .0 in
     let k = c .before .before .before .before .before .before .before .before .before .count .kept .1 .1 .1 .1 .1 .1 .1 in
     (count-ready (q .0) (c .before .before .before .before .before .before .before .before .before .before .before .before .before .before .before .before .prepare .ensures), n, omega (arith, n .few, codes-few (q .0), q .2), omega (arith, q .0 .few, k .0, q .3), omega (arith, q .0 .few, k .1 .0, q .4))
@@ -40,14 +36,13 @@ returns : tie.Need-returns
 returns c =
     let at-list = c .before .before .before .before .before .before .list in
     let at-prepare = c .before .before .before .before .before .before .before .before .before .before .before .before .before .before .before .before .before .before .before .before .before .before .before .prepare in
-    let entry = c .before .before .before .before .before .before .before .before .before .before .before .before .before .before .before .before .before .before .before .before .before .before .before .before .before .before .before .before .before .before .before .before .before in
+    let entry = c .before .before .before .before .before .before .before .before .before .before .before .before .before .before .before .before .before .before .before .before .before .before .before .before .before .before .before .before .before .before .before .before in
     λ ranking R six. listed-of (entry .pre .0) (at-prepare .ensures) (at-list .ensures) ranking R six
 
 pub list-insertions-spec : {M : Type 1} → statement M
 list-insertions-spec =
     tie.close
     (tie.spec
-    width-of-requires
     prepare-requires
     count-requires
     list-requires
