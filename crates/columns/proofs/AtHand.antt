@@ -10,6 +10,9 @@ use Rattle.card.specs.Card.{machinesOf}
 use Rattle.card.specs.Accepted.{accepted}
 use Rattle.card.specs.Laws.Machines.{length-machines}
 use Rattle.tables.specs.StepTable.{stepCode, machineAt}
+use Rattle.product.specs.Nodes.{stateCounts}
+use Rattle.tables.specs.Laws.Cards.{machine-states}
+use Rattle.tables.proofs.Machines.{count-at, counts-length}
 use Rattle.cells.specs.Cells.{stepAt}
 use Rattle.cells.specs.Laws.Numbers.{column-in}
 use Rattle.columns.specs.Filling.{Small, EnterPre, Entered, FirstSet}
@@ -123,7 +126,10 @@ pub record AtHandTo (card states steps : List ℕ) (x m taken : ℕ) : Type 0 wh
   pub missing : (y : ℕ) → y < 64 → member taken y ≡ false → ((x ≡ 0) × (y ≡ 0)) ⊎ Stuck (machinesOf card) states x y
   pub no-pair : x ≡ 0 → member taken 0 ≡ false
 
-module _ {card states xs : List ℕ} {x : ℕ} (pre : AtHandPre card states xs x) where
+module _ {card counts states xs : List ℕ} {x : ℕ} (pre : AtHandPre card states xs x) (are : counts ≡ stateCounts (machinesOf card)) where
+  pub counts-long : length counts ≡ length states
+  counts-long = ap length are ∙ counts-length (machinesOf card) ∙ sym (pre .size)
+
   machines-are : length states ≡ machineCount card
   machines-are = pre .size ∙ length-machines card
 
@@ -146,14 +152,17 @@ module _ {card states xs : List ℕ} {x : ℕ} (pre : AtHandPre card states xs x
     machine-there = omega (arith, machines-are)
 
     -- what filling the machine's place asks
-    pub state-pre : {part : List ℕ} → part ≡ partOf card m → StatePre steps part (length states) m
-    state-pre ep = rw ep (record {
-      accepted = (symbolCount card, accepted card (pre .accepted) .part m machine-there);
-      width = few;
-      room = F .room;
-      there = h;
-      blank = λ y l. F .blank y m (omega arith) h l;
-    })
+    pub state-pre : {part : List ℕ} {q : ℕ} → part ≡ partOf card m → q ≡ getD counts m 0 → StatePre steps part (length states) m × (q ≡ stateCount part)
+    state-pre ep eq = (
+      rw ep (record {
+        accepted = (symbolCount card, accepted card (pre .accepted) .part m machine-there);
+        width = few;
+        room = F .room;
+        there = h;
+        blank = λ y l. F .blank y m (omega arith) h l;
+      }),
+      eq ∙ ap (λ (l : List ℕ). getD l m 0) are ∙ count-at (machinesOf card) m ∙ machine-states card (pre .accepted) m machine-there ∙ ap stateCount (sym ep),
+    )
 
     pub hand-next : {zs : List ℕ} (outputs : ℕ) → StateFilled (machineAt (machinesOf card) m) (getD states m 0) x (length states) m steps zs outputs → AtHandTo card states zs x (m + 1) (bitAnd taken outputs)
     hand-next {zs} outputs G = record {

@@ -1,7 +1,8 @@
 // The columns of an input: the steps of all states of all machines with one output, a number each; the outputs worth trying; the endings.
 ghost use Rattle.basics.specs.Words.{_≡_, ℕ, _+_, _*_, _^_, _<_, _≤_, length, replicate};
-ghost use Rattle.machine.specs.Part.{machineOf};
+ghost use Rattle.machine.specs.Part.{machineOf, stateCount};
 ghost use Rattle.card.specs.Card.{machinesOf};
+ghost use Rattle.product.specs.Nodes.{stateCounts};
 ghost use Rattle.tables.specs.Tables.{CountsOfSome};
 ghost use Rattle.cells.specs.Cells.{places};
 ghost use Rattle.columns.specs.Filling.{FirstSet, EnterPre, Entered, ArcPre, ArcEntered, MachinePre, MachineFilled, FillPre, Filled};
@@ -80,11 +81,17 @@ fn enter_arc(steps: &mut [u16], width: usize, first: usize, arc: Arc, input: u64
 
 // Fills the places of a machine, from `first` on and blank so far, by the set of the input: the arcs from the last to the first, since the first that
 // takes a pair is the step. The outputs taken from some state.
-fn fill_machine(steps: &mut [u16], width: usize, first: usize, part: &[u8], input: u64) -> u64
-    requires { ⌜ MachinePre (now steps) (now part) width first ⌝ }
+fn fill_machine(
+    steps: &mut [u16],
+    width: usize,
+    first: usize,
+    part: &[u8],
+    states: usize,
+    input: u64,
+) -> u64
+    requires { ⌜ MachinePre (now steps) (now part) width first × (states ≡ stateCount (now part)) ⌝ }
     ensures { λ r. ⌜ ((x : ℕ) → input ≡ 2 ^ x → MachineFilled (machineOf (now (part .entry))) x width first (now (steps .entry)) (now (steps .exit)) r) ⌝ }
 {
-    let states = machine::state_count(part);
     let mut taken: u64 = 0;
     let mut left = machine::arc_count(part);
     while left > 0 {
@@ -123,9 +130,10 @@ pub fn fill(steps: &mut [u16], card: &[u8], counts: &[u8], width: usize, input: 
     let mut first = 0;
     let mut m = 0;
     while m < counts.len() {
-        let outputs = fill_machine(steps, width, first, card::part(card, m), set);
+        let states = index(counts[m]);
+        let outputs = fill_machine(steps, width, first, card::part(card, m), states, set);
         taken = taken & outputs;
-        first += index(counts[m]);
+        first += states;
         m += 1;
     }
     taken
@@ -153,13 +161,13 @@ fn fill_state(
     width: usize,
     place: usize,
     part: &[u8],
+    states: usize,
     state: u8,
     input: u64,
 ) -> u64
-    requires { ⌜ StatePre (now steps) (now part) width place ⌝ }
+    requires { ⌜ StatePre (now steps) (now part) width place × (states ≡ stateCount (now part)) ⌝ }
     ensures { λ r. ⌜ ((x : ℕ) → input ≡ 2 ^ x → StateFilled (machineOf (now (part .entry))) state x width place (now (steps .entry)) (now (steps .exit)) r) ⌝ }
 {
-    let states = machine::state_count(part);
     let mut taken: u64 = 0;
     let mut left = machine::arc_count(part);
     while left > 0 {
@@ -179,8 +187,8 @@ fn fill_state(
 
 // Fills the columns of an accepted card's machines for one input, from one state of each: a place for each machine. The outputs that every machine
 // takes from its state.
-pub fn fill_at(steps: &mut [u16], card: &[u8], states: &[u8], input: u8) -> u64
-    requires { ⌜ AtHandPre (now card) (now states) (now steps) input ⌝ }
+pub fn fill_at(steps: &mut [u16], card: &[u8], counts: &[u8], states: &[u8], input: u8) -> u64
+    requires { ⌜ AtHandPre (now card) (now states) (now steps) input × (now counts ≡ stateCounts (machinesOf (now card))) ⌝ }
     ensures { λ r. ⌜ FilledAtHand (machinesOf (now (card .entry))) (now (states .entry)) input (now (steps .exit)) r ⌝ }
 {
     let width = states.len();
@@ -189,7 +197,8 @@ pub fn fill_at(steps: &mut [u16], card: &[u8], states: &[u8], input: u8) -> u64
     let mut taken = partners(input);
     let mut m = 0;
     while m < width {
-        let outputs = fill_state(steps, width, m, card::part(card, m), states[m], set);
+        let count = index(counts[m]);
+        let outputs = fill_state(steps, width, m, card::part(card, m), count, states[m], set);
         taken = taken & outputs;
         m += 1;
     }
@@ -216,11 +225,10 @@ fn ending_number(byte: u8) -> u16
 }
 
 // Writes the endings of a machine, from the place `first` on.
-fn fill_part_endings(steps: &mut [u16], first: usize, part: &[u8])
-    requires { ⌜ PartEndingsPre (now steps) first (now part) ⌝ }
+fn fill_part_endings(steps: &mut [u16], first: usize, part: &[u8], states: usize)
+    requires { ⌜ PartEndingsPre (now steps) first (now part) × (states ≡ stateCount (now part)) ⌝ }
     ensures { λ _. ⌜ PartEndings (machineOf (now (part .entry))) first (now (steps .entry)) (now (steps .exit)) ⌝ }
 {
-    let states = machine::state_count(part);
     let mut state = 0;
     while state < states {
         steps[first + state] = ending_number(part[2 + state]);
@@ -236,8 +244,9 @@ pub fn fill_endings(steps: &mut [u16], card: &[u8], counts: &[u8])
     let mut first = 0;
     let mut m = 0;
     while m < counts.len() {
-        fill_part_endings(steps, first, card::part(card, m));
-        first += index(counts[m]);
+        let states = index(counts[m]);
+        fill_part_endings(steps, first, card::part(card, m), states);
+        first += states;
         m += 1;
     }
 }

@@ -101,7 +101,13 @@ fn walk_by(
                 }
             } else {
                 let next = position + 1;
-                let outputs = columns::fill_at(&mut steps, card, &states[..machines], input);
+                let outputs = columns::fill_at(
+                    &mut steps,
+                    card,
+                    counts,
+                    &states[..machines],
+                    input,
+                );
                 let least = tight::least_tight(
                     Cell { high, low },
                     ranked,

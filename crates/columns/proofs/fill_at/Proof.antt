@@ -1,55 +1,68 @@
-use Rattle.basics.proofs.Words.{_≡_, refl, _∙_, _-_, length, getD, needs}
+use Rattle.basics.proofs.Words.{_≡_, refl, _∙_, _-_, arith, length, getD, needs}
 use Rattle.card.specs.Card.{machinesOf}
 use Rattle.card.specs.Laws.Machines.{machine-at}
 use Rattle.machine.specs.Machine.{noMachine}
 use Rattle.tables.specs.StepTable.{machineAt}
 use Rattle.columns.specs.AtHand.{StateFilled}
-use Rattle.columns.proofs.AtHand.{AtHandTo, hand-start, machine-there, state-pre, hand-next, hand-end}
+use Rattle.columns.proofs.AtHand.{AtHandTo, counts-long, hand-start, machine-there, state-pre, hand-next, hand-end}
 use Rattle.columns.proofs.fill_at.Statement.{statement}
 use Rattle.columns.proofs.fill_at.Tie as tie
 
 abbrev Inv-loop : tie.InvT-loop
-Inv-loop steps₀ card states input width set taken₀ m₀ steps taken m = (length steps ≡ length steps₀) × AtHandTo card states steps input m taken
+Inv-loop steps₀ card counts states input width set taken₀ m₀ steps taken m = (length steps ≡ length steps₀) × AtHandTo card states steps input m taken
 
 abbrev μ-loop : tie.MeasureT-loop
-μ-loop steps₀ card states input width set taken₀ m₀ steps taken m = length states - m
+μ-loop steps₀ card counts states input width set taken₀ m₀ steps taken m = length states - m
 
 set-of-requires : tie.Need-set-of-requires Inv-loop μ-loop
-set-of-requires c κs = c .before .before .before .pre .input
+set-of-requires c κs = c .before .before .before .before .pre .0 .input
 
 loop-holds : tie.Need-loop-holds Inv-loop μ-loop
-loop-holds c = (refl, hand-start (c .before .before .before .before .before .before .before .before .before .pre) _ (c .partners .result) (c .before .before .before .clear .ensures) refl (c .partners .ensures))
+loop-holds c = (refl, hand-start (c .before .before .before .before .before .before .before .before .before .before .pre .0) (c .before .before .before .before .before .before .before .before .before .before .pre .1) _ (c .partners .result) (c .before .before .before .clear .ensures) refl (c .partners .ensures))
+
+-- there is a count for each machine
+shared-slice-read-index : tie.Need-shared-slice-read-index Inv-loop μ-loop
+shared-slice-read-index c =
+    let at-loop-test = c .before .loop-test in
+    let entry = c .before .before .before .before .before .before .before .before .before .before .before .before .before in
+    omega (arith, at-loop-test .taken, counts-long (entry .pre .0) (entry .pre .1))
 
 part-requires : tie.Need-part-requires Inv-loop μ-loop
 part-requires c κs =
-    let at-loop = c .before .before .loop in
-    let entry = c .before .before .before .before .before .before .before .before .before .before .before .before in
-    (entry .pre .accepted, machine-there (entry .pre) (at-loop .inv .1) (c .before .loop-test .taken))
+    let at-loop-test = c .before .before .before .loop-test in
+    let at-loop = c .before .before .before .before .loop in
+    let entry = c .before .before .before .before .before .before .before .before .before .before .before .before .before .before .before in
+    (entry .pre .0 .accepted, machine-there (entry .pre .0) (entry .pre .1) (at-loop .inv .1) (at-loop-test .taken))
 
 fill-state-requires : tie.Need-fill-state-requires Inv-loop μ-loop
-fill-state-requires c κs = state-pre (c .before .before .before .before .before .before .before .before .before .before .before .before .before .before .pre) (c .before .before .before .before .loop .inv .1) (c .before .before .before .loop-test .taken) (c .before .part .ensures)
+fill-state-requires c κs =
+    let at-index = c .before .before .before .index in
+    let at-loop-test = c .before .before .before .before .before .loop-test in
+    let at-loop = c .before .before .before .before .before .before .loop in
+    let entry = c .before .before .before .before .before .before .before .before .before .before .before .before .before .before .before .before .before in
+    state-pre (entry .pre .0) (entry .pre .1) (at-loop .inv .1) (at-loop-test .taken) (c .before .part .ensures) (at-index .ensures .0)
 
 loop-again : tie.Need-loop-again Inv-loop μ-loop
 loop-again c =
     let at-fill-state = c .before .before .fill-state in
     let at-part = c .before .before .before .before .part in
-    let at-loop-test = c .before .before .before .before .before .before .loop-test in
-    let at-loop = c .before .before .before .before .before .before .before .loop in
-    let at-set-of = c .before .before .before .before .before .before .before .before .before .before .before .before .before .set-of in
-    let s = c .before .before .before .before .before .before .before .before .before .before .before .before .before .before .before .before .before in
+    let at-loop-test = c .before .before .before .before .before .before .before .before .loop-test in
+    let at-loop = c .before .before .before .before .before .before .before .before .before .loop in
+    let at-set-of = c .before .before .before .before .before .before .before .before .before .before .before .before .before .before .before .set-of in
+    let s = c .before .before .before .before .before .before .before .before .before .before .before .before .before .before .before .before .before .before .before .before in
     let l = at-loop in
     let t = at-loop-test .taken in
     let card = s .args .card .now in
     let states = s .args .states .now in
     let h : StateFilled (machineAt (machinesOf card) (l .m)) (getD states (l .m) 0) (s .args .input) (length states) (l .m) (l .steps) (at-fill-state .last .0) (at-fill-state .result) =
-    rw (machine-at card (l .m) (machine-there (s .pre) (l .inv .1) t) noMachine, ← (at-part .ensures)) (at-fill-state .ensures (s .args .input) (at-set-of .ensures)) in
-    (at-fill-state .kept .0 ∙ l .inv .0, hand-next (s .pre) (l .inv .1) t (at-fill-state .result) h)
+    rw (machine-at card (l .m) (machine-there (s .pre .0) (s .pre .1) (l .inv .1) t) noMachine, ← (at-part .ensures)) (at-fill-state .ensures (s .args .input) (at-set-of .ensures)) in
+    (at-fill-state .kept .0 ∙ l .inv .0, hand-next (s .pre .0) (s .pre .1) (l .inv .1) t (at-fill-state .result) h)
 
 same-length : tie.Need-same-length Inv-loop μ-loop
 same-length c = c .before .loop .inv .0 ∙ c .before .before .before .before .before .clear .kept .0
 
 returns : tie.Need-returns Inv-loop μ-loop
-returns c = hand-end (c .before .before .before .before .before .before .before .before .before .before .before .pre) (c .before .loop .inv .1) (c .loop-test .left)
+returns c = hand-end (c .before .before .before .before .before .before .before .before .before .before .before .before .pre .0) (c .before .before .before .before .before .before .before .before .before .before .before .before .pre .1) (c .before .loop .inv .1) (c .loop-test .left)
 
 pub fill-at-spec : {M : Type 1} → statement M
 fill-at-spec =
@@ -60,6 +73,8 @@ fill-at-spec =
     set-of-requires
     (λ c κs. search needs) (λ c κs. search needs)
     loop-holds
+    shared-slice-read-index
+    (λ c κs. search needs)
     part-requires
     (λ c. search needs)
     fill-state-requires

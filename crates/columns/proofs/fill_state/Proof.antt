@@ -7,37 +7,33 @@ use Rattle.columns.proofs.fill_state.Statement.{statement}
 use Rattle.columns.proofs.fill_state.Tie as tie
 
 abbrev Inv-loop : tie.InvT-loop
-Inv-loop steps₀ width place part state input states taken₀ left₀ steps taken left = (left ≤ arcCount part) × (length steps ≡ length steps₀) × ((x : ℕ) → input ≡ 2 ^ x → StateIn steps₀ steps (arcsOf part) state width place x left taken)
+Inv-loop steps₀ width place part states state input taken₀ left₀ steps taken left = (left ≤ arcCount part) × (length steps ≡ length steps₀) × ((x : ℕ) → input ≡ 2 ^ x → StateIn steps₀ steps (arcsOf part) state width place x left taken)
 
 abbrev μ-loop : tie.MeasureT-loop
-μ-loop steps₀ width place part state input states taken₀ left₀ steps taken left = left
-
-state-count-requires : tie.Need-state-count-requires Inv-loop μ-loop
-state-count-requires c κs = let s = c .before .before in accepted (s .pre .accepted .0) (s .args .part .now) (s .pre .accepted .1) .shape
+μ-loop steps₀ width place part states state input taken₀ left₀ steps taken left = left
 
 arc-count-requires : tie.Need-arc-count-requires Inv-loop μ-loop
-arc-count-requires c κs = let s = c .before .before .before in accepted (s .pre .accepted .0) (s .args .part .now) (s .pre .accepted .1) .shape
+arc-count-requires c κs = let s = c .before .before in accepted (s .pre .0 .accepted .0) (s .args .part .now) (s .pre .0 .accepted .1) .shape
 
 loop-holds : tie.Need-loop-holds Inv-loop μ-loop
-loop-holds c = let s = c .before .before .before .before in
+loop-holds c = let s = c .before .before .before in
     let part = s .args .part .now in (
       omega (arith, c .arc-count .ensures),
       refl,
-      λ x e. state-none (s .args .steps .now) (arcsOf part) (s .args .state) (s .args .width) (s .args .place) x (c .arc-count .result) (omega (arith, c .arc-count .ensures, arcs-count part (2 + stateCount part) (arcCount part))) (s .pre .blank),
+      λ x e. state-none (s .args .steps .now) (arcsOf part) (s .args .state) (s .args .width) (s .args .place) x (c .arc-count .result) (omega (arith, c .arc-count .ensures, arcs-count part (2 + stateCount part) (arcCount part))) (s .pre .0 .blank),
     )
 
 nth-arc-requires : tie.Need-nth-arc-requires Inv-loop μ-loop
 nth-arc-requires c κs =
     let at-loop = c .before .before .loop in
-    let at-state-count = c .before .before .before .before .state-count in
-    let s = c .before .before .before .before .before .before .before in (accepted (s .pre .accepted .0) (s .args .part .now) (s .pre .accepted .1) .shape, at-state-count .ensures, omega (arith, at-loop .inv .0, c .before .loop-test .taken))
+    let s = c .before .before .before .before .before .before in (accepted (s .pre .0 .accepted .0) (s .args .part .now) (s .pre .0 .accepted .1) .shape, s .pre .1, omega (arith, at-loop .inv .0, c .before .loop-test .taken))
 
 enter-from-requires : tie.Need-enter-from-requires Inv-loop μ-loop
 enter-from-requires c κs = let l = c .before .before .before in
-    arc-of (c .before .before .before .before .before .before .before .before .pre) (l .loop .steps) (l .loop .inv .1) (l .loop .left - 1) (omega (arith, l .loop .inv .0, c .before .before .loop-test .taken)) (c .nth-arc .result) (c .nth-arc .ensures (c .nth-arc .result))
+    arc-of (c .before .before .before .before .before .before .before .pre .0) (l .loop .steps) (l .loop .inv .1) (l .loop .left - 1) (omega (arith, l .loop .inv .0, c .before .before .loop-test .taken)) (c .nth-arc .result) (c .nth-arc .ensures (c .nth-arc .result))
 
 loop-again : tie.Need-loop-again Inv-loop μ-loop
-loop-again c = let s = c .before .before .before .before .before .before .before .before .before .before .before in
+loop-again c = let s = c .before .before .before .before .before .before .before .before .before .before in
     let l = c .before .before .before .before .before .before in
     let t = c .before .before .before .before .before .loop-test .taken in
     let part = s .args .part .now in
@@ -54,7 +50,7 @@ same-length : tie.Need-same-length Inv-loop μ-loop
 same-length c = c .before .loop .inv .1
 
 returns : tie.Need-returns Inv-loop μ-loop
-returns c = let s = c .before .before .before .before .before .before in
+returns c = let s = c .before .before .before .before .before in
     λ x e. state-all (s .args .steps .now) (s .args .part .now) (s .args .state) (s .args .width) (s .args .place) x (c .loop-test .left) (c .before .loop .inv .2 x e)
 
 pub fill-state-spec : {M : Type 1} → statement M
@@ -63,7 +59,6 @@ fill-state-spec =
     (tie.spec
     Inv-loop
     μ-loop
-    state-count-requires
     arc-count-requires
     loop-holds
     (λ c. search needs)

@@ -170,7 +170,7 @@ fill-at-requires c κs = let t = c .before .before .before .before in
     let l = node t in
     let s = entry l in
     let G = ground-there (s .pre .0) in
-    hand-pre G (reached-same (t .least .inv .1) (t .least .inv .2 _) (l .loop .inv .0 _ G)) (machines-are (s .pre .0)) (c .before .before .before .least2 .ensures .1) (t .least .inv .3)
+    (hand-pre G (reached-same (t .least .inv .1) (t .least .inv .2 _) (l .loop .inv .0 _ G)) (machines-are (s .pre .0)) (c .before .before .before .least2 .ensures .1) (t .least .inv .3), s .pre .0 .counts-are)
 
 mul-least-tight-2 : tie.Need-mul-least-tight-2 Inv-least μ-least Inv-loop μ-loop
 mul-least-tight-2 c = let t = c .before .before .before .before .before .before in omega (arith, base-fits (node t) _ (next-within t _ (c .before .before .before .before .before .least2 .ensures .2) (c .before .before .before .before .if2 .left)))
