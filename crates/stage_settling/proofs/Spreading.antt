@@ -1,5 +1,5 @@
 -- Settling a position by its insertions: one entry, the entries to one code, code after code until none is open.
-use Rattle.basics.proofs.Words.{_≡_, refl, sym, _∙_, ap, subst, Bool, true, false, cond, List, some, Option·none-ne-some, _⊎_, inl, inr, _≢_, ℕ, zero, suc, _+_, _*_, _≤_, _<_, arith, length, getD, ℕ-discrete, clash, fails}
+use Rattle.basics.proofs.Words.{_≡_, refl, sym, _∙_, ap, subst, subst₂, Bool, true, false, cond, List, some, Option·none-ne-some, _⊎_, inl, inr, _≢_, ℕ, zero, suc, _+_, _*_, _≤_, _<_, arith, length, getD, ℕ-discrete, clash, fails}
 use Rattle.paths.specs.Costs.{AtMost, Lowers, kept, lowered}
 use Rattle.paths.specs.Ranked.{Ranked, Less, countAt, rankedCosts, less-total}
 use Rattle.paths.specs.Graph.{Graph, run→cost}
@@ -13,7 +13,7 @@ use Rattle.settling.proofs.Insertions.{listed-low, listed-high}
 use Rattle.settling.proofs.OpenCodes.{one-in, chosen-front, chosen-back}
 use Rattle.stage.specs.StageLabels.{countOf, stageLabel}
 use Rattle.stage.specs.Relaxing.{ArcTried, unlabelled, dropped, lowered as lowered-arc}
-use Rattle.stage_settling.specs.Settling.{Kept, wayBy, marksOf, fromOf, ArcsOf, SettlePre, EntryPre, EntryTried, OpenIn, SomeIn, openCount, turns, Fell, RelaxedAt, FromFirst, Spread, SettledBy}
+use Rattle.stage_settling.specs.Settling.{Kept, wayBy, marksOf, fromOf, ArcsOf, SettlePre, EntryPre, EntryTried, OpenIn, SomeIn, openCount, turns, Fell, RelaxedAt, FromFirst, Spread, Taken, SettledBy}
 use Rattle.stage.proofs.Trying.{StepFacts, arc-facts, arc-falls}
 
 -- ---- the number of open codes
@@ -275,9 +275,12 @@ module _ {xs ys os entries ends : List ℕ} {k b P n : ℕ} (Z : Settling xs ys 
   pub settling-end : n ≤ 0 → ((w : ℕ) → isOpen os w ≡ false) → SettledBy xs ys entries ends k b P
   settling-end z o = record { size = Z .size; counts = Z .counts; others = Z .others; falls = Z .falls; attained = Z .attained; closed = λ v at p. Z .relaxed v at (omega arith) p (o v) }
 
-  module _ {zs qs ps : List ℕ} {v : ℕ} (f : FromFirst entries ends v P) (o : OneLess os qs v) (T : Spread ys zs qs ps entries ends k b v) where
-    fall : Fell ys zs qs ps entries ends k b P
-    fall = T .fell P f
+  pub settling-same : {zs ps : List ℕ} → zs ≡ ys → ps ≡ os → Settling xs zs ps entries ends k b P n
+  settling-same e f = subst₂ (λ (zs ps : List ℕ). Settling xs zs ps entries ends k b P n) (sym e) (sym f) Z
+
+  module _ {zs ps : List ℕ} {v : ℕ} (f : FromFirst entries ends v P) (T : Taken ys zs os ps entries ends k b v) where
+    fall : Fell ys zs (T .between) ps entries ends k b P
+    fall = T .spread .fell P f
 
     -- and with v the codes from m on
     pub settling-step : (m : ℕ) → ((w : ℕ) → m ≤ w → w ≢ v → n ≤ w) → Settling xs zs ps entries ends k b P m
@@ -287,28 +290,28 @@ module _ {xs ys os entries ends : List ℕ} {k b P n : ℕ} (Z : Settling xs ys 
       others = λ w d. fall .others w d ∙ Z .others w d;
       falls = λ w c m. fall .falls w c (Z .falls w c m);
       attained = λ S E A. fall .attained S (arcs-kept (Z .counts) E) (Z .attained S E A);
-      bits = fall .bits ∙ o .size ∙ Z .bits;
+      bits = fall .bits ∙ T .less .size ∙ Z .bits;
       inside = λ w h. inside w (fall .inside w h);
       relaxed = λ w at l p h. relaxed w at l p h (ℕ-discrete w v);
     }
       where
-        was : (w : ℕ) → isOpen qs w ≡ true → Dec (w ≡ v) → isOpen os w ≡ true
-        was w h (yes q) = absurd (clash h (ap (isOpen qs) q ∙ o .here))
-        was w h (no n) = sym (o .others w n) ∙ h
+        was : (w : ℕ) → isOpen (T .between) w ≡ true → Dec (w ≡ v) → isOpen os w ≡ true
+        was w h (yes q) = absurd (clash h (ap (isOpen (T .between)) q ∙ T .less .here))
+        was w h (no n) = sym (T .less .others w n) ∙ h
 
-        inside : (w : ℕ) → (isOpen qs w ≡ true) ⊎ (w < P) → w < P
+        inside : (w : ℕ) → (isOpen (T .between) w ≡ true) ⊎ (w < P) → w < P
         inside w (inl h) = Z .inside w (was w h (ℕ-discrete w v))
         inside w (inr h) = h
 
         relaxed : (w at : ℕ) → m ≤ w → isListed ends w at ≡ true → isOpen ps w ≡ false → Dec (w ≡ v) → RelaxedAt zs entries k b w at
-        relaxed w at a p h (yes q) = subst (λ (n : ℕ). RelaxedAt zs entries k b n at) (sym q) (T .relaxed at (subst (λ (n : ℕ). isListed ends n at ≡ true) q p))
+        relaxed w at a p h (yes q) = subst (λ (n : ℕ). RelaxedAt zs entries k b n at) (sym q) (T .spread .relaxed at (subst (λ (n : ℕ). isListed ends n at ≡ true) q p))
         relaxed w at a p h (no d′) = λ d l f.
-            let still : isOpen qs w ≡ false = fails (isOpen qs w) (λ t. clash (fall .stays w t) h) in
-            fall .falls _ _ (Z .relaxed w at (up w a d′) p (sym (o .others w d′) ∙ still) d (sym (fall .same w h) ∙ l) (kept-back ys zs k (fall .counts) (fromOf entries b at) (b + w) (marksOf entries at) f))
+            let still : isOpen (T .between) w ≡ false = fails (isOpen (T .between) w) (λ t. clash (fall .stays w t) h) in
+            fall .falls _ _ (Z .relaxed w at (up w a d′) p (sym (T .less .others w d′) ∙ still) d (sym (fall .same w h) ∙ l) (kept-back ys zs k (fall .counts) (fromOf entries b at) (b + w) (marksOf entries at) f))
 
-    -- a turn: an open code is closed, and spread
+    -- a turn: an open code is taken
     pub turn-less : isOpen os v ≡ true → turns zs ps k b P < turns ys os k b P
-    turn-less h = omega (arith, fall .fewer, count-less o h P (Z .inside v h))
+    turn-less h = omega (arith, fall .fewer, count-less (T .less) h P (Z .inside v h))
 
 -- ---- choosing an open code
 

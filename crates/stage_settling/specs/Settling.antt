@@ -10,7 +10,7 @@ use Rattle.tables.specs.Marks.{marksCost}
 use Rattle.tables.specs.Work.{HasNode}
 use Rattle.product.specs.ProductGraph.{pairs}
 use Rattle.settling.specs.Insertions.{codeIn, marksIn, isListed}
-use Rattle.settling.specs.OpenCodes.{isOpen, OneMore}
+use Rattle.settling.specs.OpenCodes.{isOpen, OneMore, OneLess}
 use Rattle.stage.specs.Below.{Below}
 use Rattle.stage.specs.StageLabels.{countOf, stageLabel, total}
 use Rattle.stage.specs.Relaxing.{Makes, countsOf, Fits, ArcPre, ArcTried}
@@ -120,6 +120,12 @@ FromFirst entries ends v P = (at : ℕ) → isListed ends v at ≡ true → code
 pub record Spread (xs ys os ps entries ends : List ℕ) (k b v : ℕ) : Type 0 where
   pub fell : (P : ℕ) → FromFirst entries ends v P → Fell xs ys os ps entries ends k b P
   pub relaxed : (at : ℕ) → isListed ends v at ≡ true → RelaxedAt ys entries k b v at
+
+-- v was closed, and then the insertions to it were tried
+pub record Taken (xs ys os ps entries ends : List ℕ) (k b v : ℕ) : Type 0 where
+  pub between : List ℕ
+  pub less : OneLess os between v
+  pub spread : Spread xs ys between ps entries ends k b v
 
 -- no insertion gives a node less
 pub record SettledBy (xs ys entries ends : List ℕ) (k b P : ℕ) : Type 0 where

@@ -3,7 +3,9 @@ ghost use Rattle.basics.specs.Words.{_<_};
 ghost use Rattle.tables.specs.Work.{HasNode};
 ghost use Rattle.settling.specs.OpenCodes.{OneIn, Chosen};
 ghost use Rattle.stage.specs.Relaxing.{NodePre};
-ghost use Rattle.stage_settling.specs.Settling.{OpenIn, SomeIn, EntryPre, EntryTried, SettlePre, SpreadPre, Spread, SettledBy};
+ghost use Rattle.stage_settling.specs.Settling.{OpenIn, SomeIn, EntryPre, EntryTried, SettlePre, SpreadPre, Spread, Taken, SettledBy};
+use settling::first_open;
+use settling::is_open;
 use settling::place;
 use settling::put;
 use settling::take;
@@ -100,7 +102,25 @@ fn spread(
     }
 }
 
-// Tries the nodes of a position by insertions in lists, until none is given less: those to every code once, then those to the open ones.
+// Closes a code, and tries the insertions to it.
+fn take_one(
+    work: &mut [u16],
+    opened: &mut [u64; 2],
+    entries: &[u32],
+    ends: &[u16; 514],
+    base: usize,
+    code: usize,
+    stage: usize,
+)
+    requires { ⌜ SpreadPre (now work) (now opened) (now entries) (now ends) stage base code ⌝ }
+    ensures { λ _. ⌜ Taken (now (work .entry)) (now (work .exit)) (now (opened .entry)) (now (opened .exit)) (now (entries .entry)) (now (ends .entry)) stage base code ⌝ }
+{
+    take(opened, code);
+    spread(work, opened, entries, ends, base, code, stage);
+}
+
+// Tries the nodes of a position by insertions in lists, until none is given less: those to every code once, from the last to
+// the first; those to the codes that are then open, from the first to the last; and the rest by their labels.
 pub fn settle(
     work: &mut [u16],
     entries: &[u32],
@@ -116,15 +136,20 @@ pub fn settle(
     let mut left = size;
     while left > 0 {
         left -= 1;
-        take(&mut opened, left);
-        spread(work, &mut opened, entries, ends, base, left, stage);
+        take_one(work, &mut opened, entries, ends, base, left, stage);
+    }
+    let mut next = first_open(&opened);
+    while next < size {
+        if is_open(&opened, next) {
+            take_one(work, &mut opened, entries, ends, base, next, stage);
+        }
+        next += 1;
     }
     loop {
         let code = choose(work, &opened, base, stage);
         if code >= 128 {
             return;
         }
-        take(&mut opened, code);
-        spread(work, &mut opened, entries, ends, base, code, stage);
+        take_one(work, &mut opened, entries, ends, base, code, stage);
     }
 }

@@ -22,13 +22,15 @@ returns c =
 
 returns-2 : tie.Need-returns-2 Inv-loop μ-loop
 returns-2 c =
-    let a = c .before .before .before .args in
+    let start : tie.Start Inv-loop μ-loop = search in
+    let a = start .args in
     sym (refuses-with 13 (long-refused (a .symbols) (a .candidate .now) (omega arith) (omega arith)))
 
 returns-3 : tie.Need-returns-3 Inv-loop μ-loop
 returns-3 c =
-    let k = c .before .before .before in
-    let a = k .before .before .before .before .args in
+    let k : tie.At-loop Inv-loop μ-loop = search in
+    let start : tie.Start Inv-loop μ-loop = search in
+    let a = start .args in
     let l = a .candidate .now in
     sym (refuses-with 13 (sound-is (a .symbols) l (omega arith) (omega arith)
     ∙ sym (k .loop .inv .2)
@@ -36,8 +38,9 @@ returns-3 c =
 
 loop-again : tie.Need-loop-again Inv-loop μ-loop
 loop-again c =
-    let k = c .before .before .before in
-    let a = k .before .before .before .before .args in
+    let k : tie.At-loop Inv-loop μ-loop = search in
+    let start : tie.Start Inv-loop μ-loop = search in
+    let a = start .args in
     let l = a .candidate .now in (
       omega arith,
       omega arith,
@@ -47,8 +50,9 @@ loop-again c =
 
 returns-4 : tie.Need-returns-4 Inv-loop μ-loop
 returns-4 c =
+    let start : tie.Start Inv-loop μ-loop = search in
     let k = c .before in
-    let a = k .before .before .before .before .args in
+    let a = start .args in
     let l = a .candidate .now in
     sym (passes-with 13 (sound-is (a .symbols) l (omega arith) (omega arith)
     ∙ sym (k .loop .inv .2)

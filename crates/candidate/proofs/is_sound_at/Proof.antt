@@ -5,8 +5,9 @@ use Rattle.candidate.proofs.is_sound_at.Tie as tie
 
 returns : tie.Need-returns
 returns c =
+    let start : tie.Start = search in
     let p = c .before .before .pair-at .result in
-    let S = c .before .before .before .before .args .symbols in
+    let S = start .args .symbols in
     ap₂ (λ (a b : Bool). a && b) (c .before .is-pair .ensures) (c .is-within .ensures) ∙ ap (soundPair S) (c .before .before .pair-at .ensures)
 
 pub is-sound-at-spec : {M : Type 1} → statement M

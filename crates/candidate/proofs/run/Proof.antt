@@ -48,7 +48,7 @@ below a b S e h k = omega arith
 
 loop-holds : tie.Need-loop-holds Inv-loop μ-loop
 loop-holds c =
-    let s = c .before .before .before in
+    let s : tie.Start Inv-loop μ-loop = search in
     let m = machineOf (s .args .part .now) in
     let ps = pairsOf (s .args .candidate .now) in
     (search needs, search needs, search needs, (λ S h. h), ap (λ (q : ℕ). addMarks 0 (marksFrom m q ps)) (c .start .ensures) ∙ add-zero-marks (marksFrom m startState ps))
@@ -56,8 +56,8 @@ loop-holds c =
 -- a pair more is there
 here : (c : tie.In-loop Inv-loop μ-loop) → c .before .loop .at + 2 ≤ length (c .before .before .before .before .before .args .candidate .now)
 here c =
+    let s : tie.Start Inv-loop μ-loop = search in
     let k = c .before in
-    let s = k .before .before .before .before in
     two-more (k .loop .at) (length (s .args .candidate .now)) (k .loop .inv .0) (s .pre .even) (c .loop-test .taken)
 
 pair-at-requires : tie.Need-pair-at-requires Inv-loop μ-loop
@@ -65,8 +65,8 @@ pair-at-requires c κs = here c
 
 step-requires : tie.Need-step-requires Inv-loop μ-loop
 step-requires c κs =
+    let s : tie.Start Inv-loop μ-loop = search in
     let k = c .before .before in
-    let s = k .before .before .before .before in
     let S = s .pre .symbols in
     let p = pairAt (s .args .candidate .now) (k .loop .at) in
     let w = sound-facts S p (pair-here (soundPair S) (s .args .candidate .now) (k .loop .at) (here (c .before)) (k .loop .inv .3 S (s .pre .sound))) in
@@ -82,14 +82,19 @@ taken : (c : tie.After-step Inv-loop μ-loop) →
     let at-loop = c .before .before .before .loop in
     let entry = c .before .before .before .before .before .before .before in
     stepOf (machineOf (entry .args .part .now)) (at-loop .position .state) (pairAt (entry .args .candidate .now) (at-loop .at)) ≡ stepped (c .step .result)
-taken c = ap (stepOf (machineOf (c .before .before .before .before .before .before .before .args .part .now)) (c .before .before .before .loop .position .state)) (sym (c .before .pair-at .ensures)) ∙ sym (c .step .ensures)
+taken c =
+    let at-loop : tie.At-loop Inv-loop μ-loop = search in
+    let start : tie.Start Inv-loop μ-loop = search in
+    ap (stepOf (machineOf (start .args .part .now)) (at-loop .loop .position .state)) (sym (c .before .pair-at .ensures)) ∙ sym (c .step .ensures)
 
 returns : tie.Need-returns Inv-loop μ-loop
 returns c =
-    let k = c .before .before .before .before .before in
-    let a = k .before .before .before .before .args in
+    let in-loop : tie.In-loop Inv-loop μ-loop = search in
+    let k : tie.At-loop Inv-loop μ-loop = search in
+    let start : tie.Start Inv-loop μ-loop = search in
+    let a = start .args in
     let m = machineOf (a .part .now) in
-    sym (marks-stuck m (k .loop .position .state) (k .loop .marks) (pairs-next (a .candidate .now) (k .loop .at) (here (c .before .before .before .before))) (taken (c .before .before) ∙ ap stepped (c .enum-told .given .1))) ∙ k .loop .inv .4
+    sym (marks-stuck m (k .loop .position .state) (k .loop .marks) (pairs-next (a .candidate .now) (k .loop .at) (here in-loop)) (taken (c .before .before) ∙ ap stepped (c .enum-told .given .1))) ∙ k .loop .inv .4
 
 -- the step that was taken
 moved : (c : tie.After-wide Inv-loop μ-loop) →
@@ -98,33 +103,42 @@ moved : (c : tie.After-wide Inv-loop μ-loop) →
     stepOf (machineOf (entry .args .part .now)) (at-loop .position .state) (pairAt (entry .args .candidate .now) (at-loop .at))
     ≡ some (c .before .before .next .given .0 .0 .state, c .wide .result)
 moved c =
+    let after-step : tie.After-step Inv-loop μ-loop = search in
     let g = c .before .before .next .given in
-    taken (c .before .before .before .before) ∙ ap stepped (g .1) ∙ ap {B = Option (ℕ × ℕ)} (λ (n : ℕ). some (g .0 .0 .state, n)) (sym (c .wide .ensures .0))
+    taken after-step ∙ ap stepped (g .1) ∙ ap {B = Option (ℕ × ℕ)} (λ (n : ℕ). some (g .0 .0 .state, n)) (sym (c .wide .ensures .0))
 
 few : (c : tie.After-wide Inv-loop μ-loop) → c .wide .result ≤ 15
 few c =
-    let s = c .before .before .before .before .before .before .before .before .before .before .before in
+    let s : tie.Start Inv-loop μ-loop = search in
     step-bounds (s .pre .symbols) (s .args .part .now) (s .pre .accepted) _ _ _ (moved c) .marks
 
 add-marks : tie.Need-add-marks Inv-loop μ-loop
 add-marks c =
-    let k = c .before .before .before .before .before .before .before in
-    let s = k .before .before .before .before in
+    let k : tie.At-loop Inv-loop μ-loop = search in
+    let s : tie.Start Inv-loop μ-loop = search in
     marks-fit (k .loop .marks) (k .loop .at) (length (s .args .candidate .now)) (c .wide .result) (k .loop .inv .2) (k .loop .inv .1) (s .pre .short) (few c)
 
 add-at : tie.Need-add-at Inv-loop μ-loop
 add-at c =
-    let at-loop = c .before .before .before .before .before .before .before .loop in
-    let s = c .before .before .before .before .before .before .before .before .before .before .before in place-fits (at-loop .at) (length (s .args .candidate .now)) (here (c .before .before .before .before .before .before)) (s .pre .short)
+    let in-loop : tie.In-loop Inv-loop μ-loop = search in
+    let at-loop : tie.At-loop Inv-loop μ-loop = search in
+    let s : tie.Start Inv-loop μ-loop = search in
+    place-fits (at-loop .loop .at) (length (s .args .candidate .now)) (here in-loop) (s .pre .short)
 
 loop-less : tie.Need-loop-less Inv-loop μ-loop
-loop-less c = nearer (c .before .before .before .before .before .before .before .loop .at) (length (c .before .before .before .before .before .before .before .before .before .before .before .args .candidate .now)) (c .before .before .before .before .before .before .loop-test .taken)
+loop-less c =
+    let in-loop : tie.In-loop Inv-loop μ-loop = search in
+    let at-loop : tie.At-loop Inv-loop μ-loop = search in
+    let start : tie.Start Inv-loop μ-loop = search in
+    nearer (at-loop .loop .at) (length (start .args .candidate .now)) (in-loop .loop-test .taken)
 
 loop-again : tie.Need-loop-again Inv-loop μ-loop
 loop-again c =
-    let k = c .before .before .before .before .before .before .before in
-    let a = k .before .before .before .before .args in
-    let b = here (c .before .before .before .before .before .before) in (
+    let in-loop : tie.In-loop Inv-loop μ-loop = search in
+    let k : tie.At-loop Inv-loop μ-loop = search in
+    let start : tie.Start Inv-loop μ-loop = search in
+    let a = start .args in
+    let b = here in-loop in (
       still-even (k .loop .at) (k .loop .inv .0),
       b,
       marks-more (k .loop .marks) (k .loop .at) (c .wide .result) (k .loop .inv .2) (few c),
@@ -133,37 +147,45 @@ loop-again c =
     )
 
 ending-requires : tie.Need-ending-requires Inv-loop μ-loop
-ending-requires c κs = let s = c .before .before .before .before .before in accepted (s .pre .symbols) (s .args .part .now) (s .pre .accepted) .shape
+ending-requires c κs =
+    let s : tie.Start Inv-loop μ-loop = search in
+    accepted (s .pre .symbols) (s .args .part .now) (s .pre .accepted) .shape
 
 returns-2 : tie.Need-returns-2 Inv-loop μ-loop
 returns-2 c =
-    let k = c .before .before .before .before in
-    let a = k .before .before .before .before .args in
+    let after-loop : tie.After-loop Inv-loop μ-loop = search in
+    let k : tie.At-loop Inv-loop μ-loop = search in
+    let start : tie.Start Inv-loop μ-loop = search in
+    let a = start .args in
     let m = machineOf (a .part .now) in
     let e : endingOf m (k .loop .position .state) ≡ none = sym (c .before .before .ending .ensures) ∙ ap ended (c .enum-told2 .given .1) in
-    sym (marks-end m (k .loop .position .state) (k .loop .marks) (pairs-end (a .candidate .now) (k .loop .at) (c .before .before .before .loop-test .left)) ∙ ap (addMarks (k .loop .marks)) e) ∙ k .loop .inv .4
+    sym (marks-end m (k .loop .position .state) (k .loop .marks) (pairs-end (a .candidate .now) (k .loop .at) (after-loop .loop-test .left)) ∙ ap (addMarks (k .loop .marks)) e) ∙ k .loop .inv .4
 
 -- the marks for ending
 ending : (c : tie.After-wide2 Inv-loop μ-loop) → endingOf (machineOf (c .before .before .before .before .before .before .before .before .before .before .args .part .now)) (c .before .before .before .before .before .before .loop .position .state) ≡ some (c .wide2 .result)
-ending c = sym (c .before .before .before .before .ending .ensures) ∙ ap ended (c .before .before .more .given .1) ∙ ap {B = Option ℕ} some (sym (c .wide2 .ensures .0))
+ending c =
+    let after-ending : tie.After-ending Inv-loop μ-loop = search in
+    sym (after-ending .ending .ensures) ∙ ap ended (c .before .before .more .given .1) ∙ ap {B = Option ℕ} some (sym (c .wide2 .ensures .0))
 
 few-more : (c : tie.After-wide2 Inv-loop μ-loop) → c .wide2 .result ≤ 15
 few-more c =
-    let s = c .before .before .before .before .before .before .before .before .before .before in
+    let s : tie.Start Inv-loop μ-loop = search in
     ending-bounds (s .pre .symbols) (s .args .part .now) (s .pre .accepted) _ _ (ending c) .1
 
 add-total : tie.Need-add-total Inv-loop μ-loop
 add-total c =
-    let k = c .before .before .before .before .before .before in
-    let s = k .before .before .before .before in
+    let k : tie.At-loop Inv-loop μ-loop = search in
+    let s : tie.Start Inv-loop μ-loop = search in
     marks-fit (k .loop .marks) (k .loop .at) (length (s .args .candidate .now)) (c .wide2 .result) (k .loop .inv .2) (k .loop .inv .1) (s .pre .short) (few-more c)
 
 returns-3 : tie.Need-returns-3 Inv-loop μ-loop
 returns-3 c =
-    let k = c .before .before .before .before .before .before in
-    let a = k .before .before .before .before .args in
+    let after-loop : tie.After-loop Inv-loop μ-loop = search in
+    let k : tie.At-loop Inv-loop μ-loop = search in
+    let start : tie.Start Inv-loop μ-loop = search in
+    let a = start .args in
     let m = machineOf (a .part .now) in
-    sym (marks-end m (k .loop .position .state) (k .loop .marks) (pairs-end (a .candidate .now) (k .loop .at) (c .before .before .before .before .before .loop-test .left)) ∙ ap (addMarks (k .loop .marks)) (ending c)) ∙ k .loop .inv .4
+    sym (marks-end m (k .loop .position .state) (k .loop .marks) (pairs-end (a .candidate .now) (k .loop .at) (after-loop .loop-test .left)) ∙ ap (addMarks (k .loop .marks)) (ending c)) ∙ k .loop .inv .4
 
 pub run-spec : {M : Type 1} → statement M
 run-spec =

@@ -18,18 +18,18 @@ abbrev μ-loop : tie.MeasureT-loop
 
 loop-holds : tie.Need-loop-holds Inv-loop μ-loop
 loop-holds c =
-    let s = c .before .before .before .before in
+    let s : tie.Start Inv-loop μ-loop = search in
     (search needs, omega (arith, c .machine-count .ensures, accepted (s .args .card .now) (s .pre .0) .head), scored-start (s .args .card .now) (pairsOf (s .args .candidate .now)))
 
 part-requires : tie.Need-part-requires Inv-loop μ-loop
 part-requires c κs =
-    let s = c .before .before .before .before .before .before in
+    let s : tie.Start Inv-loop μ-loop = search in
     (s .pre .0, omega (arith, c .before .before .machine-count .ensures))
 
 run-requires : tie.Need-run-requires Inv-loop μ-loop
 run-requires c κs =
+    let s : tie.Start Inv-loop μ-loop = search in
     let k = c .before .before in
-    let s = k .before .before .before .before .before in
     let a = accepted (s .args .card .now) (s .pre .0) in
     let m : k .loop .machine < machineCount (s .args .card .now) = omega (arith, k .before .machine-count .ensures) in
     let h = sound-shape (symbolCount (s .args .card .now)) (s .args .candidate .now) (s .pre .1) in
@@ -37,12 +37,14 @@ run-requires c κs =
 
 returns : tie.Need-returns Inv-loop μ-loop
 returns c =
-    let k = c .before .before .before .before .before .before in
-    let s = k .before .before .before .before .before in
+    let after-run : tie.After-run Inv-loop μ-loop = search in
+    let after-part : tie.After-part Inv-loop μ-loop = search in
+    let k : tie.At-loop Inv-loop μ-loop = search in
+    let s : tie.Start Inv-loop μ-loop = search in
     let l = s .args .card .now in
     let f = not-complete l (pairsOf (s .args .candidate .now)) (k .loop .machine) (omega (arith, k .before .machine-count .ensures))
-    (ap (λ (part : List ℕ). marksOf (pairsOf (s .args .candidate .now)) (machineOf part)) (sym (c .before .before .before .before .part .ensures))
-    ∙ sym (c .before .before .before .run .ensures) ∙ ap marked (c .before .enum-told .given .1)) in
+    (ap (λ (part : List ℕ). marksOf (pairsOf (s .args .candidate .now)) (machineOf part)) (sym (after-part .part .ensures))
+    ∙ sym (after-run .run .ensures) ∙ ap marked (c .before .enum-told .given .1)) in
     record { checked = sym (refuses-with 14 f); profile = λ t. absurd (clash t f) }
 
 mul-counts : tie.Need-mul-counts Inv-loop μ-loop
@@ -53,20 +55,22 @@ array-write-counts c = omega arith
 
 loop-again : tie.Need-loop-again Inv-loop μ-loop
 loop-again c =
-    let k = c .before .before .before .before .before .before in
-    let s = k .before .before .before .before .before in
+    let after-run : tie.After-run Inv-loop μ-loop = search in
+    let after-part : tie.After-part Inv-loop μ-loop = search in
+    let k : tie.At-loop Inv-loop μ-loop = search in
+    let s : tie.Start Inv-loop μ-loop = search in
     let l = s .args .card .now in (
       omega arith,
       omega arith,
       scored-next l (pairsOf (s .args .candidate .now)) (k .loop .machine) (k .loop .counts) (k .loop .inv .2) (omega arith) (c .before .marks .given .0 .0)
-          (ap (λ (part : List ℕ). marksOf (pairsOf (s .args .candidate .now)) (machineOf part)) (sym (c .before .before .before .before .part .ensures))
-          ∙ sym (c .before .before .before .run .ensures) ∙ ap marked (c .before .marks .given .1)),
+          (ap (λ (part : List ℕ). marksOf (pairsOf (s .args .candidate .now)) (machineOf part)) (sym (after-part .part .ensures))
+          ∙ sym (after-run .run .ensures) ∙ ap marked (c .before .marks .given .1)),
     )
 
 returns-2 : tie.Need-returns-2 Inv-loop μ-loop
 returns-2 c =
+    let s : tie.Start Inv-loop μ-loop = search in
     let k = c .before in
-    let s = k .before .before .before .before .before in
     let l = s .args .card .now in
     let e : k .loop .machine ≡ machineCount l = omega (arith, k .before .machine-count .ensures) in
     let S = rw e at (k .loop .inv .2) in

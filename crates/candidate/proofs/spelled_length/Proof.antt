@@ -16,7 +16,7 @@ abbrev μ-loop : tie.MeasureT-loop
 
 loop-again : tie.Need-loop-again Inv-loop μ-loop
 loop-again c =
-    let k = c .before .before .before in
+    let k : tie.At-loop Inv-loop μ-loop = search in
     let l = k .before .before .args .candidate .now in
     let r = c .before .inserts-at .ensures in
     ⊎-elim
@@ -35,7 +35,9 @@ loop-again c =
     (c .if1 .came)
 
 returns : tie.Need-returns Inv-loop μ-loop
-returns c = omega (arith, spelled-end (c .before .before .before .args .candidate .now) (c .before .loop .at) (c .loop-test .left))
+returns c =
+    let start : tie.Start Inv-loop μ-loop = search in
+    omega (arith, spelled-end (start .args .candidate .now) (c .before .loop .at) (c .loop-test .left))
 
 pub spelled-length-spec : {M : Type 1} → statement M
 spelled-length-spec =

@@ -9,17 +9,21 @@ use Rattle.card.proofs.check.Tie as tie
 
 -- what each check that passed says of the card
 head-passed : (c : tie.After-enum-told) → counted (c .before .before .before .before .args .card .now) ≡ true
-head-passed c = was-true (c .enum-told .given .1) 1 (counted (c .before .before .before .before .args .card .now)) (lit< tt) (c .before .before .check-head .ensures)
+head-passed c =
+    let start : tie.Start = search in
+    was-true (c .enum-told .given .1) 1 (counted (start .args .card .now)) (lit< tt) (c .before .before .check-head .ensures)
 
 layout-passed : (c : tie.After-enum-told3) → laidOut (machineCount (c .before .before .before .before .before .before .before .args .card .now)) (c .before .before .before .before .before .before .before .args .card .now) ≡ true
 layout-passed c =
-    let l = c .before .before .before .before .before .before .before .args .card .now in
+    let start : tie.Start = search in
+    let l = start .args .card .now in
     was-true (c .enum-told3 .given .1) 2 (laidOut (machineCount l) l) (lit< tt) (c .before .before .check-layout .ensures)
 
 returns : tie.Need-returns
 unfolding cardRefusal
 returns c =
-    let l = c .before .before .before .before .args .card .now in
+    let start : tie.Start = search in
+    let l = start .args .card .now in
     goes-up (c .enum-told2 .given .1) (refuse 1 (counted l))
     (refuse 2 (laidOut (machineCount l) l) ∷ partsRefusal (symbolCount l) (partsOf l) ∷ refuse 6 (fewStates (partsOf l)) ∷ [])
     (c .before .before .check-head .ensures)
@@ -30,18 +34,23 @@ check-layout-requires c κs = head-passed c
 returns-2 : tie.Need-returns-2
 unfolding cardRefusal
 returns-2 c =
-    let p = c .before .before .before in
-    let l = p .before .before .before .before .args .card .now in
+    let p : tie.After-enum-told = search in
+    let start : tie.Start = search in
+    let l = start .args .card .now in
     rw (head-passed p)
     (goes-up (c .enum-told4 .given .1) (refuse 2 (laidOut (machineCount l) l)) (partsRefusal (symbolCount l) (partsOf l) ∷ refuse 6 (fewStates (partsOf l)) ∷ [])
     (c .before .before .check-layout .ensures))
 
 check-card-requires : tie.Need-check-card-requires
-check-card-requires c κs = (head-passed (c .before .before .before), layout-passed c)
+check-card-requires c κs =
+    let after-enum-told : tie.After-enum-told = search in
+    (head-passed after-enum-told, layout-passed c)
 
 returns-3 : tie.Need-returns-3
 unfolding cardRefusal
-returns-3 c = rw (head-passed (c .before .before .before .before), layout-passed (c .before)) (c .check-card .ensures)
+returns-3 c =
+    let after-enum-told : tie.After-enum-told = search in
+    rw (head-passed after-enum-told, layout-passed (c .before)) (c .check-card .ensures)
 
 pub check-spec : {M : Type 1} → statement M
 check-spec =

@@ -13,21 +13,26 @@ use Rattle.card.proofs.check_packing.Tie as tie
 -- what each check that passed says of the input
 counts-passed : (c : tie.After-enum-told) → soundCounts (length (c .before .before .before .before .before .args .lengths .now)) (c .before .before .before .before .before .args .symbols) ≡ true
 counts-passed c =
-    let a = c .before .before .before .before .before .args in
+    let start : tie.Start = search in
+    let a = start .args in
     was-true (c .enum-told .given .1) 1 (soundCounts (length (a .lengths .now)) (a .symbols)) (lit< tt) (c .before .before .check-counts .ensures)
 
 counts : (c : tie.After-enum-told) → Counted (length (c .before .before .before .before .before .args .lengths .now)) (c .before .before .before .before .before .args .symbols)
-counts c = let a = c .before .before .before .before .before .args in counts-told (length (a .lengths .now)) (a .symbols) (counts-passed c)
+counts c =
+    let start : tie.Start = search in
+    let a = start .args in counts-told (length (a .lengths .now)) (a .symbols) (counts-passed c)
 
 sum-tested : (c : tie.After-tested)
     → checkedNumber (c .tested .result) ≡ refuse 17 (eqb (total (c .before .before .before .before .before .before .before .args .lengths .now)) (length (c .before .before .before .before .before .before .before .args .parts .now)))
 sum-tested c =
-    c .tested .ensures ∙ ap (λ n. refuse 17 (eqb n (length (c .before .before .before .before .before .before .before .args .parts .now)))) (c .before .sum .ensures)
+    let start : tie.Start = search in
+    c .tested .ensures ∙ ap (λ n. refuse 17 (eqb n (length (start .args .parts .now)))) (c .before .sum .ensures)
 
 sum-passed : (c : tie.After-enum-told3)
     → total (c .before .before .before .before .before .before .before .before .before .args .lengths .now) ≡ length (c .before .before .before .before .before .before .before .before .before .args .parts .now)
 sum-passed c =
-    let a = c .before .before .before .before .before .before .before .before .before .args in
+    let start : tie.Start = search in
+    let a = start .args in
     let t = eqb (total (a .lengths .now)) (length (a .parts .now)) in
     eqb-true (total (a .lengths .now)) (length (a .parts .now)) (was-true (c .enum-told3 .given .1) 17 t (lit< tt) (sum-tested (c .before .before)))
 
@@ -42,7 +47,8 @@ parts-passed c = passed-number (c .enum-told5 .given .1) (c .before .before .che
 returns : tie.Need-returns
 unfolding packingRefusal
 returns c =
-    let a = c .before .before .before .before .before .args in
+    let start : tie.Start = search in
+    let a = start .args in
     let parts = split (a .lengths .now) (a .parts .now) in
     goes-up (c .enum-told2 .given .1) (refuse 1 (soundCounts (length (a .lengths .now)) (a .symbols)))
     (refuse 17 (eqb (total (a .lengths .now)) (length (a .parts .now))) ∷ partsRefusal (a .symbols) parts ∷ refuse 6 (fewStates parts)
@@ -55,8 +61,9 @@ sum-requires c κs = omega (arith, counts c)
 returns-2 : tie.Need-returns-2
 unfolding packingRefusal
 returns-2 c =
-    let p = c .before .before .before .before in
-    let a = p .before .before .before .before .before .args in
+    let p : tie.After-enum-told = search in
+    let start : tie.Start = search in
+    let a = start .args in
     let parts = split (a .lengths .now) (a .parts .now) in
     rw (counts-passed p)
     (goes-up (c .enum-told4 .given .1) (refuse 17 (eqb (total (a .lengths .now)) (length (a .parts .now))))
@@ -64,14 +71,17 @@ returns-2 c =
     (sum-tested (c .before .before)))
 
 check-parts-requires : tie.Need-check-parts-requires
-check-parts-requires c κs = omega (arith, counts (c .before .before .before .before), sum-passed c)
+check-parts-requires c κs =
+    let after-enum-told : tie.After-enum-told = search in
+    omega (arith, counts after-enum-told, sum-passed c)
 
 returns-3 : tie.Need-returns-3
 unfolding packingRefusal
 returns-3 c =
-    let q = c .before .before .before in
-    let p = q .before .before .before .before in
-    let a = p .before .before .before .before .before .args in
+    let q : tie.After-enum-told3 = search in
+    let p : tie.After-enum-told = search in
+    let start : tie.Start = search in
+    let a = start .args in
     let parts = split (a .lengths .now) (a .parts .now) in
     rw (counts-passed p, eq-eqb (total (a .lengths .now)) (length (a .parts .now)) (sum-passed q))
     (two-up (partsRefusal (a .symbols) parts) (refuse 6 (fewStates parts)) (checkedNumber (c .before .before .check-parts .result))
@@ -79,15 +89,18 @@ returns-3 c =
     (c .before .before .check-parts .ensures) (refused-number (c .enum-told6 .given .1) refl))
 
 add-tested-2 : tie.Need-add-tested-2
-add-tested-2 c = omega (arith, counts (c .before .before .before .before .before .before .before))
+add-tested-2 c =
+    let after-enum-told : tie.After-enum-told = search in
+    omega (arith, counts after-enum-told)
 
 returns-4 : tie.Need-returns-4
 unfolding packingRefusal
 returns-4 c =
+    let q : tie.After-enum-told3 = search in
+    let p : tie.After-enum-told = search in
+    let start : tie.Start = search in
     let m = c .before in
-    let q = m .before .before .before in
-    let p = q .before .before .before .before in
-    let a = p .before .before .before .before .before .args in
+    let a = start .args in
     let parts = split (a .lengths .now) (a .parts .now) in
     let room = refuse 18 (leb (length (packed (a .symbols) (a .lengths .now) (a .parts .now))) (a .room)) in
     rw (counts-passed p, eq-eqb (total (a .lengths .now)) (length (a .parts .now)) (sum-passed q))

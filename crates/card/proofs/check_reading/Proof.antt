@@ -12,16 +12,20 @@ card-passed c = passed-number (c .enum-told .given .1) (c .before .before .check
 
 returns : tie.Need-returns
 returns c =
-    let a = c .before .before .before .before .args in
+    let start : tie.Start = search in
+    let a = start .args in
     goes-up (c .enum-told2 .given .1) (cardRefusal (a .card .now)) (refuse 17 (ltb (a .machine) (machineCount (a .card .now))) ∷ [])
     (c .before .before .check .ensures)
 
 shared-slice-read-tested : tie.Need-shared-slice-read-tested
-shared-slice-read-tested c = omega (arith, accepted (c .before .before .before .before .before .args .card .now) (card-passed (c .before)) .head)
+shared-slice-read-tested c =
+    let start : tie.Start = search in
+    omega (arith, accepted (start .args .card .now) (card-passed (c .before)) .head)
 
 returns-2 : tie.Need-returns-2
 returns-2 c =
-    let a = c .before .before .before .before .before .before .args in
+    let start : tie.Start = search in
+    let a = start .args in
     rw (card-passed (c .before .before)) (c .tested .ensures ∙ sym (last-one (refuse 17 (ltb (a .machine) (machineCount (a .card .now))))))
 
 pub check-reading-spec : {M : Type 1} → statement M

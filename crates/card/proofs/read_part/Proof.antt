@@ -16,7 +16,8 @@ all-passed c = passed-number (c .enum-told .given .1) (c .before .before .check-
 readable : (c : tie.After-index)
     → (cardRefusal (c .before .before .before .before .before .args .card .now) ≡ 0) × (c .index .result < machineCount (c .before .before .before .before .before .args .card .now))
 readable c =
-    let a = c .before .before .before .before .before .args in
+    let start : tie.Start = search in
+    let a = start .args in
     let e = all-passed (c .before) in
     let t = ltb (a .machine) (machineCount (a .card .now)) in
     let f = first-passed (refuse 17 t) [] (rest-passed (cardRefusal (a .card .now)) (refuse 17 t ∷ []) e) in
@@ -24,13 +25,16 @@ readable c =
 
 placed : (c : tie.After-index) → 6 + 4 * c .index .result ≤ length (c .before .before .before .before .before .args .card .now)
 placed c =
+    let start : tie.Start = search in
     let r = readable c in
-    omega (arith, accepted (c .before .before .before .before .before .args .card .now) (r .0) .within (c .index .result) (r .1))
+    omega (arith, accepted (start .args .card .now) (r .0) .within (c .index .result) (r .1))
 
 returns : tie.Need-returns
 returns c =
-    let a = c .before .before .before .before .before .args in
-    let e : readingRefusal (a .card .now) (a .machine) ≡ c .number .result = sym (c .before .before .before .check-reading .ensures) ∙ sym (c .number .ensures) in
+    let after-check-reading : tie.After-check-reading = search in
+    let start : tie.Start = search in
+    let a = start .args in
+    let e : readingRefusal (a .card .now) (a .machine) ≡ c .number .result = sym (after-check-reading .check-reading .ensures) ∙ sym (c .number .ensures) in
     sym (read-refused (a .card .now) (a .machine) (c .number .result) e (refused-number (c .before .enum-told2 .given .1) (sym (c .number .ensures))))
 
 part-offset-requires : tie.Need-part-offset-requires
@@ -41,9 +45,10 @@ part-length-requires c κs = placed (c .before)
 
 returns-2 : tie.Need-returns-2
 returns-2 c =
+    let start : tie.Start = search in
     let w = c .before .before in
     let p = w .before in
-    let a = p .before .before .before .before .args in
+    let a = start .args in
     read-placed (a .card .now) (a .machine) (w .index .result) (c .before .part-offset .result) (c .part-length .result) (all-passed p) (w .index .ensures .0) (c .before .part-offset .ensures .0) (c .part-length .ensures .0)
 
 pub read-part-spec : {M : Type 1} → statement M

@@ -15,16 +15,24 @@ abbrev entry : tie.At-loop Inv-loop μ-loop → tie.Start Inv-loop μ-loop
 entry k = k .before .before .before .before .before .before .before .before .before
 
 add-all : tie.Need-add-all Inv-loop μ-loop
-add-all c = let s = c .before .before .before .before .before .before .before in omega (arith, codes-few (s .pre))
+add-all c =
+    let s : tie.Start Inv-loop μ-loop = search in
+    omega (arith, codes-few (s .pre))
 
 mul-all : tie.Need-mul-all Inv-loop μ-loop
-mul-all c = let s = c .before .before .before .before .before .before .before in omega (arith, codes-few (s .pre))
+mul-all c =
+    let s : tie.Start Inv-loop μ-loop = search in
+    omega (arith, codes-few (s .pre))
 
 mul-next : tie.Need-mul-next Inv-loop μ-loop
-mul-next c = let s = c .before .before .before .before .before .before .before .before in omega (arith, codes-few (s .pre))
+mul-next c =
+    let s : tie.Start Inv-loop μ-loop = search in
+    omega (arith, codes-few (s .pre))
 
 loop-holds : tie.Need-loop-holds Inv-loop μ-loop
-loop-holds c = adding-start (c .before .before .before .before .before .before .before .before .pre)
+loop-holds c =
+    let start : tie.Start Inv-loop μ-loop = search in
+    adding-start (start .pre)
 
 -- the group of a round
 group-at : (c : tie.In-loop Inv-loop μ-loop) →
@@ -77,31 +85,38 @@ part-add-machines-start-3 : tie.Need-part-add-machines-start-3 Inv-loop μ-loop
 part-add-machines-start-3 c = in-high (c .before .before)
 
 mul-add-machines-3 : tie.Need-mul-add-machines-3 Inv-loop μ-loop
-mul-add-machines-3 c = let i = c .before .before .before in omega (arith, i .loop-test .taken, codes-few (entry (i .before) .pre))
+mul-add-machines-3 c =
+    let i : tie.In-loop Inv-loop μ-loop = search in
+    omega (arith, i .loop-test .taken, codes-few (entry (i .before) .pre))
 
 sub-add-machines-4 : tie.Need-sub-add-machines-4 Inv-loop μ-loop
-sub-add-machines-4 c = in-low (c .before .before .before)
+sub-add-machines-4 c =
+    let in-loop : tie.In-loop Inv-loop μ-loop = search in
+    in-low in-loop
 
 part-add-machines-start-4 : tie.Need-part-add-machines-start-4 Inv-loop μ-loop
-part-add-machines-start-4 c = in-low (c .before .before .before)
+part-add-machines-start-4 c =
+    let in-loop : tie.In-loop Inv-loop μ-loop = search in
+    in-low in-loop
 
 add-machines-requires : tie.Need-add-machines-requires Inv-loop μ-loop
 add-machines-requires c κs =
-    let i = c .before .before .before .before in
+    let i : tie.In-loop Inv-loop μ-loop = search in
     let k = i .before in
     group-pre (group-at i) (entry k .pre) (k .loop .high) (k .loop .low) (high-long (entry k .pre) (k .loop .inv)) (low-long (entry k .pre) (k .loop .inv))
 
 loop-less : tie.Need-loop-less Inv-loop μ-loop
 loop-less c =
-    let i = c .before .before .before .before .before .before .before .before .before in
+    let i : tie.In-loop Inv-loop μ-loop = search in
     let k = i .before in
     let q = goes-on (entry k .pre) (k .loop .inv .round) (i .loop-test .taken) in
     omega (arith, q .0, q .1)
 
 loop-again : tie.Need-loop-again Inv-loop μ-loop
 loop-again c =
-    let j = c .before .before .before .before .add-machines in
-    let i = c .before .before .before .before .before .before .before .before .before in
+    let after-add-machines : tie.After-add-machines Inv-loop μ-loop = search in
+    let i : tie.In-loop Inv-loop μ-loop = search in
+    let j = after-add-machines .add-machines in
     let k = i .before in
     adding-next (entry k .pre) (k .loop .inv) (i .loop-test .taken) (j .last .1 .1 .1 .1 .1 .1 .0) (j .last .1 .1 .1 .1 .1 .1 .1 .0) (j .kept .1 .1 .1 .1 .1 .1 .0) (j .kept .1 .1 .1 .1 .1 .1 .1 .0) (j .ensures)
 

@@ -16,28 +16,35 @@ loop-holds c = (omega arith, stored-start _ _ _)
 
 store-requires : tie.Need-store-requires Inv-loop μ-loop
 store-requires c κs =
-    let l = c .before .before .before .before in
+    let in-loop : tie.In-loop Inv-loop μ-loop = search in
+    let l : tie.At-loop Inv-loop μ-loop = search in
     let s = l .before .before in
-    let k = c .before .before .before .loop-test .taken in
+    let k = in-loop .loop-test .taken in
     (has-node (l .loop .inv .1) (s .pre .0) k, s .pre .0 .high _ k)
 
 loop-again : tie.Need-loop-again Inv-loop μ-loop
 loop-again c =
-    let l = c .before .before .before .before .before .before .before in
-    let k = c .before .before .before .before .before .before .loop-test .taken in
+    let in-loop : tie.In-loop Inv-loop μ-loop = search in
+    let l : tie.At-loop Inv-loop μ-loop = search in
+    let k = in-loop .loop-test .taken in
     (omega (arith, k), stored-next (l .loop .inv .1) (c .before .before .store .ensures))
 
 pass-all-requires : tie.Need-pass-all-requires Inv-loop μ-loop
-pass-all-requires c κs = c .before .before .before .before .before .pre .1
+pass-all-requires c κs =
+    let start : tie.Start Inv-loop μ-loop = search in
+    start .pre .1
 
 same-length : tie.Need-same-length Inv-loop μ-loop
-same-length c = c .before .before .before .before .loop .inv .1 .size
+same-length c =
+    let at-loop : tie.At-loop Inv-loop μ-loop = search in
+    at-loop .loop .inv .1 .size
 
 returns : tie.Need-returns Inv-loop μ-loop
 returns c =
-    let l = c .before .before .before .before in
+    let after-loop : tie.After-loop Inv-loop μ-loop = search in
+    let l : tie.At-loop Inv-loop μ-loop = search in
     let s = l .before .before in
-    let e : l .loop .code ≡ s .args .size = omega (arith, l .loop .inv .0, c .before .before .before .loop-test .left) in
+    let e : l .loop .code ≡ s .args .size = omega (arith, l .loop .inv .0, after-loop .loop-test .left) in
     (subst (CountsClosed _ _ _ _) e (l .loop .inv .1), c .pass-all .ensures)
 
 pub close-counts-spec : {M : Type 1} → statement M

@@ -15,47 +15,66 @@ loop-holds : tie.Need-loop-holds Inv-loop μ-loop
 loop-holds c = (omega arith, sums-start _ _ _)
 
 mul-sum-of : tie.Need-mul-sum-of Inv-loop μ-loop
-mul-sum-of c = let s = c .before .before .before in omega (arith, s .pre .1 .few, c .loop-test .taken)
+mul-sum-of c =
+    let s : tie.Start Inv-loop μ-loop = search in
+    omega (arith, s .pre .1 .few, c .loop-test .taken)
 
 element-copy-out-sum-of : tie.Need-element-copy-out-sum-of Inv-loop μ-loop
-element-copy-out-sum-of c = let s = c .before .before .before in omega (arith, s .pre .1 .few, s .pre .1 .own-size, c .loop-test .taken)
+element-copy-out-sum-of c =
+    let s : tie.Start Inv-loop μ-loop = search in
+    omega (arith, s .pre .1 .few, s .pre .1 .own-size, c .loop-test .taken)
 
 mul-sum-of-3 : tie.Need-mul-sum-of-3 Inv-loop μ-loop
-mul-sum-of-3 c = let s = c .before .before .before .before in omega (arith, s .pre .1 .few, c .before .loop-test .taken)
+mul-sum-of-3 c =
+    let s : tie.Start Inv-loop μ-loop = search in
+    omega (arith, s .pre .1 .few, c .before .loop-test .taken)
 
 add-sum-of : tie.Need-add-sum-of Inv-loop μ-loop
-add-sum-of c = let s = c .before .before .before .before in omega (arith, s .pre .1 .few, c .before .loop-test .taken)
+add-sum-of c =
+    let s : tie.Start Inv-loop μ-loop = search in
+    omega (arith, s .pre .1 .few, c .before .loop-test .taken)
 
 element-copy-out-sum-of-2 : tie.Need-element-copy-out-sum-of-2 Inv-loop μ-loop
-element-copy-out-sum-of-2 c = let s = c .before .before .before .before in omega (arith, s .pre .1 .few, s .pre .1 .own-size, c .before .loop-test .taken)
+element-copy-out-sum-of-2 c =
+    let s : tie.Start Inv-loop μ-loop = search in
+    omega (arith, s .pre .1 .few, s .pre .1 .own-size, c .before .loop-test .taken)
 
 sum-of-requires : tie.Need-sum-of-requires Inv-loop μ-loop
-sum-of-requires c κs = let s = c .before .before .before .before .before in s .pre .0 .few _ (c .before .before .loop-test .taken)
+sum-of-requires c κs =
+    let s : tie.Start Inv-loop μ-loop = search in
+    s .pre .0 .few _ (c .before .before .loop-test .taken)
 
 slice-write-work : tie.Need-slice-write-work Inv-loop μ-loop
 slice-write-work c =
-    let l = c .before .before .before .before in
+    let in-loop : tie.In-loop Inv-loop μ-loop = search in
+    let l : tie.At-loop Inv-loop μ-loop = search in
     let s = l .before .before in
-    omega (arith, s .pre .0 .nodes, l .loop .inv .1 .size, c .before .before .before .loop-test .taken)
+    omega (arith, s .pre .0 .nodes, l .loop .inv .1 .size, in-loop .loop-test .taken)
 
 loop-again : tie.Need-loop-again Inv-loop μ-loop
 loop-again c =
-    let l = c .before .before .before .before in
+    let in-loop : tie.In-loop Inv-loop μ-loop = search in
+    let l : tie.At-loop Inv-loop μ-loop = search in
     let s = l .before .before in
-    let k = c .before .before .before .loop-test .taken in
+    let k = in-loop .loop-test .taken in
     (omega (arith, k), sums-next (s .pre .0) k (l .loop .inv .1) _ (c .sum-of .ensures))
 
 pass-all-requires : tie.Need-pass-all-requires Inv-loop μ-loop
-pass-all-requires c κs = c .before .before .before .before .before .pre .1
+pass-all-requires c κs =
+    let start : tie.Start Inv-loop μ-loop = search in
+    start .pre .1
 
 same-length : tie.Need-same-length Inv-loop μ-loop
-same-length c = c .before .before .before .before .loop .inv .1 .size
+same-length c =
+    let at-loop : tie.At-loop Inv-loop μ-loop = search in
+    at-loop .loop .inv .1 .size
 
 returns : tie.Need-returns Inv-loop μ-loop
 returns c =
-    let l = c .before .before .before .before in
+    let after-loop : tie.After-loop Inv-loop μ-loop = search in
+    let l : tie.At-loop Inv-loop μ-loop = search in
     let s = l .before .before in
-    let e : l .loop .code ≡ s .args .size = omega (arith, l .loop .inv .0, c .before .before .before .loop-test .left) in
+    let e : l .loop .code ≡ s .args .size = omega (arith, l .loop .inv .0, after-loop .loop-test .left) in
     (subst (SumsClosed _ _ _ _) e (l .loop .inv .1), c .pass-all .ensures)
 
 pub close-sums-spec : {M : Type 1} → statement M

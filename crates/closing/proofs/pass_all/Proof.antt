@@ -15,13 +15,14 @@ loop-holds c = (omega arith, passed-start _ _ _ (c .pre))
 
 pass-on-requires : tie.Need-pass-on-requires Inv-loop μ-loop
 pass-on-requires c κs =
-    let l = c .before .before .before in
+    let l : tie.At-loop Inv-loop μ-loop = search in
     pass-pre _ _ _ (l .before .pre) _ _ _ (l .loop .inv .1) (c .before .before .loop-test .taken)
 
 loop-again : tie.Need-loop-again Inv-loop μ-loop
 loop-again c =
-    let l = c .before .before .before .before in
-    (omega (arith, c .before .before .before .loop-test .taken), passed-next _ _ _ (l .before .pre) _ _ _ (l .loop .inv .1) _ _ (c .pass-on .ensures))
+    let in-loop : tie.In-loop Inv-loop μ-loop = search in
+    let l : tie.At-loop Inv-loop μ-loop = search in
+    (omega (arith, in-loop .loop-test .taken), passed-next _ _ _ (l .before .pre) _ _ _ (l .loop .inv .1) _ _ (c .pass-on .ensures))
 
 returns : tie.Need-returns Inv-loop μ-loop
 returns c =

@@ -5,10 +5,14 @@ use Rattle.closing.proofs.pass_on.Statement.{statement}
 use Rattle.closing.proofs.pass_on.Tie as tie
 
 sub-next : tie.Need-sub-next
-sub-next c = omega (arith, at-least _ _ _ (c .before .before .before .before .pre) _ (c .before .or-none .ensures))
+sub-next c =
+    let start : tie.Start = search in
+    omega (arith, at-least _ _ _ (start .pre) _ (c .before .or-none .ensures))
 
 returns : tie.Need-returns
-returns c = passed _ _ _ (c .before .before .before .before .pre) _ (c .before .or-none .ensures)
+returns c =
+    let start : tie.Start = search in
+    passed _ _ _ (start .pre) _ (c .before .or-none .ensures)
 
 pub pass-on-spec : {M : Type 1} → statement M
 pass-on-spec =

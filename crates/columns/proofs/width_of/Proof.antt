@@ -16,21 +16,27 @@ loop-holds : tie.Need-loop-holds Inv-loop μ-loop
 loop-holds c = (omega arith, sym (places-none (c .before .args .counts .now)), omega arith)
 
 add-width : tie.Need-add-width Inv-loop μ-loop
-add-width c = omega (arith, c .index .ensures .1, c .before .before .before .loop .inv .2, c .before .before .loop-test .taken, few-counts (c .before .before .before .before .before .pre))
+add-width c =
+    let at-loop : tie.At-loop Inv-loop μ-loop = search in
+    let start : tie.Start Inv-loop μ-loop = search in
+    omega (arith, c .index .ensures .1, at-loop .loop .inv .2, c .before .before .loop-test .taken, few-counts (start .pre))
 
 loop-again : tie.Need-loop-again Inv-loop μ-loop
 loop-again c =
-    let l = c .before .before .before .loop in
-    let n = places-next (c .before .before .before .before .before .args .counts .now) (l .m) (c .before .before .loop-test .taken) in
+    let at-loop : tie.At-loop Inv-loop μ-loop = search in
+    let start : tie.Start Inv-loop μ-loop = search in
+    let l = at-loop .loop in
+    let n = places-next (start .args .counts .now) (l .m) (c .before .before .loop-test .taken) in
     (omega (arith, c .before .before .loop-test .taken), rw add-one (omega (arith, l .inv .1, n, c .index .ensures .0)), omega (arith, l .inv .2, c .index .ensures .1))
 
 returns : tie.Need-returns Inv-loop μ-loop
 returns c =
+    let start : tie.Start Inv-loop μ-loop = search in
     let l = c .before .loop in
-    let counts = c .before .before .before .args .counts .now in
+    let counts = start .args .counts .now in
     let e : l .m ≡ length counts = omega (arith, l .inv .0, c .loop-test .left) in
     let w : l .width ≡ places counts = l .inv .1 ∙ ap (λ (n : ℕ). places (take n counts)) e ∙ places-all counts in
-    (w, omega (arith, w, places-few (c .before .before .before .pre)))
+    (w, omega (arith, w, places-few (start .pre)))
 
 pub width-of-spec : {M : Type 1} → statement M
 width-of-spec =

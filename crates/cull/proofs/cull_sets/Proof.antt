@@ -10,7 +10,7 @@ use Rattle.cull.proofs.cull_sets.Tie as tie
 
 returns : tie.Need-returns
 returns c =
-    let k = c .before .before .before .before in
+    let k : tie.After-check-sets-input = search in
     let n = c .before .number in
     let e = n .ensures ∙ k .check-sets-input .ensures .number in
     let p : 0 < n .result = refused-number (c .before .before .enum-told2 .given .1) (sym (n .ensures)) in
@@ -24,16 +24,22 @@ passed c = sym (c .before .before .check-sets-input .ensures .number) ∙ ap che
 
 -- its sizes
 sizes : (c : tie.After-struct-known) → GridOf (c .before .before .before .before .before .before .before .before .before .before .args .card .now) (c .before .before .before .before .check-sets-input .result .grid)
-sizes c = c .before .before .before .before .check-sets-input .ensures .sizes (passed (c .before .before))
+sizes c =
+    let after-check-sets-input : tie.After-check-sets-input = search in
+    after-check-sets-input .check-sets-input .ensures .sizes (passed (c .before .before))
 
 few : (c : tie.After-struct-known) → (length (c .before .before .before .before .before .before .before .before .before .before .args .sets .now) + 1) * c .before .before .before .before .check-sets-input .result .grid .size ≤ 3200
-few c = sets-few _ _ _ _ (passed (c .before .before)) (c .before .before .before .before .check-sets-input .result .grid .size) (sizes c .size)
+few c =
+    let after-check-sets-input : tie.After-check-sets-input = search in
+    sets-few _ _ _ _ (passed (c .before .before)) (after-check-sets-input .check-sets-input .result .grid .size) (sizes c .size)
 
 fits : (c : tie.After-struct-known) →
     let at-check-sets-input = c .before .before .before .before .check-sets-input in
     let entry = c .before .before .before .before .before .before .before .before .before .before in
     (length (entry .args .sets .now) + 1) * at-check-sets-input .result .grid .size * 8 ≤ length (entry .args .work .now)
-fits c = sets-fit _ _ _ _ (passed (c .before .before)) (c .before .before .before .before .check-sets-input .result .grid .size) (sizes c .size)
+fits c =
+    let after-check-sets-input : tie.After-check-sets-input = search in
+    sets-fit _ _ _ _ (passed (c .before .before)) (after-check-sets-input .check-sets-input .result .grid .size) (sizes c .size)
 
 mul-nodes : tie.Need-mul-nodes
 mul-nodes c = omega (arith, few c)
@@ -49,15 +55,18 @@ slice-aggregate-search-sets c = sym (front-room _ _ (fits (c .before)))
 
 search-sets-requires : tie.Need-search-sets-requires
 search-sets-requires c κs =
+    let after-check-sets-input : tie.After-check-sets-input = search in
     let j = c .before .before in
-    (sets-given _ _ _ _ (passed (j .before .before)) (j .before .before .before .before .check-sets-input .result .grid .size) (sizes j .size) (front-room _ _ (fits j)), sizes j)
+    (sets-given _ _ _ _ (passed (j .before .before)) (after-check-sets-input .check-sets-input .result .grid .size) (sizes j .size) (front-room _ _ (fits j)), sizes j)
 
 returns-2 : tie.Need-returns-2
 returns-2 c =
-    let j = c .before .before .before .before .before .before .before in
-    let a = j .before .before .before .before .before .before .before .before .before .before .args in
-    let s = c .before .before .before .before .search-sets .ensures in
-    call-searched (sets-best-small _ _ _ _) (passed (j .before .before)) (same-room _ (a .work .now) (c .before .before .before .before .search-sets .last .1 .1 .1 .1 .0) (fits j) (s .work-length)) s
+    let start : tie.Start = search in
+    let after-search-sets : tie.After-search-sets = search in
+    let j : tie.After-struct-known = search in
+    let a = start .args in
+    let s = after-search-sets .search-sets .ensures in
+    call-searched (sets-best-small _ _ _ _) (passed (j .before .before)) (same-room _ (a .work .now) (after-search-sets .search-sets .last .1 .1 .1 .1 .0) (fits j) (s .work-length)) s
 
 pub cull-sets-spec : {M : Type 1} → statement M
 cull-sets-spec =

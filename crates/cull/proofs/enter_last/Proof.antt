@@ -20,10 +20,14 @@ added c = c .before .before .before .before .before .before .before
 
 -- the slice's numbers have 16 bits, whatever was in it
 small : (c : tie.After-fill-endings) → Small (start c .args .steps .now)
-small c i = omega (arith, c .before .before .before .before .before .slice-known2 .given i)
+small c i =
+    let after-slice-known2 : tie.After-slice-known2 = search in
+    omega (arith, after-slice-known2 .slice-known2 .given i)
 
 fill-endings-requires : tie.Need-fill-endings-requires
-fill-endings-requires c κs = fill-ready (c .before .before .before .before .before .before .before .before .before .pre)
+fill-endings-requires c κs =
+    let start : tie.Start = search in
+    fill-ready (start .pre)
 
 add-four-requires : tie.Need-add-four-requires
 add-four-requires c κs =
@@ -43,17 +47,24 @@ same-length : tie.Need-same-length
 same-length c = c .before .before .try-endings .ensures .size
 
 same-length-2 : tie.Need-same-length-2
-same-length-2 c = filled (added (c .before .before .before) .before) .fill-endings .ensures .size
+same-length-2 c =
+    let after-try-endings-arg3 : tie.After-try-endings-arg3 = search in
+    filled (added after-try-endings-arg3 .before) .fill-endings .ensures .size
 
 same-length-3 : tie.Need-same-length-3
-same-length-3 c = added (c .before .before .before) .add-four .kept .1 .1 .1 .1 .1 .1 .0
+same-length-3 c =
+    let after-try-endings-arg3 : tie.After-try-endings-arg3 = search in
+    added after-try-endings-arg3 .add-four .kept .1 .1 .1 .1 .1 .1 .0
 
 same-length-4 : tie.Need-same-length-4
-same-length-4 c = added (c .before .before .before) .add-four .kept .1 .1 .1 .1 .1 .1 .1 .0
+same-length-4 c =
+    let after-try-endings-arg3 : tie.After-try-endings-arg3 = search in
+    added after-try-endings-arg3 .add-four .kept .1 .1 .1 .1 .1 .1 .1 .0
 
 returns : tie.Need-returns
 returns c =
-    let j = added (c .before .before .before) in
+    let after-try-endings-arg3 : tie.After-try-endings-arg3 = search in
+    let j = added after-try-endings-arg3 in
     let f = filled (j .before) in
     let s = start f in
     let k = j .add-four .kept .1 .1 .1 .1 .1 .1 in

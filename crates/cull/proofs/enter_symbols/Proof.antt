@@ -21,11 +21,14 @@ start l = l .before .before .before .before .before .before .before .before .bef
 -- ---- what each place asks for
 
 add-look-ahead : tie.Need-add-look-ahead Inv-loop μ-loop
-add-look-ahead c = omega (arith, nodes-there (c .before .before .before .before .before .before .before .before .before .before .pre .given) symbols-start .few)
+add-look-ahead c =
+    let start : tie.Start Inv-loop μ-loop = search in
+    omega (arith, nodes-there (start .pre .given) symbols-start .few)
 
 look-ahead-requires : tie.Need-look-ahead-requires Inv-loop μ-loop
 look-ahead-requires c κs =
-    let A = c .before .before .before .before .before .before .before .before .before .before .pre .given in
+    let start : tie.Start Inv-loop μ-loop = search in
+    let A = start .pre .given in
     let N = nodes-there A symbols-start in
     (N .nodes, N .few, few-codes (A .setting), N .stage, length-replicate {A = ℕ} 128 0)
 
@@ -37,10 +40,11 @@ cast-symbol c = omega (arith, c .least .ensures .1)
 
 enter-input-requires : tie.Need-enter-input-requires Inv-loop μ-loop
 enter-input-requires c κs =
-    let l = c .before .before .before .before .before .before .before in
+    let after-least : tie.After-least Inv-loop μ-loop = search in
+    let l : tie.At-loop Inv-loop μ-loop = search in
     let v = l .loop .inv in
     let Q = start l .pre in
-    let m = c .before .before .before .before .before .least .ensures .2 in
+    let m = after-least .least .ensures .2 in
     (input-pre (Q .given) (v .0) m (tables-kept (v .1) (Q .tables)) (v .2 ∙ Q .high-size) (v .3 ∙ Q .low-size) (v .4), symbol-reads (Q .given) (v .0) m)
 
 loop-less : tie.Need-loop-less Inv-loop μ-loop
@@ -48,10 +52,12 @@ loop-less c = c .without-least .ensures .0
 
 loop-again : tie.Need-loop-again Inv-loop μ-loop
 loop-again c =
-    let l = c .before .before .before .before .before .before .before .before .before .before .before .before .before .before .before .before .before in
+    let after-enter-input : tie.After-enter-input Inv-loop μ-loop = search in
+    let after-least : tie.After-least Inv-loop μ-loop = search in
+    let l : tie.At-loop Inv-loop μ-loop = search in
     let v = l .loop .inv in
-    let least = c .before .before .before .before .before .before .before .before .before .before .before .before .before .before .before .least .ensures in
-    let i = c .before .before .before .before .before .before .before .before .before .enter-input in (
+    let least = after-least .least .ensures in
+    let i = after-enter-input .enter-input in (
       symbols-next (v .0) (least .2) (λ n. c .without-least .ensures .1 n ∙ ap (λ (x : ℕ). member (l .loop .left) n && not (eqb n x)) (sym (least .0))) (i .ensures),
       i .kept .1 .1 .0 ∙ v .1,
       i .kept .1 .1 .1 .1 .1 .1 .1 .1 .0 ∙ v .2,

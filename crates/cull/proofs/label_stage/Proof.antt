@@ -39,13 +39,19 @@ loop c = c .before .before .before .before .before .before .before
 -- ---- before the loop
 
 add-blank : tie.Need-add-blank Inv-loop μ-loop
-add-blank c = omega (arith, c .before .before .before .before .before .before .before .before .before .before .pre .0 .1 .given .setting .few)
+add-blank c =
+    let start : tie.Start Inv-loop μ-loop = search in
+    omega (arith, start .pre .0 .1 .given .setting .few)
 
 mul-blank : tie.Need-mul-blank Inv-loop μ-loop
-mul-blank c = omega (arith, few-nodes (c .before .before .before .before .before .before .before .before .before .before .pre .0 .1 .given .setting))
+mul-blank c =
+    let start : tie.Start Inv-loop μ-loop = search in
+    omega (arith, few-nodes (start .pre .0 .1 .given .setting))
 
 blank-requires : tie.Need-blank-requires Inv-loop μ-loop
-blank-requires c κs = omega (arith, c .before .before .before .before .before .before .before .before .before .before .pre .0 .1 .given .room)
+blank-requires c κs =
+    let start : tie.Start Inv-loop μ-loop = search in
+    omega (arith, start .pre .0 .1 .given .room)
 
 mul-base : tie.Need-mul-base Inv-loop μ-loop
 mul-base c =
@@ -55,13 +61,13 @@ mul-base c =
 
 enter-last-requires : tie.Need-enter-last-requires Inv-loop μ-loop
 enter-last-requires c κs =
-    let b = c .before .before .before .before .before .before in
+    let b : tie.After-blank Inv-loop μ-loop = search in
     let t = start b in
     last-pre (last-ready (t .pre .0 .1) (b .blank .ensures)) (t .pre .1)
 
 settle-requires : tie.Need-settle-requires Inv-loop μ-loop
 settle-requires c κs =
-    let e = c .before .before .before .before .before .before .before .before .before in
+    let e : tie.After-enter-last Inv-loop μ-loop = search in
     let b = blanked e in
     let t = start b in
     let q = last-ready (t .pre .0 .1) (b .blank .ensures) in
@@ -94,23 +100,27 @@ mul-enter-symbols : tie.Need-mul-enter-symbols Inv-loop μ-loop
 mul-enter-symbols c = let l = c .before .before in omega (arith, l .loop .inv .0, begun l .pre .0 .1 .given .setting .few)
 
 shared-slice-read-enter-symbols : tie.Need-shared-slice-read-enter-symbols Inv-loop μ-loop
-shared-slice-read-enter-symbols c = omega (arith, c .before .before .before .loop .inv .0, c .before .before .loop-test .taken)
+shared-slice-read-enter-symbols c =
+    let at-loop : tie.At-loop Inv-loop μ-loop = search in
+    omega (arith, at-loop .loop .inv .0, c .before .before .loop-test .taken)
 
 enter-symbols-requires : tie.Need-enter-symbols-requires Inv-loop μ-loop
 enter-symbols-requires c κs =
-    let l = c .before .before .before .before .before .before in
+    let in-loop : tie.In-loop Inv-loop μ-loop = search in
+    let l : tie.At-loop Inv-loop μ-loop = search in
     let v = l .loop .inv in
-    let i = c .before .before .before .before .before .loop-test .taken in
+    let i = in-loop .loop-test .taken in
     let Q = begun l .pre in
     let k = entered (first l) .enter-last .kept .1 .1 .1 .1 in
     symbols-pre (position-ready (Q .0 .1) (l .loop .position) (omega (arith, i)) (v .0) (since l _ (Q .0 .1))) (lent-kept (Q .1) (v .2 ∙ k .0) (v .3 ∙ k .1 .0) (v .4 ∙ k .1 .1 .0)) (omega (arith, v .0, i))
 
 settle-requires-2 : tie.Need-settle-requires-2 Inv-loop μ-loop
 settle-requires-2 c κs =
-    let n = c .before .before .before .before .before .before .before .before .before in
+    let n : tie.After-enter-symbols Inv-loop μ-loop = search in
+    let in-loop : tie.In-loop Inv-loop μ-loop = search in
     let l = loop n in
     let v = l .loop .inv in
-    let i = n .before .before .before .before .before .before .loop-test .taken in
+    let i = in-loop .loop-test .taken in
     let Q = begun l .pre in
     let q = position-ready (Q .0 .1) (l .loop .position) (omega (arith, i)) (v .0) (since l _ (Q .0 .1)) in
     settle-ready q (position-entered q (Q .1) (omega (arith, v .0, i)) (n .enter-symbols .ensures))
@@ -120,10 +130,11 @@ loop-less c = omega arith
 
 loop-again : tie.Need-loop-again Inv-loop μ-loop
 loop-again c =
-    let n = c .before .before .before .before .before .before .before .before .before .before .before .before in
+    let n : tie.After-enter-symbols Inv-loop μ-loop = search in
+    let in-loop : tie.In-loop Inv-loop μ-loop = search in
     let l = loop n in
     let v = l .loop .inv in
-    let i = n .before .before .before .before .before .before .loop-test .taken in
+    let i = in-loop .loop-test .taken in
     let L = begun l .pre .1 in
     let k = n .enter-symbols .kept .1 .1 .1 .1 .1 in (
       omega (arith, v .0),

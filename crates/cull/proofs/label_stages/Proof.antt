@@ -41,25 +41,33 @@ stage-pre l h r Q = let A = l .loop .inv .1 r Q in record { given = stage-given 
 
 label-stage-requires : tie.Need-label-stage-requires Inv-loop μ-loop Inv-loop2 μ-loop2
 label-stage-requires c κs =
-    let l = c .before .before .before .before .before in
+    let in-loop : tie.In-loop Inv-loop μ-loop Inv-loop2 μ-loop2 = search in
+    let l : tie.At-loop Inv-loop μ-loop Inv-loop2 μ-loop2 = search in
     let v = l .loop .inv in
     let p = start l .pre in
-    ((p .0 .0, stage-pre l (omega (arith, c .before .before .before .before .loop-test .taken, counts-few (p .0 .1))) (p .0 .0) (p .0 .1)), lent-kept (p .1) (v .3) (v .4) (v .5))
+    ((p .0 .0, stage-pre l (omega (arith, in-loop .loop-test .taken, counts-few (p .0 .1))) (p .0 .0) (p .0 .1)), lent-kept (p .1) (v .3) (v .4) (v .5))
 
 -- one stage more
 one-more : (c : tie.After-label-stage Inv-loop μ-loop Inv-loop2 μ-loop2) → c .before .before .before .before .before .before .loop .stage < 6
-one-more c = omega (arith, c .before .before .before .before .before .loop-test .taken, counts-few (start (c .before .before .before .before .before .before) .pre .0 .1))
+one-more c =
+    let in-loop : tie.In-loop Inv-loop μ-loop Inv-loop2 μ-loop2 = search in
+    let at-loop : tie.At-loop Inv-loop μ-loop Inv-loop2 μ-loop2 = search in
+    omega (arith, in-loop .loop-test .taken, counts-few (start at-loop .pre .0 .1))
 
 add-stage : tie.Need-add-stage Inv-loop μ-loop Inv-loop2 μ-loop2
-add-stage c = omega (arith, one-more (c .before .before .before .before .before .before .before .before))
+add-stage c =
+    let after-label-stage : tie.After-label-stage Inv-loop μ-loop Inv-loop2 μ-loop2 = search in
+    omega (arith, one-more after-label-stage)
 
 loop-less : tie.Need-loop-less Inv-loop μ-loop Inv-loop2 μ-loop2
-loop-less c = omega (arith, one-more (c .before .before .before .before .before .before .before .before))
+loop-less c =
+    let after-label-stage : tie.After-label-stage Inv-loop μ-loop Inv-loop2 μ-loop2 = search in
+    omega (arith, one-more after-label-stage)
 
 loop-again : tie.Need-loop-again Inv-loop μ-loop Inv-loop2 μ-loop2
 loop-again c =
-    let s = c .before .before .before .before .before .before .before .before in
-    let l = s .before .before .before .before .before .before in
+    let s : tie.After-label-stage Inv-loop μ-loop Inv-loop2 μ-loop2 = search in
+    let l : tie.At-loop Inv-loop μ-loop Inv-loop2 μ-loop2 = search in
     let v = l .loop .inv in
     let kept = s .label-stage .kept .1 .1 .1 .1 .1 .1 .1 in
     (omega (arith, one-more s), (λ r Q. stages-next (v .1 r Q) (s .label-stage .ensures r (stage-pre l (one-more s) r Q))), s .label-stage .kept .0 ∙ v .2, kept .0 ∙ v .3, kept .1 .0 ∙ v .4, kept .1 .1 .0 ∙ v .5)
@@ -68,41 +76,63 @@ loop2-holds : tie.Need-loop2-holds Inv-loop μ-loop Inv-loop2 μ-loop2
 loop2-holds c = (c .before .loop .inv .0, omega (arith, c .loop-test .left), refl, λ r xs Q A. A)
 
 add-clear-place : tie.Need-add-clear-place Inv-loop μ-loop Inv-loop2 μ-loop2
-add-clear-place c = omega (arith, start (c .before .before .before .before) .pre .0 .1 .setting .few)
+add-clear-place c =
+    let at-loop : tie.At-loop Inv-loop μ-loop Inv-loop2 μ-loop2 = search in
+    omega (arith, start at-loop .pre .0 .1 .setting .few)
 
 mul-clear-place : tie.Need-mul-clear-place Inv-loop μ-loop Inv-loop2 μ-loop2
-mul-clear-place c = omega (arith, few-nodes (start (c .before .before .before .before) .pre .0 .1 .setting))
+mul-clear-place c =
+    let at-loop : tie.At-loop Inv-loop μ-loop Inv-loop2 μ-loop2 = search in
+    omega (arith, few-nodes (start at-loop .pre .0 .1 .setting))
 
 clear-place-requires : tie.Need-clear-place-requires Inv-loop μ-loop Inv-loop2 μ-loop2
-clear-place-requires c κs = (omega (arith, c .before .before .loop2 .inv .2, c .before .before .before .before .loop .inv .2, start (c .before .before .before .before) .pre .0 .1 .room), omega (arith, c .before .loop2-test .taken))
+clear-place-requires c κs =
+    let at-loop : tie.At-loop Inv-loop μ-loop Inv-loop2 μ-loop2 = search in
+    (omega (arith, c .before .before .loop2 .inv .2, at-loop .loop .inv .2, start at-loop .pre .0 .1 .room), omega (arith, c .before .loop2-test .taken))
 
 add-stage-2 : tie.Need-add-stage-2 Inv-loop μ-loop Inv-loop2 μ-loop2
-add-stage-2 c = omega (arith, c .before .before .before .before .loop2-test .taken)
+add-stage-2 c =
+    let in-loop2 : tie.In-loop2 Inv-loop μ-loop Inv-loop2 μ-loop2 = search in
+    omega (arith, in-loop2 .loop2-test .taken)
 
 loop2-less : tie.Need-loop2-less Inv-loop μ-loop Inv-loop2 μ-loop2
-loop2-less c = omega (arith, c .before .before .before .before .loop2-test .taken)
+loop2-less c =
+    let in-loop2 : tie.In-loop2 Inv-loop μ-loop Inv-loop2 μ-loop2 = search in
+    omega (arith, in-loop2 .loop2-test .taken)
 
 loop2-again : tie.Need-loop2-again Inv-loop μ-loop Inv-loop2 μ-loop2
 loop2-again c =
-    let v = c .before .before .before .before .before .loop2 .inv in
-    let t = c .before .before .before .before .loop2-test .taken in
+    let in-loop2 : tie.In-loop2 Inv-loop μ-loop Inv-loop2 μ-loop2 = search in
+    let at-loop2 : tie.At-loop2 Inv-loop μ-loop Inv-loop2 μ-loop2 = search in
+    let v = at-loop2 .loop2 .inv in
+    let t = in-loop2 .loop2-test .taken in
     let e = c .before .before .clear-place .ensures in
     (omega (arith, t), omega (arith, v .1), e .size ∙ v .2, λ r xs Q A. let B = v .3 r xs Q A in stages-idle Q (B .size) (v .1) (omega (arith, t)) B e)
 
 same-length : tie.Need-same-length Inv-loop μ-loop Inv-loop2 μ-loop2
-same-length c = c .before .loop2 .inv .2 ∙ c .before .before .before .loop .inv .2
+same-length c =
+    let at-loop : tie.At-loop Inv-loop μ-loop Inv-loop2 μ-loop2 = search in
+    c .before .loop2 .inv .2 ∙ at-loop .loop .inv .2
 
 same-length-2 : tie.Need-same-length-2 Inv-loop μ-loop Inv-loop2 μ-loop2
-same-length-2 c = c .before .before .before .loop .inv .3
+same-length-2 c =
+    let at-loop : tie.At-loop Inv-loop μ-loop Inv-loop2 μ-loop2 = search in
+    at-loop .loop .inv .3
 
 same-length-3 : tie.Need-same-length-3 Inv-loop μ-loop Inv-loop2 μ-loop2
-same-length-3 c = c .before .before .before .loop .inv .4
+same-length-3 c =
+    let at-loop : tie.At-loop Inv-loop μ-loop Inv-loop2 μ-loop2 = search in
+    at-loop .loop .inv .4
 
 same-length-4 : tie.Need-same-length-4 Inv-loop μ-loop Inv-loop2 μ-loop2
-same-length-4 c = c .before .before .before .loop .inv .5
+same-length-4 c =
+    let at-loop : tie.At-loop Inv-loop μ-loop Inv-loop2 μ-loop2 = search in
+    at-loop .loop .inv .5
 
 returns : tie.Need-returns Inv-loop μ-loop Inv-loop2 μ-loop2
-returns c = λ r Q. stages-end (c .before .loop2 .inv .3 r _ Q (c .before .before .before .loop .inv .1 r Q)) (omega (arith, c .before .loop2 .inv .0, c .loop2-test .left))
+returns c =
+    let at-loop : tie.At-loop Inv-loop μ-loop Inv-loop2 μ-loop2 = search in
+    λ r Q. stages-end (c .before .loop2 .inv .3 r _ Q (at-loop .loop .inv .1 r Q)) (omega (arith, c .before .loop2 .inv .0, c .loop2-test .left))
 
 pub label-stages-spec : {M : Type 1} → statement M
 label-stages-spec =

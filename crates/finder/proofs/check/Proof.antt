@@ -9,13 +9,15 @@ use Rattle.finder.proofs.check.Tie as tie
 
 returns : tie.Need-returns
 returns c =
-    let a = c .before .before .before .before .args in
+    let start : tie.Start = search in
+    let a = start .args in
     goes-up (c .enum-told2 .given .1) (refuse 1 (isMachineCount (a .machines))) (refuse 15 (soundList (a .machines) (a .conditions .now)) ∷ [])
     (c .before .before .check-machine-count .ensures)
 
 check-conditions-requires : tie.Need-check-conditions-requires
 check-conditions-requires c κs =
-    let a = c .before .before .before .before .args in
+    let start : tie.Start = search in
+    let a = start .args in
     omega (
       arith,
       machine-count (a .machines)
@@ -24,11 +26,13 @@ check-conditions-requires c κs =
 
 returns-2 : tie.Need-returns-2
 returns-2 c =
-    let a = c .before .before .before .before .before .args in
+    let after-check-machine-count : tie.After-check-machine-count = search in
+    let start : tie.Start = search in
+    let a = start .args in
     let n = refuse 15 (soundList (a .machines) (a .conditions .now)) in
     c .check-conditions .ensures
     ∙ sym (last-one n)
-    ∙ sym (goes-on (c .before .enum-told .given .1) (refuse 1 (isMachineCount (a .machines))) (n ∷ []) (c .before .before .before .check-machine-count .ensures))
+    ∙ sym (goes-on (c .before .enum-told .given .1) (refuse 1 (isMachineCount (a .machines))) (n ∷ []) (after-check-machine-count .check-machine-count .ensures))
 
 pub check-spec : {M : Type 1} → statement M
 check-spec =

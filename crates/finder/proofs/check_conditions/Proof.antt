@@ -19,32 +19,39 @@ returns c =
 
 returns-2 : tie.Need-returns-2 Inv-loop μ-loop
 returns-2 c =
-    let a = c .before .before .before .args in
+    let start : tie.Start Inv-loop μ-loop = search in
+    let a = start .args in
     sym (refuses-with 15 (long-list (a .machines) (a .conditions .now) (c .before .if1 .left) (c .if2 .taken)))
 
 -- the condition at the place is sound if the code says so
 told : (c : tie.After-sound Inv-loop μ-loop)
     → soundCondition (c .before .before .before .before .before .before .before .args .machines) (conditionAt (c .before .before .before .before .before .before .before .args .conditions .now) (c .before .before .before .loop .at))
     ≡ c .sound .result
-told c = ap (soundCondition (c .before .before .before .before .before .before .before .args .machines)) (sym (c .before .condition-at .ensures)) ∙ sym (c .sound .ensures)
+told c =
+    let start : tie.Start Inv-loop μ-loop = search in
+    ap (soundCondition (start .args .machines)) (sym (c .before .condition-at .ensures)) ∙ sym (c .sound .ensures)
 
 returns-3 : tie.Need-returns-3 Inv-loop μ-loop
 returns-3 c =
-    let k = c .before .before .before in
-    let e = k .before .before .before .if1 .left in
-    let a = k .before .before .before .before .before .args in
+    let k : tie.In-loop Inv-loop μ-loop = search in
+    let else1 : tie.Else1 Inv-loop μ-loop = search in
+    let start : tie.Start Inv-loop μ-loop = search in
+    let e = else1 .if1 .left in
+    let a = start .args in
     let unsound = told (c .before) ∙ not-true (c .before .sound .result) (c .if3 .taken) in
     sym (refuses-with 15 (listed-pairs (a .machines) (a .conditions .now) e (k .before .before .if2 .left) ∙ reached-fails (k .before .loop .inv) e (k .loop-test .taken) unsound))
 
 loop-again : tie.Need-loop-again Inv-loop μ-loop
 loop-again c =
-    let k = c .before .before .before in
-    reached-next (k .before .loop .inv) (k .before .before .before .if1 .left) (k .loop-test .taken) (told (c .before) ∙ not-false (c .before .sound .result) (c .if3 .left))
+    let k : tie.In-loop Inv-loop μ-loop = search in
+    let else1 : tie.Else1 Inv-loop μ-loop = search in
+    reached-next (k .before .loop .inv) (else1 .if1 .left) (k .loop-test .taken) (told (c .before) ∙ not-false (c .before .sound .result) (c .if3 .left))
 
 returns-4 : tie.Need-returns-4 Inv-loop μ-loop
 returns-4 c =
+    let start : tie.Start Inv-loop μ-loop = search in
     let k = c .before in
-    let a = k .before .before .before .before .args in
+    let a = start .args in
     sym (passes-with 15 (listed-pairs (a .machines) (a .conditions .now) (k .before .before .if1 .left) (k .before .if2 .left) ∙ reached-end (k .loop .inv) (c .loop-test .left)))
 
 pub check-conditions-spec : {M : Type 1} → statement M

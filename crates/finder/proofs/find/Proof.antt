@@ -10,27 +10,32 @@ use Rattle.finder.proofs.find.Tie as tie
 returns : tie.Need-returns
 unfolding finding
 returns c =
-    let a = c .before .before .before .before .before .args in
+    let after-check : tie.After-check = search in
+    let start : tie.Start = search in
+    let a = start .args in
     let n = firstOf (refuse 1 (isMachineCount (a .machines)) ∷ refuse 15 (soundList (a .machines) (a .conditions .now)) ∷ []) in
-    let e = c .before .before .before .check .ensures in
+    let e = after-check .check .ensures in
     c .refused .ensures
     ∙ ap refusedFinding e
     ∙ sym (not-accepted n (findingOf (a .machines) (smallest (a .machines) (conditionsOf (a .conditions .now)))) refusedFinding (refused-number (c .before .enum-told2 .given .1) e))
 
 rank-requires : tie.Need-rank-requires
 rank-requires c κs =
-    let a = c .before .before .before .before .args in
+    let start : tie.Start = search in
+    let a = start .args in
     passed-checks (a .machines) (a .conditions .now) (sym (c .before .before .check .ensures) ∙ ap checkedNumber (c .enum-told .given .1))
 
 returns-2 : tie.Need-returns-2
 unfolding finding
 returns-2 c =
-    let a = c .before .before .before .before .before .args in
+    let after-check : tie.After-check = search in
+    let start : tie.Start = search in
+    let a = start .args in
     let n = firstOf (refuse 1 (isMachineCount (a .machines)) ∷ refuse 15 (soundList (a .machines) (a .conditions .now)) ∷ []) in
     c .rank .ensures
     ∙ sym
     (accepts (c .before .enum-told .given .1) n (findingOf (a .machines) (smallest (a .machines) (conditionsOf (a .conditions .now)))) refusedFinding
-    (c .before .before .before .check .ensures))
+    (after-check .check .ensures))
 
 pub find-spec : {M : Type 1} → statement M
 find-spec =

@@ -15,18 +15,21 @@ told : (c : tie.After-blocks2 Inv-loop μ-loop)
     → blocks (c .before .before .before .before .before .args .placed) (c .before .before .before .before .before .args .machine) (conditionAt (c .before .before .before .before .before .args .conditions .now) (c .before .before .before .loop .at))
     ≡ c .blocks2 .result
 told c =
-    let a = c .before .before .before .before .before .args in
+    let start : tie.Start Inv-loop μ-loop = search in
+    let a = start .args in
     ap (blocks (a .placed) (a .machine)) (sym (c .before .condition-at .ensures)) ∙ sym (c .blocks2 .ensures)
 
 returns : tie.Need-returns Inv-loop μ-loop
 returns c =
-    let k = c .before .before .before in
-    sym (reached-fails (k .before .loop .inv) (k .before .before .before .pre .0) (k .loop-test .taken) (ap not (told (c .before) ∙ c .if1 .taken)))
+    let k : tie.In-loop Inv-loop μ-loop = search in
+    let start : tie.Start Inv-loop μ-loop = search in
+    sym (reached-fails (k .before .loop .inv) (start .pre .0) (k .loop-test .taken) (ap not (told (c .before) ∙ c .if1 .taken)))
 
 loop-again : tie.Need-loop-again Inv-loop μ-loop
 loop-again c =
-    let k = c .before .before .before in
-    reached-next (k .before .loop .inv) (k .before .before .before .pre .0) (k .loop-test .taken) (ap not (told (c .before) ∙ c .if1 .left))
+    let k : tie.In-loop Inv-loop μ-loop = search in
+    let start : tie.Start Inv-loop μ-loop = search in
+    reached-next (k .before .loop .inv) (start .pre .0) (k .loop-test .taken) (ap not (told (c .before) ∙ c .if1 .left))
 
 returns-2 : tie.Need-returns-2 Inv-loop μ-loop
 returns-2 c = sym (reached-end (c .before .loop .inv) (c .loop-test .left))

@@ -22,15 +22,17 @@ told c = ap₂ (λ (a b : Bool). not a && b) (sym (c .before .has .ensures)) (sy
 
 returns : tie.Need-returns Inv-loop μ-loop
 returns c =
-    let k = c .before .before .before in
-    let a = k .before .before .before .args in
+    let k : tie.In-loop Inv-loop μ-loop = search in
+    let start : tie.Start Inv-loop μ-loop = search in
+    let a = start .args in
     let cs = conditionsOf (a .conditions .now) in
     sym (ap nextOf (next-found cs (a .placed) (a .machines) (k .before .loop .machine) (k .loop-test .taken) (k .before .loop .inv .1) (told (c .before) ∙ c .if1 .taken)))
 
 loop-again : tie.Need-loop-again Inv-loop μ-loop
 loop-again c =
-    let k = c .before .before .before in
-    let a = k .before .before .before .args in
+    let k : tie.In-loop Inv-loop μ-loop = search in
+    let start : tie.Start Inv-loop μ-loop = search in
+    let a = start .args in
     let cs = conditionsOf (a .conditions .now) in
     (search needs, next-on cs (a .placed) (k .before .loop .machine) (k .before .loop .inv .1) (told (c .before) ∙ c .if1 .left))
 

@@ -25,27 +25,28 @@ loop-holds c = filled-start _ _
 
 next-machine-requires : tie.Need-next-machine-requires Inv-loop μ-loop
 next-machine-requires c κs =
-    let s = c .before .before .before in
+    let s : tie.Start Inv-loop μ-loop = search in
     (even-list (s .args .machines) (s .args .conditions .now) (s .pre .1), search needs)
 
 returns : tie.Need-returns Inv-loop μ-loop
 returns c =
-    let k = c .before .before .before .before .before in
+    let after-next-machine : tie.After-next-machine Inv-loop μ-loop = search in
+    let k : tie.At-loop Inv-loop μ-loop = search in
     let s = k .before .before in
     let a = s .args in
-    let n = next-missing (nextMachine (a .machines) (conditionsOf (a .conditions .now)) (k .loop .placed)) (c .before .before .before .next-machine .ensures) (c .before .enum-told2 .given .1) in
+    let n = next-missing (nextMachine (a .machines) (conditionsOf (a .conditions .now)) (k .loop .placed)) (after-next-machine .next-machine .ensures) (c .before .enum-told2 .given .1) in
     c .refused .ensures
     ∙ ap refusedFinding (n .1)
     ∙ sym (ap (findingOf (a .machines)) (demotion-sound (a .machines) (a .conditions .now) (s .pre .0) (s .pre .1) ∙ filled-stops (k .loop .inv) (omega arith) (n .0)))
 
 shl-placed : tie.Need-shl-placed Inv-loop μ-loop
 shl-placed c =
-    let s = c .before .before .before .before .before .before in
+    let s : tie.Start Inv-loop μ-loop = search in
     omega (arith, next-below (s .args .machines) (conditionsOf (s .args .conditions .now)) _ (chosen c))
 
 loop-again : tie.Need-loop-again Inv-loop μ-loop
 loop-again c =
-    let k = c .before .before .before .before in
+    let k : tie.At-loop Inv-loop μ-loop = search in
     let s = k .before .before in
     let m = c .before .before .next-machine .result .machine in
     filled-next (k .loop .inv) (s .pre .0) (omega arith) m _ (chosen c)

@@ -26,8 +26,9 @@ card-passed c = passed-number (c .enum-told .given .1) (c .before .before .check
 returns : tie.Need-returns
 unfolding inputRefusal
 returns c =
+    let start : tie.Start = search in
     let e = c .before in
-    let a = e .before .before .before .before .before .before .args in
+    let a = start .args in
     let n : checkedNumber (e .before .before .check .result) ≡ inputRefusal (a .card .now) (a .ranking .now) (a .word .now) (a .room) = goes-up (e .enum-told2 .given .1) (cardRefusal (a .card .now)) (refuse 7 (isRanking (machineCount (a .card .now)) (a .ranking .now)) ∷ refuse 8 (soundWord (symbolCount (a .card .now)) (a .word .now)) ∷ refuse 9 (leb (8 * nodeCount (machinesOf (a .card .now)) (length (a .word .now))) (a .room)) ∷ []) (e .before .before .check .ensures) in
     record { number = n; sizes = λ z. absurd (omega (arith, z, n, refused-number (e .enum-told2 .given .1) (e .before .before .check .ensures), e .before .before .check .ensures)) }
 
@@ -35,12 +36,15 @@ grid-of-requires : tie.Need-grid-of-requires
 grid-of-requires c κs = card-passed c
 
 check-word-requires : tie.Need-check-word-requires
-check-word-requires c κs = few-sizes (c .before .before .before .before .before .before .before .args .card .now) (card-passed (c .before)) (c .grid-of .result) (c .grid-of .ensures)
+check-word-requires c κs =
+    let start : tie.Start = search in
+    few-sizes (start .args .card .now) (card-passed (c .before)) (c .grid-of .result) (c .grid-of .ensures)
 
 returns-2 : tie.Need-returns-2
 returns-2 c =
+    let start : tie.Start = search in
     let g = c .before .grid-of in
-    let a = c .before .before .before .before .before .before .before .before .args in
+    let a = start .args in
     record {
       number = c .check-word .ensures ∙ by-sizes (a .card .now) (a .ranking .now) (a .word .now) (a .room) (g .result) (card-passed (c .before .before)) (g .ensures);
       sizes = λ z. g .ensures;

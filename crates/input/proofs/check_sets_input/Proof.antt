@@ -26,8 +26,9 @@ card-passed c = passed-number (c .enum-told .given .1) (c .before .before .check
 returns : tie.Need-returns
 unfolding setsInputRefusal
 returns c =
+    let start : tie.Start = search in
     let e = c .before in
-    let a = e .before .before .before .before .before .before .args in
+    let a = start .args in
     let n : checkedNumber (e .before .before .check .result) ≡ setsInputRefusal (a .card .now) (a .ranking .now) (a .sets .now) (a .room) = goes-up (e .enum-told2 .given .1) (cardRefusal (a .card .now)) (refuse 7 (isRanking (machineCount (a .card .now)) (a .ranking .now)) ∷ setsRefusal (symbolCount (a .card .now)) (a .sets .now) ∷ refuse 9 (leb (8 * nodeCount (machinesOf (a .card .now)) (length (a .sets .now))) (a .room)) ∷ []) (e .before .before .check .ensures) in
     record { number = n; sizes = λ z. absurd (omega (arith, z, n, refused-number (e .enum-told2 .given .1) (e .before .before .check .ensures), e .before .before .check .ensures)) }
 
@@ -35,12 +36,15 @@ grid-of-requires : tie.Need-grid-of-requires
 grid-of-requires c κs = card-passed c
 
 check-sets-requires : tie.Need-check-sets-requires
-check-sets-requires c κs = few-sizes (c .before .before .before .before .before .before .before .args .card .now) (card-passed (c .before)) (c .grid-of .result) (c .grid-of .ensures)
+check-sets-requires c κs =
+    let start : tie.Start = search in
+    few-sizes (start .args .card .now) (card-passed (c .before)) (c .grid-of .result) (c .grid-of .ensures)
 
 returns-2 : tie.Need-returns-2
 returns-2 c =
+    let start : tie.Start = search in
     let g = c .before .grid-of in
-    let a = c .before .before .before .before .before .before .before .before .args in
+    let a = start .args in
     record {
       number = c .check-sets .ensures ∙ by-sizes (a .card .now) (a .ranking .now) (a .sets .now) (a .room) (g .result) (card-passed (c .before .before)) (g .ensures);
       sizes = λ z. g .ensures;

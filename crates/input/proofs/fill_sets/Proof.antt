@@ -13,19 +13,25 @@ loop-holds : tie.Need-loop-holds Inv-loop μ-loop
 loop-holds c = (filled-start (c .before .before .pre .0), omega arith, refl)
 
 set-of-requires : tie.Need-set-of-requires Inv-loop μ-loop
-set-of-requires c κs = small-at _ (c .before .before .before .before .before .pre .1) _ (c .before .loop-test .taken)
+set-of-requires c κs =
+    let start : tie.Start Inv-loop μ-loop = search in
+    small-at _ (start .pre .1) _ (c .before .loop-test .taken)
 
 mul-sets : tie.Need-mul-sets Inv-loop μ-loop
 mul-sets c = search needs
 
 slice-write-sets : tie.Need-slice-write-sets Inv-loop μ-loop
-slice-write-sets c = omega (arith, c .before .before .before .loop .inv .0 .room, c .before .before .loop-test .taken)
+slice-write-sets c =
+    let at-loop : tie.At-loop Inv-loop μ-loop = search in
+    omega (arith, at-loop .loop .inv .0 .room, c .before .before .loop-test .taken)
 
 loop-less : tie.Need-loop-less Inv-loop μ-loop
 loop-less c = omega (arith, c .before .before .loop-test .taken)
 
 loop-again : tie.Need-loop-again Inv-loop μ-loop
-loop-again c = let v = c .before .before .before .loop .inv in (filled-next (v .0) (c .before .before .loop-test .taken) (c .set-of .ensures), omega (arith, c .before .before .loop-test .taken), simp length-set (v .2))
+loop-again c =
+    let at-loop : tie.At-loop Inv-loop μ-loop = search in
+    let v = at-loop .loop .inv in (filled-next (v .0) (c .before .before .loop-test .taken) (c .set-of .ensures), omega (arith, c .before .before .loop-test .taken), simp length-set (v .2))
 
 same-length : tie.Need-same-length Inv-loop μ-loop
 same-length c = c .before .loop .inv .2

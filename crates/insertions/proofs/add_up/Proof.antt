@@ -13,10 +13,16 @@ loop-holds : tie.Need-loop-holds Inv-loop μ-loop
 loop-holds c = add-start (c .pre)
 
 add-ends : tie.Need-add-ends Inv-loop μ-loop
-add-ends c = omega (arith, add-fits (c .before .before .before .before .pre) (c .before .before .before .loop .inv) (c .before .before .loop-test .taken))
+add-ends c =
+    let at-loop : tie.At-loop Inv-loop μ-loop = search in
+    let start : tie.Start Inv-loop μ-loop = search in
+    omega (arith, add-fits (start .pre) (at-loop .loop .inv) (c .before .before .loop-test .taken))
 
 loop-again : tie.Need-loop-again Inv-loop μ-loop
-loop-again c = add-next (c .before .before .before .before .pre) (c .before .before .before .loop .inv) (c .before .before .loop-test .taken)
+loop-again c =
+    let at-loop : tie.At-loop Inv-loop μ-loop = search in
+    let start : tie.Start Inv-loop μ-loop = search in
+    add-next (start .pre) (at-loop .loop .inv) (c .before .before .loop-test .taken)
 
 returns : tie.Need-returns Inv-loop μ-loop
 returns c = add-end (c .before .loop .inv) (c .loop-test .left)

@@ -16,20 +16,31 @@ loop-holds c = let s = c .before in
     (omega arith, sym (bumped-none 2 (codeLane (s .args .high .now) [] (s .args .code) (s .args .a) (s .args .b)) (s .args .ends .now)))
 
 add-count-lane-3 : tie.Need-add-count-lane-3 Inv-loop μ-loop
-add-count-lane-3 c = omega (arith, c .before .before .before .before .before .before .pre .1 .sums (c .before .before .before .before .loop .j) (c .before .before .before .loop-test .taken))
+add-count-lane-3 c =
+    let in-loop : tie.In-loop Inv-loop μ-loop = search in
+    let at-loop : tie.At-loop Inv-loop μ-loop = search in
+    let start : tie.Start Inv-loop μ-loop = search in
+    omega (arith, start .pre .1 .sums (at-loop .loop .j) (in-loop .loop-test .taken))
 
 count-lane-requires : tie.Need-count-lane-requires Inv-loop μ-loop
-count-lane-requires c κs = let s = c .before .before .before .before .before .before in
-    count-next 2 (codeLane (s .args .high .now) [] (s .args .code) (s .args .a) (s .args .b)) (c .before .before .before .before .loop .j) 1 4 (omega arith) (omega (arith, c .before .before .before .loop-test .taken)) (c .before .before .before .before .loop .inv .1) (s .pre .0)
+count-lane-requires c κs =
+    let in-loop : tie.In-loop Inv-loop μ-loop = search in
+    let at-loop : tie.At-loop Inv-loop μ-loop = search in
+    let s : tie.Start Inv-loop μ-loop = search in
+    count-next 2 (codeLane (s .args .high .now) [] (s .args .code) (s .args .a) (s .args .b)) (at-loop .loop .j) 1 4 (omega arith) (omega (arith, in-loop .loop-test .taken)) (at-loop .loop .inv .1) (s .pre .0)
 
 loop-again : tie.Need-loop-again Inv-loop μ-loop
-loop-again c = let s = c .before .before .before .before .before .before .before in
-    let l = c .before .before .before .before .before .loop in
+loop-again c =
+    let in-loop : tie.In-loop Inv-loop μ-loop = search in
+    let at-loop : tie.At-loop Inv-loop μ-loop = search in
+    let s : tie.Start Inv-loop μ-loop = search in
+    let l = at-loop .loop in
     let f = codeLane (s .args .high .now) [] (s .args .code) (s .args .a) (s .args .b) in
-    (omega (arith, c .before .before .before .before .loop-test .taken), c .count-lane .ensures ∙ bump-same 2 _ (f (l .j)) (l .ends) refl refl ∙ ap (bump 2 (f (l .j))) (l .inv .1) ∙ sym (bumped-next 2 f (s .args .ends .now) (l .j)))
+    (omega (arith, in-loop .loop-test .taken), c .count-lane .ensures ∙ bump-same 2 _ (f (l .j)) (l .ends) refl refl ∙ ap (bump 2 (f (l .j))) (l .inv .1) ∙ sym (bumped-next 2 f (s .args .ends .now) (l .j)))
 
 returns : tie.Need-returns Inv-loop μ-loop
-returns c = let s = c .before .before .before in
+returns c =
+    let s : tie.Start Inv-loop μ-loop = search in
     let l = c .before .loop in
     let e : l .j ≡ 4 = omega (arith, l .inv .0, c .loop-test .left) in
     l .inv .1 ∙ ap (λ (n : ℕ). bumped 2 (codeLane (s .args .high .now) [] (s .args .code) (s .args .a) (s .args .b)) n (s .args .ends .now)) e

@@ -19,15 +19,16 @@ loop-holds c =
 
 count-row-requires : tie.Need-count-row-requires Inv-loop μ-loop
 count-row-requires c κs =
-    let s = c .before .before .before .before in
+    let s : tie.Start Inv-loop μ-loop = search in
     let l = c .before .before .loop in
     let t = c .before .loop-test .taken in
     (count-next 2 (fourLane (s .args .high .now) [] (s .args .front) (s .args .back)) (l .a * s .args .back * 4) (s .args .back * 4) (s .args .front * s .args .back * 4) (omega arith) (omega (arith, row-last (s .pre .1) (l .a) t)) (l .inv .1) (s .pre .0), s .pre .1, t)
 
 loop-again : tie.Need-loop-again Inv-loop μ-loop
 loop-again c =
-    let s = c .before .before .before .before .before in
-    let l = c .before .before .before .loop in
+    let at-loop : tie.At-loop Inv-loop μ-loop = search in
+    let s : tie.Start Inv-loop μ-loop = search in
+    let l = at-loop .loop in
     let ns = s .args .ends .now in
     let f = fourLane (s .args .high .now) [] (s .args .front) (s .args .back) in
     let g = lanesFrom (s .args .high .now) [] (s .args .front) (s .args .back) (l .a * s .args .back) in
@@ -35,7 +36,7 @@ loop-again c =
 
 returns : tie.Need-returns Inv-loop μ-loop
 returns c =
-    let s = c .before .before .before in
+    let s : tie.Start Inv-loop μ-loop = search in
     let l = c .before .loop in
     let e : l .a ≡ s .args .front = omega (arith, l .inv .0, c .loop-test .left) in
     l .inv .1 ∙ ap (λ (n : ℕ). bumped 2 (fourLane (s .args .high .now) [] (s .args .front) (s .args .back)) (n * s .args .back * 4) (s .args .ends .now)) e

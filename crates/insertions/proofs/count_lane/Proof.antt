@@ -5,12 +5,16 @@ use Rattle.insertions.proofs.count_lane.Statement.{statement}
 use Rattle.insertions.proofs.count_lane.Tie as tie
 
 add-ends : tie.Need-add-ends
-add-ends c = omega (arith, c .before .before .before .before .pre .fits (c .before .list-of .result + 2))
+add-ends c =
+    let start : tie.Start = search in
+    omega (arith, start .pre .fits (c .before .list-of .result + 2))
 
 returns : tie.Need-returns
-returns c = let s = c .before .before .before .before in
+returns c =
+    let after-moves : tie.After-moves = search in
+    let s : tie.Start = search in
     let ns = s .args .ends .now in
-    ap (λ (n : ℕ). set ns (n + 2) (getD ns (n + 2) 0 + 1)) (c .before .list-of .ensures .0) ∙ sym (bump-moves 2 (laneOf (s .args .code) (s .args .step) 0) ns (sym (c .before .before .before .moves .ensures) ∙ c .before .before .if1 .taken))
+    ap (λ (n : ℕ). set ns (n + 2) (getD ns (n + 2) 0 + 1)) (c .before .list-of .ensures .0) ∙ sym (bump-moves 2 (laneOf (s .args .code) (s .args .step) 0) ns (sym (after-moves .moves .ensures) ∙ c .before .before .if1 .taken))
 
 returns-2 : tie.Need-returns-2
 returns-2 c = let s = c .before .before in

@@ -23,38 +23,52 @@ loop-holds : tie.Need-loop-holds Inv-loop μ-loop
 loop-holds c = (list-start, refl, refl)
 
 add-four-requires : tie.Need-add-four-requires Inv-loop μ-loop
-add-four-requires c κs = let l = c .before .before .before .before .before .loop in
-    let s = c .before .before .before .before .before .before .before .before .before .before .before .before in
-    asks-four (s .pre .0) (l .left) _ _ (c .before .before .before .next-four .ensures) (omega (arith, s .pre .3, l .inv .1)) (omega (arith, s .pre .4, l .inv .2))
+add-four-requires c κs =
+    let after-next-four : tie.After-next-four Inv-loop μ-loop = search in
+    let at-loop : tie.At-loop Inv-loop μ-loop = search in
+    let s : tie.Start Inv-loop μ-loop = search in
+    let l = at-loop .loop in
+    asks-four (s .pre .0) (l .left) _ _ (after-next-four .next-four .ensures) (omega (arith, s .pre .3, l .inv .1)) (omega (arith, s .pre .4, l .inv .2))
 
 list-four-requires : tie.Need-list-four-requires Inv-loop μ-loop
-list-four-requires c κs = let s = c .before .before .before .before .before .before .before .before .before .before .before .before .before .before .before .before .before .before .before .before .before in
-    let l = c .before .before .before .before .before .before .before .before .before .before .before .before .before .before .loop in
-    let j = c .before .before .before .before .before .before .before .before .add-four in
-    let e = c .before .before .before .before .before .before .before .before .before .before .before .before .next-four .ensures in
+list-four-requires c κs =
+    let after-add-four : tie.After-add-four Inv-loop μ-loop = search in
+    let after-next-four : tie.After-next-four Inv-loop μ-loop = search in
+    let in-loop : tie.In-loop Inv-loop μ-loop = search in
+    let at-loop : tie.At-loop Inv-loop μ-loop = search in
+    let s : tie.Start Inv-loop μ-loop = search in
+    let l = at-loop .loop in
+    let j = after-add-four .add-four in
+    let e = after-next-four .next-four .ensures in
     let q = l .inv .0 .fours in
     let d = e ∙ ap nextFour (l .inv .0 .fours-to .left-is) in (
-      room-to-list (s .pre .0) (s .pre .1) (s .pre .2) (l .inv .0) (omega (arith, c .before .before .before .before .before .before .before .before .before .before .before .before .before .loop-test .taken)) e (j .ensures),
+      room-to-list (s .pre .0) (s .pre .1) (s .pre .2) (l .inv .0) (omega (arith, in-loop .loop-test .taken)) e (j .ensures),
       high-pre (s .pre .0) q d (j .ensures) (omega (arith, s .pre .3, j .kept .1 .1 .1 .1 .1 .1 .0, l .inv .1)),
       low-pre (s .pre .0) q d (j .ensures) (omega (arith, s .pre .4, j .kept .1 .1 .1 .1 .1 .1 .1 .0, l .inv .2)),
     )
 
 loop-less : tie.Need-loop-less Inv-loop μ-loop
 loop-less c =
-    let at-loop-test = c .before .before .before .before .before .before .before .before .before .before .before .before .before .before .before .before .before .loop-test in
-    let at-loop = c .before .before .before .before .before .before .before .before .before .before .before .before .before .before .before .before .before .before .loop in
-    let l = at-loop in
-    omega (arith, c .without-four .ensures, without-less (l .left) (omega (arith, l .inv .0 .fours-to .left-is, fours-small (small (c .before .before .before .before .before .before .before .before .before .before .before .before .before .before .before .before .before .before .before .before .before .before .before .before .before)) (l .inv .0 .fours))) (omega (arith, at-loop-test .taken)))
+    let in-loop : tie.In-loop Inv-loop μ-loop = search in
+    let at-loop : tie.At-loop Inv-loop μ-loop = search in
+    let start : tie.Start Inv-loop μ-loop = search in
+    let at-loop-test = in-loop .loop-test in
+    let l = at-loop .loop in
+    omega (arith, c .without-four .ensures, without-less (l .left) (omega (arith, l .inv .0 .fours-to .left-is, fours-small (small start) (l .inv .0 .fours))) (omega (arith, at-loop-test .taken)))
 
 loop-again : tie.Need-loop-again Inv-loop μ-loop
 loop-again c =
-    let at-list-four = c .before .before .before .list-four in
-    let at-add-four = c .before .before .before .before .before .before .before .before .before .before .before .before .add-four in
-    let at-next-four = c .before .before .before .before .before .before .before .before .before .before .before .before .before .before .before .before .next-four in
-    let at-loop-test = c .before .before .before .before .before .before .before .before .before .before .before .before .before .before .before .before .before .loop-test in
-    let at-loop = c .before .before .before .before .before .before .before .before .before .before .before .before .before .before .before .before .before .before .loop in
-    let s = c .before .before .before .before .before .before .before .before .before .before .before .before .before .before .before .before .before .before .before .before .before .before .before .before .before in
-    let l = at-loop in
+    let after-list-four : tie.After-list-four Inv-loop μ-loop = search in
+    let after-add-four : tie.After-add-four Inv-loop μ-loop = search in
+    let after-next-four : tie.After-next-four Inv-loop μ-loop = search in
+    let in-loop : tie.In-loop Inv-loop μ-loop = search in
+    let at-loop : tie.At-loop Inv-loop μ-loop = search in
+    let s : tie.Start Inv-loop μ-loop = search in
+    let at-list-four = after-list-four .list-four in
+    let at-add-four = after-add-four .add-four in
+    let at-next-four = after-next-four .next-four in
+    let at-loop-test = in-loop .loop-test in
+    let l = at-loop .loop in
     let j = at-add-four in
     let d = at-list-four .ensures in (
       four-listed (s .pre .0) (s .pre .1) (s .pre .2) (l .inv .0) (omega (arith, at-loop-test .taken)) (at-next-four .ensures) (j .ensures) (d .0) (d .1) (c .without-four .ensures),
@@ -63,7 +77,8 @@ loop-again c =
     )
 
 same-length : tie.Need-same-length Inv-loop μ-loop
-same-length c = let s = c .before .before .before .before .before .before .before .before in
+same-length c =
+    let s : tie.Start Inv-loop μ-loop = search in
     let l = c .before .loop in
     ap length (l .inv .0 .entries-are) ∙ placed-size (keptLane (s .args .steps .now) (s .args .weights .now) (s .args .counts .now) (s .args .width) (s .args .kept)) (s .args .entries .now) (s .args .ends .now) (l .inv .0 .fours * product (s .args .counts .now) * 4)
 
@@ -74,7 +89,8 @@ same-length-3 : tie.Need-same-length-3 Inv-loop μ-loop
 same-length-3 c = c .before .loop .inv .2
 
 returns : tie.Need-returns Inv-loop μ-loop
-returns c = let s = c .before .before .before .before .before .before .before .before in
+returns c =
+    let s : tie.Start Inv-loop μ-loop = search in
     let l = c .before .loop .inv .0 in
     let f = all-fours (l .fours-to) (omega (arith, c .loop-test .left)) in
     listed-by (s .args .entries .now) (s .pre .0 .weights) (small s) (s .pre .1) (s .pre .2) (l .fours) f (fours-same (s .pre .1 .fours-are) f) (l .entries-are) (l .ends-are)

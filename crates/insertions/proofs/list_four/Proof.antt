@@ -15,14 +15,15 @@ abbrev μ-loop : tie.MeasureT-loop
 
 loop-holds : tie.Need-loop-holds Inv-loop μ-loop
 loop-holds c =
-    let s = c .before .before .before in
+    let s : tie.Start Inv-loop μ-loop = search in
     let f = fourLane (s .args .high .now) (s .args .low .now) (s .args .front) (s .args .back) in
     (omega arith, placed-start f (s .args .entries .now) (s .args .ends .now) _ (omega arith), bumped-start 1 f (s .args .ends .now) _ (omega arith))
 
 list-row-requires : tie.Need-list-row-requires Inv-loop μ-loop
 list-row-requires c κs =
-    let s = c .before .before .before .before .before .before .before in
-    let l = c .before .before .before .loop in
+    let at-loop : tie.At-loop Inv-loop μ-loop = search in
+    let s : tie.Start Inv-loop μ-loop = search in
+    let l = at-loop .loop in
     let t = c .before .before .loop-test .taken in
     let f = fourLane (s .args .high .now) (s .args .low .now) (s .args .front) (s .args .back) in
     let g = lanesFrom (s .args .high .now) (s .args .low .now) (s .args .front) (s .args .back) (l .a * s .args .back) in
@@ -30,8 +31,10 @@ list-row-requires c κs =
 
 loop-again : tie.Need-loop-again Inv-loop μ-loop
 loop-again c =
-    let s = c .before .before .before .before .before .before .before .before .before .before in
-    let l = c .before .before .before .before .before .before .loop in
+    let in-loop : tie.In-loop Inv-loop μ-loop = search in
+    let at-loop : tie.At-loop Inv-loop μ-loop = search in
+    let s : tie.Start Inv-loop μ-loop = search in
+    let l = at-loop .loop in
     let es = s .args .entries .now in
     let ns = s .args .ends .now in
     let f = fourLane (s .args .high .now) (s .args .low .now) (s .args .front) (s .args .back) in
@@ -42,17 +45,17 @@ loop-again c =
     let n = row-next (l .a) (s .args .back) in
     let m = s .args .back * 4 in
     let done = l .a * s .args .back * 4 in
-    (omega (arith, c .before .before .before .before .before .loop-test .taken), d .0 ∙ (λ i. placed g m (p i) (q i)) ∙ placed-on f g es ns done m (λ j h. refl) ∙ (λ i. placed f (n i) es ns), d .1 ∙ ap (bumped 1 g m) q ∙ bumped-on 1 f g ns done m (λ j h. (refl, refl)) ∙ (λ i. bumped 1 f (n i) ns))
+    (omega (arith, in-loop .loop-test .taken), d .0 ∙ (λ i. placed g m (p i) (q i)) ∙ placed-on f g es ns done m (λ j h. refl) ∙ (λ i. placed f (n i) es ns), d .1 ∙ ap (bumped 1 g m) q ∙ bumped-on 1 f g ns done m (λ j h. (refl, refl)) ∙ (λ i. bumped 1 f (n i) ns))
 
 same-length : tie.Need-same-length Inv-loop μ-loop
 same-length c =
-    let s = c .before .before .before .before .before in
+    let s : tie.Start Inv-loop μ-loop = search in
     let l = c .before .loop in
     ap length (l .inv .1) ∙ placed-size (fourLane (s .args .high .now) (s .args .low .now) (s .args .front) (s .args .back)) (s .args .entries .now) (s .args .ends .now) (l .a * s .args .back * 4)
 
 returns : tie.Need-returns Inv-loop μ-loop
 returns c =
-    let s = c .before .before .before .before .before in
+    let s : tie.Start Inv-loop μ-loop = search in
     let l = c .before .loop in
     let f = fourLane (s .args .high .now) (s .args .low .now) (s .args .front) (s .args .back) in
     let e : l .a ≡ s .args .front = omega (arith, l .inv .0, c .loop-test .left) in

@@ -22,7 +22,7 @@ ok-27 c = passed-number (c .enum-told3 .given .1) (tested-27 (c .before .before)
 returns : tie.Need-returns
 unfolding machinesRefusal
 returns c =
-    let s = c .before .before .before .before in
+    let s : tie.Start = search in
     goes-up (c .enum-told2 .given .1) (cardRefusal (s .args .card .now)) (refuse 27 (joinable (s .args .card .now) (s .args .first) (s .args .second)) ∷ refuse 28 (joinFits (s .args .card .now) (s .args .first) (s .args .second)) ∷ []) (c .before .before .check .ensures)
 
 is-joinable-requires : tie.Need-is-joinable-requires
@@ -31,31 +31,31 @@ is-joinable-requires c κs = ok c
 returns-2 : tie.Need-returns-2
 unfolding machinesRefusal
 returns-2 c =
+    let s : tie.Start = search in
     let t = c .before .before in
     let e = t .before .before in
-    let s = e .before .before .before .before in
     let card = s .args .card .now in
     goes-up (c .enum-told4 .given .1) (refuse 27 (joinable card (s .args .first) (s .args .second))) (refuse 28 (joinFits card (s .args .first) (s .args .second)) ∷ []) (tested-27 t)
     ∙ sym (first-on (cardRefusal card) (refuse 27 (joinable card (s .args .first) (s .args .second)) ∷ refuse 28 (joinFits card (s .args .first) (s .args .second)) ∷ []) (ok e))
 
 fits-part-requires : tie.Need-fits-part-requires
 fits-part-requires c κs =
+    let s : tie.Start = search in
     let p = c .before .before in
     let t = p .before .before in
     let e = t .before .before in
-    let s = e .before .before .before .before in
     let w = two-of (s .args .card .now) (s .args .first) (s .args .second) (ok-27 p) in
     (ok e, omega (arith, c .before .lower .ensures, w), omega (arith, c .other .ensures, w))
 
 returns-3 : tie.Need-returns-3
 unfolding machinesRefusal
 returns-3 c =
+    let s : tie.Start = search in
     let f = c .before in
     let l = f .before .before in
     let p = l .before in
     let t = p .before .before in
     let e = t .before .before in
-    let s = e .before .before .before .before in
     let card = s .args .card .now in
     let a = s .args .first in
     let b = s .args .second in

@@ -17,18 +17,23 @@ part-requires-2 : tie.Need-part-requires-2
 part-requires-2 c κs = (c .before .before .pre .0, c .before .before .pre .2)
 
 state-count-requires : tie.Need-state-count-requires
-state-count-requires c κs = let s = c .before .before .before in rw (c .before .part .ensures) (shape-in (s .args .card .now) (s .pre .0) (s .args .lower) (s .pre .1))
+state-count-requires c κs =
+    let s : tie.Start = search in
+    rw (c .before .part .ensures) (shape-in (s .args .card .now) (s .pre .0) (s .args .lower) (s .pre .1))
 
 state-count-requires-2 : tie.Need-state-count-requires-2
-state-count-requires-2 c κs = let s = c .before .before .before .before in rw (c .before .part2 .ensures) (shape-in (s .args .card .now) (s .pre .0) (s .args .other) (s .pre .2))
+state-count-requires-2 c κs =
+    let s : tie.Start = search in
+    rw (c .before .part2 .ensures) (shape-in (s .args .card .now) (s .pre .0) (s .args .other) (s .pre .2))
 
 mul-states : tie.Need-mul-states
 mul-states c =
-    let s = c .before .before .before .before .before in
+    let after-part : tie.After-part = search in
+    let s : tie.Start = search in
     let card = s .args .card .now in
     let p = shape-facts (partOf card (s .args .lower)) (shape-in card (s .pre .0) (s .args .lower) (s .pre .1)) in
     let q = shape-facts (partOf card (s .args .other)) (shape-in card (s .pre .0) (s .args .other) (s .pre .2)) in
-    let e = c .before .state-count .ensures ∙ ap stateCount (c .before .before .before .part .ensures) in
+    let e = c .before .state-count .ensures ∙ ap stateCount (after-part .part .ensures) in
     let f = c .state-count2 .ensures ∙ ap stateCount (c .before .before .part2 .ensures) in
     let x : c .before .state-count .result ≤ 32 = omega (arith, e, p) in
     let y : c .state-count2 .result ≤ 32 = omega (arith, f, q) in
@@ -37,18 +42,20 @@ mul-states c =
 
 arc-count-requires : tie.Need-arc-count-requires
 arc-count-requires c κs =
-    let s = c .before .before .before .before .before in
+    let after-part : tie.After-part = search in
+    let s : tie.Start = search in
     let card = s .args .card .now in
-    (rw (c .before .before .before .part .ensures) (shape-in card (s .pre .0) (s .args .lower) (s .pre .1)), rw (c .before .before .part2 .ensures) (shape-in card (s .pre .0) (s .args .other) (s .pre .2)))
+    (rw (after-part .part .ensures) (shape-in card (s .pre .0) (s .args .lower) (s .pre .1)), rw (c .before .before .part2 .ensures) (shape-in card (s .pre .0) (s .args .other) (s .pre .2)))
 
 returns : tie.Need-returns
 returns c =
+    let after-part : tie.After-part = search in
+    let s : tie.Start = search in
     let n = c .before in
-    let s = n .before .before .before .before .before in
     let card = s .args .card .now in
     let p = partOf card (s .args .lower) in
     let q = partOf card (s .args .other) in
-    let ep = n .before .before .before .part .ensures in
+    let ep = after-part .part .ensures in
     let eq = n .before .before .part2 .ensures in
     let states : n .before .state-count .result * n .state-count2 .result ≡ stateCountOf (joinedMachine (machineOf p) (machineOf q)) =
     ap₂ (λ (x y : ℕ). x * y) (n .before .state-count .ensures ∙ ap stateCount ep ∙ sym (state-count p (shape-in card (s .pre .0) (s .args .lower) (s .pre .1)))) (n .state-count2 .ensures ∙ ap stateCount eq ∙ sym (state-count q (shape-in card (s .pre .0) (s .args .other) (s .pre .2))))

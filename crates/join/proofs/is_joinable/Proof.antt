@@ -11,37 +11,43 @@ use Rattle.join.proofs.is_joinable.Tie as tie
 
 two : (c : tie.Else1) → TwoMachines (machineCount (c .before .before .before .args .card .now)) (c .before .before .before .args .first) (c .before .before .before .args .second)
 two c =
-    let s = c .before .before .before in
+    let s : tie.Start = search in
     subst (λ (n : ℕ). TwoMachines n (s .args .first) (s .args .second)) (c .before .machine-count .ensures) (two-machines (c .before .machine-count .result) (s .args .first) (s .args .second) (c .if1 .left))
 
 returns : tie.Need-returns
-returns c = let s = c .before .before .before in not-joinable (s .args .card .now) (c .before .machine-count .result) (s .args .first) (s .args .second) (c .before .machine-count .ensures) (c .if1 .taken)
+returns c =
+    let s : tie.Start = search in
+    not-joinable (s .args .card .now) (c .before .machine-count .result) (s .args .first) (s .args .second) (c .before .machine-count .ensures) (c .if1 .taken)
 
 part-requires : tie.Need-part-requires
-part-requires c κs = (c .before .before .before .pre, two c .first)
+part-requires c κs =
+    let start : tie.Start = search in
+    (start .pre, two c .first)
 
 has-no-marks-requires : tie.Need-has-no-marks-requires
 has-no-marks-requires c κs =
+    let s : tie.Start = search in
     let e = c .before in
-    let s = e .before .before .before in
     rw (c .part .ensures) (shape-in (s .args .card .now) (s .pre) (s .args .first) (two e .first))
 
 part-requires-2 : tie.Need-part-requires-2
-part-requires-2 c κs = let e = c .before .before in (e .before .before .before .pre, two e .second)
+part-requires-2 c κs =
+    let start : tie.Start = search in
+    let e = c .before .before in (start .pre, two e .second)
 
 has-no-marks-requires-2 : tie.Need-has-no-marks-requires-2
 has-no-marks-requires-2 c κs =
-    let e = c .before .before .before in
-    let s = e .before .before .before in
+    let e : tie.Else1 = search in
+    let s : tie.Start = search in
     rw (c .part2 .ensures) (shape-in (s .args .card .now) (s .pre) (s .args .second) (two e .second))
 
 returns-2 : tie.Need-returns-2
 returns-2 c =
+    let s : tie.Start = search in
     let p2 = c .before in
     let h1 = p2 .before in
     let p1 = h1 .before in
     let e = p1 .before in
-    let s = e .before .before .before in
     let card = s .args .card .now in
     let a = s .args .first in
     let b = s .args .second in

@@ -14,17 +14,20 @@ passed c = passed-number (c .enum-told .given .1) (c .before .before .check-join
 -- the two numbers, the lower and the other one
 numbers : (c : tie.After-other) → CardJoins (c .before .before .before .before .before .before .before .before .before .args .card .now) (c .before .lower .result) (c .other .result)
 numbers c =
+    let after-index2 : tie.After-index2 = search in
+    let after-index : tie.After-index = search in
+    let start : tie.Start = search in
     let e = c .before .before in
-    let card = e .before .before .before .before .before .before .before .args .card .now in
-    let a = e .before .before .before .before .index .result in
-    let b = e .before .before .before .index2 .result in
+    let card = start .args .card .now in
+    let a = after-index .index .result in
+    let b = after-index2 .index2 .result in
     subst (λ (n : ℕ). CardJoins card n (c .other .result)) (sym (c .before .lower .ensures)) (subst (λ (n : ℕ). CardJoins card (lower a b) n) (sym (c .other .ensures)) (may-join card a b (passed e)))
 
 returns : tie.Need-returns
 returns c =
+    let i2 : tie.After-index2 = search in
+    let s : tie.Start = search in
     let e = c .before in
-    let i2 = e .before .before .before in
-    let s = i2 .before .before .before .before in
     let card = s .args .card .now in
     let n : machinesRefusal card (i2 .before .index .result) (i2 .index2 .result) ≡ c .number .result = sym (e .before .before .check-joining .ensures) ∙ sym (c .number .ensures) in
     as-called card (s .args .target .now) (i2 .before .index .result) (i2 .index2 .result) (s .args .first) (s .args .second) _ _ (i2 .before .index .ensures .0) (i2 .index2 .ensures .0)
@@ -37,19 +40,19 @@ new-card-length-requires c κs = numbers c
 tested-18 : (c : tie.After-tested) → let e = c .before .before .before .before in let i2 = e .before .before .before in let s = i2 .before .before .before .before in
     checkedNumber (c .tested .result) ≡ refuse 18 (leb (length (joining (s .args .card .now) (i2 .before .index .result) (i2 .index2 .result))) (length (s .args .target .now)))
 tested-18 c =
+    let s : tie.Start = search in
     let l = c .before in
     let o = l .before in
-    let s = o .before .before .before .before .before .before .before .before .before in
     c .tested .ensures ∙ ap (λ (n : ℕ). refuse 18 (leb n (length (s .args .target .now)))) (l .new-card-length .ensures ∙ ap₂ (λ (x y : ℕ). length (joinedCard x y (s .args .card .now))) (o .before .lower .ensures) (o .other .ensures))
 
 returns-2 : tie.Need-returns-2
 returns-2 c =
-    let t = c .before .before .before in
+    let t : tie.After-tested = search in
+    let i2 : tie.After-index2 = search in
+    let s : tie.Start = search in
     let l = t .before in
     let o = l .before in
     let e = o .before .before in
-    let i2 = e .before .before .before in
-    let s = i2 .before .before .before .before in
     let card = s .args .card .now in
     let a = i2 .before .index .result in
     let b = i2 .index2 .result in
@@ -61,14 +64,14 @@ returns-2 c =
 fits : (c : tie.After-enum-told3) → let l = c .before .before .before in let e = l .before .before .before in let s = e .before .before .before .before .before .before .before in
     l .new-card-length .result ≤ length (s .args .target .now)
 fits c =
+    let s : tie.Start = search in
     let t = c .before .before in
-    let s = t .before .before .before .before .before .before .before .before .before .before .before in
     leb-true (t .before .new-card-length .result) (length (s .args .target .now)) (was-true (c .enum-told3 .given .1) 18 (leb (t .before .new-card-length .result) (length (s .args .target .now))) (lit< tt) (t .tested .ensures))
 
 write-card-requires : tie.Need-write-card-requires
 write-card-requires c κs =
+    let l : tie.After-new-card-length = search in
     let x = c .before in
-    let l = x .before .before .before in
     (numbers (l .before), omega (arith, fits x, l .new-card-length .ensures))
 
 same-length : tie.Need-same-length

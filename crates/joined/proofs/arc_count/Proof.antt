@@ -17,24 +17,25 @@ abbrev μ-loop : tie.MeasureT-loop
 
 nth-arc-requires : tie.Need-nth-arc-requires Inv-loop μ-loop
 nth-arc-requires c κs =
+    let s : tie.Start Inv-loop μ-loop = search in
     let k = c .before in
-    let s = k .before .before .before .before .before in
     (s .pre .0, k .before .before .state-count .ensures, omega arith)
 
 row-count-requires : tie.Need-row-count-requires Inv-loop μ-loop
 row-count-requires c κs =
-    let s = c .before .before .before .before .before .before .before in
+    let s : tie.Start Inv-loop μ-loop = search in
     s .pre .1
 
 add-count : tie.Need-add-count Inv-loop μ-loop
 add-count c =
-    let k = c .before .before .before in
-    omega (arith, c .row-count .ensures .1, k .before .before .before .before .shared-slice-known .given 1)
+    let k : tie.At-loop Inv-loop μ-loop = search in
+    let after-shared-slice-known : tie.After-shared-slice-known Inv-loop μ-loop = search in
+    omega (arith, c .row-count .ensures .1, after-shared-slice-known .shared-slice-known .given 1)
 
 loop-again : tie.Need-loop-again Inv-loop μ-loop
 loop-again c =
-    let k = c .before .before .before in
-    let s = k .before .before .before .before .before in
+    let k : tie.At-loop Inv-loop μ-loop = search in
+    let s : tie.Start Inv-loop μ-loop = search in
     let first = s .args .first .now in
     let second = s .args .second .now in
     let l = k .loop in
@@ -44,12 +45,13 @@ loop-again c =
 
 returns : tie.Need-returns Inv-loop μ-loop
 returns c =
+    let after-shared-slice-known : tie.After-shared-slice-known Inv-loop μ-loop = search in
+    let s : tie.Start Inv-loop μ-loop = search in
     let k = c .before in
-    let s = k .before .before .before .before .before in
     let first = s .args .first .now in
     let second = s .args .second .now in
     let e = rows-end (stateCount second) (arcsOf first) (arcsOf second) (k .loop .i) (omega (arith, arcs-length first)) in
-    (omega (arith, e, k .loop .inv .2), omega (arith, k .before .before .before .before .shared-slice-known .given 1))
+    (omega (arith, e, k .loop .inv .2), omega (arith, after-shared-slice-known .shared-slice-known .given 1))
 
 pub arc-count-spec : {M : Type 1} → statement M
 arc-count-spec =

@@ -17,18 +17,20 @@ loop-holds c = (c .arc-count .ensures, omega arith, refl)
 
 returns : tie.Need-returns Inv-loop μ-loop
 returns c =
+    let start : tie.Start Inv-loop μ-loop = search in
     let n = c .before .before in
     let k = n .before .before in
-    let part = k .before .before .before .before .args .part .now in
+    let part = start .args .part .now in
     let l = k .loop in
     all-stop (λ (a : Arc). eqb (a .marks) 0) (arcsOf part) (l .i) _ (l .inv .2) noArc (omega (arith, arcs-length part))
     (ap (λ (a : Arc). eqb (a .marks) 0) (n .nth-arc .ensures noArc) ∙ ne-eqb _ 0 (c .if1 .taken))
 
 loop-again : tie.Need-loop-again Inv-loop μ-loop
 loop-again c =
+    let start : tie.Start Inv-loop μ-loop = search in
     let n = c .before .before in
     let k = n .before .before in
-    let part = k .before .before .before .before .args .part .now in
+    let part = start .args .part .now in
     let l = k .loop in (
       l .inv .0,
       omega arith,
@@ -38,8 +40,9 @@ loop-again c =
 
 returns-2 : tie.Need-returns-2 Inv-loop μ-loop
 returns-2 c =
+    let start : tie.Start Inv-loop μ-loop = search in
     let k = c .before in
-    let part = k .before .before .before .before .args .part .now in
+    let part = start .args .part .now in
     all-end (λ (a : Arc). eqb (a .marks) 0) (arcsOf part) (k .loop .i) _ (k .loop .inv .2) (omega (arith, arcs-length part))
 
 pub arcs-are-free-spec : {M : Type 1} → statement M

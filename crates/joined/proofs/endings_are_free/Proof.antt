@@ -17,8 +17,8 @@ loop-holds c = (c .state-count .ensures, omega arith, refl)
 
 returns : tie.Need-returns Inv-loop μ-loop
 returns c =
-    let k = c .before .before .before in
-    let s = k .before .before .before in
+    let k : tie.At-loop Inv-loop μ-loop = search in
+    let s : tie.Start Inv-loop μ-loop = search in
     let part = s .args .part .now in
     let l = k .loop in
     all-stop (λ (b : ℕ). endsFree (endingByte b)) (stateBytes part) (l .i) _ (l .inv .2) 0 (omega (arith, states-length part (s .pre)))
@@ -26,8 +26,8 @@ returns c =
 
 loop-again : tie.Need-loop-again Inv-loop μ-loop
 loop-again c =
-    let k = c .before .before .before in
-    let s = k .before .before .before in
+    let k : tie.At-loop Inv-loop μ-loop = search in
+    let s : tie.Start Inv-loop μ-loop = search in
     let part = s .args .part .now in
     let l = k .loop in (
       l .inv .0,
@@ -38,8 +38,8 @@ loop-again c =
 
 returns-2 : tie.Need-returns-2 Inv-loop μ-loop
 returns-2 c =
+    let s : tie.Start Inv-loop μ-loop = search in
     let k = c .before in
-    let s = k .before .before .before in
     let part = s .args .part .now in
     all-end (λ (b : ℕ). endsFree (endingByte b)) (stateBytes part) (k .loop .i) _ (k .loop .inv .2) (omega (arith, states-length part (s .pre)))
 

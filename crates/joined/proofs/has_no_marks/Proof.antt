@@ -4,7 +4,9 @@ use Rattle.joined.proofs.has_no_marks.Statement.{statement}
 use Rattle.joined.proofs.has_no_marks.Tie as tie
 
 returns : tie.Need-returns
-returns c = ap₂ (λ (x y : Bool). x && y) (c .before .arcs-are-free .ensures) (c .endings-are-free .ensures) ∙ no-marks (c .before .before .before .args .part .now)
+returns c =
+    let start : tie.Start = search in
+    ap₂ (λ (x y : Bool). x && y) (c .before .arcs-are-free .ensures) (c .endings-are-free .ensures) ∙ no-marks (start .args .part .now)
 
 pub has-no-marks-spec : {M : Type 1} → statement M
 has-no-marks-spec =

@@ -38,7 +38,7 @@ returns-2 c =
 
 returns-3 : tie.Need-returns-3
 returns-3 c =
-    let e = c .before .before .before in
+    let e : tie.Else1 = search in
     let s = e .before in
     let a = s .args in
     subst (λ (w : ℕ). HasPair (a .kind) (a .inputs) (a .outputs) (not (eqb w 0))) (sym (c .without-empty2 .ensures))
@@ -49,7 +49,7 @@ without-least-requires c κs = all-pos (c .before .before)
 
 returns-4 : tie.Need-returns-4
 returns-4 c =
-    let e = c .before .before .before in
+    let e : tie.Else1 = search in
     let s = e .before in
     let a = s .args in
     let U = bitOr (a .inputs) (a .outputs) in

@@ -16,9 +16,9 @@ abbrev μ-loop : tie.MeasureT-loop
 
 loop-again : tie.Need-loop-again Inv-loop μ-loop
 loop-again c =
+    let s : tie.Start Inv-loop μ-loop = search in
     let n = c .before .before in
     let k = n .before .before in
-    let s = k .before .before .before .before in
     let a = s .args .arc in
     let second = s .args .second .now in
     let l = k .loop in
@@ -31,11 +31,12 @@ loop-again c =
 
 returns : tie.Need-returns Inv-loop μ-loop
 returns c =
+    let after-shared-slice-known : tie.After-shared-slice-known Inv-loop μ-loop = search in
+    let s : tie.Start Inv-loop μ-loop = search in
     let k = c .before in
-    let s = k .before .before .before .before in
     let second = s .args .second .now in
     let e = row-end (stateCount second) (s .args .arc) (arcsOf second) (k .loop .i) (omega (arith, arcs-length second)) in
-    (omega (arith, e), omega (arith, k .before .before .before .shared-slice-known .given 1))
+    (omega (arith, e), omega (arith, after-shared-slice-known .shared-slice-known .given 1))
 
 pub row-count-spec : {M : Type 1} → statement M
 row-count-spec =

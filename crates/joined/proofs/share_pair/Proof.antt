@@ -7,8 +7,8 @@ use Rattle.joined.proofs.share_pair.Tie as tie
 
 returns : tie.Need-returns
 returns c =
+    let k : tie.After-kinds-clash = search in
     let j = c .before in
-    let k = j .before .before .before .before .before in
     let s = k .before in
     let a = s .args .first in
     let b = s .args .second in

@@ -33,31 +33,47 @@ module _ {ranked sums hs own next entries ends : List ℕ} {base P : ℕ} (Q : F
     sums-finished C = record { labels = ys; settled = settled-by false (ne-eqb (length sums) 0 z) S; closed = sums-closed z (C .0) (C .1) }
 
 settle-requires : tie.Need-settle-requires
-settle-requires c κs = let entry = c .before .before .before .before .before .before in settle-by (entry .pre) true (eq-eqb (length (entry .args .sums .now)) 0 (c .before .before .if1 .taken))
+settle-requires c κs =
+    let entry : tie.Start = search in
+    settle-by (entry .pre) true (eq-eqb (length (entry .args .sums .now)) 0 (c .before .before .if1 .taken))
 
 close-counts-requires : tie.Need-close-counts-requires
-close-counts-requires c κs = counts-ready (c .before .before .before .before .before .before .before .before .before .before .pre) (c .before .before .before .before .before .before .if1 .taken) (c .before .before .before .settle .ensures)
+close-counts-requires c κs =
+    let after-settle : tie.After-settle = search in
+    let then1 : tie.Then1 = search in
+    let start : tie.Start = search in
+    counts-ready (start .pre) (then1 .if1 .taken) (after-settle .settle .ensures)
 
 returns : tie.Need-returns
 returns c =
+    let after-settle : tie.After-settle = search in
+    let then1 : tie.Then1 = search in
+    let entry : tie.Start = search in
     let at-close-counts = c .before .before .close-counts in
-    let at-settle = c .before .before .before .before .before .before .settle in
-    let at-if1 = c .before .before .before .before .before .before .before .before .before .if1 in
-    let entry = c .before .before .before .before .before .before .before .before .before .before .before .before .before in
+    let at-settle = after-settle .settle in
+    let at-if1 = then1 .if1 in
     counts-finished (entry .pre) (at-if1 .taken) (at-settle .ensures) (at-close-counts .ensures)
 
 settle-requires-2 : tie.Need-settle-requires-2
-settle-requires-2 c κs = let entry = c .before .before .before .before .before .before in settle-by (entry .pre) false (ne-eqb (length (entry .args .sums .now)) 0 (c .before .before .if1 .left))
+settle-requires-2 c κs =
+    let entry : tie.Start = search in
+    settle-by (entry .pre) false (ne-eqb (length (entry .args .sums .now)) 0 (c .before .before .if1 .left))
 
 close-sums-requires : tie.Need-close-sums-requires
-close-sums-requires c κs = sums-ready (c .before .before .before .before .before .before .before .before .before .before .pre) (c .before .before .before .before .before .before .if1 .left) (c .before .before .before .settle2 .ensures)
+close-sums-requires c κs =
+    let after-settle2 : tie.After-settle2 = search in
+    let else1 : tie.Else1 = search in
+    let start : tie.Start = search in
+    sums-ready (start .pre) (else1 .if1 .left) (after-settle2 .settle2 .ensures)
 
 returns-2 : tie.Need-returns-2
 returns-2 c =
+    let after-settle2 : tie.After-settle2 = search in
+    let else1 : tie.Else1 = search in
+    let entry : tie.Start = search in
     let at-close-sums = c .before .before .close-sums in
-    let at-settle2 = c .before .before .before .before .before .before .settle2 in
-    let at-if1 = c .before .before .before .before .before .before .before .before .before .if1 in
-    let entry = c .before .before .before .before .before .before .before .before .before .before .before .before .before in
+    let at-settle2 = after-settle2 .settle2 in
+    let at-if1 = else1 .if1 in
     sums-finished (entry .pre) (at-if1 .left) (at-settle2 .ensures) (at-close-sums .ensures)
 
 pub finish-spec : {M : Type 1} → statement M

@@ -21,13 +21,19 @@ by-ranking : (c : tie.After-ranked-weights) → let s = start c in RankedWeights
 by-ranking c = let s = start c in in-front (s .pre .0 .setting .accepted) (s .pre .1) (RankedWeights (sixPlaces (s .args .ranking .now))) (c .ranked-weights .result) (c .ranked-weights .ensures .1)
 
 array-share-prefix-all : tie.Need-array-share-prefix-all
-array-share-prefix-all c = let s = c .before .before .before .before .before in counts-fit (s .pre .0 .setting .accepted) (s .pre .1)
+array-share-prefix-all c =
+    let s : tie.Start = search in
+    counts-fit (s .pre .0 .setting .accepted) (s .pre .1)
 
 slice-aggregate-ranked-weights : tie.Need-slice-aggregate-ranked-weights
-slice-aggregate-ranked-weights c = let s = c .before .before .before .before .before .before in counts-length (s .pre .0 .setting .accepted) (s .pre .1)
+slice-aggregate-ranked-weights c =
+    let s : tie.Start = search in
+    counts-length (s .pre .0 .setting .accepted) (s .pre .1)
 
 ranked-weights-requires : tie.Need-ranked-weights-requires
-ranked-weights-requires c κs = let s = c .before .before .before .before .before .before in (counts-some (s .pre .0 .setting .accepted) (s .pre .1), counts-ranked (s .pre .0) (s .pre .1))
+ranked-weights-requires c κs =
+    let s : tie.Start = search in
+    (counts-some (s .pre .0 .setting .accepted) (s .pre .1), counts-ranked (s .pre .0) (s .pre .1))
 
 mul-weights : tie.Need-mul-weights
 mul-weights c = let s = start c in omega (arith, machines-few (s .pre .0 .setting .accepted) (s .pre .1))
@@ -42,10 +48,15 @@ slice-aggregate-used c =
     weights-front-length (s .pre .0 .setting .accepted) (s .pre .1) (w .ranked-weights .result) (w .ranked-weights .ensures .2)
 
 label-all-requires : tie.Need-label-all-requires
-label-all-requires c κs = let w = c .before .before .before in let s = start w in search-ready (s .pre .0) (s .pre .1) (weights-are w) (by-ranking w)
+label-all-requires c κs =
+    let w : tie.After-ranked-weights = search in
+    let s = start w in search-ready (s .pre .0) (s .pre .1) (weights-are w) (by-ranking w)
 
 returns : tie.Need-returns
-returns c = let w = c .before .before .before .before .before .before .before in let s = start w in label-done (s .pre .0) (s .pre .1) (weights-are w) (by-ranking w) (c .before .before .before .label-all .ensures)
+returns c =
+    let after-label-all : tie.After-label-all = search in
+    let w : tie.After-ranked-weights = search in
+    let s = start w in label-done (s .pre .0) (s .pre .1) (weights-are w) (by-ranking w) (after-label-all .label-all .ensures)
 
 pub label-spec : {M : Type 1} → statement M
 label-spec =

@@ -6,17 +6,23 @@ use Rattle.labelling.proofs.label_many.Statement.{statement}
 use Rattle.labelling.proofs.label_many.Tie as tie
 
 mul-places : tie.Need-mul-places
-mul-places c = let s = c .before .before .before .before .before .before .before in omega (arith, states-few (s .pre .setting .accepted) (s .pre .grid-of))
+mul-places c =
+    let s : tie.Start = search in
+    omega (arith, states-few (s .pre .setting .accepted) (s .pre .grid-of))
 
 array-borrow-prefix-steps : tie.Need-array-borrow-prefix-steps
-array-borrow-prefix-steps c = let s = c .before .before .before .before .before .before .before .before .before in omega (arith, states-few (s .pre .setting .accepted) (s .pre .grid-of), length-replicate {A = ℕ} 2600 65535)
+array-borrow-prefix-steps c =
+    let s : tie.Start = search in
+    omega (arith, states-few (s .pre .setting .accepted) (s .pre .grid-of), length-replicate {A = ℕ} 2600 65535)
 
 slice-aggregate-label-with : tie.Need-slice-aggregate-label-with
-slice-aggregate-label-with c = let s = c .before .before .before .before .before .before .before .before .before .before in sym (columns-length 2600 (65 * s .args .grid .states) (omega (arith, states-few (s .pre .setting .accepted) (s .pre .grid-of))))
+slice-aggregate-label-with c =
+    let s : tie.Start = search in
+    sym (columns-length 2600 (65 * s .args .grid .states) (omega (arith, states-few (s .pre .setting .accepted) (s .pre .grid-of))))
 
 label-with-requires : tie.Need-label-with-requires
 label-with-requires c κs =
-    let s = c .before .before .before .before .before .before .before .before .before .before .before .before .before in
+    let s : tie.Start = search in
     let w = columns-length 2600 (65 * s .args .grid .states) (omega (arith, states-few (s .pre .setting .accepted) (s .pre .grid-of))) in (
       s .pre,
       omega (arith, w),

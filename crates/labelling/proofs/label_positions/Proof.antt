@@ -34,29 +34,38 @@ loop c = c .before .before .before .before .before .before .before .before
 -- ---- before the loop
 
 array-share-prefix-all : tie.Need-array-share-prefix-all Inv-loop μ-loop
-array-share-prefix-all c = let q = c .before .before .before .before .before .before .before .before .before .before .pre .0 .search in counts-fit (q .setting .accepted) (q .grid-of)
+array-share-prefix-all c =
+    let start : tie.Start Inv-loop μ-loop = search in
+    let q = start .pre .0 .search in counts-fit (q .setting .accepted) (q .grid-of)
 
 slice-aggregate-counts : tie.Need-slice-aggregate-counts Inv-loop μ-loop
-slice-aggregate-counts c = let q = c .before .before .before .before .before .before .before .before .before .before .before .pre .0 .search in counts-length (q .setting .accepted) (q .grid-of)
+slice-aggregate-counts c =
+    let start : tie.Start Inv-loop μ-loop = search in
+    let q = start .pre .0 .search in counts-length (q .setting .accepted) (q .grid-of)
 
 slice-aggregate-enter-endings : tie.Need-slice-aggregate-enter-endings Inv-loop μ-loop
 slice-aggregate-enter-endings c = refl
 
 enter-endings-requires : tie.Need-enter-endings-requires Inv-loop μ-loop
 enter-endings-requires c κs =
-    let q = c .before .before .before .before .before .before .before .before .before .before .before .before .before .before .before .pre in
+    let start : tie.Start Inv-loop μ-loop = search in
+    let q = start .pre in
     let p = q .0 in
     (enter-ready p (states-are (p .search .setting .accepted) (p .search .grid-of)) refl (length-replicate {A = ℕ} 256 0) (q .1, q .2), p .prepared .columns .small, q .3, q .4)
 
 mul-finish : tie.Need-mul-finish Inv-loop μ-loop
-mul-finish c = let s = c .before .before .before .before .before .before .before .before .before .before .before .before .before .before .before .before .before .before .before .before .before .before .before .before .before in omega (arith, base-few (s .pre .0) (length (s .args .sets .now)) (omega arith))
+mul-finish c =
+    let s : tie.Start Inv-loop μ-loop = search in
+    omega (arith, base-few (s .pre .0) (length (s .args .sets .now)) (omega arith))
 
 finish-requires : tie.Need-finish-requires Inv-loop μ-loop
-finish-requires c κs = let e = c .before .before .before .before .before .before .before .before .before .before .before in last-ready (start e .pre .0) (e .enter-endings .ensures) (length-replicate {A = ℕ} 256 0)
+finish-requires c κs =
+    let e : tie.After-enter-endings Inv-loop μ-loop = search in
+    last-ready (start e .pre .0) (e .enter-endings .ensures) (length-replicate {A = ℕ} 256 0)
 
 loop-holds : tie.Need-loop-holds Inv-loop μ-loop
 loop-holds c =
-    let f = c .before .before .before .before in
+    let f : tie.After-finish Inv-loop μ-loop = search in
     let e = entered f in
     (omega arith, last-closed (start e .pre .0) (e .enter-endings .ensures) zeros-fit (f .finish .ensures), refl, refl, refl, refl, refl)
 
@@ -69,14 +78,18 @@ slice-aggregate-enter-symbols : tie.Need-slice-aggregate-enter-symbols Inv-loop 
 slice-aggregate-enter-symbols c = sym (c .before .before .loop .inv .1 .own-size)
 
 mul-enter-symbols : tie.Need-mul-enter-symbols Inv-loop μ-loop
-mul-enter-symbols c = let l = c .before .before .before .before in omega (arith, l .loop .inv .0, begun l .pre .0 .search .setting .few)
+mul-enter-symbols c =
+    let l : tie.At-loop Inv-loop μ-loop = search in
+    omega (arith, l .loop .inv .0, begun l .pre .0 .search .setting .few)
 
 shared-slice-read-enter-symbols : tie.Need-shared-slice-read-enter-symbols Inv-loop μ-loop
-shared-slice-read-enter-symbols c = omega (arith, c .before .before .before .before .before .loop .inv .0)
+shared-slice-read-enter-symbols c =
+    let at-loop : tie.At-loop Inv-loop μ-loop = search in
+    omega (arith, at-loop .loop .inv .0)
 
 enter-symbols-requires : tie.Need-enter-symbols-requires Inv-loop μ-loop
 enter-symbols-requires c κs =
-    let a = c .before .before .before .before .before .before .before in
+    let a : tie.At-loop Inv-loop μ-loop = search in
     let q = begun a .pre in
     let p = q .0 in
     let l = a .loop .inv in
@@ -91,11 +104,13 @@ enter-symbols-requires c κs =
     )
 
 mul-finish-2 : tie.Need-mul-finish-2 Inv-loop μ-loop
-mul-finish-2 c = let a = c .before .before .before .before .before .before .before .before .before .before .before .before .before .before .before .before .before in omega (arith, base-few (begun a .pre .0) (a .loop .position - 1) (omega (arith, a .loop .inv .0)))
+mul-finish-2 c =
+    let a : tie.At-loop Inv-loop μ-loop = search in
+    omega (arith, base-few (begun a .pre .0) (a .loop .position - 1) (omega (arith, a .loop .inv .0)))
 
 finish-requires-2 : tie.Need-finish-requires-2 Inv-loop μ-loop
 finish-requires-2 c κs =
-    let e = c .before .before .before .before .before .before .before .before .before .before .before in
+    let e : tie.After-enter-symbols Inv-loop μ-loop = search in
     let a = loop e in
     let l = a .loop .inv in
     let f = first a .finish .ensures .closed in
@@ -106,11 +121,13 @@ loop-less c = omega arith
 
 loop-again : tie.Need-loop-again Inv-loop μ-loop
 loop-again c =
-    let e = c .before .before .before .before .before .before .before .before .before .before .before .before .before .before .before .before in
+    let after-finish2 : tie.After-finish2 Inv-loop μ-loop = search in
+    let e : tie.After-enter-symbols Inv-loop μ-loop = search in
+    let in-loop : tie.In-loop Inv-loop μ-loop = search in
     let a = loop e in
     let l = a .loop .inv in
-    let t = c .before .before .before .before .before .before .before .before .before .before .before .before .before .before .before .before .before .before .before .before .before .before .before .loop-test .taken in
-    let f = c .before .before .before .before .finish2 .ensures in
+    let t = in-loop .loop-test .taken in
+    let f = after-finish2 .finish2 .ensures in
     let k = e .enter-symbols .kept in (
       omega (arith, l .0),
       symbols-closed (begun a .pre .0) (omega (arith, l .0, t)) (one-before (omega (arith, t)) (l .1)) (e .enter-symbols .ensures) (l .3 ∙ first a .finish .ensures .closed .sums-size) f,

@@ -26,26 +26,32 @@ low-room : (c : tie.After-grouped) → (c .grouped .result .front + c .grouped .
 low-room c = groups-room (start c .pre .0) (c .grouped .ensures) (start c .pre .4)
 
 array-share-prefix-all : tie.Need-array-share-prefix-all
-array-share-prefix-all c = let q = c .before .before .before .before .before .before .before .before .before .before .before .pre .0 in counts-fit (q .setting .accepted) (q .grid-of)
+array-share-prefix-all c =
+    let start : tie.Start = search in
+    let q = start .pre .0 in counts-fit (q .setting .accepted) (q .grid-of)
 
 slice-aggregate-counts : tie.Need-slice-aggregate-counts
-slice-aggregate-counts c = let q = c .before .before .before .before .before .before .before .before .before .before .before .before .pre .0 in counts-length (q .setting .accepted) (q .grid-of)
+slice-aggregate-counts c =
+    let start : tie.Start = search in
+    let q = start .pre .0 in counts-length (q .setting .accepted) (q .grid-of)
 
 grouped-requires : tie.Need-grouped-requires
-grouped-requires c κs = let q = c .before .before .before .before .before .before .before .before .before .before .before .before .pre .0 in (counts-some (q .setting .accepted) (q .grid-of), states-are (q .setting .accepted) (q .grid-of), size-is (q .setting .accepted) (q .grid-of))
+grouped-requires c κs =
+    let start : tie.Start = search in
+    let q = start .pre .0 in (counts-some (q .setting .accepted) (q .grid-of), states-are (q .setting .accepted) (q .grid-of), size-is (q .setting .accepted) (q .grid-of))
 
 prepare-requires : tie.Need-prepare-requires
 prepare-requires c κs = let s = start (c .before) in fill-ready (s .pre .0) (s .pre .1)
 
 count-requires : tie.Need-count-requires
 count-requires c κs =
-    let p = c .before .before .before .before .before .before in
+    let p : tie.After-prepare = search in
     let g = grouped p in
     (length-replicate {A = ℕ} 514 0, list-ready (start g .pre .0) (p .prepare .ensures) (g .grouped .ensures), high-room g, low-room g)
 
 list-requires : tie.Need-list-requires
 list-requires c κs =
-    let n = c .before .before .before .before .before .before .before .before .before in
+    let n : tie.After-count = search in
     let p = prepared n in
     let g = grouped p in
     let q = start g .pre in
@@ -60,7 +66,7 @@ list-requires c κs =
 
 label-positions-requires : tie.Need-label-positions-requires
 label-positions-requires c κs =
-    let l = c .before .before .before .before .before .before .before .before .before .before .before .before .before in
+    let l : tie.After-list = search in
     let n = counted l in
     let p = prepared n in
     let g = grouped p in
@@ -76,20 +82,23 @@ label-positions-requires c κs =
 
 same-length-3 : tie.Need-same-length-3
 same-length-3 c =
-    let at-label-positions = c .before .before .before .before .before .before .before .before .before .before .label-positions in
+    let after-label-positions : tie.After-label-positions = search in
+    let at-label-positions = after-label-positions .label-positions in
     let at-prepare = c .before .before .before .before .before .before .before .before .before .before .before .before .before .before .before .before .before .before .before .before .before .before .before .before .before .before .before .before .before .before .before .before .before .before .before .before .before .before .before .before .before .prepare in
     at-label-positions .kept .1 .1 .1 .1 .1 .1 .1 .0 ∙ at-prepare .kept .0
 
 same-length-5 : tie.Need-same-length-5
 same-length-5 c =
-    let at-label-positions = c .before .before .before .before .before .before .before .before .before .before .label-positions in
-    let l = c .before .before .before .before .before .before .before .before .before .before .before .before .before .before .before .before .before .before .before .before .before .before .before .before in
+    let after-label-positions : tie.After-label-positions = search in
+    let l : tie.After-list = search in
+    let at-label-positions = after-label-positions .label-positions in
     at-label-positions .kept .1 .1 .1 .1 .1 .1 .1 .1 .1 .1 .1 .0 ∙ l .list .kept .1 .1 .1 .1 .1 .1 .1 .1 .0 ∙ counted l .count .kept .1 .1 .1 .1 .1 .1 .1 .0
 
 same-length-6 : tie.Need-same-length-6
 same-length-6 c =
-    let at-label-positions = c .before .before .before .before .before .before .before .before .before .before .label-positions in
-    let l = c .before .before .before .before .before .before .before .before .before .before .before .before .before .before .before .before .before .before .before .before .before .before .before .before in
+    let after-label-positions : tie.After-label-positions = search in
+    let l : tie.After-list = search in
+    let at-label-positions = after-label-positions .label-positions in
     at-label-positions .kept .1 .1 .1 .1 .1 .1 .1 .1 .1 .1 .1 .1 .0 ∙ l .list .kept .1 .1 .1 .1 .1 .1 .1 .1 .1 .0 ∙ counted l .count .kept .1 .1 .1 .1 .1 .1 .1 .1 .0
 
 pub label-with-spec : {M : Type 1} → statement M

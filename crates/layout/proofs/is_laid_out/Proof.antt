@@ -25,7 +25,7 @@ loop-holds c = search needs
 
 returns-2 : tie.Need-returns-2 Inv-loop μ-loop
 returns-2 c =
-    let k = c .before .before .before in
+    let k : tie.At-loop Inv-loop μ-loop = search in
     let x = k .before .before in
     let n = x .index .result in
     let bytes = x .before .before .args .bytes .now in
@@ -34,7 +34,7 @@ returns-2 c =
 
 loop-again : tie.Need-loop-again Inv-loop μ-loop
 loop-again c =
-    let k = c .before .before .before .before in
+    let k : tie.At-loop Inv-loop μ-loop = search in
     let x = k .before .before in
     let n = x .index .result in
     let bytes = x .before .before .args .bytes .now in (

@@ -14,18 +14,22 @@ tested-22 : (c : tie.After-tested) → checkedNumber (c .tested .result) ≡ ref
 tested-22 c = c .tested .ensures ∙ ap (λ (b : Bool). refuse 22 (not b)) (c .before .is-full .ensures)
 
 full : (c : tie.After-enum-told2) → isFull (c .before .before .before .before .before .before .before .args .tally) ≡ true
-full c = let t = c .before .before in let a = t .before .before .before .before .before .args in not-false (isFull (a .tally)) (was-false (c .enum-told2 .given .1) 22 (not (isFull (a .tally))) (tested-22 t))
+full c =
+    let start : tie.Start = search in
+    let t = c .before .before in let a = start .args in not-false (isFull (a .tally)) (was-false (c .enum-told2 .given .1) 22 (not (isFull (a .tally))) (tested-22 t))
 
 open-still : (c : tie.After-enum-told) → isFull (c .before .before .before .before .before .before .before .args .tally) ≡ false
-open-still c = let t = c .before .before in let a = t .before .before .before .before .before .args in not-true (isFull (a .tally)) (was-true (c .enum-told .given .1) 22 (not (isFull (a .tally))) (lit< tt) (tested-22 t))
+open-still c =
+    let start : tie.Start = search in
+    let t = c .before .before in let a = start .args in not-true (isFull (a .tally)) (was-true (c .enum-told .given .1) 22 (not (isFull (a .tally))) (lit< tt) (tested-22 t))
 
 returns : tie.Need-returns
 returns c =
-    let w = c .before .before .before in
+    let w : tie.After-write-refused = search in
+    let s : tie.Start = search in
     let n = w .before .before in
     let f = n .before in
     let t = f .before .before in
-    let s = t .before .before .before .before .before in
     let a = s .args in
     let number : n .number .result ≡ 22 = n .number .ensures ∙ tested-22 t ∙ ap (λ (b : Bool). refuse 22 (not b)) (full f) in (
       prints (ap refusedLine number ∙ sym (text-full (a .card .now) (a .tally) (a .line .now) (full f) ∙ ap pastText (s .pre .2))) (w .write-refused .ensures .0) (w .write-refused .ensures .1) (omega (arith, w .write-refused .kept .1 .0)),
@@ -34,15 +38,15 @@ returns c =
 
 count-requires : tie.Need-count-requires
 count-requires c κs =
-    let p = c .before .before .before .before in
-    let s = p .before .before .before .before .before .before .before in
+    let p : tie.After-enum-told = search in
+    let s : tie.Start = search in
     (s .pre .1, fewer (s .args .tally) (open-still p))
 
 returns-2 : tie.Need-returns-2
 returns-2 c =
-    let w = c .before .before .before in
+    let w : tie.After-answer-line = search in
+    let s : tie.Start = search in
     let p = w .before .before in
-    let s = p .before .before .before .before .before .before .before in
     let a = s .args in (
       prints (sym (text-open (a .card .now) (a .tally) (a .line .now) (open-still p))) (w .answer-line .ensures .0 .size) (w .answer-line .ensures .0 .bytes) (omega (arith, w .answer-line .kept .1 .1 .0)),
       (c .count .ensures .0 ∙ ap (counted (a .tally)) (w .answer-line .ensures .1) ∙ sym (tally-open (a .card .now) (a .tally) (a .line .now) (open-still p)), c .count .ensures .1),

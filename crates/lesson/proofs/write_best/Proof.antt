@@ -5,11 +5,15 @@ use Rattle.lesson.proofs.write_best.Tie as tie
 
 returns : tie.Need-returns
 returns c =
-    let k = c .before .before .before .before .before .write-answer in
-    let o = c .before .before .before .before .before .before .before .before .before .before .before .optimize .ensures in
-    let s = c .before .before .before .before .before .before .before .before .before .before .before .before .before .before .before .before .before .before .args in (
+    let after-write-answer : tie.After-write-answer = search in
+    let after-machine-count : tie.After-machine-count = search in
+    let after-optimize : tie.After-optimize = search in
+    let start : tie.Start = search in
+    let k = after-write-answer .write-answer in
+    let o = after-optimize .optimize .ensures in
+    let s = start .args in (
       prints
-          (best-line (s .card .now) (s .ranking .now) (s .word .now) (c .before .before .before .before .before .before .before .before .machine-count .ensures) (o .result) (o .answer-slice) (length-replicate {A = ℕ} 25600 0) (length-replicate {A = ℕ} 25600 0) (length-replicate {A = ℕ} 6398 0) refl)
+          (best-line (s .card .now) (s .ranking .now) (s .word .now) (after-machine-count .machine-count .ensures) (o .result) (o .answer-slice) (length-replicate {A = ℕ} 25600 0) (length-replicate {A = ℕ} 25600 0) (length-replicate {A = ℕ} 6398 0) refl)
           (k .ensures .0)
           (k .ensures .1)
           (omega (arith, k .kept .1 .1 .1 .0)),

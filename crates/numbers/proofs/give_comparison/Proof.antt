@@ -7,12 +7,14 @@ use Rattle.numbers.proofs.give_comparison.Tie as tie
 
 returns : tie.Need-returns
 returns c =
-    let e = sym (ap compared (c .before .before .before .before .comparison .given .1)) in
+    let after-comparison : tie.After-comparison = search in
+    let e = sym (ap compared (after-comparison .comparison .given .1)) in
     (ap (λ (r : Compared). r .number) e, rw (c .before .before .order-number .ensures, c .before .deciding-machine .ensures) (ap (λ (r : Compared). orderNumbers (r .order)) e))
 
 returns-2 : tie.Need-returns-2
 returns-2 c =
-    let e = sym (ap compared (c .before .before .before .comparison2 .given .1)) in
+    let after-comparison2 : tie.After-comparison2 = search in
+    let e = sym (ap compared (after-comparison2 .comparison2 .given .1)) in
     (c .number .ensures ∙ ap (λ (r : Compared). r .number) e, ap (λ (r : Compared). orderNumbers (r .order)) e)
 
 pub give-comparison-spec : {M : Type 1} → statement M

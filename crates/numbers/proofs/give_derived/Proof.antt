@@ -12,7 +12,8 @@ returns c =
 
 returns-2 : tie.Need-returns-2
 returns-2 c =
-    let e = sym (ap derived (c .before .before .before .answer2 .given .1)) in
+    let after-answer2 : tie.After-answer2 = search in
+    let e = sym (ap derived (after-answer2 .answer2 .given .1)) in
     (c .number .ensures ∙ ap (λ (r : DerivedCondition). r .number) e, ap (λ (r : DerivedCondition). conditionNumbers (r .condition)) e)
 
 pub give-derived-spec : {M : Type 1} → statement M

@@ -7,15 +7,15 @@ use Rattle.optimizer.proofs.best_profile.Tie as tie
 
 few : (c : tie.After-struct-known) → (length (c .before .before .before .before .before .args .word .now) + 1) * c .before .before .before .before .before .args .grid .size ≤ 3200
 few c =
-    let s = c .before .before .before .before .before in
+    let s : tie.Start = search in
     let a = accepted-input _ _ _ _ (s .pre .0) in
-    nodes-few (s .args .card .now) (s .args .word .now) (a .accepted) (c .before .before .before .before .before .args .grid .size) (c .before .before .before .before .before .pre .1 .size) (a .sound)
+    nodes-few (s .args .card .now) (s .args .word .now) (a .accepted) (s .args .grid .size) (s .pre .1 .size) (a .sound)
 
 fits : (c : tie.After-struct-known) → (length (c .before .before .before .before .before .args .word .now) + 1) * c .before .before .before .before .before .args .grid .size * 8 ≤ length (c .before .before .before .before .before .args .work .now)
 fits c =
-    let s = c .before .before .before .before .before in
+    let s : tie.Start = search in
     let a = accepted-input _ _ _ _ (s .pre .0) in
-    omega (arith, a .nodes-fit, node-room (s .args .card .now) (s .args .word .now) (a .accepted) (c .before .before .before .before .before .args .grid .size) (c .before .before .before .before .before .pre .1 .size))
+    omega (arith, a .nodes-fit, node-room (s .args .card .now) (s .args .word .now) (a .accepted) (s .args .grid .size) (s .pre .1 .size))
 
 mul-nodes : tie.Need-mul-nodes
 mul-nodes c = omega (arith, few c)
@@ -31,8 +31,8 @@ slice-aggregate-label-best c = sym (front-room _ _ (fits (c .before)))
 
 label-best-requires : tie.Need-label-best-requires
 label-best-requires c κs =
+    let s : tie.Start = search in
     let j = c .before in
-    let s = j .before .before .before .before .before in
     let a = accepted-input _ _ _ _ (s .pre .0) in
     (record { accepted = a .accepted; ranks = a .ranks; sound = a .sound; states = s .pre .1 .size; room = front-room _ _ (fits j) }, s .pre .1, s .pre .2)
 

@@ -6,22 +6,32 @@ use Rattle.optimizer.proofs.label_best.Statement.{statement}
 use Rattle.optimizer.proofs.label_best.Tie as tie
 
 fill-sets-requires : tie.Need-fill-sets-requires
-fill-sets-requires c κs = let s = c .before .before .before .before .before in (short (s .pre .0), word-small (s .pre .0))
+fill-sets-requires c κs =
+    let s : tie.Start = search in
+    (short (s .pre .0), word-small (s .pre .0))
 
 array-share-prefix-sets : tie.Need-array-share-prefix-sets
-array-share-prefix-sets c = let s = c .before .before .before .before .before .before .before in omega (arith, short (s .pre .0), c .before .fill-sets .kept .1 .0)
+array-share-prefix-sets c =
+    let s : tie.Start = search in
+    omega (arith, short (s .pre .0), c .before .fill-sets .kept .1 .0)
 
 slice-aggregate-label-sets : tie.Need-slice-aggregate-label-sets
-slice-aggregate-label-sets c = sym (ap length (c .before .before .fill-sets .ensures) ∙ as-many (c .before .before .before .before .before .before .before .before .args .word .now))
+slice-aggregate-label-sets c =
+    let start : tie.Start = search in
+    sym (ap length (c .before .before .fill-sets .ensures) ∙ as-many (start .args .word .now))
 
 label-sets-requires : tie.Need-label-sets-requires
 label-sets-requires c κs =
-    let s = c .before .before .before .before .before .before .before .before .before in
-    let e = c .before .before .before .fill-sets .ensures in
+    let after-fill-sets : tie.After-fill-sets = search in
+    let s : tie.Start = search in
+    let e = after-fill-sets .fill-sets .ensures in
     (sets-pre (s .pre .0) _ e, s .pre .1, sets-have-best (s .pre .0) _ e (s .pre .2))
 
 returns : tie.Need-returns
-returns c = word-told (c .before .before .before .before .before .before .before .before .before .before .before .before .pre .0) _ (c .before .before .before .before .before .before .fill-sets .ensures) (c .before .before .label-sets .ensures)
+returns c =
+    let after-fill-sets : tie.After-fill-sets = search in
+    let start : tie.Start = search in
+    word-told (start .pre .0) _ (after-fill-sets .fill-sets .ensures) (c .before .before .label-sets .ensures)
 
 pub label-best-spec : {M : Type 1} → statement M
 label-best-spec =

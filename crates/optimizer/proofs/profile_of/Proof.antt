@@ -12,7 +12,9 @@ abbrev μ-loop : tie.MeasureT-loop
 μ-loop ranking ranked counts₀ place₀ counts place = length ranking - place
 
 loop-holds : tie.Need-loop-holds Inv-loop μ-loop
-loop-holds c = (c .before .before .before .pre, placed-start _ _ _ (ap (λ (p : Profile). p .counts) (c .before .zero .ensures)))
+loop-holds c =
+    let start : tie.Start Inv-loop μ-loop = search in
+    (start .pre, placed-start _ _ _ (ap (λ (p : Profile). p .counts) (c .before .zero .ensures)))
 
 mul-counts : tie.Need-mul-counts Inv-loop μ-loop
 mul-counts c = omega arith
@@ -26,8 +28,9 @@ shared-slice-read-index c = search needs
 -- the machine at the place
 machine-below : (c : tie.After-index Inv-loop μ-loop) → c .index .result < 6
 machine-below c =
-    let l = c .before .before .before in
-    let q = place-below (l .before .before .before .before .args .ranking .now) (l .loop .inv .0) (l .loop .place) (omega arith) in
+    let l : tie.At-loop Inv-loop μ-loop = search in
+    let start : tie.Start Inv-loop μ-loop = search in
+    let q = place-below (start .args .ranking .now) (l .loop .inv .0) (l .loop .place) (omega arith) in
     let e = c .index .ensures .0 in
     omega (arith, q, e)
 
@@ -45,13 +48,14 @@ loop-less c = omega arith
 
 loop-again : tie.Need-loop-again Inv-loop μ-loop
 loop-again c =
-    let l = c .before .before .before in
+    let l : tie.At-loop Inv-loop μ-loop = search in
     (l .loop .inv .0, placed-next _ (l .loop .inv .0) _ (l .loop .place) (l .loop .counts) (l .loop .inv .1) (omega arith) (c .index .result) _ (c .index .ensures .0) refl)
 
 returns : tie.Need-returns Inv-loop μ-loop
 returns c =
+    let start : tie.Start Inv-loop μ-loop = search in
     let l = c .before in
-    placed-end _ (l .loop .inv .0) (l .before .before .before .before .args .label) (l .loop .place) (l .loop .counts) (l .loop .inv .1) (omega arith)
+    placed-end _ (l .loop .inv .0) (start .args .label) (l .loop .place) (l .loop .counts) (l .loop .inv .1) (omega arith)
 
 pub profile-of-spec : {M : Type 1} → statement M
 profile-of-spec =

@@ -5,22 +5,33 @@ use Rattle.optimizer.proofs.search.Statement.{statement}
 use Rattle.optimizer.proofs.search.Tie as tie
 
 fill-sets-requires : tie.Need-fill-sets-requires
-fill-sets-requires c κs = (short (c .before .before .before .before .before .before .pre .0), word-small (c .before .before .before .before .before .before .pre .0))
+fill-sets-requires c κs =
+    let start : tie.Start = search in
+    (short (start .pre .0), word-small (start .pre .0))
 
 array-share-prefix-sets : tie.Need-array-share-prefix-sets
-array-share-prefix-sets c = omega (arith, short (c .before .before .before .before .before .before .before .before .pre .0), c .before .fill-sets .kept .1 .0)
+array-share-prefix-sets c =
+    let start : tie.Start = search in
+    omega (arith, short (start .pre .0), c .before .fill-sets .kept .1 .0)
 
 slice-aggregate-search-sets : tie.Need-slice-aggregate-search-sets
-slice-aggregate-search-sets c = sym (ap length (c .before .before .fill-sets .ensures) ∙ as-many (c .before .before .before .before .before .before .before .before .before .args .word .now))
+slice-aggregate-search-sets c =
+    let start : tie.Start = search in
+    sym (ap length (c .before .before .fill-sets .ensures) ∙ as-many (start .args .word .now))
 
 search-sets-requires : tie.Need-search-sets-requires
-search-sets-requires c κs = let s = c .before .before .before .before .before .before .before .before .before .before .before in (sets-pre (s .pre .0) _ (c .before .before .before .before .fill-sets .ensures), s .pre .1)
+search-sets-requires c κs =
+    let after-fill-sets : tie.After-fill-sets = search in
+    let s : tie.Start = search in
+    (sets-pre (s .pre .0) _ (after-fill-sets .fill-sets .ensures), s .pre .1)
 
 returns : tie.Need-returns
 returns c =
-    let at-search-sets = c .before .before .before .before .search-sets in
-    let at-fill-sets = c .before .before .before .before .before .before .before .before .before .fill-sets in
-    let entry = c .before .before .before .before .before .before .before .before .before .before .before .before .before .before .before .before in
+    let after-search-sets : tie.After-search-sets = search in
+    let after-fill-sets : tie.After-fill-sets = search in
+    let entry : tie.Start = search in
+    let at-search-sets = after-search-sets .search-sets in
+    let at-fill-sets = after-fill-sets .fill-sets in
     word-searched (entry .pre .0) _ (at-fill-sets .ensures) (at-search-sets .ensures)
 
 pub search-spec : {M : Type 1} → statement M

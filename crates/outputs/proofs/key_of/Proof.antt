@@ -21,7 +21,9 @@ abbrev at : tie.After-shared-slice-known Inv-loop μ-loop → ℕ
 at c = let s = c .before .before .before in s .args .output * s .args .width + c .before .before .loop .place
 
 added : (c : tie.After-shared-slice-known Inv-loop μ-loop) → getD (c .before .before .before .args .steps .now) (at c) 0 * (2 * c .before .before .loop .place + 1) ≤ 5177265
-added c = place-few _ _ (omega (arith, c .shared-slice-known .given (at c))) (omega (arith, c .before .loop-test .taken, c .before .before .before .pre .0 .width))
+added c =
+    let start : tie.Start Inv-loop μ-loop = search in
+    place-few _ _ (omega (arith, c .shared-slice-known .given (at c))) (omega (arith, c .before .loop-test .taken, start .pre .0 .width))
 
 few : (c : tie.In-loop Inv-loop μ-loop) → c .before .before .args .output * c .before .before .args .width ≤ 12288
 few c = let s = c .before .before in column-few _ _ (omega (arith, s .pre .1)) (omega (arith, s .pre .0 .width))
@@ -36,22 +38,30 @@ mul-sum-2 : tie.Need-mul-sum-2 Inv-loop μ-loop
 mul-sum-2 c = omega (arith, few c)
 
 shared-slice-read-sum : tie.Need-shared-slice-read-sum Inv-loop μ-loop
-shared-slice-read-sum c = let s = c .before .before .before in column-in (s .args .output) (s .args .width) (c .before .before .loop .place) _ (omega (arith, s .pre .1)) (c .before .loop-test .taken) (s .pre .0 .room)
+shared-slice-read-sum c =
+    let s : tie.Start Inv-loop μ-loop = search in
+    column-in (s .args .output) (s .args .width) (c .before .before .loop .place) _ (omega (arith, s .pre .1)) (c .before .loop-test .taken) (s .pre .0 .room)
 
 cast-sum : tie.Need-cast-sum Inv-loop μ-loop
 cast-sum c = omega (arith, c .shared-slice-known .given (at c))
 
 mul-sum-3 : tie.Need-mul-sum-3 Inv-loop μ-loop
-mul-sum-3 c = omega (arith, c .before .before .before .pre .0 .width, c .before .loop-test .taken)
+mul-sum-3 c =
+    let start : tie.Start Inv-loop μ-loop = search in
+    omega (arith, start .pre .0 .width, c .before .loop-test .taken)
 
 add-sum-2 : tie.Need-add-sum-2 Inv-loop μ-loop
-add-sum-2 c = omega (arith, c .before .before .before .pre .0 .width, c .before .loop-test .taken)
+add-sum-2 c =
+    let start : tie.Start Inv-loop μ-loop = search in
+    omega (arith, start .pre .0 .width, c .before .loop-test .taken)
 
 mul-sum-4 : tie.Need-mul-sum-4 Inv-loop μ-loop
 mul-sum-4 c = omega (arith, added c)
 
 add-sum-3 : tie.Need-add-sum-3 Inv-loop μ-loop
-add-sum-3 c = omega (arith, added c, c .before .before .loop .inv, c .before .loop-test .taken, c .before .before .before .pre .0 .width)
+add-sum-3 c =
+    let start : tie.Start Inv-loop μ-loop = search in
+    omega (arith, added c, c .before .before .loop .inv, c .before .loop-test .taken, start .pre .0 .width)
 
 loop-again : tie.Need-loop-again Inv-loop μ-loop
 loop-again c = omega (arith, added c, c .before .before .loop .inv)

@@ -24,25 +24,31 @@ is-shaped c = was-true (c .enum-told .given .1) 3 _ (lit< tt) (c .before .before
 after-3 : (c : tie.After-enum-told) → let a = c .before .before .before .before .args in partRefusal (a .symbols) (a .part .now) ≡ firstOf (from-4 (a .symbols) (a .part .now))
 unfolding partRefusal from-4 from-arcs from-5
 after-3 c =
-    let a = c .before .before .before .before .args in
+    let start : tie.Start = search in
+    let a = start .args in
     goes-on (c .enum-told .given .1) _ (from-4 (a .symbols) (a .part .now)) (c .before .before .check-length .ensures)
 
 after-states : (c : tie.After-enum-told3) → let a = c .before .before .before .before .before .before .before .args in partRefusal (a .symbols) (a .part .now) ≡ firstOf (from-arcs (a .symbols) (a .part .now))
 unfolding from-4
 after-states c =
-    let a = c .before .before .before .before .before .before .before .args in
-    after-3 (c .before .before .before) ∙ goes-on (c .enum-told3 .given .1) _ (from-arcs (a .symbols) (a .part .now)) (c .before .before .check-states .ensures)
+    let after-enum-told : tie.After-enum-told = search in
+    let start : tie.Start = search in
+    let a = start .args in
+    after-3 after-enum-told ∙ goes-on (c .enum-told3 .given .1) _ (from-arcs (a .symbols) (a .part .now)) (c .before .before .check-states .ensures)
 
 after-4 : (c : tie.After-enum-told5) → let a = c .before .before .before .before .before .before .before .before .before .before .args in partRefusal (a .symbols) (a .part .now) ≡ firstOf (from-5 (a .part .now))
 unfolding from-arcs
 after-4 c =
-    let a = c .before .before .before .before .before .before .before .before .before .before .args in
-    after-states (c .before .before .before) ∙ goes-on (c .enum-told5 .given .1) _ (from-5 (a .part .now)) (c .before .before .check-arcs .ensures)
+    let after-enum-told3 : tie.After-enum-told3 = search in
+    let start : tie.Start = search in
+    let a = start .args in
+    after-states after-enum-told3 ∙ goes-on (c .enum-told5 .given .1) _ (from-5 (a .part .now)) (c .before .before .check-arcs .ensures)
 
 returns : tie.Need-returns
 unfolding partRefusal from-4 from-arcs from-5
 returns c =
-    let a = c .before .before .before .before .args in
+    let start : tie.Start = search in
+    let a = start .args in
     goes-up (c .enum-told2 .given .1) _ (from-4 (a .symbols) (a .part .now)) (c .before .before .check-length .ensures)
 
 check-states-requires : tie.Need-check-states-requires
@@ -51,22 +57,30 @@ check-states-requires c κs = is-shaped c
 returns-2 : tie.Need-returns-2
 unfolding from-4
 returns-2 c =
-    let a = c .before .before .before .before .before .before .before .args in
-    goes-up (c .enum-told4 .given .1) _ (from-arcs (a .symbols) (a .part .now)) (c .before .before .check-states .ensures) ∙ sym (after-3 (c .before .before .before))
+    let after-enum-told : tie.After-enum-told = search in
+    let start : tie.Start = search in
+    let a = start .args in
+    goes-up (c .enum-told4 .given .1) _ (from-arcs (a .symbols) (a .part .now)) (c .before .before .check-states .ensures) ∙ sym (after-3 after-enum-told)
 
 check-arcs-requires : tie.Need-check-arcs-requires
-check-arcs-requires c κs = (is-shaped (c .before .before .before), search needs)
+check-arcs-requires c κs =
+    let after-enum-told : tie.After-enum-told = search in
+    (is-shaped after-enum-told, search needs)
 
 returns-3 : tie.Need-returns-3
 unfolding from-arcs
 returns-3 c =
-    let a = c .before .before .before .before .before .before .before .before .before .before .args in
-    goes-up (c .enum-told6 .given .1) _ (from-5 (a .part .now)) (c .before .before .check-arcs .ensures) ∙ sym (after-states (c .before .before .before))
+    let after-enum-told3 : tie.After-enum-told3 = search in
+    let start : tie.Start = search in
+    let a = start .args in
+    goes-up (c .enum-told6 .given .1) _ (from-5 (a .part .now)) (c .before .before .check-arcs .ensures) ∙ sym (after-states after-enum-told3)
 
 check-clashes-requires : tie.Need-check-clashes-requires
 check-clashes-requires c κs =
-    let a = c .before .before .before .before .before .before .before .before .before .before .args in
-    (is-shaped (c .before .before .before .before .before .before), sound-leaves (a .symbols) (a .part .now) (was-true (c .enum-told5 .given .1) 4 _ (lit< tt) (c .before .before .check-arcs .ensures)))
+    let after-enum-told : tie.After-enum-told = search in
+    let start : tie.Start = search in
+    let a = start .args in
+    (is-shaped after-enum-told, sound-leaves (a .symbols) (a .part .now) (was-true (c .enum-told5 .given .1) 4 _ (lit< tt) (c .before .before .check-arcs .ensures)))
 
 returns-4 : tie.Need-returns-4
 unfolding from-5

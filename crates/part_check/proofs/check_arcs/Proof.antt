@@ -17,21 +17,27 @@ shared-slice-read-states : tie.Need-shared-slice-read-states Inv-loop μ-loop
 shared-slice-read-states c = omega (arith, shape-facts _ (c .before .before .pre .0))
 
 shared-slice-read-left : tie.Need-shared-slice-read-left Inv-loop μ-loop
-shared-slice-read-left c = omega (arith, shape-facts _ (c .before .before .before .before .before .pre .0))
+shared-slice-read-left c =
+    let start : tie.Start Inv-loop μ-loop = search in
+    omega (arith, shape-facts _ (start .pre .0))
 
 loop-holds : tie.Need-loop-holds Inv-loop μ-loop
-loop-holds c = (omega (arith, shape-facts _ (c .before .before .before .before .before .pre .0)), rw (c .before .index .ensures .0))
+loop-holds c =
+    let start : tie.Start Inv-loop μ-loop = search in
+    (omega (arith, shape-facts _ (start .pre .0)), rw (c .before .index .ensures .0))
 
 returns : tie.Need-returns Inv-loop μ-loop
 returns c =
-    let k = c .before .before .before in
-    let e = k .before .before .before .before .set-of .ensures in
+    let k : tie.In-loop Inv-loop μ-loop = search in
+    let after-set-of : tie.After-set-of Inv-loop μ-loop = search in
+    let e = after-set-of .set-of .ensures in
     ap (refuse 4) (all-stop _ _ _ _ _ (k .loop-test .taken) (ap (soundArc _ _) (sym (c .before .before .read-arc .ensures)) ∙ sym (c .before .is-sound .ensures _ e) ∙ not-true (c .before .is-sound .result) (c .if1 .taken)) (k .before .loop .inv .1))
 
 loop-again : tie.Need-loop-again Inv-loop μ-loop
 loop-again c =
-    let k = c .before .before .before in
-    let e = k .before .before .before .before .set-of .ensures in (
+    let k : tie.In-loop Inv-loop μ-loop = search in
+    let after-set-of : tie.After-set-of Inv-loop μ-loop = search in
+    let e = after-set-of .set-of .ensures in (
       search needs,
       all-go-on _ _ _ _ _ (k .loop-test .taken) (ap (soundArc _ _) (sym (c .before .before .read-arc .ensures)) ∙ sym (c .before .is-sound .ensures _ e) ∙ not-false (c .before .is-sound .result) (c .if1 .left)) (k .before .loop .inv .1),
     )

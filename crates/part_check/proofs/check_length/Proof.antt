@@ -10,8 +10,10 @@ returns c = rw (lt-leb _ _ (c .if1 .taken))
 returns-2 : tie.Need-returns-2
 unfolding shaped
 returns-2 c =
-    let l = c .before .before .before .before .before .before .before .args .part .now in
-    rw (le-leb 2 (length l) (omega arith)) (rw (c .before .before .before .index .ensures .0, c .before .index2 .ensures .0) at (c .tested .ensures))
+    let after-index : tie.After-index = search in
+    let start : tie.Start = search in
+    let l = start .args .part .now in
+    rw (le-leb 2 (length l) (omega arith)) (rw (after-index .index .ensures .0, c .before .index2 .ensures .0) at (c .tested .ensures))
 
 pub check-length-spec : {M : Type 1} → statement M
 check-length-spec =

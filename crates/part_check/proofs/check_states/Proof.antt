@@ -17,19 +17,23 @@ shared-slice-read-index : tie.Need-shared-slice-read-index Inv-loop μ-loop
 shared-slice-read-index c = omega (arith, shape-facts _ (c .before .before .pre))
 
 loop-holds : tie.Need-loop-holds Inv-loop μ-loop
-loop-holds c = (omega arith, omega (arith, shape-facts _ (c .before .before .before .pre)), rw (c .index .ensures .0))
+loop-holds c =
+    let start : tie.Start Inv-loop μ-loop = search in
+    (omega arith, omega (arith, shape-facts _ (start .pre)), rw (c .index .ensures .0))
 
 returns : tie.Need-returns Inv-loop μ-loop
 returns c =
-    let k = c .before .before .before in
-    let l = k .before .before .before .before .args .part .now in
+    let k : tie.At-loop Inv-loop μ-loop = search in
+    let start : tie.Start Inv-loop μ-loop = search in
+    let l = start .args .part .now in
     let e = all-fails (λ b. leb b 16) (bytes-cons l (k .loop .at) _ (omega arith) (k .loop .inv .1)) (lt-leb _ _ (c .if1 .taken)) in
     ap (refuse 4) (sym e ∙ k .loop .inv .2)
 
 loop-again : tie.Need-loop-again Inv-loop μ-loop
 loop-again c =
-    let k = c .before .before .before in
-    let l = k .before .before .before .before .args .part .now in (
+    let k : tie.At-loop Inv-loop μ-loop = search in
+    let start : tie.Start Inv-loop μ-loop = search in
+    let l = start .args .part .now in (
       search needs,
       k .loop .inv .1,
       all-next (λ b. leb b 16) (bytes-cons l (k .loop .at) _ (omega arith) (k .loop .inv .1)) (le-leb _ _ (c .if1 .left)) ∙ k .loop .inv .2,
@@ -37,8 +41,9 @@ loop-again c =
 
 returns-2 : tie.Need-returns-2 Inv-loop μ-loop
 returns-2 c =
+    let start : tie.Start Inv-loop μ-loop = search in
     let k = c .before in
-    let l = k .before .before .before .before .args .part .now in
+    let l = start .args .part .now in
     let end = 2 + k .before .index .result in
     let e : k .loop .at ≡ end = omega arith in
     let n : slice (k .loop .at) end l ≡ [] = rw e (slice-empty end l) in

@@ -15,7 +15,9 @@ abbrev entry : tie.In-loop Inv-loop μ-loop → tie.Start Inv-loop μ-loop
 entry c = c .before .before .before .before .before .before
 
 loop-holds : tie.Need-loop-holds Inv-loop μ-loop
-loop-holds c = let p = c .before .before .before .before .pre in passed-start (p .0) (p .1) (p .2)
+loop-holds c =
+    let start : tie.Start Inv-loop μ-loop = search in
+    let p = start .pre in passed-start (p .0) (p .1) (p .2)
 
 mul-step : tie.Need-mul-step Inv-loop μ-loop
 mul-step c = omega (arith, column-few (entry c .pre .0 .columns) _ (entry c .pre .0 .output))
@@ -27,34 +29,54 @@ mul-step-2 : tie.Need-mul-step-2 Inv-loop μ-loop
 mul-step-2 c = let s = entry (c .before .before) in omega (arith, column-few (s .pre .0 .columns) _ (s .pre .0 .output), c .index .ensures .1)
 
 shared-slice-read-step : tie.Need-shared-slice-read-step Inv-loop μ-loop
-shared-slice-read-step c = let k = c .before .before .before in column-in (entry k .pre .0 .columns) _ (entry k .pre .0 .output) _ (k .loop-test .taken) _ (c .before .index .ensures .0)
+shared-slice-read-step c =
+    let k : tie.In-loop Inv-loop μ-loop = search in
+    column-in (entry k .pre .0 .columns) _ (entry k .pre .0 .output) _ (k .loop-test .taken) _ (c .before .index .ensures .0)
 
 cast-states : tie.Need-cast-states Inv-loop μ-loop
-cast-states c = let k = c .before .before .before in omega (arith, step-few (entry k .pre .0) (entry k .pre .1) (k .before .loop .inv) (k .loop-test .taken) _ (c .before .index .ensures .0))
+cast-states c =
+    let k : tie.In-loop Inv-loop μ-loop = search in
+    omega (arith, step-few (entry k .pre .0) (entry k .pre .1) (k .before .loop .inv) (k .loop-test .taken) _ (c .before .index .ensures .0))
 
 slice-write-states : tie.Need-slice-write-states Inv-loop μ-loop
-slice-write-states c = let k = c .before .before .before in in-states (entry k .pre .0) (entry k .pre .1) (k .before .loop .inv) (k .loop-test .taken)
+slice-write-states c =
+    let k : tie.In-loop Inv-loop μ-loop = search in
+    in-states (entry k .pre .0) (entry k .pre .1) (k .before .loop .inv) (k .loop-test .taken)
 
 slice-read-marks : tie.Need-slice-read-marks Inv-loop μ-loop
-slice-read-marks c = let k = c .before .before .before .before in in-marks (entry k .pre .0) (entry k .pre .1) (k .before .loop .inv) (k .loop-test .taken)
+slice-read-marks c =
+    let k : tie.In-loop Inv-loop μ-loop = search in
+    in-marks (entry k .pre .0) (entry k .pre .1) (k .before .loop .inv) (k .loop-test .taken)
 
 add-marks : tie.Need-add-marks Inv-loop μ-loop
-add-marks c = let k = c .before .before .before .before in omega (arith, mark-fits (entry k .pre .0) (entry k .pre .1) (k .before .loop .inv))
+add-marks c =
+    let k : tie.In-loop Inv-loop μ-loop = search in
+    omega (arith, mark-fits (entry k .pre .0) (entry k .pre .1) (k .before .loop .inv))
 
 slice-write-marks : tie.Need-slice-write-marks Inv-loop μ-loop
-slice-write-marks c = let k = c .before .before .before .before in in-marks (entry k .pre .0) (entry k .pre .1) (k .before .loop .inv) (k .loop-test .taken)
+slice-write-marks c =
+    let k : tie.In-loop Inv-loop μ-loop = search in
+    in-marks (entry k .pre .0) (entry k .pre .1) (k .before .loop .inv) (k .loop-test .taken)
 
 loop-again : tie.Need-loop-again Inv-loop μ-loop
-loop-again c = let k = c .before .before .before .before in passed-next (entry k .pre .0) (entry k .pre .1) (k .before .loop .inv) (k .loop-test .taken) _ (c .before .before .index .ensures .0)
+loop-again c =
+    let k : tie.In-loop Inv-loop μ-loop = search in
+    passed-next (entry k .pre .0) (entry k .pre .1) (k .before .loop .inv) (k .loop-test .taken) _ (c .before .before .index .ensures .0)
 
 same-length : tie.Need-same-length Inv-loop μ-loop
-same-length c = c .before .loop .inv .states-size ∙ sym (c .before .before .before .before .before .before .pre .2)
+same-length c =
+    let start : tie.Start Inv-loop μ-loop = search in
+    c .before .loop .inv .states-size ∙ sym (start .pre .2)
 
 same-length-2 : tie.Need-same-length-2 Inv-loop μ-loop
-same-length-2 c = c .before .loop .inv .marks-size ∙ sym (c .before .before .before .before .before .before .pre .1 .size)
+same-length-2 c =
+    let start : tie.Start Inv-loop μ-loop = search in
+    c .before .loop .inv .marks-size ∙ sym (start .pre .1 .size)
 
 returns : tie.Need-returns Inv-loop μ-loop
-returns c = let p = c .before .before .before .before .before .before .pre in (passed-states (p .0) (p .1) (c .before .loop .inv) (c .loop-test .left), passed-marks (p .0) (p .1) (c .before .loop .inv) (c .loop-test .left))
+returns c =
+    let start : tie.Start Inv-loop μ-loop = search in
+    let p = start .pre in (passed-states (p .0) (p .1) (c .before .loop .inv) (c .loop-test .left), passed-marks (p .0) (p .1) (c .before .loop .inv) (c .loop-test .left))
 
 pub pass-spec : {M : Type 1} → statement M
 pass-spec =

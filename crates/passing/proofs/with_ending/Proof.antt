@@ -17,50 +17,71 @@ abbrev μ-loop : tie.MeasureT-loop
 μ-loop card states sums₀ m₀ sums m = length states - m
 
 loop-holds : tie.Need-loop-holds Inv-loop μ-loop
-loop-holds c = ended-start (c .before .before .before .pre)
+loop-holds c =
+    let start : tie.Start Inv-loop μ-loop = search in
+    ended-start (start .pre)
 
 part-requires : tie.Need-part-requires Inv-loop μ-loop
-part-requires c κs = let s = c .before .before .before .before .before in (s .pre .accepted, machine-there (s .pre) _ (c .loop-test .taken))
+part-requires c κs =
+    let s : tie.Start Inv-loop μ-loop = search in
+    (s .pre .accepted, machine-there (s .pre) _ (c .loop-test .taken))
 
 shared-slice-read-ending-marks : tie.Need-shared-slice-read-ending-marks Inv-loop μ-loop
 shared-slice-read-ending-marks c = c .before .before .loop-test .taken
 
 ending-marks-requires : tie.Need-ending-marks-requires Inv-loop μ-loop
 ending-marks-requires c κs =
+    let s : tie.Start Inv-loop μ-loop = search in
     let k = c .before .before in
-    let s = k .before .before .before .before .before in
     let card = s .args .card .now in
     rw (c .before .part .ensures) (part-accepted (symbolCount card) (partOf card (k .before .loop .m)) (accepted card (s .pre .accepted) .part (k .before .loop .m) (machine-there (s .pre) _ (k .loop-test .taken))) .shape)
 
 -- in a turn: the machine's place
 place : (c : tie.In-loop Inv-loop μ-loop) → c .before .loop .m < length (c .before .loop .sums)
-place c = in-sums (c .before .before .before .before .before .pre) (c .before .loop .inv) (c .loop-test .taken)
+place c =
+    let start : tie.Start Inv-loop μ-loop = search in
+    in-sums (start .pre) (c .before .loop .inv) (c .loop-test .taken)
 
 mul-sums : tie.Need-mul-sums Inv-loop μ-loop
-mul-sums c = let k = c .before .before .before in omega (arith, place k, k .before .loop .inv .size)
+mul-sums c =
+    let k : tie.In-loop Inv-loop μ-loop = search in
+    omega (arith, place k, k .before .loop .inv .size)
 
 array-read-sums : tie.Need-array-read-sums Inv-loop μ-loop
-array-read-sums c = let k = c .before .before .before in omega (arith, place k, k .before .loop .inv .size)
+array-read-sums c =
+    let k : tie.In-loop Inv-loop μ-loop = search in
+    omega (arith, place k, k .before .loop .inv .size)
 
 add-sums : tie.Need-add-sums Inv-loop μ-loop
-add-sums c = let k = c .before .before .before in omega (arith, c .ending-marks .ensures .1, sum-fits (k .before .before .before .before .before .pre) (k .before .loop .inv))
+add-sums c =
+    let k : tie.In-loop Inv-loop μ-loop = search in
+    let start : tie.Start Inv-loop μ-loop = search in
+    omega (arith, c .ending-marks .ensures .1, sum-fits (start .pre) (k .before .loop .inv))
 
 mul-sums-2 : tie.Need-mul-sums-2 Inv-loop μ-loop
-mul-sums-2 c = let k = c .before .before .before in omega (arith, place k, k .before .loop .inv .size)
+mul-sums-2 c =
+    let k : tie.In-loop Inv-loop μ-loop = search in
+    omega (arith, place k, k .before .loop .inv .size)
 
 array-write-sums : tie.Need-array-write-sums Inv-loop μ-loop
-array-write-sums c = let k = c .before .before .before in omega (arith, place k, k .before .loop .inv .size)
+array-write-sums c =
+    let k : tie.In-loop Inv-loop μ-loop = search in
+    omega (arith, place k, k .before .loop .inv .size)
 
 add-m : tie.Need-add-m Inv-loop μ-loop
-add-m c = let k = c .before .before .before in omega (arith, place k, k .before .loop .inv .size)
+add-m c =
+    let k : tie.In-loop Inv-loop μ-loop = search in
+    omega (arith, place k, k .before .loop .inv .size)
 
 loop-less : tie.Need-loop-less Inv-loop μ-loop
-loop-less c = omega (arith, c .before .before .before .loop-test .taken)
+loop-less c =
+    let in-loop : tie.In-loop Inv-loop μ-loop = search in
+    omega (arith, in-loop .loop-test .taken)
 
 loop-again : tie.Need-loop-again Inv-loop μ-loop
 loop-again c =
-    let k = c .before .before .before in
-    let s = k .before .before .before .before .before in
+    let k : tie.In-loop Inv-loop μ-loop = search in
+    let s : tie.Start Inv-loop μ-loop = search in
     let card = s .args .card .now in
     let m = k .before .loop .m in
     let h = k .loop-test .taken in
@@ -73,7 +94,9 @@ loop-again c =
     refl
 
 returns : tie.Need-returns Inv-loop μ-loop
-returns c = ended-end (c .before .before .before .before .before .pre) (c .before .loop .inv) (c .loop-test .left)
+returns c =
+    let start : tie.Start Inv-loop μ-loop = search in
+    ended-end (start .pre) (c .before .loop .inv) (c .loop-test .left)
 
 pub with-ending-spec : {M : Type 1} → statement M
 with-ending-spec =

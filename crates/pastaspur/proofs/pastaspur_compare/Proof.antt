@@ -10,7 +10,8 @@ use Rattle.pastaspur.proofs.pastaspur_compare.Tie as tie
 agreed : (c : tie.After-compare) → let a = c .before .before .before .before .args in
     compared (c .compare .result) ≡ comparing (a .machines) (a .ranking .now) (asProfile (a .first .now)) (asProfile (a .second .now))
 agreed c =
-    let a = c .before .before .before .before .args in
+    let start : tie.Start = search in
+    let a = start .args in
     c .compare .ensures
     ∙ ap (λ (p : Profile). comparing (a .machines) (a .ranking .now) p (c .before .profile-of2 .result)) (c .before .before .profile-of .ensures)
     ∙ ap (comparing (a .machines) (a .ranking .now) (asProfile (a .first .now))) (c .before .profile-of2 .ensures)

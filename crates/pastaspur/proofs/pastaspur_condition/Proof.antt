@@ -10,7 +10,8 @@ use Rattle.pastaspur.proofs.pastaspur_condition.Tie as tie
 agreed : (c : tie.After-derive) → let a = c .before .before .before .args in
     derived (c .derive .result) ≡ derivedFrom (a .machines) (asProfile (a .first .now)) (asProfile (a .second .now))
 agreed c =
-    let a = c .before .before .before .args in
+    let start : tie.Start = search in
+    let a = start .args in
     c .derive .ensures
     ∙ ap (λ (p : Profile). derivedFrom (a .machines) p (c .before .profile-of2 .result)) (c .before .before .profile-of .ensures)
     ∙ ap (derivedFrom (a .machines) (asProfile (a .first .now))) (c .before .profile-of2 .ensures)

@@ -7,7 +7,8 @@ use Rattle.pastaspur.proofs.pastaspur_cull.Tie as tie
 
 returns : tie.Need-returns
 returns c =
-    let o = c .before .before .before .before .before .before .cull .ensures in
+    let after-cull : tie.After-cull = search in
+    let o = after-cull .cull .ensures in
     let g = c .give-evaluation .ensures in (
       g .0 ∙ ap (λ (r : Evaluation). r .number) (o .result),
       (

@@ -7,7 +7,8 @@ use Rattle.pastaspur.proofs.pastaspur_cull_sets.Tie as tie
 
 returns : tie.Need-returns
 returns c =
-    let o = c .before .before .before .before .before .before .cull-sets .ensures in
+    let after-cull-sets : tie.After-cull-sets = search in
+    let o = after-cull-sets .cull-sets .ensures in
     let g = c .give-evaluation .ensures in (
       g .0 ∙ ap (λ (r : Evaluation). r .number) (o .result),
       (

@@ -7,7 +7,8 @@ use Rattle.pastaspur.proofs.pastaspur_join.Tie as tie
 
 returns : tie.Need-returns
 returns c =
-    let e = c .before .before .before .before .join .ensures in
+    let after-join : tie.After-join = search in
+    let e = after-join .join .ensures in
     let g = c .give-packed .ensures in
     (g .0 ∙ ap (λ (p : Packed). p .number) (e .0), (g .1 ∙ ap (λ (p : Packed). p .length ∷ []) (e .0), e .1))
 

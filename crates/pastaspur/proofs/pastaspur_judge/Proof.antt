@@ -7,7 +7,8 @@ use Rattle.pastaspur.proofs.pastaspur_judge.Tie as tie
 
 returns : tie.Need-returns
 returns c =
-    let j = c .before .before .before .before .judge .ensures in
+    let after-judge : tie.After-judge = search in
+    let j = after-judge .judge .ensures in
     let g = c .give-judged .ensures in (
       g .0 ∙ ap (λ (r : Judged). r .number) (j .result),
       (g .1 ∙ ap judgedNumbers (j .result), record { result = refl; work-length = j .work-length; work-kept = j .work-kept }),

@@ -7,7 +7,8 @@ use Rattle.pastaspur.proofs.pastaspur_optimize.Tie as tie
 
 returns : tie.Need-returns
 returns c =
-    let o = c .before .before .before .before .before .before .optimize .ensures in
+    let after-optimize : tie.After-optimize = search in
+    let o = after-optimize .optimize .ensures in
     let g = c .give-evaluation .ensures in (
       g .0 ∙ ap (λ (r : Evaluation). r .number) (o .result),
       (

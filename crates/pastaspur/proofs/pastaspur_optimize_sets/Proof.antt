@@ -7,7 +7,8 @@ use Rattle.pastaspur.proofs.pastaspur_optimize_sets.Tie as tie
 
 returns : tie.Need-returns
 returns c =
-    let o = c .before .before .before .before .before .before .optimize-sets .ensures in
+    let after-optimize-sets : tie.After-optimize-sets = search in
+    let o = after-optimize-sets .optimize-sets .ensures in
     let g = c .give-evaluation .ensures in (
       g .0 ∙ ap (λ (r : Evaluation). r .number) (o .result),
       (

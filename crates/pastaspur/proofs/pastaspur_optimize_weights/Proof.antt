@@ -8,7 +8,8 @@ use Rattle.pastaspur.proofs.pastaspur_optimize_weights.Tie as tie
 
 returns : tie.Need-returns
 returns c =
-    let o = c .before .before .before .before .before .before .optimize .ensures in
+    let after-optimize : tie.After-optimize = search in
+    let o = after-optimize .optimize .ensures in
     let w = is-weighed o in
     let g = c .give-weighing .ensures in (
       g .0 ∙ ap (λ (r : Weighing). r .evaluation .number) w,

@@ -24,25 +24,34 @@ abbrev μ-loop : tie.MeasureT-loop
 μ-loop card piece line₀ held out₀ at₀ length₀ so-far₀ line out at length so-far = lib.ListN.length piece - at
 
 loop-holds : tie.Need-loop-holds Inv-loop μ-loop
-loop-holds c = let p = c .before .before .before .before .pre in (search needs, p .0, p .1, refl, p .2, p .3, refl, refl)
+loop-holds c =
+    let start : tie.Start Inv-loop μ-loop = search in
+    let p = start .pre in (search needs, p .0, p .1, refl, p .2, p .3, refl, refl)
 
 -- the line that ended fits, and the next one starts later in the piece
 bounds : (c : tie.After-next Inv-loop μ-loop)
     → (c .next .given .0 .0 ≤ 201) × (c .before .before .before .before .before .before .loop .at < c .next .given .0 .1 .0) × (c .next .given .0 .1 .0 ≤ ListN.length (c .before .before .before .before .before .before .before .before .before .before .before .args .piece .now))
 bounds c =
-    let k = c .before .before .before .before in
+    let k : tie.After-next-line Inv-loop μ-loop = search in
     let b = next-bounds _ _ _ (k .before .before .loop .inv .0) in
     let e = sym (k .next-line .ensures .0) ∙ c .next .given .1 in
     (b .line-length _ _ e, b .line-after _ _ e, b .line-within _ _ e)
 
 slice-reshare-prefix-print-answer : tie.Need-slice-reshare-prefix-print-answer Inv-loop μ-loop
-slice-reshare-prefix-print-answer c = omega (arith, bounds (c .before) .0, c .before .before .before .before .before .next-line .kept .1 .1 .0)
+slice-reshare-prefix-print-answer c =
+    let after-next-line : tie.After-next-line Inv-loop μ-loop = search in
+    omega (arith, bounds (c .before) .0, after-next-line .next-line .kept .1 .1 .0)
 
 slice-aggregate-print-answer : tie.Need-slice-aggregate-print-answer Inv-loop μ-loop
-slice-aggregate-print-answer c = sym (length-take-le _ _ (omega (arith, bounds (c .before .before) .0, c .before .before .before .before .before .before .next-line .kept .1 .1 .0)))
+slice-aggregate-print-answer c =
+    let after-next-line : tie.After-next-line Inv-loop μ-loop = search in
+    sym (length-take-le _ _ (omega (arith, bounds (c .before .before) .0, after-next-line .next-line .kept .1 .1 .0)))
 
 print-answer-requires : tie.Need-print-answer-requires Inv-loop μ-loop
-print-answer-requires c κs = let i = c .before .before .before .before .before .before .before .before .before .loop .inv in (omega (arith, i .7, c .before .before .before .before .before .before .before .before .before .before .before .before .before .before .pre .4), i .4, i .5)
+print-answer-requires c κs =
+    let at-loop : tie.At-loop Inv-loop μ-loop = search in
+    let start : tie.Start Inv-loop μ-loop = search in
+    let i = at-loop .loop .inv in (omega (arith, i .7, start .pre .4), i .4, i .5)
 
 -- the lines from this one on give the tally
 counted-on : (c : tie.After-print-answer Inv-loop μ-loop) →
@@ -51,11 +60,13 @@ counted-on : (c : tie.After-print-answer Inv-loop μ-loop) →
     linesTally (entry .args .card .now) (c .print-answer .result .tally) (endedLines [] (drop (at-next .given .0 .1 .0) (entry .args .piece .now)))
     ≡ linesTally (entry .args .card .now) (entry .args .tally) (endedLines (take (entry .args .held) (entry .args .line .now)) (entry .args .piece .now))
 counted-on c =
-    let s = c .before .before .before .before .before .before .before .before .before .before .before .before .before .before .before .args in
-    let k = c .before .before .before .before .before .before .before .before in
+    let after-next : tie.After-next Inv-loop μ-loop = search in
+    let k : tie.After-next-line Inv-loop μ-loop = search in
+    let start : tie.Start Inv-loop μ-loop = search in
+    let s = start .args in
     let l = k .before .before .loop in
-    let e = sym (k .next-line .ensures .0) ∙ c .before .before .before .before .next .given .1 in
-    let rest = endedLines [] (drop (c .before .before .before .before .next .given .0 .1 .0) (s .piece .now)) in
+    let e = sym (k .next-line .ensures .0) ∙ after-next .next .given .1 in
+    let rest = endedLines [] (drop (after-next .next .given .0 .1 .0) (s .piece .now)) in
     let first = first-ended (l .line) (s .piece .now) (l .length) (l .at) (l .inv .1) _ _ e (k .next-line .ensures .1) in
     ap (λ (u : Tally). linesTally (s .card .now) u rest) (c .print-answer .ensures .0 .0)
     ∙ sym (tally-cons (s .card .now) (l .so-far) _ rest)
@@ -64,18 +75,25 @@ counted-on c =
 
 -- past the thousandth line, or a write failed
 same-length : tie.Need-same-length Inv-loop μ-loop
-same-length c = omega (arith, c .before .before .before .before .before .before .before .before .before .before .before .before .before .next-line .kept .1 .1 .0, c .before .before .before .before .before .before .before .before .before .before .before .before .before .before .before .before .before .before .before .before .pre .1)
+same-length c =
+    let after-next-line : tie.After-next-line Inv-loop μ-loop = search in
+    let start : tie.Start Inv-loop μ-loop = search in
+    omega (arith, after-next-line .next-line .kept .1 .1 .0, start .pre .1)
 
 same-length-2 : tie.Need-same-length-2 Inv-loop μ-loop
-same-length-2 c = omega (arith, c .before .before .before .before .before .print-answer .kept .1 .1 .1 .0, c .before .before .before .before .before .before .before .before .before .before .before .before .before .before .before .loop .inv .7)
+same-length-2 c =
+    let after-print-answer : tie.After-print-answer Inv-loop μ-loop = search in
+    let at-loop : tie.At-loop Inv-loop μ-loop = search in
+    omega (arith, after-print-answer .print-answer .kept .1 .1 .1 .0, at-loop .loop .inv .7)
 
 returns : tie.Need-returns Inv-loop μ-loop
 returns c =
-    let at-next = c .before .before .before .before .before .before .before .before .before .next in
-    let at-loop = c .before .before .before .before .before .before .before .before .before .before .before .before .before .before .before .loop in
-    let entry = c .before .before .before .before .before .before .before .before .before .before .before .before .before .before .before .before .before .before .before .before in
-    let p = c .before .before .before .before .before in
-    let l = at-loop in
+    let p : tie.After-print-answer Inv-loop μ-loop = search in
+    let after-next : tie.After-next Inv-loop μ-loop = search in
+    let at-loop : tie.At-loop Inv-loop μ-loop = search in
+    let entry : tie.Start Inv-loop μ-loop = search in
+    let at-next = after-next .next in
+    let l = at-loop .loop in
     let past : p .print-answer .result .written ≡ true → p .print-answer .result .tally .past ≡ true = past-written (p .print-answer .result .tally .past) (p .print-answer .result .written) (c .if1 .taken) in
     record {
       few = lit≤ tt;
@@ -89,35 +107,46 @@ returns c =
     }
 
 loop-less : tie.Need-loop-less Inv-loop μ-loop
-loop-less c = omega (arith, bounds (c .before .before .before .before .before .before .before .before .before))
+loop-less c =
+    let after-next : tie.After-next Inv-loop μ-loop = search in
+    omega (arith, bounds after-next)
 
 loop-again : tie.Need-loop-again Inv-loop μ-loop
 loop-again c =
-    let k = c .before .before .before .before .before .before .before .before .before .before .before .before .before in
+    let after-print-answer : tie.After-print-answer Inv-loop μ-loop = search in
+    let after-next : tie.After-next Inv-loop μ-loop = search in
+    let k : tie.After-next-line Inv-loop μ-loop = search in
+    let start : tie.Start Inv-loop μ-loop = search in
     let l = k .before .before .loop in
-    let e = sym (k .next-line .ensures .0) ∙ c .before .before .before .before .before .before .before .before .before .next .given .1 in (
-      bounds (c .before .before .before .before .before .before .before .before .before) .2,
+    let e = sym (k .next-line .ensures .0) ∙ after-next .next .given .1 in (
+      bounds after-next .2,
       lit≤ tt,
       omega (arith, k .next-line .kept .1 .1 .0),
-      held-ended (l .line) (c .before .before .before .before .before .before .before .before .before .before .before .before .before .before .before .before .before .before .before .before .args .piece .now) (l .length) (l .at) (l .inv .1) _ _ e ∙ l .inv .3,
-      c .before .before .before .before .before .print-answer .ensures .0 .1,
+      held-ended (l .line) (start .args .piece .now) (l .length) (l .at) (l .inv .1) _ _ e ∙ l .inv .3,
+      after-print-answer .print-answer .ensures .0 .1,
       left-fails _ _ (c .if1 .left),
-      counted-on (c .before .before .before .before .before),
-      omega (arith, c .before .before .before .before .before .print-answer .kept .1 .1 .1 .0, l .inv .7),
+      counted-on after-print-answer,
+      omega (arith, after-print-answer .print-answer .kept .1 .1 .1 .0, l .inv .7),
     )
 
 -- the piece ends
 same-length-3 : tie.Need-same-length-3 Inv-loop μ-loop
-same-length-3 c = omega (arith, c .before .before .before .before .before .next-line .kept .1 .1 .0, c .before .before .before .before .before .before .before .before .before .before .before .before .pre .1)
+same-length-3 c =
+    let after-next-line : tie.After-next-line Inv-loop μ-loop = search in
+    let start : tie.Start Inv-loop μ-loop = search in
+    omega (arith, after-next-line .next-line .kept .1 .1 .0, start .pre .1)
 
 same-length-4 : tie.Need-same-length-4 Inv-loop μ-loop
-same-length-4 c = omega (arith, c .before .before .before .before .before .before .before .loop .inv .7)
+same-length-4 c =
+    let at-loop : tie.At-loop Inv-loop μ-loop = search in
+    omega (arith, at-loop .loop .inv .7)
 
 returns-2 : tie.Need-returns-2 Inv-loop μ-loop
 returns-2 c =
-    let k = c .before .before .before .before .before in
+    let k : tie.After-next-line Inv-loop μ-loop = search in
+    let start : tie.Start Inv-loop μ-loop = search in
     let l = k .before .before .loop in
-    let s = c .before .before .before .before .before .before .before .before .before .before .before .before .args in
+    let s = start .args in
     let e = sym (k .next-line .ensures .0) ∙ c .before .next2 .given .1 in
     let o = held-open (l .line) (s .piece .now) (l .length) (l .at) (l .inv .1) _ e in
     record {

@@ -15,28 +15,33 @@ returns : tie.Need-returns Inv-loop μ-loop
 returns c = let a = c .before .before .args in sym (too-many (a .symbols) (a .sets .now) (c .if1 .taken))
 
 loop-holds : tie.Need-loop-holds Inv-loop μ-loop
-loop-holds c = let a = c .before .before .before .args in (refl, omega arith, c .set-of .ensures, few (a .symbols) (a .sets .now) (c .before .if1 .left))
+loop-holds c =
+    let start : tie.Start Inv-loop μ-loop = search in
+    let a = start .args in (refl, omega arith, c .set-of .ensures, few (a .symbols) (a .sets .now) (c .before .if1 .left))
 
 returns-2 : tie.Need-returns-2 Inv-loop μ-loop
 returns-2 c =
-    let k = c .before .before .before .before in
-    let a = k .before .before .before .before .args in
+    let k : tie.At-loop Inv-loop μ-loop = search in
+    let start : tie.Start Inv-loop μ-loop = search in
+    let a = start .args in
     let w = a .sets .now in
     let e : symbolSet (a .symbols) (getD w (k .loop .at) 0) ≡ false = sym (c .before .is-symbol-set .ensures (a .symbols) (k .loop .inv .2)) ∙ not-true _ (c .if2 .taken) in
     sym (sym (k .loop .inv .3) ∙ wrong-set (a .symbols) w (k .loop .at) (omega arith) e)
 
 loop-again : tie.Need-loop-again Inv-loop μ-loop
 loop-again c =
-    let k = c .before .before .before .before in
-    let a = k .before .before .before .before .args in
+    let k : tie.At-loop Inv-loop μ-loop = search in
+    let start : tie.Start Inv-loop μ-loop = search in
+    let a = start .args in
     let w = a .sets .now in
     let e : symbolSet (a .symbols) (getD w (k .loop .at) 0) ≡ true = sym (c .before .is-symbol-set .ensures (a .symbols) (k .loop .inv .2)) ∙ not-false _ (c .if2 .left) in
     (refl, omega arith, k .loop .inv .2, next-set (a .symbols) w (k .loop .at) (omega arith) e ∙ k .loop .inv .3)
 
 returns-3 : tie.Need-returns-3 Inv-loop μ-loop
 returns-3 c =
+    let start : tie.Start Inv-loop μ-loop = search in
     let k = c .before in
-    let a = k .before .before .before .before .args in
+    let a = start .args in
     let w = a .sets .now in
     let e : k .loop .at ≡ length w = omega arith in
     sym (sym (k .loop .inv .3) ∙ ap (λ (n : ℕ). refuse 25 (allOf (symbolSet (a .symbols)) (drop n w))) e ∙ no-set-left (a .symbols) w)

@@ -19,24 +19,27 @@ loop-holds c = let a = c .before .before .args in (refl, omega arith, right-leng
 
 returns-2 : tie.Need-returns-2 Inv-loop μ-loop
 returns-2 c =
-    let k = c .before .before .before .before in
-    let a = k .before .before .before .args in
+    let k : tie.At-loop Inv-loop μ-loop = search in
+    let start : tie.Start Inv-loop μ-loop = search in
+    let a = start .args in
     let w = a .word .now in
     let e : symbol (a .symbols) (getD w (k .loop .at) 0) ≡ false = sym (c .before .is-symbol .ensures) ∙ not-true _ (c .if2 .taken) in
     sym (refuses-with 8 (sym (k .loop .inv .2) ∙ wrong-symbol (a .symbols) w (k .loop .at) (omega arith) e))
 
 loop-again : tie.Need-loop-again Inv-loop μ-loop
 loop-again c =
-    let k = c .before .before .before .before in
-    let a = k .before .before .before .args in
+    let k : tie.At-loop Inv-loop μ-loop = search in
+    let start : tie.Start Inv-loop μ-loop = search in
+    let a = start .args in
     let w = a .word .now in
     let e : symbol (a .symbols) (getD w (k .loop .at) 0) ≡ true = sym (c .before .is-symbol .ensures) ∙ not-false _ (c .if2 .left) in
     (refl, omega arith, next-symbol (a .symbols) w (k .loop .at) (omega arith) e ∙ k .loop .inv .2)
 
 returns-3 : tie.Need-returns-3 Inv-loop μ-loop
 returns-3 c =
+    let start : tie.Start Inv-loop μ-loop = search in
     let k = c .before in
-    let a = k .before .before .before .args in
+    let a = start .args in
     let w = a .word .now in
     let e : k .loop .at ≡ length w = omega arith in
     sym (passes-with 8 (sym (k .loop .inv .2) ∙ ap (λ (n : ℕ). allOf (symbol (a .symbols)) (drop n w)) e ∙ no-symbol-left (a .symbols) w))

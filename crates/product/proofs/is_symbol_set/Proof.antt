@@ -6,8 +6,9 @@ use Rattle.product.proofs.is_symbol_set.Tie as tie
 
 returns : tie.Need-returns
 returns c S e =
-    let s : c .before .is-sound .result ≡ soundSet S (c .before .before .before .args .set) = c .before .is-sound .ensures S e in
-    let h : c .holds .result ≡ member (c .before .before .before .args .set) emptySymbol = c .holds .ensures emptySymbol (c .before .before .set-of .ensures) in
+    let start : tie.Start = search in
+    let s : c .before .is-sound .result ≡ soundSet S (start .args .set) = c .before .is-sound .ensures S e in
+    let h : c .holds .result ≡ member (start .args .set) emptySymbol = c .holds .ensures emptySymbol (c .before .before .set-of .ensures) in
     λ i. s i && not (h i)
 
 pub is-symbol-set-spec : {M : Type 1} → statement M

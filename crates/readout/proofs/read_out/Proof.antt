@@ -12,20 +12,22 @@ use Rattle.readout.proofs.read_out.Statement.{statement}
 use Rattle.readout.proofs.read_out.Tie as tie
 
 start-node-requires : tie.Need-start-node-requires
-start-node-requires c κs = let s = c .before .before .before .before .before in front-fits (s .args .card .now) (s .pre .0 .setting .accepted) (s .args .grid .counts) (s .args .grid .machines) (s .pre .2 .machines) (s .pre .2 .counts)
+start-node-requires c κs =
+    let s : tie.Start = search in
+    front-fits (s .args .card .now) (s .pre .0 .setting .accepted) (s .args .grid .counts) (s .args .grid .machines) (s .pre .2 .machines) (s .pre .2 .counts)
 
 -- the start has its numbers in the work slice
 check-best-requires : tie.Need-check-best-requires
 check-best-requires c κs =
-    let s = c .before .before .before .before .before .before in
+    let s : tie.Start = search in
     omega (arith, start-there (s .pre .0) (s .pre .1), c .start-node .ensures _ (s .pre .2))
 
 returns : tie.Need-returns
 returns c =
+    let k : tie.After-check-best = search in
+    let s : tie.Start = search in
     let t = c .before .before .enum-told2 .given in
-    let k = c .before .before .before .before in
     let n = k .before in
-    let s = n .before .before .before .before .before .before in
     let m = c .before .number in
     refused-answered (s .pre .0) (s .pre .1) (s .args .answer .now) (m .result) (c .refused .result)
     (at-start (s .pre .0) (s .pre .1) _ _ (n .start-node .ensures _ (s .pre .2)) (m .ensures ∙ k .check-best .ensures))
@@ -47,17 +49,19 @@ walk-ranked-requires c κs = let s = start (c .before) in (record { sets-pre = s
 
 cast-pairs : tie.Need-cast-pairs
 cast-pairs c =
-    let w = c .before .before .before .before in
+    let w : tie.After-walk-ranked = search in
     let t = w .before .before in
     let s = start t in
     omega (arith, walked-few (s .pre .0) (s .pre .1) (start-fits _ _ _ (passes t)) (w .walk-ranked .ensures))
 
 cast-length : tie.Need-cast-length
-cast-length c = let s = start (c .before .before .before .before .before .before) in omega (arith, s .pre .0 .setting .few)
+cast-length c =
+    let after-enum-told : tie.After-enum-told = search in
+    let s = start after-enum-told in omega (arith, s .pre .0 .setting .few)
 
 returns-2 : tie.Need-returns-2
 returns-2 c =
-    let w = c .before .before .before .before in
+    let w : tie.After-walk-ranked = search in
     let t = w .before .before in
     let s = start t in
     best-answered (s .pre .0) (s .pre .1) (passes t) (w .walk-ranked .ensures)

@@ -14,15 +14,19 @@ six c = length-unmapped ℕ (c .args .lead .row .profile .counts) 6 (search need
 
 returns : tie.Need-returns
 returns c =
-    let s = c .before .before .before .before .before .before .before .before .before .before in
+    let after-count3 : tie.After-count3 = search in
+    let after-count2 : tie.After-count2 = search in
+    let after-count : tie.After-count = search in
+    let after-flag : tie.After-flag = search in
+    let s : tie.Start = search in
     let l = s .args .lead in
     let k = c .before .before in (
       refl,
       rw (
-        k .before .before .before .before .before .before .flag .ensures,
-        k .before .before .before .before .before .count .ensures,
-        k .before .before .before .before .count2 .ensures,
-        k .before .before .before .count3 .ensures,
+        after-flag .flag .ensures,
+        after-count .count .ensures,
+        after-count2 .count2 .ensures,
+        after-count3 .count3 .ensures,
         k .before .before .count4 .ensures,
         k .before .count5 .ensures,
         k .count6 .ensures,

@@ -13,15 +13,18 @@ six c = length-unmapped ℕ (c .args .weighing .evaluation .profile .counts) 6 (
 
 returns : tie.Need-returns
 returns c =
-    let s = c .before .before .before .before .before .before .before .before .before .before .before .before in
+    let k : tie.After-count6 = search in
+    let after-count3 : tie.After-count3 = search in
+    let after-count2 : tie.After-count2 = search in
+    let after-count : tie.After-count = search in
+    let s : tie.Start = search in
     let w = s .args .weighing in
-    let e = w .evaluation in
-    let k = c .before .before .before .before in (
+    let e = w .evaluation in (
       refl,
       rw (
-        k .before .before .before .before .before .count .ensures,
-        k .before .before .before .before .count2 .ensures,
-        k .before .before .before .count3 .ensures,
+        after-count .count .ensures,
+        after-count2 .count2 .ensures,
+        after-count3 .count3 .ensures,
         k .before .before .count4 .ensures,
         k .before .count5 .ensures,
         k .count6 .ensures,

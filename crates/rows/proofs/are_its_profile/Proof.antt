@@ -10,15 +10,18 @@ use Rattle.rows.proofs.are_its_profile.Statement.{statement}
 use Rattle.rows.proofs.are_its_profile.Tie as tie
 
 score-requires : tie.Need-score-requires
-score-requires c κs = let s = c .before .before .before in (s .pre .0, rw (candidate-bytes (s .args .row .now)) (s .pre .2 .sound))
+score-requires c κs =
+    let s : tie.Start = search in
+    (s .pre .0, rw (candidate-bytes (s .args .row .now)) (s .pre .2 .sound))
 
 returns : tie.Need-returns
 returns c =
-    let k = c .before .before .before in
-    let a = k .before .before .before .before .args in
+    let k : tie.After-score = search in
+    let start : tie.Start = search in
+    let a = start .args in
     let l = candidate-bytes (a .row .now) in
     let p : k .score .result .profile ≡ profileWith (profileOf (machinesOf (a .card .now)) (pairsOf (candidateOf (a .row .now))))
-    = k .score .ensures .profile (rw l (k .before .before .before .before .pre .2 .complete)) ∙ ap (λ (b : List ℕ). profileWith (profileOf (machinesOf (a .card .now)) (pairsOf b))) l in
+    = k .score .ensures .profile (rw l (start .pre .2 .complete)) ∙ ap (λ (b : List ℕ). profileWith (profileOf (machinesOf (a .card .now)) (pairsOf b))) l in
     c .same-counts .ensures ∙ ap₂ (λ (v : List ℕ) (q : Profile). sameCounts v (q .counts)) (c .before .counts .ensures) p
 
 pub are-its-profile-spec : {M : Type 1} → statement M

@@ -13,36 +13,46 @@ abbrev μ-loop : tie.MeasureT-loop
 μ-loop card word tableau candidates i₀ i = candidates - i
 
 loop-holds : tie.Need-loop-holds Inv-loop μ-loop
-loop-holds c = let a = c .before .before .before .before .before .args in (search needs, every-start (λ j. isForWord (a .card .now) (a .word .now) (rowOf (a .tableau .now) j)))
+loop-holds c =
+    let start : tie.Start Inv-loop μ-loop = search in
+    let a = start .args in (search needs, every-start (λ j. isForWord (a .card .now) (a .word .now) (rowOf (a .tableau .now) j)))
 
 part-requires : tie.Need-part-requires Inv-loop μ-loop
-part-requires c κs = let s = c .before .before .before .before .before .before .before in part-within (rowCount (s .args .tableau .now)) (s .args .tableau .now) (s .pre .1 .layout) (c .before .loop .i) (omega (arith, c .before .before .index .ensures))
+part-requires c κs =
+    let s : tie.Start Inv-loop μ-loop = search in
+    part-within (rowCount (s .args .tableau .now)) (s .args .tableau .now) (s .pre .1 .layout) (c .before .loop .i) (omega (arith, c .before .before .index .ensures))
 
 is-for-word-requires : tie.Need-is-for-word-requires Inv-loop μ-loop
 is-for-word-requires c κs =
-    let s = c .before .before .before .before .before .before .before .before in
-    (s .pre .0, rw (c .part .ensures) (s .pre .1 .counts (c .before .before .loop .i) (omega (arith, c .before .before .before .index .ensures))))
+    let after-index : tie.After-index Inv-loop μ-loop = search in
+    let s : tie.Start Inv-loop μ-loop = search in
+    (s .pre .0, rw (c .part .ensures) (s .pre .1 .counts (c .before .before .loop .i) (omega (arith, after-index .index .ensures))))
 
 -- the test of a row
 its-test : (c : tie.After-is-for-word Inv-loop μ-loop) → let a = c .before .before .before .before .before .before .before .before .before .args in c .is-for-word .result ≡ isForWord (a .card .now) (a .word .now) (rowOf (a .tableau .now) (c .before .before .before .loop .i))
-its-test c = let a = c .before .before .before .before .before .before .before .before .before .args in c .is-for-word .ensures ∙ ap (isForWord (a .card .now) (a .word .now)) (c .before .part .ensures)
+its-test c =
+    let start : tie.Start Inv-loop μ-loop = search in
+    let a = start .args in c .is-for-word .ensures ∙ ap (isForWord (a .card .now) (a .word .now)) (c .before .part .ensures)
 
 returns : tie.Need-returns Inv-loop μ-loop
 returns c =
-    let k = c .before .before .before .before in
-    let a = k .before .before .before .before .before .before .args in
+    let k : tie.At-loop Inv-loop μ-loop = search in
+    let start : tie.Start Inv-loop μ-loop = search in
+    let a = start .args in
     sym (refuses-with 20 (one-below-fails (λ j. isForWord (a .card .now) (a .word .now) (rowOf (a .tableau .now) j)) (rowCount (a .tableau .now)) (k .loop .i) (omega (arith, k .before .index .ensures)) (sym (its-test (c .before)) ∙ not-true (c .before .is-for-word .result) (c .if1 .taken))))
 
 loop-again : tie.Need-loop-again Inv-loop μ-loop
 loop-again c =
-    let k = c .before .before .before .before in
-    let a = k .before .before .before .before .before .before .args in
+    let k : tie.At-loop Inv-loop μ-loop = search in
+    let start : tie.Start Inv-loop μ-loop = search in
+    let a = start .args in
     (search needs, every-next (λ j. isForWord (a .card .now) (a .word .now) (rowOf (a .tableau .now) j)) (k .loop .i) (k .loop .inv .1) (sym (its-test (c .before)) ∙ not-false (c .before .is-for-word .result) (c .if1 .left)))
 
 returns-2 : tie.Need-returns-2 Inv-loop μ-loop
 returns-2 c =
+    let start : tie.Start Inv-loop μ-loop = search in
     let k = c .before in
-    let a = k .before .before .before .before .before .before .args in
+    let a = start .args in
     let e : k .loop .i ≡ rowCount (a .tableau .now) = omega (arith, k .before .index .ensures) in
     sym (passes-with 20 (ap (everyBelow (λ j. isForWord (a .card .now) (a .word .now) (rowOf (a .tableau .now) j))) (sym e) ∙ k .loop .inv .1))
 

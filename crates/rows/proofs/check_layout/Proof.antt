@@ -13,13 +13,15 @@ returns c = let a = c .before .before .args in sym (refuses-with 19 (no-head (a 
 
 returns-2 : tie.Need-returns-2
 returns-2 c =
-    let a = c .before .before .before .before .before .args in
+    let start : tie.Start = search in
+    let a = start .args in
     sym (refuses-with 19 (bad-head (a .machines) (a .tableau .now) (omega arith) (not-true (soundHead (a .tableau .now)) (c .if2 .taken))))
 
 returns-3 : tie.Need-returns-3
 returns-3 c =
+    let start : tie.Start = search in
     let l = c .before in
-    let a = c .before .before .before .before .before .before .before .args in
+    let a = start .args in
     sym (refuses-with 19 (bad-layout (a .machines) (a .tableau .now) (omega arith) (not-false (soundHead (a .tableau .now)) (l .before .if2 .left))
     (sym (l .is-laid-out .ensures) ∙ not-true (l .is-laid-out .result) (c .if3 .taken))))
 
@@ -29,13 +31,14 @@ laid-out c = sym (c .before .is-laid-out .ensures) ∙ not-false (c .before .is-
 
 check-rows-requires : tie.Need-check-rows-requires
 check-rows-requires c κs =
-    let s = c .before .before .before .before .before .before .before in
+    let s : tie.Start = search in
     (omega arith, layout-told (rowCount (s .args .tableau .now)) (s .args .tableau .now) (laid-out c), s .pre)
 
 returns-4 : tie.Need-returns-4
 returns-4 c =
+    let start : tie.Start = search in
     let k = c .before in
-    let a = k .before .before .before .before .before .before .before .args in
+    let a = start .args in
     c .check-rows .ensures
     ∙ ap (refuse 19) (sym (rows-decide (a .machines) (a .tableau .now) (omega arith) (not-false (soundHead (a .tableau .now)) (k .before .before .if2 .left)) (laid-out k)))
 

@@ -12,34 +12,43 @@ abbrev μ-loop : tie.MeasureT-loop
 μ-loop tableau machines rows i₀ i = rows - i
 
 loop-holds : tie.Need-loop-holds Inv-loop μ-loop
-loop-holds c = let a = c .before .before .before .args in (search needs, every-start (λ j. soundRow (a .machines) (rowOf (a .tableau .now) j)))
+loop-holds c =
+    let start : tie.Start Inv-loop μ-loop = search in
+    let a = start .args in (search needs, every-start (λ j. soundRow (a .machines) (rowOf (a .tableau .now) j)))
 
 part-requires : tie.Need-part-requires Inv-loop μ-loop
-part-requires c κs = let s = c .before .before .before .before .before in part-within (rowCount (s .args .tableau .now)) (s .args .tableau .now) (s .pre .1) (c .before .loop .i) (omega (arith, c .before .before .index .ensures))
+part-requires c κs =
+    let s : tie.Start Inv-loop μ-loop = search in
+    part-within (rowCount (s .args .tableau .now)) (s .args .tableau .now) (s .pre .1) (c .before .loop .i) (omega (arith, c .before .before .index .ensures))
 
 is-sound-row-requires : tie.Need-is-sound-row-requires Inv-loop μ-loop
 is-sound-row-requires c κs = omega arith
 
 -- the test of a row
 its-test : (c : tie.After-is-sound-row Inv-loop μ-loop) → let a = c .before .before .before .before .before .before .before .args in c .is-sound-row .result ≡ soundRow (a .machines) (rowOf (a .tableau .now) (c .before .before .before .loop .i))
-its-test c = let a = c .before .before .before .before .before .before .before .args in c .is-sound-row .ensures ∙ ap (soundRow (a .machines)) (c .before .part .ensures)
+its-test c =
+    let start : tie.Start Inv-loop μ-loop = search in
+    let a = start .args in c .is-sound-row .ensures ∙ ap (soundRow (a .machines)) (c .before .part .ensures)
 
 returns : tie.Need-returns Inv-loop μ-loop
 returns c =
-    let k = c .before .before .before .before in
-    let a = k .before .before .before .before .args in
+    let k : tie.At-loop Inv-loop μ-loop = search in
+    let start : tie.Start Inv-loop μ-loop = search in
+    let a = start .args in
     sym (refuses-with 19 (one-below-fails (λ j. soundRow (a .machines) (rowOf (a .tableau .now) j)) (rowCount (a .tableau .now)) (k .loop .i) (omega (arith, k .before .index .ensures)) (sym (its-test (c .before)) ∙ not-true (c .before .is-sound-row .result) (c .if1 .taken))))
 
 loop-again : tie.Need-loop-again Inv-loop μ-loop
 loop-again c =
-    let k = c .before .before .before .before in
-    let a = k .before .before .before .before .args in
+    let k : tie.At-loop Inv-loop μ-loop = search in
+    let start : tie.Start Inv-loop μ-loop = search in
+    let a = start .args in
     (search needs, every-next (λ j. soundRow (a .machines) (rowOf (a .tableau .now) j)) (k .loop .i) (k .loop .inv .1) (sym (its-test (c .before)) ∙ not-false (c .before .is-sound-row .result) (c .if1 .left)))
 
 returns-2 : tie.Need-returns-2 Inv-loop μ-loop
 returns-2 c =
+    let start : tie.Start Inv-loop μ-loop = search in
     let k = c .before in
-    let a = k .before .before .before .before .args in
+    let a = start .args in
     let e : k .loop .i ≡ rowCount (a .tableau .now) = omega (arith, k .before .index .ensures) in
     sym (passes-with 19 (ap (everyBelow (λ j. soundRow (a .machines) (rowOf (a .tableau .now) j))) (sym e) ∙ k .loop .inv .1))
 

@@ -13,7 +13,8 @@ counts-requires c κs = let s = c .before .before in rw (c .part .ensures) (s .p
 
 returns : tie.Need-returns
 returns c =
-    let p = c .before .before .before .before .args .profile in
+    let start : tie.Start = search in
+    let p = start .args .profile in
     c .same-counts .ensures ∙ ap (λ (l : List ℕ). sameCounts l (p .counts)) (c .before .counts .ensures ∙ ap countsOf (c .before .before .part .ensures))
 
 pub has-profile-spec : {M : Type 1} → statement M

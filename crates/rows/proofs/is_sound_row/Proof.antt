@@ -18,26 +18,31 @@ loop-holds c = (search needs, refl)
 
 -- the count that was looked at is the row's
 its-count : (c : tie.After-count Inv-loop μ-loop) → c .count .result ≡ getD (countsOf (c .before .before .before .before .before .before .args .row .now)) (c .before .before .loop .machine) 0
-its-count c = c .count .ensures ∙ ap (λ (l : List ℕ). getD l (c .before .before .loop .machine) 0) (c .before .before .before .counts .ensures)
+its-count c =
+    let after-counts : tie.After-counts Inv-loop μ-loop = search in
+    c .count .ensures ∙ ap (λ (l : List ℕ). getD l (c .before .before .loop .machine) 0) (after-counts .counts .ensures)
 
 returns-2 : tie.Need-returns-2 Inv-loop μ-loop
 returns-2 c =
-    let k = c .before .before .before in
-    let row = k .before .before .before .before .args .row .now in
-    sym (row-long row (k .before .before .before .before .args .machines) (omega arith) ∙ sym (k .loop .inv .1) ∙ not-zero row (k .loop .machine) (omega arith) (λ z. omega (arith, its-count (c .before))))
+    let k : tie.At-loop Inv-loop μ-loop = search in
+    let start : tie.Start Inv-loop μ-loop = search in
+    let row = start .args .row .now in
+    sym (row-long row (start .args .machines) (omega arith) ∙ sym (k .loop .inv .1) ∙ not-zero row (k .loop .machine) (omega arith) (λ z. omega (arith, its-count (c .before))))
 
 loop-again : tie.Need-loop-again Inv-loop μ-loop
 loop-again c =
-    let k = c .before .before .before in
-    let row = k .before .before .before .before .args .row .now in
+    let k : tie.At-loop Inv-loop μ-loop = search in
+    let start : tie.Start Inv-loop μ-loop = search in
+    let row = start .args .row .now in
     (search needs, zero-next row (k .loop .machine) (omega arith) (omega (arith, its-count (c .before))) ∙ k .loop .inv .1)
 
 returns-3 : tie.Need-returns-3 Inv-loop μ-loop
 returns-3 c =
+    let start : tie.Start Inv-loop μ-loop = search in
     let k = c .before in
-    let row = k .before .before .before .before .args .row .now in
+    let row = start .args .row .now in
     let e : k .loop .machine ≡ 6 = omega arith in
-    sym (row-long row (k .before .before .before .before .args .machines) (omega arith) ∙ sym (k .loop .inv .1) ∙ ap (zerosFrom row) e ∙ zero-end row)
+    sym (row-long row (start .args .machines) (omega arith) ∙ sym (k .loop .inv .1) ∙ ap (zerosFrom row) e ∙ zero-end row)
 
 pub is-sound-row-spec : {M : Type 1} → statement M
 is-sound-row-spec =

@@ -12,19 +12,19 @@ abbrev μ-loop : tie.MeasureT-loop
 
 returns : tie.Need-returns Inv-loop μ-loop
 returns c =
-    let k = c .before .before .before .before in
+    let k : tie.At-loop Inv-loop μ-loop = search in
     let a = k .before .args in
     sym (sym (k .loop .inv .3) ∙ too-long (a .candidate .now) (k .loop .at) (omega arith) (a .word .now) (k .loop .place) (λ z. omega arith) (omega arith))
 
 returns-2 : tie.Need-returns-2 Inv-loop μ-loop
 returns-2 c =
-    let k = c .before .before .before .before .before .before in
+    let k : tie.At-loop Inv-loop μ-loop = search in
     let a = k .before .args in
     sym (sym (k .loop .inv .3) ∙ other-symbol (a .candidate .now) (k .loop .at) (omega arith) (a .word .now) (k .loop .place) (λ z. omega arith) (omega arith) (λ z. omega arith))
 
 loop-again : tie.Need-loop-again Inv-loop μ-loop
 loop-again c =
-    let k = c .before .before .before in
+    let k : tie.At-loop Inv-loop μ-loop = search in
     let a = k .before .args in
     let b : k .loop .at + 2 ≤ length (a .candidate .now) = omega arith in
     ⊎-elim

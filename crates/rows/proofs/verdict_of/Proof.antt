@@ -16,48 +16,65 @@ abbrev μ-loop : tie.MeasureT-loop
 μ-loop tableau best claimed rows row₀ row = rows - row
 
 has-profile-requires : tie.Need-has-profile-requires Inv-loop μ-loop
-has-profile-requires c κs = let s = c .before .before .before in (s .pre, omega (arith, s .pre .claimed, c .index .ensures))
+has-profile-requires c κs =
+    let s : tie.Start Inv-loop μ-loop = search in
+    (s .pre, omega (arith, s .pre .claimed, c .index .ensures))
 
 -- the claimed row
 claim : (c : tie.After-has-profile Inv-loop μ-loop) → let a = c .before .before .before .before .args in wins (a .best .counts) (rowOf (a .tableau .now) (claimedRow (a .tableau .now))) ≡ c .has-profile .result
 claim c =
-    let a = c .before .before .before .before .args in
+    let start : tie.Start Inv-loop μ-loop = search in
+    let a = start .args in
     sym (c .has-profile .ensures ∙ ap (λ (n : ℕ). wins (a .best .counts) (rowOf (a .tableau .now) n)) (c .before .index .ensures .0))
 
 returns : tie.Need-returns Inv-loop μ-loop
 returns c =
-    let a = c .before .before .before .before .before .args in
+    let start : tie.Start Inv-loop μ-loop = search in
+    let a = start .args in
     sym (claim-wins (wins (a .best .counts)) (a .tableau .now) (claim (c .before) ∙ c .if1 .taken))
 
 loop-holds : tie.Need-loop-holds Inv-loop μ-loop
-loop-holds c = let a = c .before .before .before .before .before .before .before .args in (search needs, none-start (wins (a .best .counts)) (a .tableau .now))
+loop-holds c =
+    let start : tie.Start Inv-loop μ-loop = search in
+    let a = start .args in (search needs, none-start (wins (a .best .counts)) (a .tableau .now))
 
 has-profile-requires-2 : tie.Need-has-profile-requires-2 Inv-loop μ-loop
-has-profile-requires-2 c κs = (c .before .before .before .before .before .before .before .before .before .pre, omega (arith, c .before .before .index2 .ensures))
+has-profile-requires-2 c κs =
+    let start : tie.Start Inv-loop μ-loop = search in
+    (start .pre, omega (arith, c .before .before .index2 .ensures))
 
 cast-t12 : tie.Need-cast-t12 Inv-loop μ-loop
-cast-t12 c = omega (arith, c .before .before .before .before .index2 .ensures, c .before .before .before .before .before .before .before .before .before .before .before .pre .few-rows)
+cast-t12 c =
+    let after-index2 : tie.After-index2 Inv-loop μ-loop = search in
+    let start : tie.Start Inv-loop μ-loop = search in
+    omega (arith, after-index2 .index2 .ensures, start .pre .few-rows)
 
 -- it does not win where the rows are gone through
 not-claim : (c : tie.At-loop Inv-loop μ-loop) → let a = c .before .before .before .before .before .before .before .before .args in wins (a .best .counts) (rowOf (a .tableau .now) (claimedRow (a .tableau .now))) ≡ false
-not-claim c = claim (c .before .before .before .before) ∙ c .before .before .before .if1 .left
+not-claim c =
+    let else1 : tie.Else1 Inv-loop μ-loop = search in
+    let after-has-profile : tie.After-has-profile Inv-loop μ-loop = search in
+    claim after-has-profile ∙ else1 .if1 .left
 
 returns-2 : tie.Need-returns-2 Inv-loop μ-loop
 returns-2 c =
-    let k = c .before .before .before in
-    let a = k .before .before .before .before .before .before .before .before .args in
+    let k : tie.At-loop Inv-loop μ-loop = search in
+    let start : tie.Start Inv-loop μ-loop = search in
+    let a = start .args in
     sym (later-wins (wins (a .best .counts)) (a .tableau .now) (not-claim k) (k .loop .row) (omega (arith, k .before .index2 .ensures)) (k .loop .inv .1) (sym (c .before .has-profile2 .ensures) ∙ c .if2 .taken))
 
 loop-again : tie.Need-loop-again Inv-loop μ-loop
 loop-again c =
-    let k = c .before .before .before in
-    let a = k .before .before .before .before .before .before .before .before .args in
+    let k : tie.At-loop Inv-loop μ-loop = search in
+    let start : tie.Start Inv-loop μ-loop = search in
+    let a = start .args in
     (search needs, none-next (wins (a .best .counts)) (a .tableau .now) (k .loop .row) (k .loop .inv .1) (sym (c .before .has-profile2 .ensures) ∙ c .if2 .left))
 
 returns-3 : tie.Need-returns-3 Inv-loop μ-loop
 returns-3 c =
+    let start : tie.Start Inv-loop μ-loop = search in
     let k = c .before in
-    let a = k .before .before .before .before .before .before .before .before .args in
+    let a = start .args in
     let e : k .loop .row ≡ rowCount (a .tableau .now) = omega (arith, k .before .index2 .ensures) in
     sym (no-row-wins (wins (a .best .counts)) (a .tableau .now) (not-claim k) (ap (firstBefore (wins (a .best .counts)) (a .tableau .now)) (sym e) ∙ k .loop .inv .1))
 

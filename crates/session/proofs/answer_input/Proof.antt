@@ -3,7 +3,9 @@ use Rattle.session.proofs.answer_input.Statement.{statement}
 use Rattle.session.proofs.answer_input.Tie as tie
 
 slice-aggregate-write-all : tie.Need-slice-aggregate-write-all
-slice-aggregate-write-all c = sym (length-take-le _ _ (omega (arith, c .before .before .before .answer-rest .ensures .fits)))
+slice-aggregate-write-all c =
+    let after-answer-rest : tie.After-answer-rest = search in
+    sym (length-take-le _ _ (omega (arith, after-answer-rest .answer-rest .ensures .fits)))
 
 pub answer-input-spec : {M : Type 1} → statement M
 answer-input-spec =

@@ -32,7 +32,9 @@ marks-at-requires : tie.Need-marks-at-requires Inv-loop μ-loop
 marks-at-requires c κs = search needs
 
 returns : tie.Need-returns Inv-loop μ-loop
-returns c = left-broken (c .before .before .before .before .loop .i) (omega arith) (c .before .marks-at .ensures) (omega (arith, c .if1 .taken))
+returns c =
+    let at-loop : tie.At-loop Inv-loop μ-loop = search in
+    left-broken (at-loop .loop .i) (omega arith) (c .before .marks-at .ensures) (omega (arith, c .if1 .taken))
 
 add-i : tie.Need-add-i Inv-loop μ-loop
 add-i c = search needs
@@ -41,7 +43,9 @@ loop-less : tie.Need-loop-less Inv-loop μ-loop
 loop-less c = search needs
 
 loop-again : tie.Need-loop-again Inv-loop μ-loop
-loop-again c = (omega arith, left-next (c .before .before .before .before .loop .inv .1) (c .before .marks-at .ensures) (omega (arith, c .if1 .left)))
+loop-again c =
+    let at-loop : tie.At-loop Inv-loop μ-loop = search in
+    (omega arith, left-next (at-loop .loop .inv .1) (c .before .marks-at .ensures) (omega (arith, c .if1 .left)))
 
 returns-2 : tie.Need-returns-2 Inv-loop μ-loop
 returns-2 c = left-told (c .before .loop .inv .1) (omega arith)

@@ -13,7 +13,10 @@ same-length : tie.Need-same-length
 same-length c = search needs
 
 returns : tie.Need-returns
-returns c = lowered-written _ (c .before .before .before .before .before .improves .ensures .below (c .before .before .before .before .if1 .taken)) (c .before .before .store .ensures) (search needs) (search needs)
+returns c =
+    let then1 : tie.Then1 = search in
+    let after-improves : tie.After-improves = search in
+    lowered-written _ (after-improves .improves .ensures .below (then1 .if1 .taken)) (c .before .before .store .ensures) (search needs) (search needs)
 
 same-length-2 : tie.Need-same-length-2
 same-length-2 c = search needs

@@ -59,7 +59,9 @@ add-result c = search needs
 
 -- src/lib.rt:78:1
 returns : tie.Need-returns
-returns c = λ i. eqb (c .before .before .wide .ensures .0 i) (c .before .before .before .before .before .args .marks + c .wide2 .ensures .0 i)
+returns c =
+    let start : tie.Start = search in
+    λ i. eqb (c .before .before .wide .ensures .0 i) (start .args .marks + c .wide2 .ensures .0 i)
 
 pub makes-spec : {M : Type 1} → statement M
 makes-spec =

@@ -37,7 +37,9 @@ cast-result-6 : tie.Need-cast-result-6
 cast-result-6 c = search needs
 
 returns-6 : tie.Need-returns-6
-returns-6 c = sixth-marks _ (let q : c .before .before .before .before .before .args .place ≡ 5 = omega arith in q)
+returns-6 c =
+    let start : tie.Start = search in
+    sixth-marks _ (let q : start .args .place ≡ 5 = omega arith in q)
 
 pub marks-at-spec : {M : Type 1} → statement M
 marks-at-spec =

@@ -23,7 +23,9 @@ same-length : tie.Need-same-length
 same-length c = search needs
 
 returns-2 : tie.Need-returns-2
-returns-2 c = let d = c .before .arc-left .ensures .dropped (not-true _ (c .if2 .taken)) in dropped _ (stage-labelled _ _ _ (c .before .before .before .if1 .left)) (d .0) (d .1) (d .2) refl refl
+returns-2 c =
+    let else1 : tie.Else1 = search in
+    let d = c .before .arc-left .ensures .dropped (not-true _ (c .if2 .taken)) in dropped _ (stage-labelled _ _ _ (else1 .if1 .left)) (d .0) (d .1) (d .2) refl refl
 
 marks-at-requires : tie.Need-marks-at-requires
 marks-at-requires c κs = search needs
@@ -44,7 +46,10 @@ slice-read-count : tie.Need-slice-read-count
 slice-read-count c = search needs
 
 add-count-3 : tie.Need-add-count-3
-add-count-3 c = omega (arith, arc-count (c .before .before .before .before .before .before .before .before .pre) (c .before .before .before .before .before .if1 .left) (c .before .marks-at .ensures))
+add-count-3 c =
+    let else1 : tie.Else1 = search in
+    let start : tie.Start = search in
+    omega (arith, arc-count (start .pre) (else1 .if1 .left) (c .before .marks-at .ensures))
 
 mul-pairs : tie.Need-mul-pairs
 mul-pairs c = search needs
@@ -59,7 +64,10 @@ slice-read-pairs : tie.Need-slice-read-pairs
 slice-read-pairs c = search needs
 
 add-pairs-2 : tie.Need-add-pairs-2
-add-pairs-2 c = omega (arith, arc-pairs (c .before .before .before .before .before .before .before .before .before .pre) (c .before .before .before .before .before .before .if1 .left))
+add-pairs-2 c =
+    let else1 : tie.Else1 = search in
+    let start : tie.Start = search in
+    omega (arith, arc-pairs (start .pre) (else1 .if1 .left))
 
 lower-requires : tie.Need-lower-requires
 lower-requires c κs = search needs
@@ -69,8 +77,10 @@ same-length-2 c = search needs
 
 returns-3 : tie.Need-returns-3
 returns-3 c =
-    let e = c .before .before .before .before .before .before .before in
-    arc-lowered (c .before .before .before .before .before .before .marks-at .ensures) (e .before .before .before .if1 .left) (e .before .arc-left .ensures .kept (not-false _ (e .if2 .left))) (c .before .before .lower .ensures)
+    let after-marks-at : tie.After-marks-at = search in
+    let e : tie.Else2 = search in
+    let else1 : tie.Else1 = search in
+    arc-lowered (after-marks-at .marks-at .ensures) (else1 .if1 .left) (e .before .arc-left .ensures .kept (not-false _ (e .if2 .left))) (c .before .before .lower .ensures)
 
 pub try-arc-spec : {M : Type 1} → statement M
 try-arc-spec =

@@ -15,27 +15,37 @@ loop-holds : tie.Need-loop-holds Inv-loop μ-loop
 loop-holds c = (omega arith, c .before .pre .4, look-start)
 
 add-front-counts : tie.Need-add-front-counts Inv-loop μ-loop
-add-front-counts c = omega (arith, c .loop-test .taken, c .before .before .before .pre .1)
+add-front-counts c =
+    let start : tie.Start Inv-loop μ-loop = search in
+    omega (arith, c .loop-test .taken, start .pre .1)
 
 front-counts-requires : tie.Need-front-counts-requires Inv-loop μ-loop
-front-counts-requires c κs = record { node = omega (arith, c .loop-test .taken, c .before .before .before .pre .0); stage = c .before .before .before .pre .3 }
+front-counts-requires c κs =
+    let start : tie.Start Inv-loop μ-loop = search in
+    record { node = omega (arith, c .loop-test .taken, start .pre .0); stage = start .pre .3 }
 
 mul-ahead : tie.Need-mul-ahead Inv-loop μ-loop
-mul-ahead c = omega (arith, c .before .loop-test .taken, c .before .before .before .before .pre .2)
+mul-ahead c =
+    let start : tie.Start Inv-loop μ-loop = search in
+    omega (arith, c .before .loop-test .taken, start .pre .2)
 
 element-write-ahead : tie.Need-element-write-ahead Inv-loop μ-loop
-element-write-ahead c = omega (arith, c .before .loop-test .taken, c .before .before .before .before .pre .2)
+element-write-ahead c =
+    let start : tie.Start Inv-loop μ-loop = search in
+    omega (arith, c .before .loop-test .taken, start .pre .2)
 
 add-code : tie.Need-add-code Inv-loop μ-loop
-add-code c = omega (arith, c .before .loop-test .taken, c .before .before .before .before .pre .2)
+add-code c =
+    let start : tie.Start Inv-loop μ-loop = search in
+    omega (arith, c .before .loop-test .taken, start .pre .2)
 
 loop-less : tie.Need-loop-less Inv-loop μ-loop
 loop-less c = omega (arith, c .before .loop-test .taken)
 
 loop-again : tie.Need-loop-again Inv-loop μ-loop
 loop-again c =
+    let entry : tie.Start Inv-loop μ-loop = search in
     let at-loop = c .before .before .loop in
-    let entry = c .before .before .before .before in
     (omega (arith, c .before .loop-test .taken), simp length-set (at-loop .inv .1), look-next (omega (arith, c .before .loop-test .taken, at-loop .inv .1, entry .pre .2)) (at-loop .inv .2) (c .front-counts .ensures))
 
 returns : tie.Need-returns Inv-loop μ-loop

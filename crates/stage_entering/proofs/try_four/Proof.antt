@@ -12,54 +12,86 @@ abbrev μ-loop : tie.MeasureT-loop
 μ-loop work₀ ahead high low front back base stage size a₀ b₀ code₀ work a b code = size - code
 
 loop-holds : tie.Need-loop-holds Inv-loop μ-loop
-loop-holds c = (omega arith, codes-start, places-start (c .before .before .before .before .pre .some-back))
+loop-holds c =
+    let start : tie.Start Inv-loop μ-loop = search in
+    (omega arith, codes-start, places-start (start .pre .some-back))
 
 mul-try-code : tie.Need-mul-try-code Inv-loop μ-loop
-mul-try-code c = omega (arith, front-is (c .before .before .loop .inv .2) (c .before .before .before .before .before .before .before .pre .size-is) (c .before .loop-test .taken), c .before .before .before .before .before .before .before .pre .small)
+mul-try-code c =
+    let start : tie.Start Inv-loop μ-loop = search in
+    omega (arith, front-is (c .before .before .loop .inv .2) (start .pre .size-is) (c .before .loop-test .taken), start .pre .small)
 
 add-try-code : tie.Need-add-try-code Inv-loop μ-loop
-add-try-code c = omega (arith, c .before .before .loop .inv .2 .within, c .before .before .before .before .before .before .before .pre .small)
+add-try-code c =
+    let start : tie.Start Inv-loop μ-loop = search in
+    omega (arith, c .before .before .loop .inv .2 .within, start .pre .small)
 
 mul-try-code-2 : tie.Need-mul-try-code-2 Inv-loop μ-loop
-mul-try-code-2 c = omega (arith, c .before .before .loop .inv .2 .within, c .before .before .before .before .before .before .before .pre .small)
+mul-try-code-2 c =
+    let start : tie.Start Inv-loop μ-loop = search in
+    omega (arith, c .before .before .loop .inv .2 .within, start .pre .small)
 
 add-try-code-2 : tie.Need-add-try-code-2 Inv-loop μ-loop
-add-try-code-2 c = omega (arith, c .before .loop-test .taken, c .before .before .before .before .before .before .before .pre .given .few)
+add-try-code-2 c =
+    let start : tie.Start Inv-loop μ-loop = search in
+    omega (arith, c .before .loop-test .taken, start .pre .given .few)
 
 add-try-code-3 : tie.Need-add-try-code-3 Inv-loop μ-loop
-add-try-code-3 c = omega (arith, c .before .before .before .before .before .before .before .pre .given .few)
+add-try-code-3 c =
+    let start : tie.Start Inv-loop μ-loop = search in
+    omega (arith, start .pre .given .few)
 
 try-code-requires : tie.Need-try-code-requires Inv-loop μ-loop
-try-code-requires c κs = code-at _ (c .before .before .loop .inv .2) (code-ready (c .before .before .before .before .before .before .before .pre) (c .before .before .loop .inv .1) (c .before .loop-test .taken))
+try-code-requires c κs =
+    let start : tie.Start Inv-loop μ-loop = search in
+    code-at _ (c .before .before .loop .inv .2) (code-ready (start .pre) (c .before .before .loop .inv .1) (c .before .loop-test .taken))
 
 add-code : tie.Need-add-code Inv-loop μ-loop
-add-code c = omega (arith, c .before .before .before .before .loop-test .taken, c .before .before .before .before .before .before .before .before .before .before .pre .few)
+add-code c =
+    let in-loop : tie.In-loop Inv-loop μ-loop = search in
+    let start : tie.Start Inv-loop μ-loop = search in
+    omega (arith, in-loop .loop-test .taken, start .pre .few)
 
 add-b : tie.Need-add-b Inv-loop μ-loop
-add-b c = omega (arith, c .before .before .before .before .before .loop .inv .2 .within, c .before .before .before .before .before .before .before .before .before .before .pre .small)
+add-b c =
+    let at-loop : tie.At-loop Inv-loop μ-loop = search in
+    let start : tie.Start Inv-loop μ-loop = search in
+    omega (arith, at-loop .loop .inv .2 .within, start .pre .small)
 
 add-a : tie.Need-add-a Inv-loop μ-loop
-add-a c = omega (arith, front-is (c .before .before .before .before .before .before .loop .inv .2) (c .before .before .before .before .before .before .before .before .before .before .before .pre .size-is) (c .before .before .before .before .before .loop-test .taken), c .before .before .before .before .before .before .before .before .before .before .before .pre .small)
+add-a c =
+    let in-loop : tie.In-loop Inv-loop μ-loop = search in
+    let at-loop : tie.At-loop Inv-loop μ-loop = search in
+    let start : tie.Start Inv-loop μ-loop = search in
+    omega (arith, front-is (at-loop .loop .inv .2) (start .pre .size-is) (in-loop .loop-test .taken), start .pre .small)
 
 loop-less : tie.Need-loop-less Inv-loop μ-loop
-loop-less c = omega (arith, c .before .before .before .before .before .loop-test .taken)
+loop-less c =
+    let in-loop : tie.In-loop Inv-loop μ-loop = search in
+    omega (arith, in-loop .loop-test .taken)
 
 loop-again : tie.Need-loop-again Inv-loop μ-loop
 loop-again c =
-    let at-try-code = c .before .before .before .try-code in
-    let at-loop-test = c .before .before .before .before .before .loop-test in
-    let at-loop = c .before .before .before .before .before .before .loop in
-    (omega (arith, at-loop-test .taken), codes-next (at-loop .inv .1) (lanes-at _ (at-loop .inv .2) (at-try-code .ensures)), places-row (at-loop .inv .2) (omega (arith, c .if1 .taken)))
+    let after-try-code : tie.After-try-code Inv-loop μ-loop = search in
+    let in-loop : tie.In-loop Inv-loop μ-loop = search in
+    let at-loop : tie.At-loop Inv-loop μ-loop = search in
+    let at-try-code = after-try-code .try-code in
+    let at-loop-test = in-loop .loop-test in
+    (omega (arith, at-loop-test .taken), codes-next (at-loop .loop .inv .1) (lanes-at _ (at-loop .loop .inv .2) (at-try-code .ensures)), places-row (at-loop .loop .inv .2) (omega (arith, c .if1 .taken)))
 
 loop-less-2 : tie.Need-loop-less-2 Inv-loop μ-loop
-loop-less-2 c = omega (arith, c .before .before .before .before .before .loop-test .taken)
+loop-less-2 c =
+    let in-loop : tie.In-loop Inv-loop μ-loop = search in
+    omega (arith, in-loop .loop-test .taken)
 
 loop-again-2 : tie.Need-loop-again-2 Inv-loop μ-loop
 loop-again-2 c =
-    let at-try-code = c .before .before .before .try-code in
-    let at-loop-test = c .before .before .before .before .before .loop-test in
-    let at-loop = c .before .before .before .before .before .before .loop in
-    (omega (arith, at-loop-test .taken), codes-next (at-loop .inv .1) (lanes-at _ (at-loop .inv .2) (at-try-code .ensures)), places-next (at-loop .inv .2) (c .if1 .left))
+    let after-try-code : tie.After-try-code Inv-loop μ-loop = search in
+    let in-loop : tie.In-loop Inv-loop μ-loop = search in
+    let at-loop : tie.At-loop Inv-loop μ-loop = search in
+    let at-try-code = after-try-code .try-code in
+    let at-loop-test = in-loop .loop-test in
+    (omega (arith, at-loop-test .taken), codes-next (at-loop .loop .inv .1) (lanes-at _ (at-loop .loop .inv .2) (at-try-code .ensures)), places-next (at-loop .loop .inv .2) (c .if1 .left))
 
 same-length : tie.Need-same-length Inv-loop μ-loop
 same-length c = c .before .loop .inv .1 .size

@@ -9,19 +9,31 @@ returns : tie.Need-returns
 returns c = lane-nothing (omega (arith, c .if1 .taken))
 
 add-front : tie.Need-add-front
-add-front c = omega (arith, front-room (c .before .before .before .before .pre) (omega (arith, c .before .before .if1 .left)) (c .before .behind-front .result))
+add-front c =
+    let start : tie.Start = search in
+    omega (arith, front-room (start .pre) (omega (arith, c .before .before .if1 .left)) (c .before .behind-front .result))
 
 returns-2 : tie.Need-returns-2
-returns-2 c = lane-passed (c .before .before .before .before .before .pre) (omega (arith, c .before .before .before .if1 .left)) (c .before .before .behind-front .ensures) (omega (arith, c .if2 .taken))
+returns-2 c =
+    let else1 : tie.Else1 = search in
+    let start : tie.Start = search in
+    lane-passed (start .pre) (omega (arith, else1 .if1 .left)) (c .before .before .behind-front .ensures) (omega (arith, c .if2 .taken))
 
 add-try-arc : tie.Need-add-try-arc
-add-try-arc c = omega (arith, c .before .before .before .before .before .before .pre .given .few, c .before .before .before .before .before .before .pre .leads)
+add-try-arc c =
+    let start : tie.Start = search in
+    omega (arith, start .pre .given .few, start .pre .leads)
 
 try-arc-requires : tie.Need-try-arc-requires
-try-arc-requires c κs = lane-arc (c .before .before .before .before .before .before .before .pre) (subst (λ (m : ℕ). m < 16777216) (sym (c .marks-of .ensures)) (marks-small _ _))
+try-arc-requires c κs =
+    let start : tie.Start = search in
+    lane-arc (start .pre) (subst (λ (m : ℕ). m < 16777216) (sym (c .marks-of .ensures)) (marks-small _ _))
 
 returns-3 : tie.Need-returns-3
-returns-3 c = lane-tried (omega (arith, c .before .before .before .before .before .before .before .before .if1 .left)) (c .before .before .before .marks-of .ensures) (c .before .before .try-arc .ensures)
+returns-3 c =
+    let after-marks-of : tie.After-marks-of = search in
+    let else1 : tie.Else1 = search in
+    lane-tried (omega (arith, else1 .if1 .left)) (after-marks-of .marks-of .ensures) (c .before .before .try-arc .ensures)
 
 pub try-lane-spec : {M : Type 1} → statement M
 try-lane-spec =

@@ -16,24 +16,29 @@ loop-holds c = (one-in _ _ _ _ (c .before .least .ensures .1) (c .before .least 
 
 loop-again : tie.Need-loop-again Inv-loop μ-loop
 loop-again c =
-    let at-least2 = c .before .before .before .least2 in
-    let at-loop = c .before .before .before .before .before .loop in
-    (⊎-elim (λ w. one-in _ _ _ _ (at-least2 .ensures .1) (at-loop .inv .1 _ (at-least2 .ensures .2)) (w .1)) (λ w. one-same _ _ _ _ (at-loop .inv .0) (w .1)) (c .before .if1 .came), part-less _ _ _ _ (at-loop .inv .1) (c .without-least2 .ensures .1))
+    let after-least2 : tie.After-least2 Inv-loop μ-loop = search in
+    let at-loop : tie.At-loop Inv-loop μ-loop = search in
+    let at-least2 = after-least2 .least2 in
+    (⊎-elim (λ w. one-in _ _ _ _ (at-least2 .ensures .1) (at-loop .loop .inv .1 _ (at-least2 .ensures .2)) (w .1)) (λ w. one-same _ _ _ _ (at-loop .loop .inv .0) (w .1)) (c .before .if1 .came), part-less _ _ _ _ (at-loop .loop .inv .1) (c .without-least2 .ensures .1))
 
 add-is-before : tie.Need-add-is-before Inv-loop μ-loop
-add-is-before c = let Q = c .before .before .before .before .before .before .pre .1 in omega (arith, c .least2 .ensures .1, Q .few, Q .half)
+add-is-before c =
+    let start : tie.Start Inv-loop μ-loop = search in
+    let Q = start .pre .1 in omega (arith, c .least2 .ensures .1, Q .few, Q .half)
 
 add-is-before-2 : tie.Need-add-is-before-2 Inv-loop μ-loop
 add-is-before-2 c =
+    let start : tie.Start Inv-loop μ-loop = search in
     let o = c .before .before .loop .inv .0 in
-    let Q = c .before .before .before .before .before .before .pre .1 in
+    let Q = start .pre .1 in
     omega (arith, o .is, o .small, Q .few, Q .half)
 
 is-before-requires : tie.Need-is-before-requires Inv-loop μ-loop
 is-before-requires c κs =
+    let start : tie.Start Inv-loop μ-loop = search in
     let v = c .before .before .loop .inv in
     let o = v .0 in
-    let Q = c .before .before .before .before .before .before .pre in
+    let Q = start .pre in
     (record { node = Q .1 .there _ (c .least2 .ensures .1) (v .1 _ (c .least2 .ensures .2)); stage = Q .2 }, omega (arith, o .is, Q .1 .there (o .bit) (o .small) (o .has)))
 
 pub choose-in-spec : {M : Type 1} → statement M

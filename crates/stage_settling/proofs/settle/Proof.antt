@@ -1,7 +1,7 @@
-use Rattle.basics.specs.Words.{refl, _∙_, List, ℕ, _≤_, arith}
+use Rattle.basics.proofs.Words.{refl, ⊎-elim, List, ℕ, _-_, _≤_, arith, needs}
 use Rattle.settling.proofs.OpenCodes.{none-open}
 use Rattle.stage_settling.specs.Settling.{turns}
-use Rattle.stage_settling.proofs.Spreading.{Settling, settling-start, settling-ready, open-there, settling-step, settling-end, turn-less}
+use Rattle.stage_settling.proofs.Spreading.{Settling, settling-start, settling-ready, settling-same, open-there, settling-step, settling-end, turn-less}
 use Rattle.stage_settling.proofs.settle.Statement.{statement}
 use Rattle.stage_settling.proofs.settle.Tie as tie
 
@@ -11,80 +11,109 @@ Inv-loop work₀ entries ends base size stage opened₀ left₀ work opened left
 abbrev μ-loop : tie.MeasureT-loop
 μ-loop work₀ entries ends base size stage opened₀ left₀ work opened left = left
 
+-- from the start of the loop on
 abbrev Inv-loop2 : tie.InvT-loop2
-Inv-loop2 work₀ entries ends base size stage opened₀ left work opened = (xs : List ℕ) → Settling xs work₀ opened₀ entries ends stage base size left → Settling xs work opened entries ends stage base size left
+Inv-loop2 work₀ entries ends base size stage opened₀ left next₀ work opened next = (xs : List ℕ) → Settling xs work₀ opened₀ entries ends stage base size left → Settling xs work opened entries ends stage base size left
 
 abbrev μ-loop2 : tie.MeasureT-loop2
-μ-loop2 work₀ entries ends base size stage opened₀ left work opened = turns work opened stage base size
+μ-loop2 work₀ entries ends base size stage opened₀ left next₀ work opened next = size - next
 
-loop-holds : tie.Need-loop-holds Inv-loop μ-loop Inv-loop2 μ-loop2
+abbrev Inv-loop3 : tie.InvT-loop3
+Inv-loop3 work₀ entries ends base size stage opened₀ left next work opened = (xs : List ℕ) → Settling xs work₀ opened₀ entries ends stage base size left → Settling xs work opened entries ends stage base size left
+
+abbrev μ-loop3 : tie.MeasureT-loop3
+μ-loop3 work₀ entries ends base size stage opened₀ left next work opened = turns work opened stage base size
+
+loop-holds : tie.Need-loop-holds Inv-loop μ-loop Inv-loop2 μ-loop2 Inv-loop3 μ-loop3
 loop-holds c = (omega arith, settling-start (c .before .before .pre) refl (none-open _ refl refl refl))
 
-sub-left : tie.Need-sub-left Inv-loop μ-loop Inv-loop2 μ-loop2
-sub-left c = omega (arith, c .loop-test .taken)
+take-one-requires : tie.Need-take-one-requires Inv-loop μ-loop Inv-loop2 μ-loop2 Inv-loop3 μ-loop3
+take-one-requires c κs =
+    let at-loop : tie.At-loop Inv-loop μ-loop Inv-loop2 μ-loop2 Inv-loop3 μ-loop3 = search in
+    let entry : tie.Start Inv-loop μ-loop Inv-loop2 μ-loop2 Inv-loop3 μ-loop3 = search in
+    record { codes = entry .args .size; given = settling-ready (at-loop .loop .inv .1) (entry .pre); code = omega (arith, c .before .before .loop-test .taken, at-loop .loop .inv .0); bits = at-loop .loop .inv .1 .bits }
 
-take-requires : tie.Need-take-requires Inv-loop μ-loop Inv-loop2 μ-loop2
-take-requires c κs = (omega (arith, c .before .loop-test .taken, c .before .before .loop .inv .0, c .before .before .before .before .before .pre .few), c .before .before .loop .inv .1 .bits)
-
-spread-requires : tie.Need-spread-requires Inv-loop μ-loop Inv-loop2 μ-loop2
-spread-requires c κs =
-    let at-take = c .before .before .take in
-    let at-loop-test = c .before .before .before .before .loop-test in
-    let at-loop = c .before .before .before .before .before .loop in
-    let entry = c .before .before .before .before .before .before .before .before in
-    record { codes = entry .args .size; given = settling-ready (at-loop .inv .1) (entry .pre); code = omega (arith, at-loop-test .taken, at-loop .inv .0); bits = at-take .ensures .size ∙ at-loop .inv .1 .bits }
-
-loop-less : tie.Need-loop-less Inv-loop μ-loop Inv-loop2 μ-loop2
-loop-less c = omega (arith, c .before .before .before .before .before .before .before .loop-test .taken)
-
-loop-again : tie.Need-loop-again Inv-loop μ-loop Inv-loop2 μ-loop2
+loop-again : tie.Need-loop-again Inv-loop μ-loop Inv-loop2 μ-loop2 Inv-loop3 μ-loop3
 loop-again c =
-    let at-spread = c .before .before .spread in
-    let at-take = c .before .before .before .before .before .take in
-    let at-loop-test = c .before .before .before .before .before .before .before .loop-test in
-    let at-loop = c .before .before .before .before .before .before .before .before .loop in
-    let entry = c .before .before .before .before .before .before .before .before .before .before .before in
-    (omega (arith, at-loop .inv .0), settling-step (at-loop .inv .1) (entry .pre .from _) (at-take .ensures) (at-spread .ensures) _ (λ w a n. omega (arith, a, n, at-loop-test .taken)))
+    let in-loop : tie.In-loop Inv-loop μ-loop Inv-loop2 μ-loop2 Inv-loop3 μ-loop3 = search in
+    let at-loop : tie.At-loop Inv-loop μ-loop Inv-loop2 μ-loop2 Inv-loop3 μ-loop3 = search in
+    let entry : tie.Start Inv-loop μ-loop Inv-loop2 μ-loop2 Inv-loop3 μ-loop3 = search in
+    (omega (arith, at-loop .loop .inv .0), settling-step (at-loop .loop .inv .1) (entry .pre .from _) (c .before .before .take-one .ensures) _ (λ w a n. omega (arith, a, n, in-loop .loop-test .taken)))
 
-loop2-holds : tie.Need-loop2-holds Inv-loop μ-loop Inv-loop2 μ-loop2
-loop2-holds c = λ xs s. s
+first-open-requires : tie.Need-first-open-requires Inv-loop μ-loop Inv-loop2 μ-loop2 Inv-loop3 μ-loop3
+first-open-requires c κs = c .before .before .loop .inv .1 .bits
 
-choose-requires : tie.Need-choose-requires Inv-loop μ-loop Inv-loop2 μ-loop2
-choose-requires c κs = (open-there (c .before .before .loop2 .inv _ (c .before .before .before .before .loop .inv .1)) (c .before .before .before .before .before .before .before .pre), c .before .before .before .before .before .before .before .pre .stage)
+is-open-requires : tie.Need-is-open-requires Inv-loop μ-loop Inv-loop2 μ-loop2 Inv-loop3 μ-loop3
+is-open-requires c κs =
+    let at-loop : tie.At-loop Inv-loop μ-loop Inv-loop2 μ-loop2 Inv-loop3 μ-loop3 = search in
+    let start : tie.Start Inv-loop μ-loop Inv-loop2 μ-loop2 Inv-loop3 μ-loop3 = search in
+    (omega (arith, c .before .loop2-test .taken, start .pre .few), c .before .before .loop2 .inv _ (at-loop .loop .inv .1) .bits)
 
-same-length : tie.Need-same-length Inv-loop μ-loop Inv-loop2 μ-loop2
-same-length c = c .before .before .before .before .loop2 .inv _ (c .before .before .before .before .before .before .loop .inv .1) .size
+take-one-requires-2 : tie.Need-take-one-requires-2 Inv-loop μ-loop Inv-loop2 μ-loop2 Inv-loop3 μ-loop3
+take-one-requires-2 c κs =
+    let in-loop2 : tie.In-loop2 Inv-loop μ-loop Inv-loop2 μ-loop2 Inv-loop3 μ-loop3 = search in
+    let at-loop2 : tie.At-loop2 Inv-loop μ-loop Inv-loop2 μ-loop2 Inv-loop3 μ-loop3 = search in
+    let at-loop : tie.At-loop Inv-loop μ-loop Inv-loop2 μ-loop2 Inv-loop3 μ-loop3 = search in
+    let entry : tie.Start Inv-loop μ-loop Inv-loop2 μ-loop2 Inv-loop3 μ-loop3 = search in
+    let Z = at-loop2 .loop2 .inv _ (at-loop .loop .inv .1) in
+    record { codes = entry .args .size; given = settling-ready Z (entry .pre); code = omega (arith, in-loop2 .loop2-test .taken); bits = Z .bits }
 
-returns : tie.Need-returns Inv-loop μ-loop Inv-loop2 μ-loop2
-returns c = settling-end (c .before .before .before .before .loop2 .inv _ (c .before .before .before .before .before .before .loop .inv .1)) (omega (arith, c .before .before .before .before .before .loop-test .left)) (c .before .choose .ensures .none-open (omega (arith, c .if1 .taken)))
+loop2-again : tie.Need-loop2-again Inv-loop μ-loop Inv-loop2 μ-loop2 Inv-loop3 μ-loop3
+loop2-again c =
+    let at-loop2 : tie.At-loop2 Inv-loop μ-loop Inv-loop2 μ-loop2 Inv-loop3 μ-loop3 = search in
+    let entry : tie.Start Inv-loop μ-loop Inv-loop2 μ-loop2 Inv-loop3 μ-loop3 = search in
+    λ xs s.
+    let t = at-loop2 .loop2 .inv xs s in
+    ⊎-elim (λ w. settling-same (settling-step t (entry .pre .from _) (w .3 .ensures) _ (λ w a n. a)) (w .6) (w .7)) (λ w. settling-same t (w .1) (w .2)) (c .if1 .came)
 
-take-requires-2 : tie.Need-take-requires-2 Inv-loop μ-loop Inv-loop2 μ-loop2
-take-requires-2 c κs = (omega (arith, c .before .if1 .left), c .before .before .before .before .before .loop2 .inv _ (c .before .before .before .before .before .before .before .loop .inv .1) .bits)
+choose-requires : tie.Need-choose-requires Inv-loop μ-loop Inv-loop2 μ-loop2 Inv-loop3 μ-loop3
+choose-requires c κs =
+    let at-loop2 : tie.At-loop2 Inv-loop μ-loop Inv-loop2 μ-loop2 Inv-loop3 μ-loop3 = search in
+    let at-loop : tie.At-loop Inv-loop μ-loop Inv-loop2 μ-loop2 Inv-loop3 μ-loop3 = search in
+    let start : tie.Start Inv-loop μ-loop Inv-loop2 μ-loop2 Inv-loop3 μ-loop3 = search in
+    (open-there (c .before .before .loop3 .inv _ (at-loop2 .loop2 .inv _ (at-loop .loop .inv .1))) (start .pre), start .pre .stage)
 
-spread-requires-2 : tie.Need-spread-requires-2 Inv-loop μ-loop Inv-loop2 μ-loop2
-spread-requires-2 c κs =
-    let at-take2 = c .before .before .take2 in
-    let at-if1 = c .before .before .before .before .if1 in
-    let at-choose = c .before .before .before .before .before .choose in
-    let at-loop2 = c .before .before .before .before .before .before .before .before .loop2 in
-    let at-loop = c .before .before .before .before .before .before .before .before .before .before .loop in
-    let entry = c .before .before .before .before .before .before .before .before .before .before .before .before .before in
-    let Z = at-loop2 .inv _ (at-loop .inv .1) in
-    record { codes = entry .args .size; given = settling-ready Z (entry .pre); code = Z .inside _ (at-choose .ensures .found (omega (arith, at-if1 .left))); bits = at-take2 .ensures .size ∙ Z .bits }
+same-length : tie.Need-same-length Inv-loop μ-loop Inv-loop2 μ-loop2 Inv-loop3 μ-loop3
+same-length c =
+    let at-loop3 : tie.At-loop3 Inv-loop μ-loop Inv-loop2 μ-loop2 Inv-loop3 μ-loop3 = search in
+    let at-loop2 : tie.At-loop2 Inv-loop μ-loop Inv-loop2 μ-loop2 Inv-loop3 μ-loop3 = search in
+    let at-loop : tie.At-loop Inv-loop μ-loop Inv-loop2 μ-loop2 Inv-loop3 μ-loop3 = search in
+    at-loop3 .loop3 .inv _ (at-loop2 .loop2 .inv _ (at-loop .loop .inv .1)) .size
 
-loop2-less : tie.Need-loop2-less Inv-loop μ-loop Inv-loop2 μ-loop2
-loop2-less c =
-    let at-spread2 = c .before .before .spread2 in
-    let at-take2 = c .before .before .before .before .before .take2 in
-    let at-if1 = c .before .before .before .before .before .before .before .if1 in
-    let at-choose = c .before .before .before .before .before .before .before .before .choose in
-    let at-loop2 = c .before .before .before .before .before .before .before .before .before .before .before .loop2 in
-    let at-loop = c .before .before .before .before .before .before .before .before .before .before .before .before .before .loop in
-    let entry = c .before .before .before .before .before .before .before .before .before .before .before .before .before .before .before .before in
-    turn-less (at-loop2 .inv _ (at-loop .inv .1)) (entry .pre .from _) (at-take2 .ensures) (at-spread2 .ensures) (at-choose .ensures .found (omega (arith, at-if1 .left)))
+returns : tie.Need-returns Inv-loop μ-loop Inv-loop2 μ-loop2 Inv-loop3 μ-loop3
+returns c =
+    let at-loop3 : tie.At-loop3 Inv-loop μ-loop Inv-loop2 μ-loop2 Inv-loop3 μ-loop3 = search in
+    let at-loop2 : tie.At-loop2 Inv-loop μ-loop Inv-loop2 μ-loop2 Inv-loop3 μ-loop3 = search in
+    let after-loop : tie.After-loop Inv-loop μ-loop Inv-loop2 μ-loop2 Inv-loop3 μ-loop3 = search in
+    let at-loop : tie.At-loop Inv-loop μ-loop Inv-loop2 μ-loop2 Inv-loop3 μ-loop3 = search in
+    settling-end (at-loop3 .loop3 .inv _ (at-loop2 .loop2 .inv _ (at-loop .loop .inv .1))) (omega (arith, after-loop .loop-test .left)) (c .before .choose .ensures .none-open (omega (arith, c .if2 .taken)))
 
-loop2-again : tie.Need-loop2-again Inv-loop μ-loop Inv-loop2 μ-loop2
-loop2-again c = λ xs s. settling-step (c .before .before .before .before .before .before .before .before .before .before .before .loop2 .inv xs s) (c .before .before .before .before .before .before .before .before .before .before .before .before .before .before .before .before .pre .from _) (c .before .before .before .before .before .take2 .ensures) (c .before .before .spread2 .ensures) _ (λ w a n. a)
+take-one-requires-3 : tie.Need-take-one-requires-3 Inv-loop μ-loop Inv-loop2 μ-loop2 Inv-loop3 μ-loop3
+take-one-requires-3 c κs =
+    let after-choose : tie.After-choose Inv-loop μ-loop Inv-loop2 μ-loop2 Inv-loop3 μ-loop3 = search in
+    let at-loop3 : tie.At-loop3 Inv-loop μ-loop Inv-loop2 μ-loop2 Inv-loop3 μ-loop3 = search in
+    let at-loop2 : tie.At-loop2 Inv-loop μ-loop Inv-loop2 μ-loop2 Inv-loop3 μ-loop3 = search in
+    let at-loop : tie.At-loop Inv-loop μ-loop Inv-loop2 μ-loop2 Inv-loop3 μ-loop3 = search in
+    let entry : tie.Start Inv-loop μ-loop Inv-loop2 μ-loop2 Inv-loop3 μ-loop3 = search in
+    let Z = at-loop3 .loop3 .inv _ (at-loop2 .loop2 .inv _ (at-loop .loop .inv .1)) in
+    record { codes = entry .args .size; given = settling-ready Z (entry .pre); code = Z .inside _ (after-choose .choose .ensures .found (omega (arith, c .before .before .if2 .left))); bits = Z .bits }
+
+loop3-less : tie.Need-loop3-less Inv-loop μ-loop Inv-loop2 μ-loop2 Inv-loop3 μ-loop3
+loop3-less c =
+    let else2 : tie.Else2 Inv-loop μ-loop Inv-loop2 μ-loop2 Inv-loop3 μ-loop3 = search in
+    let after-choose : tie.After-choose Inv-loop μ-loop Inv-loop2 μ-loop2 Inv-loop3 μ-loop3 = search in
+    let at-loop3 : tie.At-loop3 Inv-loop μ-loop Inv-loop2 μ-loop2 Inv-loop3 μ-loop3 = search in
+    let at-loop2 : tie.At-loop2 Inv-loop μ-loop Inv-loop2 μ-loop2 Inv-loop3 μ-loop3 = search in
+    let at-loop : tie.At-loop Inv-loop μ-loop Inv-loop2 μ-loop2 Inv-loop3 μ-loop3 = search in
+    let entry : tie.Start Inv-loop μ-loop Inv-loop2 μ-loop2 Inv-loop3 μ-loop3 = search in
+    turn-less (at-loop3 .loop3 .inv _ (at-loop2 .loop2 .inv _ (at-loop .loop .inv .1))) (entry .pre .from _) (c .before .before .take-one3 .ensures) (after-choose .choose .ensures .found (omega (arith, else2 .if2 .left)))
+
+loop3-again : tie.Need-loop3-again Inv-loop μ-loop Inv-loop2 μ-loop2 Inv-loop3 μ-loop3
+loop3-again c =
+    let at-loop3 : tie.At-loop3 Inv-loop μ-loop Inv-loop2 μ-loop2 Inv-loop3 μ-loop3 = search in
+    let entry : tie.Start Inv-loop μ-loop Inv-loop2 μ-loop2 Inv-loop3 μ-loop3 = search in
+    λ xs s.
+    settling-step (at-loop3 .loop3 .inv xs s) (entry .pre .from _) (c .before .before .take-one3 .ensures) _ (λ w a n. a)
 
 pub settle-spec : {M : Type 1} → statement M
 settle-spec =
@@ -94,17 +123,24 @@ settle-spec =
     μ-loop
     Inv-loop2
     μ-loop2
+    Inv-loop3
+    μ-loop3
     loop-holds
-    sub-left
-    take-requires
-    spread-requires
-    loop-less
+    (λ c. search needs)
+    take-one-requires
+    (λ c. search needs)
     loop-again
-    loop2-holds
+    first-open-requires
+    (λ c. search needs)
+    is-open-requires
+    take-one-requires-2
+    (λ c. search needs)
+    (λ c. search needs)
+    loop2-again
+    (λ c. search needs)
     choose-requires
     same-length
     returns
-    take-requires-2
-    spread-requires-2
-    loop2-less
-    loop2-again)
+    take-one-requires-3
+    loop3-less
+    loop3-again)

@@ -21,51 +21,70 @@ element-copy-out-place : tie.Need-element-copy-out-place Inv-loop μ-loop
 element-copy-out-place c = omega (arith, c .before .before .pre .code, c .before .before .pre .given .few)
 
 mul-place-3 : tie.Need-mul-place-3 Inv-loop μ-loop
-mul-place-3 c = omega (arith, c .before .before .before .before .pre .code, c .before .before .before .before .pre .given .few)
+mul-place-3 c =
+    let start : tie.Start Inv-loop μ-loop = search in
+    omega (arith, start .pre .code, start .pre .given .few)
 
 element-copy-out-place-2 : tie.Need-element-copy-out-place-2 Inv-loop μ-loop
-element-copy-out-place-2 c = omega (arith, c .before .before .before .before .pre .code, c .before .before .before .before .pre .given .few)
+element-copy-out-place-2 c =
+    let start : tie.Start Inv-loop μ-loop = search in
+    omega (arith, start .pre .code, start .pre .given .few)
 
 loop-holds : tie.Need-loop-holds Inv-loop μ-loop
 loop-holds c = (omega (arith, c .place2 .ensures .0), spreading-start (c .place2 .ensures .0))
 
 shared-slice-read-try-entry : tie.Need-shared-slice-read-try-entry Inv-loop μ-loop
 shared-slice-read-try-entry c =
-    let at-loop-test = c .before .before .before .loop-test in
-    let at-loop = c .before .before .before .before .loop in
-    let at-place = c .before .before .before .before .before .before .before .place in
-    let entry = c .before .before .before .before .before .before .before .before .before .before .before in
-    entry .pre .given .within _ _ (listed _ _ _ (at-loop .inv .0) (omega (arith, at-loop-test .taken, at-place .ensures .0)))
+    let in-loop : tie.In-loop Inv-loop μ-loop = search in
+    let at-loop : tie.At-loop Inv-loop μ-loop = search in
+    let after-place : tie.After-place Inv-loop μ-loop = search in
+    let entry : tie.Start Inv-loop μ-loop = search in
+    let at-loop-test = in-loop .loop-test in
+    let at-place = after-place .place in
+    entry .pre .given .within _ _ (listed _ _ _ (at-loop .loop .inv .0) (omega (arith, at-loop-test .taken, at-place .ensures .0)))
 
 try-entry-requires : tie.Need-try-entry-requires Inv-loop μ-loop
 try-entry-requires c κs =
-    let at-loop-test = c .before .before .before .loop-test in
-    let at-loop = c .before .before .before .before .loop in
-    let at-place = c .before .before .before .before .before .before .before .place in
-    let entry = c .before .before .before .before .before .before .before .before .before .before .before in
-    let F = at-loop .inv .1 .fell (entry .pre .codes) (entry .pre .given .from _) in
-    entry-ready _ _ (settle-kept (entry .pre .given) F) (F .bits ∙ entry .pre .bits) (listed _ _ _ (at-loop .inv .0) (omega (arith, at-loop-test .taken, at-place .ensures .0)))
+    let in-loop : tie.In-loop Inv-loop μ-loop = search in
+    let at-loop : tie.At-loop Inv-loop μ-loop = search in
+    let after-place : tie.After-place Inv-loop μ-loop = search in
+    let entry : tie.Start Inv-loop μ-loop = search in
+    let at-loop-test = in-loop .loop-test in
+    let at-place = after-place .place in
+    let F = at-loop .loop .inv .1 .fell (entry .pre .codes) (entry .pre .given .from _) in
+    entry-ready _ _ (settle-kept (entry .pre .given) F) (F .bits ∙ entry .pre .bits) (listed _ _ _ (at-loop .loop .inv .0) (omega (arith, at-loop-test .taken, at-place .ensures .0)))
 
 add-at : tie.Need-add-at Inv-loop μ-loop
-add-at c = omega (arith, c .before .before .before .before .before .before .loop-test .taken, c .before .before .before .before .before .before .before .before .before .before .place .ensures)
+add-at c =
+    let in-loop : tie.In-loop Inv-loop μ-loop = search in
+    let after-place : tie.After-place Inv-loop μ-loop = search in
+    omega (arith, in-loop .loop-test .taken, after-place .place .ensures)
 
 loop-less : tie.Need-loop-less Inv-loop μ-loop
-loop-less c = omega (arith, c .before .before .before .before .before .before .loop-test .taken)
+loop-less c =
+    let in-loop : tie.In-loop Inv-loop μ-loop = search in
+    omega (arith, in-loop .loop-test .taken)
 
 loop-again : tie.Need-loop-again Inv-loop μ-loop
 loop-again c =
+    let in-loop : tie.In-loop Inv-loop μ-loop = search in
+    let at-loop : tie.At-loop Inv-loop μ-loop = search in
+    let after-place : tie.After-place Inv-loop μ-loop = search in
+    let entry : tie.Start Inv-loop μ-loop = search in
     let at-try-entry = c .before .before .try-entry in
-    let at-loop-test = c .before .before .before .before .before .before .loop-test in
-    let at-loop = c .before .before .before .before .before .before .before .loop in
-    let at-place = c .before .before .before .before .before .before .before .before .before .before .place in
-    let entry = c .before .before .before .before .before .before .before .before .before .before .before .before .before .before in
-    (omega (arith, at-loop .inv .0), spreading-step (at-loop .inv .1) (listed _ _ _ (at-loop .inv .0) (omega (arith, at-loop-test .taken, at-place .ensures .0))) (at-try-entry .ensures))
+    let at-loop-test = in-loop .loop-test in
+    let at-place = after-place .place in
+    (omega (arith, at-loop .loop .inv .0), spreading-step (at-loop .loop .inv .1) (listed _ _ _ (at-loop .loop .inv .0) (omega (arith, at-loop-test .taken, at-place .ensures .0))) (at-try-entry .ensures))
 
 same-length : tie.Need-same-length Inv-loop μ-loop
-same-length c = let Q = c .before .before .before .before .before .before .before .before .pre in c .before .loop .inv .1 .fell (Q .codes) (Q .given .from _) .size
+same-length c =
+    let start : tie.Start Inv-loop μ-loop = search in
+    let Q = start .pre in c .before .loop .inv .1 .fell (Q .codes) (Q .given .from _) .size
 
 returns : tie.Need-returns Inv-loop μ-loop
-returns c = spreading-end (c .before .loop .inv .1) (omega (arith, c .loop-test .left, c .before .before .before .before .place .ensures .0))
+returns c =
+    let after-place : tie.After-place Inv-loop μ-loop = search in
+    spreading-end (c .before .loop .inv .1) (omega (arith, c .loop-test .left, after-place .place .ensures .0))
 
 pub spread-spec : {M : Type 1} → statement M
 spread-spec =

@@ -16,19 +16,25 @@ try-arc-requires : tie.Need-try-arc-requires
 try-arc-requires c κs = c .before .before .pre .arc
 
 put-requires : tie.Need-put-requires
-put-requires c κs = (c .before .before .before .before .before .before .before .pre .from, c .before .before .before .before .before .before .before .pre .bits)
+put-requires c κs =
+    let start : tie.Start = search in
+    (start .pre .from, start .pre .bits)
 
 same-length : tie.Need-same-length
 same-length c = search needs
 
 returns : tie.Need-returns
-returns c = record { lower = c .before .before .before .before .before .try-arc .result; tried = c .before .before .before .before .before .try-arc .ensures; more = λ _. c .put .ensures; same = λ q. absurd (clash (c .before .before .if1 .taken) q) }
+returns c =
+    let after-try-arc : tie.After-try-arc = search in
+    record { lower = after-try-arc .try-arc .result; tried = after-try-arc .try-arc .ensures; more = λ _. c .put .ensures; same = λ q. absurd (clash (c .before .before .if1 .taken) q) }
 
 same-length-2 : tie.Need-same-length-2
 same-length-2 c = search needs
 
 returns-2 : tie.Need-returns-2
-returns-2 c = record { lower = c .before .before .before .try-arc .result; tried = c .before .before .before .try-arc .ensures; more = λ q. absurd (clash q (c .if1 .left)); same = λ _. refl }
+returns-2 c =
+    let after-try-arc : tie.After-try-arc = search in
+    record { lower = after-try-arc .try-arc .result; tried = after-try-arc .try-arc .ensures; more = λ q. absurd (clash q (c .if1 .left)); same = λ _. refl }
 
 pub try-entry-spec : {M : Type 1} → statement M
 try-entry-spec =

@@ -11,8 +11,9 @@ use Rattle.tableau.proofs.judge.Tie as tie
 
 returns : tie.Need-returns
 returns c =
-    let k = c .before .before .before .before in
-    let a = k .before .before .before .before .before .before .args in
+    let k : tie.After-check-input = search in
+    let start : tie.Start = search in
+    let a = start .args in
     let n = c .before .number in
     let e = n .ensures ∙ k .check-input .ensures .number in
     let p : 0 < n .result = refused-number (c .before .before .enum-told2 .given .1) (sym (n .ensures)) in
@@ -27,9 +28,10 @@ check-tableau-requires c κs = accepted-input _ _ _ _ (passed c) .accepted
 
 returns-2 : tie.Need-returns-2
 returns-2 c =
-    let k = c .before .before .before .before in
+    let k : tie.After-check-tableau = search in
+    let start : tie.Start = search in
     let p = k .before in
-    let a = p .before .before .before .before .before .before .before .before .args in
+    let a = start .args in
     let n = c .before .number2 in
     let e = n .ensures ∙ k .check-tableau .ensures in
     let h : 0 < n .result = refused-number (c .before .before .enum-told4 .given .1) (sym (n .ensures)) in
@@ -41,23 +43,26 @@ told c = sym (c .before .before .check-tableau .ensures) ∙ ap checkedNumber (c
 
 best-profile-requires : tie.Need-best-profile-requires
 best-profile-requires c κs =
+    let p : tie.After-enum-told = search in
+    let start : tie.Start = search in
     let t = c .before in
-    let p = t .before .before .before in
-    let a = p .before .before .before .before .before .before .before .before .args in
+    let a = start .args in
     (passed p, p .before .before .check-input .ensures .sizes (passed p), some-best (a .card .now) (a .ranking .now) (a .word .now) (length (a .work .now)) (a .tableau .now) (passed p) (told t))
 
 verdict-of-requires : tie.Need-verdict-of-requires
 verdict-of-requires c κs =
-    let t = c .before .before .before .before in
-    let a = t .before .before .before .before .before .before .before .before .before .before .before .args in
+    let t : tie.After-enum-told3 = search in
+    let start : tie.Start = search in
+    let a = start .args in
     can-be-read (a .card .now) (a .word .now) (a .tableau .now) (told t)
 
 returns-3 : tie.Need-returns-3
 returns-3 c =
-    let b = c .before .before .before .before in
+    let b : tie.After-best-profile = search in
+    let p : tie.After-enum-told = search in
+    let start : tie.Start = search in
     let t = b .before .before in
-    let p = t .before .before .before in
-    let a = p .before .before .before .before .before .before .before .before .args in
+    let a = start .args in
     let o = best (a .card .now) (a .ranking .now) (a .word .now) in
     record {
       result = c .numbers .ensures

@@ -15,13 +15,17 @@ loop-holds c = (omega (arith, c .index .ensures .0, c .before .start .ensures), 
 
 -- nothing times a count
 nothing : (c : tie.After-index2 Inv-loop μ-loop) → c .before .before .before .loop .code * c .index2 .result ≡ 0
-nothing c = let z : c .before .before .before .loop .code * c .index2 .result ≡ 0 * c .index2 .result = ap (λ (n : ℕ). n * c .index2 .result) (c .before .before .before .loop .inv .1) in omega arith
+nothing c =
+    let at-loop : tie.At-loop Inv-loop μ-loop = search in
+    let z : at-loop .loop .code * c .index2 .result ≡ 0 * c .index2 .result = ap (λ (n : ℕ). n * c .index2 .result) (at-loop .loop .inv .1) in omega arith
 
 mul-code : tie.Need-mul-code Inv-loop μ-loop
 mul-code c = omega (arith, nothing c)
 
 add-code : tie.Need-add-code Inv-loop μ-loop
-add-code c = omega (arith, nothing c, c .before .before .before .loop .inv .0)
+add-code c =
+    let at-loop : tie.At-loop Inv-loop μ-loop = search in
+    omega (arith, nothing c, at-loop .loop .inv .0)
 
 add-m : tie.Need-add-m Inv-loop μ-loop
 add-m c = omega arith
@@ -30,7 +34,9 @@ loop-less : tie.Need-loop-less Inv-loop μ-loop
 loop-less c = omega arith
 
 loop-again : tie.Need-loop-again Inv-loop μ-loop
-loop-again c = let l = c .before .before .before in (l .loop .inv .0, omega (arith, nothing c, l .loop .inv .0))
+loop-again c =
+    let l : tie.At-loop Inv-loop μ-loop = search in
+    (l .loop .inv .0, omega (arith, nothing c, l .loop .inv .0))
 
 returns : tie.Need-returns Inv-loop μ-loop
 returns c ms e = c .before .loop .inv .1 ∙ sym (start-is-zero ms)

@@ -16,39 +16,44 @@ least-requires : tie.Need-least-requires Inv-loop μ-loop
 least-requires c κs = c .loop-test .taken
 
 joint-at-requires : tie.Need-joint-at-requires Inv-loop μ-loop
-joint-at-requires c κs = let p = c .before .before .before .before .before .before .before .before .pre in (p .columns, p .weights, omega (arith, c .least .ensures .1), p .small)
+joint-at-requires c κs =
+    let start : tie.Start Inv-loop μ-loop = search in
+    let p = start .pre in (p .columns, p .weights, omega (arith, c .least .ensures .1), p .small)
 
 add-label-at : tie.Need-add-label-at Inv-loop μ-loop
 add-label-at c =
-    let j = c .before .before .before in
+    let j : tie.After-joint-at Inv-loop μ-loop = search in
+    let start : tie.Start Inv-loop μ-loop = search in
     let l = j .before in
     let k = l .before .before in
     let J = j .joint-at .ensures in
     let e = l .least .ensures in
-    omega (arith, step-leads _ _ _ J (c .before .if1 .taken) (k .before .before .before .before .before .before .pre) (omega (arith, e .1)) .few)
+    omega (arith, step-leads _ _ _ J (c .before .if1 .taken) (start .pre) (omega (arith, e .1)) .few)
 
 label-at-requires : tie.Need-label-at-requires Inv-loop μ-loop
 label-at-requires c κs =
-    let j = c .before .before .before in
+    let j : tie.After-joint-at Inv-loop μ-loop = search in
+    let start : tie.Start Inv-loop μ-loop = search in
     let l = j .before in
     let k = l .before .before in
     let J = j .joint-at .ensures in
     let e = l .least .ensures in
-    let L = step-leads _ _ _ J (c .before .if1 .taken) (k .before .before .before .before .before .before .pre) (omega (arith, e .1)) in
+    let L = step-leads _ _ _ J (c .before .if1 .taken) (start .pre) (omega (arith, e .1)) in
     (L .node, L .few)
 
 keeps-requires : tie.Need-keeps-requires Inv-loop μ-loop
 keeps-requires c κs =
-    let j = c .before .before .before .before in
+    let j : tie.After-joint-at Inv-loop μ-loop = search in
+    let start : tie.Start Inv-loop μ-loop = search in
     let l = j .before in
     let k = l .before .before in
     let J = j .joint-at .ensures in
     let e = l .least .ensures in
-    step-pre _ _ _ J (c .before .before .if1 .taken) (k .before .before .before .before .before .before .pre) (omega (arith, e .1)) _ (c .label-at .ensures)
+    step-pre _ _ _ J (c .before .before .if1 .taken) (start .pre) (omega (arith, e .1)) _ (c .label-at .ensures)
 
 returns : tie.Need-returns Inv-loop μ-loop
 returns c =
-    let j = c .before .before .before .before .before .before in
+    let j : tie.After-joint-at Inv-loop μ-loop = search in
     let l = j .before in
     let k = l .before .before in
     let J = j .joint-at .ensures in
@@ -56,14 +61,16 @@ returns c =
     trying-found (k .loop .inv) _ (e .0) (e .1) (e .2) J _ (c .before .before .label-at .ensures) (c .before .keeps .ensures .0 (c .if2 .taken))
 
 without-least-requires : tie.Need-without-least-requires Inv-loop μ-loop
-without-least-requires c κs = c .before .before .before .before .loop-test .taken
+without-least-requires c κs =
+    let in-loop : tie.In-loop Inv-loop μ-loop = search in
+    in-loop .loop-test .taken
 
 loop-less : tie.Need-loop-less Inv-loop μ-loop
 loop-less c = c .without-least .ensures .0
 
 loop-again : tie.Need-loop-again Inv-loop μ-loop
 loop-again c =
-    let j = c .before .before .before in
+    let j : tie.After-joint-at Inv-loop μ-loop = search in
     let l = j .before in
     let k = l .before .before in
     let J = j .joint-at .ensures in

@@ -8,7 +8,9 @@ abbrev start : tie.After-width-of → tie.Start
 start c = c .before .before .before .before .before .before .before .before
 
 width-of-requires : tie.Need-width-of-requires
-width-of-requires c κs = counts-ok (c .before .before .before .before .before .before .before .pre)
+width-of-requires c κs =
+    let start : tie.Start = search in
+    counts-ok (start .pre)
 
 mul-room : tie.Need-mul-room
 mul-room c = omega (arith, c .width-of .ensures .1)

@@ -63,10 +63,14 @@ sizes t =
     (R .states-size, R .passed-size, pairs-written G R)
 
 width-of-requires : tie.Need-width-of-requires Inv-least μ-least Inv-loop μ-loop
-width-of-requires c κs = counts-ok (c .before .before .before .before .before .before .before .before .pre .0)
+width-of-requires c κs =
+    let start : tie.Start Inv-least μ-least Inv-loop μ-loop = search in
+    counts-ok (start .pre .0)
 
 prepare-requires : tie.Need-prepare-requires Inv-least μ-least Inv-loop μ-loop
-prepare-requires c κs = insertions-fill (c .before .before .before .before .before .before .before .before .before .before .pre .0) _ (c .before .width-of .ensures .0) _ (c .before .before .before .before .before .before .before .before .before .before .pre .1)
+prepare-requires c κs =
+    let start : tie.Start Inv-least μ-least Inv-loop μ-loop = search in
+    insertions-fill (start .pre .0) _ (c .before .width-of .ensures .0) _ (start .pre .1)
 
 start-requires : tie.Need-start-requires Inv-least μ-least Inv-loop μ-loop
 start-requires c κs = tt
@@ -75,19 +79,26 @@ start-node-requires : tie.Need-start-node-requires Inv-least μ-least Inv-loop �
 start-node-requires c κs = tt
 
 label-at-requires : tie.Need-label-at-requires Inv-least μ-least Inv-loop μ-loop
-label-at-requires c κs = start-there (c .before .before .before .before .before .before .before .before .before .before .before .before .before .before .before .pre .0) (c .start-node .ensures)
+label-at-requires c κs =
+    let start : tie.Start Inv-least μ-least Inv-loop μ-loop = search in
+    start-there (start .pre .0) (c .start-node .ensures)
 
 loop-holds : tie.Need-loop-holds Inv-least μ-least Inv-loop μ-loop
-loop-holds c = (λ L G. starts-walk (c .before .before .before .before .before .before .before .before .before .before .before .before .before .before .before .before .pre .0) (c .before .start-node .ensures) G (c .before .before .start .ensures) (c .label-at .ensures) _ refl, refl, refl)
+loop-holds c =
+    let start : tie.Start Inv-least μ-least Inv-loop μ-loop = search in
+    (λ L G. starts-walk (start .pre .0) (c .before .start-node .ensures) G (c .before .before .start .ensures) (c .label-at .ensures) _ refl, refl, refl)
 
 slice-aggregate-places-of : tie.Need-slice-aggregate-places-of Inv-least μ-least Inv-loop μ-loop
 slice-aggregate-places-of c = refl
 
 slice-aggregate-places-of-2 : tie.Need-slice-aggregate-places-of-2 Inv-least μ-least Inv-loop μ-loop
-slice-aggregate-places-of-2 c = let l = c .before .before .before in sym (l .loop .inv .0 _ (ground-there (entry l .pre .0)) .states-size)
+slice-aggregate-places-of-2 c =
+    let l : tie.At-loop Inv-least μ-least Inv-loop μ-loop = search in
+    sym (l .loop .inv .0 _ (ground-there (entry l .pre .0)) .states-size)
 
 places-of-requires : tie.Need-places-of-requires Inv-least μ-least Inv-loop μ-loop
-places-of-requires c κs = let l = c .before .before .before in
+places-of-requires c κs =
+    let l : tie.At-loop Inv-least μ-least Inv-loop μ-loop = search in
     let s = entry l in
     let G = ground-there (s .pre .0) in
     places-pre G (l .loop .inv .0 _ G) (s .pre .0 .counts-are) refl
@@ -96,7 +107,10 @@ inputs-at-requires : tie.Need-inputs-at-requires Inv-least μ-least Inv-loop μ-
 inputs-at-requires c κs = tt
 
 least-holds : tie.Need-least-holds Inv-least μ-least Inv-loop μ-loop
-least-holds c = (λ L G code before R. ways-start G R (c .before .before .before .before .before .if1 .left) _ (c .inputs-at .ensures), refl, λ code. refl, c .before .before .before .before .before .before .loop .inv .1)
+least-holds c =
+    let else1 : tie.Else1 Inv-least μ-least Inv-loop μ-loop = search in
+    let at-loop : tie.At-loop Inv-least μ-least Inv-loop μ-loop = search in
+    (λ L G code before R. ways-start G R (else1 .if1 .left) _ (c .inputs-at .ensures), refl, λ code. refl, at-loop .loop .inv .1)
 
 least-requires : tie.Need-least-requires Inv-least μ-least Inv-loop μ-loop
 least-requires c κs = let l = node c in
@@ -112,44 +126,71 @@ mul-least-tight : tie.Need-mul-least-tight Inv-least μ-least Inv-loop μ-loop
 mul-least-tight c = let l = node (c .before .before) in omega (arith, base-fits l _ (position-within l))
 
 array-share-prefix-places : tie.Need-array-share-prefix-places Inv-least μ-least Inv-loop μ-loop
-array-share-prefix-places c = let t = c .before .before .before in machines-within (entry (node t) .pre .0) (t .before .before .before .places-of .last .0) (t .before .before .before .places-of .ensures .size)
+array-share-prefix-places c =
+    let t : tie.At-least Inv-least μ-least Inv-loop μ-loop = search in
+    let after-places-of : tie.After-places-of Inv-least μ-least Inv-loop μ-loop = search in
+    machines-within (entry (node t) .pre .0) (after-places-of .places-of .last .0) (after-places-of .places-of .ensures .size)
 
 slice-aggregate-least-tight : tie.Need-slice-aggregate-least-tight Inv-least μ-least Inv-loop μ-loop
-slice-aggregate-least-tight c = let t = c .before .before .before .before in machines-of (entry (node t) .pre .0) _ (t .before .before .before .places-of .ensures .size)
+slice-aggregate-least-tight c =
+    let t : tie.At-least Inv-least μ-least Inv-loop μ-loop = search in
+    let after-places-of : tie.After-places-of Inv-least μ-least Inv-loop μ-loop = search in
+    machines-of (entry (node t) .pre .0) _ (after-places-of .places-of .ensures .size)
 
 least-tight-requires : tie.Need-least-tight-requires Inv-least μ-least Inv-loop μ-loop
-least-tight-requires c κs = let t = c .before .before .before .before in
+least-tight-requires c κs =
+    let t : tie.At-least Inv-least μ-least Inv-loop μ-loop = search in
+    let after-places-of : tie.After-places-of Inv-least μ-least Inv-loop μ-loop = search in
+    let after-prepare : tie.After-prepare Inv-least μ-least Inv-loop μ-loop = search in
     let l = node t in
     let s = entry l in
     let G = ground-there (s .pre .0) in
     let O = l .loop .inv .0 _ G in
     let R = reached-same (t .least .inv .1) (t .least .inv .2 _) O in
-    way-least G R (insertion-way G O (s .pre .0 .counts-are) refl (t .before .before .before .places-of .ensures) (l .before .before .before .before .before .before .prepare .ensures) (c .before .before .if2 .taken)) (nodes (s .pre .0))
+    way-least G R (insertion-way G O (s .pre .0 .counts-are) refl (after-places-of .places-of .ensures) (after-prepare .prepare .ensures) (c .before .before .if2 .taken)) (nodes (s .pre .0))
 
 slice-aggregate-go-on : tie.Need-slice-aggregate-go-on Inv-least μ-least Inv-loop μ-loop
-slice-aggregate-go-on c = sym (sizes (c .before .before .before .before .before .before .before .before) .0)
+slice-aggregate-go-on c =
+    let at-least : tie.At-least Inv-least μ-least Inv-loop μ-loop = search in
+    sym (sizes at-least .0)
 
 slice-aggregate-go-on-2 : tie.Need-slice-aggregate-go-on-2 Inv-least μ-least Inv-loop μ-loop
-slice-aggregate-go-on-2 c = sym (sizes (c .before .before .before .before .before .before .before .before .before) .1)
+slice-aggregate-go-on-2 c =
+    let at-least : tie.At-least Inv-least μ-least Inv-loop μ-loop = search in
+    sym (sizes at-least .1)
 
 array-share-prefix-places-2 : tie.Need-array-share-prefix-places-2 Inv-least μ-least Inv-loop μ-loop
-array-share-prefix-places-2 c = let t = c .before .before .before .before .before .before .before .before .before .before in machines-within (entry (node t) .pre .0) (t .before .before .before .places-of .last .0) (t .before .before .before .places-of .ensures .size)
+array-share-prefix-places-2 c =
+    let t : tie.At-least Inv-least μ-least Inv-loop μ-loop = search in
+    let after-places-of : tie.After-places-of Inv-least μ-least Inv-loop μ-loop = search in
+    machines-within (entry (node t) .pre .0) (after-places-of .places-of .last .0) (after-places-of .places-of .ensures .size)
 
 slice-aggregate-go-on-3 : tie.Need-slice-aggregate-go-on-3 Inv-least μ-least Inv-loop μ-loop
-slice-aggregate-go-on-3 c = let t = c .before .before .before .before .before .before .before .before .before .before .before in machines-of (entry (node t) .pre .0) _ (t .before .before .before .places-of .ensures .size)
+slice-aggregate-go-on-3 c =
+    let t : tie.At-least Inv-least μ-least Inv-loop μ-loop = search in
+    let after-places-of : tie.After-places-of Inv-least μ-least Inv-loop μ-loop = search in
+    machines-of (entry (node t) .pre .0) _ (after-places-of .places-of .ensures .size)
 
 go-on-requires : tie.Need-go-on-requires Inv-least μ-least Inv-loop μ-loop
-go-on-requires c κs = let t = c .before .before .before .before .before .before .before .before .before .before .before .before in
+go-on-requires c κs =
+    let then3 : tie.Then3 Inv-least μ-least Inv-loop μ-loop = search in
+    let after-least-tight : tie.After-least-tight Inv-least μ-least Inv-loop μ-loop = search in
+    let then2 : tie.Then2 Inv-least μ-least Inv-loop μ-loop = search in
+    let after-least2 : tie.After-least2 Inv-least μ-least Inv-loop μ-loop = search in
+    let t : tie.At-least Inv-least μ-least Inv-loop μ-loop = search in
+    let after-places-of : tie.After-places-of Inv-least μ-least Inv-loop μ-loop = search in
     let l = node t in
     let s = entry l in
     let G = ground-there (s .pre .0) in
     let O = l .loop .inv .0 _ G in
     let R = reached-same (t .least .inv .1) (t .least .inv .2 _) O in
-    let Y = insertion-way G O (s .pre .0 .counts-are) refl (t .before .before .before .places-of .ensures) (l .before .before .before .before .before .before .prepare .ensures) (c .before .before .before .before .before .before .before .before .before .before .if2 .taken) in
-    way-go G R Y (c .before .before .before .before .before .before .before .least-tight .ensures) (t .least .inv .0 _ G _ _ O) (c .before .before .before .before .before .if3 .taken) (c .before .before .before .before .before .before .before .before .before .before .before .least2 .ensures .0)
+    let Y = insertion-way G O (s .pre .0 .counts-are) refl (after-places-of .places-of .ensures) (l .before .before .before .before .before .before .prepare .ensures) (then2 .if2 .taken) in
+    way-go G R Y (after-least-tight .least-tight .ensures) (t .least .inv .0 _ G _ _ O) (then3 .if3 .taken) (after-least2 .least2 .ensures .0)
 
 add-written : tie.Need-add-written Inv-least μ-least Inv-loop μ-loop
-add-written c = omega (arith, sizes (c .before .before .before .before .before .before .before .before .before .before .before .before .before .before .before .before .before) .2)
+add-written c =
+    let at-least : tie.At-least Inv-least μ-least Inv-loop μ-loop = search in
+    omega (arith, sizes at-least .2)
 
 -- ---- a symbol
 
@@ -157,39 +198,60 @@ add-next : tie.Need-add-next Inv-least μ-least Inv-loop μ-loop
 add-next c = let l = node (c .before .before) in omega (arith, sets-few (entry l .pre .0), position-within l)
 
 slice-aggregate-fill-at : tie.Need-slice-aggregate-fill-at Inv-least μ-least Inv-loop μ-loop
-slice-aggregate-fill-at c = sym (c .before .before .before .least .inv .3)
+slice-aggregate-fill-at c =
+    let at-least : tie.At-least Inv-least μ-least Inv-loop μ-loop = search in
+    sym (at-least .least .inv .3)
 
 array-share-prefix-states : tie.Need-array-share-prefix-states Inv-least μ-least Inv-loop μ-loop
-array-share-prefix-states c = let t = c .before .before .before in machines-within (entry (node t) .pre .0) (t .least .states) (sizes t .0)
+array-share-prefix-states c =
+    let t : tie.At-least Inv-least μ-least Inv-loop μ-loop = search in
+    machines-within (entry (node t) .pre .0) (t .least .states) (sizes t .0)
 
 slice-aggregate-fill-at-2 : tie.Need-slice-aggregate-fill-at-2 Inv-least μ-least Inv-loop μ-loop
-slice-aggregate-fill-at-2 c = let t = c .before .before .before .before in machines-of (entry (node t) .pre .0) _ (sizes t .0)
+slice-aggregate-fill-at-2 c =
+    let t : tie.At-least Inv-least μ-least Inv-loop μ-loop = search in
+    machines-of (entry (node t) .pre .0) _ (sizes t .0)
 
 fill-at-requires : tie.Need-fill-at-requires Inv-least μ-least Inv-loop μ-loop
-fill-at-requires c κs = let t = c .before .before .before .before in
+fill-at-requires c κs =
+    let after-least2 : tie.After-least2 Inv-least μ-least Inv-loop μ-loop = search in
+    let t : tie.At-least Inv-least μ-least Inv-loop μ-loop = search in
     let l = node t in
     let s = entry l in
     let G = ground-there (s .pre .0) in
-    (hand-pre G (reached-same (t .least .inv .1) (t .least .inv .2 _) (l .loop .inv .0 _ G)) (machines-are (s .pre .0)) (c .before .before .before .least2 .ensures .1) (t .least .inv .3), s .pre .0 .counts-are)
+    (hand-pre G (reached-same (t .least .inv .1) (t .least .inv .2 _) (l .loop .inv .0 _ G)) (machines-are (s .pre .0)) (after-least2 .least2 .ensures .1) (t .least .inv .3), s .pre .0 .counts-are)
 
 mul-least-tight-2 : tie.Need-mul-least-tight-2 Inv-least μ-least Inv-loop μ-loop
-mul-least-tight-2 c = let t = c .before .before .before .before .before .before in omega (arith, base-fits (node t) _ (next-within t _ (c .before .before .before .before .before .least2 .ensures .2) (c .before .before .before .before .if2 .left)))
+mul-least-tight-2 c =
+    let else2 : tie.Else2 Inv-least μ-least Inv-loop μ-loop = search in
+    let after-least2 : tie.After-least2 Inv-least μ-least Inv-loop μ-loop = search in
+    let t : tie.At-least Inv-least μ-least Inv-loop μ-loop = search in
+    omega (arith, base-fits (node t) _ (next-within t _ (after-least2 .least2 .ensures .2) (else2 .if2 .left)))
 
 slice-aggregate-least-tight-2 : tie.Need-slice-aggregate-least-tight-2 Inv-least μ-least Inv-loop μ-loop
-slice-aggregate-least-tight-2 c = sym (c .before .before .fill-at .kept .0 ∙ c .before .before .before .before .before .before .before .least .inv .3)
+slice-aggregate-least-tight-2 c =
+    let at-least : tie.At-least Inv-least μ-least Inv-loop μ-loop = search in
+    sym (c .before .before .fill-at .kept .0 ∙ at-least .least .inv .3)
 
 array-share-prefix-hand : tie.Need-array-share-prefix-hand Inv-least μ-least Inv-loop μ-loop
-array-share-prefix-hand c = machines-few (entry (node (c .before .before .before .before .before .before .before)) .pre .0)
+array-share-prefix-hand c =
+    let at-least : tie.At-least Inv-least μ-least Inv-loop μ-loop = search in
+    machines-few (entry (node at-least) .pre .0)
 
 slice-aggregate-least-tight-3 : tie.Need-slice-aggregate-least-tight-3 Inv-least μ-least Inv-loop μ-loop
-slice-aggregate-least-tight-3 c = machines-of (entry (node (c .before .before .before .before .before .before .before .before)) .pre .0) _ refl
+slice-aggregate-least-tight-3 c =
+    let at-least : tie.At-least Inv-least μ-least Inv-loop μ-loop = search in
+    machines-of (entry (node at-least) .pre .0) _ refl
 
 least-tight-requires-2 : tie.Need-least-tight-requires-2 Inv-least μ-least Inv-loop μ-loop
 least-tight-requires-2 c κs =
-    let at-fill-at = c .before .before .before .fill-at in
-    let at-if2 = c .before .before .before .before .before .before .if2 in
-    let at-least2 = c .before .before .before .before .before .before .before .least2 in
-    let t = c .before .before .before .before .before .before .before .before in
+    let after-fill-at : tie.After-fill-at Inv-least μ-least Inv-loop μ-loop = search in
+    let else2 : tie.Else2 Inv-least μ-least Inv-loop μ-loop = search in
+    let after-least2 : tie.After-least2 Inv-least μ-least Inv-loop μ-loop = search in
+    let t : tie.At-least Inv-least μ-least Inv-loop μ-loop = search in
+    let at-fill-at = after-fill-at .fill-at in
+    let at-if2 = else2 .if2 in
+    let at-least2 = after-least2 .least2 in
     let l = node t in
     let s = entry l in
     let G = ground-there (s .pre .0) in
@@ -198,28 +260,44 @@ least-tight-requires-2 c κs =
     way-least G R (symbol-way G R (machines-are (s .pre .0)) (at-fill-at .kept .0 ∙ t .least .inv .3) (at-fill-at .ensures) (t .least .inv .0 _ G _ _ O) (at-least2 .ensures .2) (at-if2 .left)) (nodes (s .pre .0))
 
 slice-aggregate-go-on-4 : tie.Need-slice-aggregate-go-on-4 Inv-least μ-least Inv-loop μ-loop
-slice-aggregate-go-on-4 c = sym (sizes (c .before .before .before .before .before .before .before .before .before .before .before .before) .0)
+slice-aggregate-go-on-4 c =
+    let at-least : tie.At-least Inv-least μ-least Inv-loop μ-loop = search in
+    sym (sizes at-least .0)
 
 slice-aggregate-go-on-5 : tie.Need-slice-aggregate-go-on-5 Inv-least μ-least Inv-loop μ-loop
-slice-aggregate-go-on-5 c = sym (sizes (c .before .before .before .before .before .before .before .before .before .before .before .before .before) .1)
+slice-aggregate-go-on-5 c =
+    let at-least : tie.At-least Inv-least μ-least Inv-loop μ-loop = search in
+    sym (sizes at-least .1)
 
 slice-aggregate-go-on-6 : tie.Need-slice-aggregate-go-on-6 Inv-least μ-least Inv-loop μ-loop
-slice-aggregate-go-on-6 c = sym (c .before .before .before .before .before .before .before .before .before .fill-at .kept .0 ∙ c .before .before .before .before .before .before .before .before .before .before .before .before .before .before .least .inv .3)
+slice-aggregate-go-on-6 c =
+    let after-fill-at : tie.After-fill-at Inv-least μ-least Inv-loop μ-loop = search in
+    let at-least : tie.At-least Inv-least μ-least Inv-loop μ-loop = search in
+    sym (after-fill-at .fill-at .kept .0 ∙ at-least .least .inv .3)
 
 array-share-prefix-hand-2 : tie.Need-array-share-prefix-hand-2 Inv-least μ-least Inv-loop μ-loop
-array-share-prefix-hand-2 c = machines-few (entry (node (c .before .before .before .before .before .before .before .before .before .before .before .before .before .before)) .pre .0)
+array-share-prefix-hand-2 c =
+    let at-least : tie.At-least Inv-least μ-least Inv-loop μ-loop = search in
+    machines-few (entry (node at-least) .pre .0)
 
 slice-aggregate-go-on-7 : tie.Need-slice-aggregate-go-on-7 Inv-least μ-least Inv-loop μ-loop
-slice-aggregate-go-on-7 c = machines-of (entry (node (c .before .before .before .before .before .before .before .before .before .before .before .before .before .before .before)) .pre .0) _ refl
+slice-aggregate-go-on-7 c =
+    let at-least : tie.At-least Inv-least μ-least Inv-loop μ-loop = search in
+    machines-of (entry (node at-least) .pre .0) _ refl
 
 go-on-requires-2 : tie.Need-go-on-requires-2 Inv-least μ-least Inv-loop μ-loop
 go-on-requires-2 c κs =
-    let at-if4 = c .before .before .before .before .before .if4 in
-    let at-least-tight2 = c .before .before .before .before .before .before .before .least-tight2 in
-    let at-fill-at = c .before .before .before .before .before .before .before .before .before .before .before .fill-at in
-    let at-if2 = c .before .before .before .before .before .before .before .before .before .before .before .before .before .before .if2 in
-    let at-least2 = c .before .before .before .before .before .before .before .before .before .before .before .before .before .before .before .least2 in
-    let t = c .before .before .before .before .before .before .before .before .before .before .before .before .before .before .before .before in
+    let then4 : tie.Then4 Inv-least μ-least Inv-loop μ-loop = search in
+    let after-least-tight2 : tie.After-least-tight2 Inv-least μ-least Inv-loop μ-loop = search in
+    let after-fill-at : tie.After-fill-at Inv-least μ-least Inv-loop μ-loop = search in
+    let else2 : tie.Else2 Inv-least μ-least Inv-loop μ-loop = search in
+    let after-least2 : tie.After-least2 Inv-least μ-least Inv-loop μ-loop = search in
+    let t : tie.At-least Inv-least μ-least Inv-loop μ-loop = search in
+    let at-if4 = then4 .if4 in
+    let at-least-tight2 = after-least-tight2 .least-tight2 in
+    let at-fill-at = after-fill-at .fill-at in
+    let at-if2 = else2 .if2 in
+    let at-least2 = after-least2 .least2 in
     let l = node t in
     let s = entry l in
     let G = ground-there (s .pre .0) in
@@ -230,7 +308,9 @@ go-on-requires-2 c κs =
     way-go G R Y (at-least-tight2 .ensures) T (at-if4 .taken) (at-least2 .ensures .0)
 
 add-written-2 : tie.Need-add-written-2 Inv-least μ-least Inv-loop μ-loop
-add-written-2 c = omega (arith, sizes (c .before .before .before .before .before .before .before .before .before .before .before .before .before .before .before .before .before .before .before .before .before) .2)
+add-written-2 c =
+    let at-least : tie.At-least Inv-least μ-least Inv-loop μ-loop = search in
+    omega (arith, sizes at-least .2)
 
 -- ---- the next input
 
@@ -244,7 +324,10 @@ least-less : tie.Need-least-less Inv-least μ-least Inv-loop μ-loop
 least-less c = c .without-least .ensures .0
 
 least-again : tie.Need-least-again Inv-least μ-least Inv-loop μ-loop
-least-again c = let t = c .before .before .before in
+least-again c =
+    let t : tie.At-least Inv-least μ-least Inv-loop μ-loop = search in
+    let after-places-of : tie.After-places-of Inv-least μ-least Inv-loop μ-loop = search in
+    let after-prepare : tie.After-prepare Inv-least μ-least Inv-loop μ-loop = search in
     let l = node t in
     let s = entry l in
     let x = c .before .before .least2 .ensures in
@@ -254,7 +337,7 @@ least-again c = let t = c .before .before .before in
       λ L G code before O.
           let R = reached-same (t .least .inv .1) (t .least .inv .2 code) O in
           let T = t .least .inv .0 L G code before O in
-          ⊎-elim (λ w. way-none G R (insertion-way G O C refl (t .before .before .before .places-of .ensures) (l .before .before .before .before .before .before .prepare .ensures) (w .0 .taken)) (w .3 .ensures) T (w .5 .left) _ after)
+          ⊎-elim (λ w. way-none G R (insertion-way G O C refl (after-places-of .places-of .ensures) (after-prepare .prepare .ensures) (w .0 .taken)) (w .3 .ensures) T (w .5 .left) _ after)
           (λ w. way-none G R (symbol-way G R e (w .3 .kept .0 ∙ t .least .inv .3) (w .3 .ensures) T (x .2) (w .0 .left)) (w .7 .ensures) T (w .9 .left) _ after)
           (c .before .if2 .came),
       t .least .inv .1,
@@ -266,10 +349,14 @@ least-again c = let t = c .before .before .before in
 
 loop-less : tie.Need-loop-less Inv-least μ-least Inv-loop μ-loop
 loop-less c =
-    let at-if3 = c .before .before .before .before .before .before .before .before .before .before .if3 in
-    let at-least-tight = c .before .before .before .before .before .before .before .before .before .before .before .before .least-tight in
-    let at-if2 = c .before .before .before .before .before .before .before .before .before .before .before .before .before .before .before .if2 in
-    let t = c .before .before .before .before .before .before .before .before .before .before .before .before .before .before .before .before .before in
+    let then3 : tie.Then3 Inv-least μ-least Inv-loop μ-loop = search in
+    let after-least-tight : tie.After-least-tight Inv-least μ-least Inv-loop μ-loop = search in
+    let then2 : tie.Then2 Inv-least μ-least Inv-loop μ-loop = search in
+    let t : tie.At-least Inv-least μ-least Inv-loop μ-loop = search in
+    let after-places-of : tie.After-places-of Inv-least μ-least Inv-loop μ-loop = search in
+    let at-if3 = then3 .if3 in
+    let at-least-tight = after-least-tight .least-tight in
+    let at-if2 = then2 .if2 in
     let l = node t in
     let s = entry l in
     let G = ground-there (s .pre .0) in
@@ -277,35 +364,46 @@ loop-less c =
     let R = reached-same (t .least .inv .1) (t .least .inv .2 _) O in
     let T = t .least .inv .0 _ G _ _ O in
     let same : t .least .low ≡ l .loop .low = ap (λ (a : At). a .label .low) (t .least .inv .2 0) in
-    subst (λ (n : ℕ). at-least-tight .result .low < n) same (way-falls G R (insertion-way G O (s .pre .0 .counts-are) refl (t .before .before .before .places-of .ensures) (l .before .before .before .before .before .before .prepare .ensures) (at-if2 .taken)) (at-least-tight .ensures) T (at-if3 .taken))
+    subst (λ (n : ℕ). at-least-tight .result .low < n) same (way-falls G R (insertion-way G O (s .pre .0 .counts-are) refl (after-places-of .places-of .ensures) (l .before .before .before .before .before .before .prepare .ensures) (at-if2 .taken)) (at-least-tight .ensures) T (at-if3 .taken))
 
 loop-again : tie.Need-loop-again Inv-least μ-least Inv-loop μ-loop
 loop-again c =
-    let at-go-on = c .before .before .before .before .go-on in
-    let at-if3 = c .before .before .before .before .before .before .before .before .before .before .if3 in
-    let at-least-tight = c .before .before .before .before .before .before .before .before .before .before .before .before .least-tight in
-    let at-if2 = c .before .before .before .before .before .before .before .before .before .before .before .before .before .before .before .if2 in
-    let at-least2 = c .before .before .before .before .before .before .before .before .before .before .before .before .before .before .before .before .least2 in
-    let t = c .before .before .before .before .before .before .before .before .before .before .before .before .before .before .before .before .before in
+    let after-go-on : tie.After-go-on Inv-least μ-least Inv-loop μ-loop = search in
+    let then3 : tie.Then3 Inv-least μ-least Inv-loop μ-loop = search in
+    let after-least-tight : tie.After-least-tight Inv-least μ-least Inv-loop μ-loop = search in
+    let then2 : tie.Then2 Inv-least μ-least Inv-loop μ-loop = search in
+    let after-least2 : tie.After-least2 Inv-least μ-least Inv-loop μ-loop = search in
+    let t : tie.At-least Inv-least μ-least Inv-loop μ-loop = search in
+    let after-places-of : tie.After-places-of Inv-least μ-least Inv-loop μ-loop = search in
+    let at-go-on = after-go-on .go-on in
+    let at-if3 = then3 .if3 in
+    let at-least-tight = after-least-tight .least-tight in
+    let at-if2 = then2 .if2 in
+    let at-least2 = after-least2 .least2 in
     let l = node t in
     let s = entry l in (
       λ L G.
           let O = l .loop .inv .0 L G in
           let R = reached-same (t .least .inv .1) (t .least .inv .2 _) O in
           let T = t .least .inv .0 L G _ _ O in
-          way-next G R (insertion-way G O (s .pre .0 .counts-are) refl (t .before .before .before .places-of .ensures) (l .before .before .before .before .before .before .prepare .ensures) (at-if2 .taken)) (at-least-tight .ensures) T (at-if3 .taken) (at-least2 .ensures .0) (at-go-on .ensures),
+          way-next G R (insertion-way G O (s .pre .0 .counts-are) refl (after-places-of .places-of .ensures) (l .before .before .before .before .before .before .prepare .ensures) (at-if2 .taken)) (at-least-tight .ensures) T (at-if3 .taken) (at-least2 .ensures .0) (at-go-on .ensures),
       t .least .inv .3,
       ap length (at-go-on .ensures .bytes) ∙ simp length-set (ap length (t .least .inv .1) ∙ l .loop .inv .2),
     )
 
 loop-less-2 : tie.Need-loop-less-2 Inv-least μ-least Inv-loop μ-loop
 loop-less-2 c =
-    let at-if4 = c .before .before .before .before .before .before .before .before .before .before .if4 in
-    let at-least-tight2 = c .before .before .before .before .before .before .before .before .before .before .before .before .least-tight2 in
-    let at-fill-at = c .before .before .before .before .before .before .before .before .before .before .before .before .before .before .before .before .fill-at in
-    let at-if2 = c .before .before .before .before .before .before .before .before .before .before .before .before .before .before .before .before .before .before .before .if2 in
-    let at-least2 = c .before .before .before .before .before .before .before .before .before .before .before .before .before .before .before .before .before .before .before .before .least2 in
-    let t = c .before .before .before .before .before .before .before .before .before .before .before .before .before .before .before .before .before .before .before .before .before in
+    let then4 : tie.Then4 Inv-least μ-least Inv-loop μ-loop = search in
+    let after-least-tight2 : tie.After-least-tight2 Inv-least μ-least Inv-loop μ-loop = search in
+    let after-fill-at : tie.After-fill-at Inv-least μ-least Inv-loop μ-loop = search in
+    let else2 : tie.Else2 Inv-least μ-least Inv-loop μ-loop = search in
+    let after-least2 : tie.After-least2 Inv-least μ-least Inv-loop μ-loop = search in
+    let t : tie.At-least Inv-least μ-least Inv-loop μ-loop = search in
+    let at-if4 = then4 .if4 in
+    let at-least-tight2 = after-least-tight2 .least-tight2 in
+    let at-fill-at = after-fill-at .fill-at in
+    let at-if2 = else2 .if2 in
+    let at-least2 = after-least2 .least2 in
     let l = node t in
     let s = entry l in
     let filled = at-fill-at in
@@ -318,13 +416,19 @@ loop-less-2 c =
 
 loop-again-2 : tie.Need-loop-again-2 Inv-least μ-least Inv-loop μ-loop
 loop-again-2 c =
-    let at-go-on2 = c .before .before .before .before .go-on2 in
-    let at-if4 = c .before .before .before .before .before .before .before .before .before .before .if4 in
-    let at-least-tight2 = c .before .before .before .before .before .before .before .before .before .before .before .before .least-tight2 in
-    let at-fill-at = c .before .before .before .before .before .before .before .before .before .before .before .before .before .before .before .before .fill-at in
-    let at-if2 = c .before .before .before .before .before .before .before .before .before .before .before .before .before .before .before .before .before .before .before .if2 in
-    let at-least2 = c .before .before .before .before .before .before .before .before .before .before .before .before .before .before .before .before .before .before .before .before .least2 in
-    let t = c .before .before .before .before .before .before .before .before .before .before .before .before .before .before .before .before .before .before .before .before .before in
+    let after-go-on2 : tie.After-go-on2 Inv-least μ-least Inv-loop μ-loop = search in
+    let then4 : tie.Then4 Inv-least μ-least Inv-loop μ-loop = search in
+    let after-least-tight2 : tie.After-least-tight2 Inv-least μ-least Inv-loop μ-loop = search in
+    let after-fill-at : tie.After-fill-at Inv-least μ-least Inv-loop μ-loop = search in
+    let else2 : tie.Else2 Inv-least μ-least Inv-loop μ-loop = search in
+    let after-least2 : tie.After-least2 Inv-least μ-least Inv-loop μ-loop = search in
+    let t : tie.At-least Inv-least μ-least Inv-loop μ-loop = search in
+    let at-go-on2 = after-go-on2 .go-on2 in
+    let at-if4 = then4 .if4 in
+    let at-least-tight2 = after-least-tight2 .least-tight2 in
+    let at-fill-at = after-fill-at .fill-at in
+    let at-if2 = else2 .if2 in
+    let at-least2 = after-least2 .least2 in
     let l = node t in
     let s = entry l in
     let filled = at-fill-at in (
@@ -357,14 +461,19 @@ with-ending-requires c κs = let l = c .before .before in
     ends-pre G R (machines-are (s .pre .0)) (states-count G R (machines-are (s .pre .0)))
 
 same-length : tie.Need-same-length Inv-least μ-least Inv-loop μ-loop
-same-length c = c .before .before .before .before .before .before .before .before .before .prepare .kept .0
+same-length c =
+    let after-prepare : tie.After-prepare Inv-least μ-least Inv-loop μ-loop = search in
+    after-prepare .prepare .kept .0
 
 same-length-2 : tie.Need-same-length-2 Inv-least μ-least Inv-loop μ-loop
-same-length-2 c = c .before .before .before .loop .inv .2
+same-length-2 c =
+    let at-loop : tie.At-loop Inv-least μ-least Inv-loop μ-loop = search in
+    at-loop .loop .inv .2
 
 returns : tie.Need-returns Inv-least μ-least Inv-loop μ-loop
-returns c = λ L K.
-    let l = c .before .before .before in
+returns c =
+    let l : tie.At-loop Inv-least μ-least Inv-loop μ-loop = search in
+    λ L K.
     let s = entry l in
     let G = ground (s .pre .0) K in
     let R = l .loop .inv .0 L G in

@@ -15,19 +15,31 @@ mul-if1 : tie.Need-mul-if1 Inv-loop μ-loop
 mul-if1 c = omega (arith, c .loop-test .taken, c .before .before .pre .1)
 
 mul-if1-2 : tie.Need-mul-if1-2 Inv-loop μ-loop
-mul-if1-2 c = omega (arith, c .before .before .loop .inv, c .before .before .before .pre .1)
+mul-if1-2 c =
+    let start : tie.Start Inv-loop μ-loop = search in
+    omega (arith, c .before .before .loop .inv, start .pre .1)
 
 shared-slice-read-if1-2 : tie.Need-shared-slice-read-if1-2 Inv-loop μ-loop
-shared-slice-read-if1-2 c = c .before .before .before .loop .inv
+shared-slice-read-if1-2 c =
+    let at-loop : tie.At-loop Inv-loop μ-loop = search in
+    at-loop .loop .inv
 
 add-m : tie.Need-add-m Inv-loop μ-loop
-add-m c = omega (arith, c .before .before .before .loop-test .taken, c .before .before .before .before .before .pre .1)
+add-m c =
+    let in-loop : tie.In-loop Inv-loop μ-loop = search in
+    let start : tie.Start Inv-loop μ-loop = search in
+    omega (arith, in-loop .loop-test .taken, start .pre .1)
 
 loop-less : tie.Need-loop-less Inv-loop μ-loop
-loop-less c = omega (arith, c .before .before .before .loop-test .taken)
+loop-less c =
+    let in-loop : tie.In-loop Inv-loop μ-loop = search in
+    omega (arith, in-loop .loop-test .taken)
 
 loop-again : tie.Need-loop-again Inv-loop μ-loop
-loop-again c = ⊎-elim (λ w. omega (arith, w .1, c .before .before .before .loop-test .taken)) (λ w. omega (arith, w .1, c .before .before .before .before .loop .inv)) (c .if1 .came)
+loop-again c =
+    let in-loop : tie.In-loop Inv-loop μ-loop = search in
+    let at-loop : tie.At-loop Inv-loop μ-loop = search in
+    ⊎-elim (λ w. omega (arith, w .1, in-loop .loop-test .taken)) (λ w. omega (arith, w .1, at-loop .loop .inv)) (c .if1 .came)
 
 returns : tie.Need-returns Inv-loop μ-loop
 returns c = c .before .loop .inv

@@ -77,13 +77,19 @@ module _ (c : tie.After-ranked-weights) where
       (placed c .places-with .ensures) (c .ranked-weights .ensures .1))
 
 array-share-prefix-all : tie.Need-array-share-prefix-all
-array-share-prefix-all c = let s = c .before .before .before .before .before in counts-fit (s .pre .0 .setting .accepted) (s .pre .1)
+array-share-prefix-all c =
+    let s : tie.Start = search in
+    counts-fit (s .pre .0 .setting .accepted) (s .pre .1)
 
 slice-aggregate-counts : tie.Need-slice-aggregate-counts
-slice-aggregate-counts c = let s = c .before .before .before .before .before .before in counts-length (s .pre .0 .setting .accepted) (s .pre .1)
+slice-aggregate-counts c =
+    let s : tie.Start = search in
+    counts-length (s .pre .0 .setting .accepted) (s .pre .1)
 
 weights-of-requires : tie.Need-weights-of-requires
-weights-of-requires c κs = let s = c .before .before .before .before .before .before in (counts-some (s .pre .0 .setting .accepted) (s .pre .1), counts-weigh (s .pre .0) (s .pre .1))
+weights-of-requires c κs =
+    let s : tie.Start = search in
+    (counts-some (s .pre .0 .setting .accepted) (s .pre .1), counts-weigh (s .pre .0) (s .pre .1))
 
 mul-numbers : tie.Need-mul-numbers
 mul-numbers c = let s = start c in omega (arith, machines-few (s .pre .0 .setting .accepted) (s .pre .1))
@@ -116,31 +122,37 @@ highs-with-requires : tie.Need-highs-with-requires
 highs-with-requires c κs = let s = origin c in six-machines (s .pre .0) (s .pre .1) (below (heavy (placed c)))
 
 mul-marks : tie.Need-mul-marks
-mul-marks c = let s = origin (c .before .before .before) in omega (arith, machines-few (s .pre .0 .setting .accepted) (s .pre .1))
+mul-marks c =
+    let after-ranked-weights : tie.After-ranked-weights = search in
+    let s = origin after-ranked-weights in omega (arith, machines-few (s .pre .0 .setting .accepted) (s .pre .1))
 
 array-share-prefix-marks : tie.Need-array-share-prefix-marks
-array-share-prefix-marks c = let w = c .before .before .before in let s = origin w in omega (arith, machines-few (s .pre .0 .setting .accepted) (s .pre .1), w .ranked-weights .ensures .2)
+array-share-prefix-marks c =
+    let w : tie.After-ranked-weights = search in
+    let s = origin w in omega (arith, machines-few (s .pre .0 .setting .accepted) (s .pre .1), w .ranked-weights .ensures .2)
 
 slice-aggregate-label-all-2 : tie.Need-slice-aggregate-label-all-2
 slice-aggregate-label-all-2 c =
-    let w = c .before .before .before .before in
+    let w : tie.After-ranked-weights = search in
     let s = origin w in
     weights-front-length (s .pre .0 .setting .accepted) (s .pre .1) (w .ranked-weights .result) (w .ranked-weights .ensures .2)
 
 label-all-requires : tie.Need-label-all-requires
 label-all-requires c κs =
-    let w = c .before .before .before .before in
+    let after-highs-with : tie.After-highs-with = search in
+    let w : tie.After-ranked-weights = search in
     let s = origin w in
     let h = heavy (placed w) in
     subst (λ (hs : List ℕ). SearchPre [] (s .args .work .now) (s .args .card .now) (s .args .grid) (take (3 * s .args .grid .machines) (weighed h .weights-of .result)) hs (take (3 * s .args .grid .machines) (w .ranked-weights .result)) (s .args .sets .now))
-    (sym (c .before .before .before .highs-with .ensures)) (search-ready (s .pre .0) (s .pre .1) (weights-are h) (by-weights h) (below h) (marks-are w) (in-order w))
+    (sym (after-highs-with .highs-with .ensures)) (search-ready (s .pre .0) (s .pre .1) (weights-are h) (by-weights h) (below h) (marks-are w) (in-order w))
 
 returns : tie.Need-returns
 returns c =
-    let w = c .before .before .before .before .before .before .before .before in
+    let after-label-all : tie.After-label-all = search in
+    let w : tie.After-ranked-weights = search in
     let s = origin w in
     let h = heavy (placed w) in
-    label-done (s .pre .0) (s .pre .1) (weights-are h) (by-weights h) (c .before .before .before .label-all .ensures)
+    label-done (s .pre .0) (s .pre .1) (weights-are h) (by-weights h) (after-label-all .label-all .ensures)
 
 pub label-spec : {M : Type 1} → statement M
 label-spec =

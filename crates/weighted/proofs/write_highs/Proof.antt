@@ -17,18 +17,27 @@ mul-numbers : tie.Need-mul-numbers Inv-loop μ-loop
 mul-numbers c = omega (arith, c .wide .ensures .1)
 
 mul-numbers-2 : tie.Need-mul-numbers-2 Inv-loop μ-loop
-mul-numbers-2 c = let l = c .before .before .before in let s = l .before .before .before in omega (arith, s .pre .1, c .before .before .loop-test .taken)
+mul-numbers-2 c =
+    let l : tie.At-loop Inv-loop μ-loop = search in
+    let s : tie.Start Inv-loop μ-loop = search in
+    omega (arith, s .pre .1, c .before .before .loop-test .taken)
 
 add-numbers : tie.Need-add-numbers Inv-loop μ-loop
-add-numbers c = let l = c .before .before .before in let s = l .before .before .before in omega (arith, s .pre .1, c .before .before .loop-test .taken)
+add-numbers c =
+    let l : tie.At-loop Inv-loop μ-loop = search in
+    let s : tie.Start Inv-loop μ-loop = search in
+    omega (arith, s .pre .1, c .before .before .loop-test .taken)
 
 slice-write-numbers : tie.Need-slice-write-numbers Inv-loop μ-loop
-slice-write-numbers c = let l = c .before .before .before in let s = l .before .before .before in omega (arith, s .pre .0, l .loop .inv .0 .size, c .before .before .loop-test .taken)
+slice-write-numbers c =
+    let l : tie.At-loop Inv-loop μ-loop = search in
+    let s : tie.Start Inv-loop μ-loop = search in
+    omega (arith, s .pre .0, l .loop .inv .0 .size, c .before .before .loop-test .taken)
 
 loop-again : tie.Need-loop-again Inv-loop μ-loop
 loop-again c =
-    let l = c .before .before .before in
-    let s = l .before .before .before in (
+    let l : tie.At-loop Inv-loop μ-loop = search in
+    let s : tie.Start Inv-loop μ-loop = search in (
       highs-next (l .loop .inv .0) (omega (arith, s .pre .0, l .loop .inv .0 .size, c .before .before .loop-test .taken)) (256 * c .wide .result) (ap (λ (n : ℕ). 256 * n) (c .wide .ensures .0)),
       omega (arith, c .before .before .loop-test .taken),
     )
@@ -38,8 +47,8 @@ same-length c = c .before .loop .inv .0 .size
 
 returns : tie.Need-returns Inv-loop μ-loop
 returns c =
+    let s : tie.Start Inv-loop μ-loop = search in
     let l = c .before in
-    let s = l .before .before .before in
     let e : l .loop .m ≡ length (s .args .weights .now) = omega (arith, c .loop-test .left, l .loop .inv .1) in
     rw e at (l .loop .inv .0)
 

@@ -20,7 +20,7 @@ told c = c .before .before
 
 returns : tie.Need-returns
 returns c =
-    let k = c .before .before .before .before in
+    let k : tie.After-check-input = search in
     let n = c .before .number in
     let e = n .ensures ∙ k .check-input .ensures .number in
     let p : 0 < n .result = refused-number (c .before .before .enum-told2 .given .1) (sym (n .ensures)) in
@@ -60,8 +60,10 @@ search-requires c κs =
 
 returns-2 : tie.Need-returns-2
 returns-2 c =
-    let t = told (c .before .before .before .before .before .before .before) in
-    let s = c .before .before .before .before .search in
+    let after-search : tie.After-search = search in
+    let after-struct-known : tie.After-struct-known = search in
+    let t = told after-struct-known in
+    let s = after-search .search in
     call-searched (passed t) (same-room _ (begun t .args .work .now) (s .last .1 .1 .1 .1 .0) (fits t) (s .ensures .searched .work-length)) (s .ensures)
 
 pub optimize-spec : {M : Type 1} → statement M

@@ -56,10 +56,14 @@ module _ (s : tie.Start) where
   counts-are = front-is (s .args .card .now) (s .pre .0 .setting .accepted) (s .args .grid .counts) (s .args .grid .machines) (s .pre .2 .machines) (s .pre .2 .counts)
 
 array-share-prefix-all : tie.Need-array-share-prefix-all
-array-share-prefix-all c = fit (c .before .before .before .before .before .before)
+array-share-prefix-all c =
+    let start : tie.Start = search in
+    fit start
 
 slice-aggregate-counts : tie.Need-slice-aggregate-counts
-slice-aggregate-counts c = whole (c .before .before .before .before .before .before .before)
+slice-aggregate-counts c =
+    let start : tie.Start = search in
+    whole start
 
 -- ---- the start is found, and its number
 
@@ -81,7 +85,7 @@ passes c = sym (checked c .check-best .ensures) ∙ ap checkedNumber (c .enum-to
 
 returns : tie.Need-returns
 returns c =
-    let k = c .before .before .before .before in
+    let k : tie.After-check-best = search in
     let s = begun (read k) in
     let m = c .before .number in
     let t = c .before .before .enum-told2 .given in

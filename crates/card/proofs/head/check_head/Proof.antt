@@ -11,7 +11,8 @@ returns c = rw (lt-leb _ _ (c .if1 .taken))
 returns-2 : tie.Need-returns-2
 unfolding counted
 returns-2 c =
-    let l = c .before .before .before .before .before .before .args .card .now in
+    let start : tie.Start = search in
+    let l = start .args .card .now in
     rw (le-leb 2 (length l) (omega arith)) (c .check-counts .ensures ∙ ap (λ (n : ℕ). refuse 1 (soundCounts n (getD l 1 0))) (c .before .before .index .ensures .0))
 
 pub check-head-spec : {M : Type 1} → statement M

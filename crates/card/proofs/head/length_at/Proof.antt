@@ -4,7 +4,9 @@ use Rattle.card.proofs.head.length_at.Statement.{statement}
 use Rattle.card.proofs.head.length_at.Tie as tie
 
 returns : tie.Need-returns
-returns c = λ h. c .part-length .ensures .0 ∙ ap (lengthOf (c .before .before .before .before .before .args .card .now)) (c .before .index .ensures .0)
+returns c =
+    let start : tie.Start = search in
+    λ h. c .part-length .ensures .0 ∙ ap (lengthOf (start .args .card .now)) (c .before .index .ensures .0)
 
 returns-2 : tie.Need-returns-2
 returns-2 c = λ h. omega (arith, h, c .if1 .left)

@@ -10,7 +10,9 @@ use Rattle.card.proofs.parts.check_card.Statement.{statement}
 use Rattle.card.proofs.parts.check_card.Tie as tie
 
 head : (c : tie.After-index) → Headed (c .before .before .before .before .args .card .now)
-head c = let s = c .before .before .before .before in head-told (s .args .card .now) (s .pre .0)
+head c =
+    let s : tie.Start = search in
+    head-told (s .args .card .now) (s .pre .0)
 
 -- the lengths handed on: one for each machine, the parts' lengths
 as-many : (c : tie.After-index) → length (take (c .index .result) (c .before .before .read-lengths .result)) ≡ c .index .result
@@ -18,7 +20,7 @@ as-many c = length-take-le (c .index .result) (c .before .before .read-lengths .
 
 lengths : (c : tie.After-index) → take (c .index .result) (c .before .before .read-lengths .result) ≡ map length (partsOf (c .before .before .before .before .args .card .now))
 lengths c =
-    let s = c .before .before .before .before in
+    let s : tie.Start = search in
     let l = s .args .card .now in
     let r = c .before .before .read-lengths .result in
     table-lengths l (layout-told (machineCount l) l (s .pre .1)) (take (c .index .result) r) (as-many c ∙ c .index .ensures .0)
@@ -30,7 +32,9 @@ read-lengths-requires c κs =
     omega (arith, head-told (s .args .card .now) (s .pre .0), layout-told (machineCount (s .args .card .now)) (s .args .card .now) (s .pre .1) .table)
 
 shared-slice-read-index : tie.Need-shared-slice-read-index
-shared-slice-read-index c = let s = c .before .before .before in omega (arith, head-told (s .args .card .now) (s .pre .0))
+shared-slice-read-index c =
+    let s : tie.Start = search in
+    omega (arith, head-told (s .args .card .now) (s .pre .0))
 
 array-share-prefix-lengths : tie.Need-array-share-prefix-lengths
 array-share-prefix-lengths c = omega (arith, head c)
@@ -43,15 +47,15 @@ shared-slice-read-check-parts c = omega (arith, head (c .before .before))
 
 check-parts-requires : tie.Need-check-parts-requires
 check-parts-requires c κs =
+    let s : tie.Start = search in
     let x = c .before .before in
-    let s = x .before .before .before .before in
     let l = s .args .card .now in
     (omega (arith, table-total l (layout-told (machineCount l) l (s .pre .1)) (take (x .index .result) (x .before .before .read-lengths .result)) (lengths x)), omega (arith, head x, as-many x), omega (arith, head x))
 
 returns : tie.Need-returns
 returns c =
-    let x = c .before .before .before in
-    let s = x .before .before .before .before in
+    let x : tie.After-index = search in
+    let s : tie.Start = search in
     let l = s .args .card .now in
     let e : x .index .result ≡ machineCount l = x .index .ensures .0 in
     let p = ap (λ k. split (take (x .index .result) (x .before .before .read-lengths .result)) (drop (2 + 4 * k) l)) e

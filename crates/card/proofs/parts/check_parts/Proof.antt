@@ -30,20 +30,23 @@ loop-holds c =
 
 add-end : tie.Need-add-end Inv-loop μ-loop
 add-end c =
-    let k = c .before .before .before in
-    omega (arith, total-left (k .before .before .before .args .lengths .now) (k .loop .i) (omega arith))
+    let k : tie.At-loop Inv-loop μ-loop = search in
+    let start : tie.Start Inv-loop μ-loop = search in
+    omega (arith, total-left (start .args .lengths .now) (k .loop .i) (omega arith))
 
 part-part-end : tie.Need-part-part-end Inv-loop μ-loop
 part-part-end c =
-    let k = c .before .before .before in
-    omega (arith, total-left (k .before .before .before .args .lengths .now) (k .loop .i) (omega arith))
+    let k : tie.At-loop Inv-loop μ-loop = search in
+    let start : tie.Start Inv-loop μ-loop = search in
+    omega (arith, total-left (start .args .lengths .now) (k .loop .i) (omega arith))
 
 returns : tie.Need-returns Inv-loop μ-loop
 returns c =
+    let k : tie.At-loop Inv-loop μ-loop = search in
+    let start : tie.Start Inv-loop μ-loop = search in
     let w = c .before .before in
     let v = w .before .before in
-    let k = v .before .before .before in
-    let a = k .before .before .before .args in
+    let a = start .args in
     w .check .ensures
     ∙ check-stop (a .symbols) (k .loop .states) (a .lengths .now) (a .bytes .now) (k .loop .i) (k .loop .offset) _ (k .loop .inv .4)
     (v .wide .result) (omega arith) (v .wide .ensures .0) (refused-number (c .enum-told2 .given .1) (w .check .ensures))
@@ -61,22 +64,26 @@ passed c = passed-number (c .enum-told .given .1) (c .before .before .check .ens
 -- its states, as many as are multiplied
 few : (c : tie.After-state-count Inv-loop μ-loop) → c .state-count .result ≤ 32
 few c =
-    let s = part-shaped (c .before .before .before .before .before .before .before .before .before .before .before .args .symbols) (part (c .before)) (passed (c .before)) in
+    let start : tie.Start Inv-loop μ-loop = search in
+    let s = part-shaped (start .args .symbols) (part (c .before)) (passed (c .before)) in
     omega (arith, s, c .state-count .ensures)
 
 state-count-requires : tie.Need-state-count-requires Inv-loop μ-loop
-state-count-requires c κs = accepted (c .before .before .before .before .before .before .before .before .before .before .args .symbols) (part c) (passed c) .shape
+state-count-requires c κs =
+    let start : tie.Start Inv-loop μ-loop = search in
+    accepted (start .args .symbols) (part c) (passed c) .shape
 
 mul-states : tie.Need-mul-states Inv-loop μ-loop
 mul-states c =
-    let k = c .before .before .before .before .before .before .before .before in
+    let k : tie.At-loop Inv-loop μ-loop = search in
     record { fits = product-small _ (k .loop .i + 1) (product-next (k .loop .states) (k .loop .i) (c .state-count .result) (k .loop .inv .3) (few c)) (omega arith) }
 
 loop-again : tie.Need-loop-again Inv-loop μ-loop
 loop-again c =
-    let v = c .before .before .before .before .before in
-    let k = v .before .before .before in
-    let a = k .before .before .before .args in (
+    let v : tie.After-wide Inv-loop μ-loop = search in
+    let k : tie.At-loop Inv-loop μ-loop = search in
+    let start : tie.Start Inv-loop μ-loop = search in
+    let a = start .args in (
       refl,
       omega arith,
       omega (arith, total-left (a .lengths .now) (k .loop .i) (omega arith)),
@@ -88,8 +95,9 @@ loop-again c =
 
 returns-2 : tie.Need-returns-2 Inv-loop μ-loop
 returns-2 c =
+    let start : tie.Start Inv-loop μ-loop = search in
     let k = c .before .before in
-    let a = k .before .before .before .args in
+    let a = start .args in
     c .tested .ensures
     ∙ check-end (a .symbols) (k .loop .states) (a .lengths .now) (a .bytes .now) (k .loop .i) (k .loop .offset) _ (k .loop .inv .4) (omega arith)
 

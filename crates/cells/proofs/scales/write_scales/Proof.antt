@@ -13,24 +13,28 @@ loop-holds : tie.Need-loop-holds Inv-loop μ-loop
 loop-holds c = let s = c .before .before in scaling-start (s .args .counts .now) (s .args .weights .now)
 
 mul-weights : tie.Need-mul-weights Inv-loop μ-loop
-mul-weights c = let l = c .before in let s = l .before .before .before in omega (arith, place-within (s .pre .0) (s .pre .1) (l .loop .inv) (l .loop .m - 1) (omega (arith, c .loop-test .taken)), l .loop .inv .written .size)
+mul-weights c =
+    let s : tie.Start Inv-loop μ-loop = search in
+    let l = c .before in omega (arith, place-within (s .pre .0) (s .pre .1) (l .loop .inv) (l .loop .m - 1) (omega (arith, c .loop-test .taken)), l .loop .inv .written .size)
 
 slice-write-weights : tie.Need-slice-write-weights Inv-loop μ-loop
-slice-write-weights c = let l = c .before in let s = l .before .before .before in place-within (s .pre .0) (s .pre .1) (l .loop .inv) (l .loop .m - 1) (omega (arith, c .loop-test .taken))
+slice-write-weights c =
+    let s : tie.Start Inv-loop μ-loop = search in
+    let l = c .before in place-within (s .pre .0) (s .pre .1) (l .loop .inv) (l .loop .m - 1) (omega (arith, c .loop-test .taken))
 
 shared-slice-read-index : tie.Need-shared-slice-read-index Inv-loop μ-loop
 shared-slice-read-index c = let l = c .before .before in omega (arith, l .loop .inv .within, c .before .loop-test .taken)
 
 mul-scale : tie.Need-mul-scale Inv-loop μ-loop
 mul-scale c =
-    let l = c .before .before .before in
-    let s = l .before .before .before in
+    let l : tie.At-loop Inv-loop μ-loop = search in
+    let s : tie.Start Inv-loop μ-loop = search in
     omega (arith, next-few (s .pre .0) (s .pre .1) (l .loop .inv) (l .loop .m - 1) (omega (arith, c .before .before .loop-test .taken)) (c .index .result) (c .index .ensures .0))
 
 loop-again : tie.Need-loop-again Inv-loop μ-loop
 loop-again c =
-    let l = c .before .before .before in
-    let s = l .before .before .before in
+    let l : tie.At-loop Inv-loop μ-loop = search in
+    let s : tie.Start Inv-loop μ-loop = search in
     scaling-next (s .pre .0) (s .pre .1) (l .loop .inv) (l .loop .m - 1) (omega (arith, c .before .before .loop-test .taken)) (c .index .result) (c .index .ensures .0)
 
 same-length : tie.Need-same-length Inv-loop μ-loop

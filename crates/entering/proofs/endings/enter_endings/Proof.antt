@@ -15,7 +15,9 @@ abbrev added : tie.After-write-endings-arg3 → tie.After-add-four
 added c = c .before .before .before .before .before .before .before
 
 fill-endings-requires : tie.Need-fill-endings-requires
-fill-endings-requires c κs = fill-ready (c .before .before .before .before .before .before .before .before .pre .0)
+fill-endings-requires c κs =
+    let start : tie.Start = search in
+    fill-ready (start .pre .0)
 
 add-four-requires : tie.Need-add-four-requires
 add-four-requires c κs =

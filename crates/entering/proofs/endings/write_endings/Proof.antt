@@ -23,7 +23,9 @@ its-places : (c : tie.In-loop Inv-loop μ-loop) → CodePlaces (start c .args .h
 its-places c = code-places (start c .pre .0) (omega (arith, c .loop-test .taken, start c .pre .1))
 
 loop-holds : tie.Need-loop-holds Inv-loop μ-loop
-loop-holds c = (omega arith, written-start (c .before .before .before .pre .0))
+loop-holds c =
+    let start : tie.Start Inv-loop μ-loop = search in
+    (omega arith, written-start (start .pre .0))
 
 mul-a : tie.Need-mul-a Inv-loop μ-loop
 mul-a c = omega (arith, its-places c)
@@ -53,16 +55,24 @@ mul-ending-label-3 : tie.Need-mul-ending-label-3 Inv-loop μ-loop
 mul-ending-label-3 c = omega (arith, its-places (c .before .before))
 
 shared-slice-read-ending-label-3 : tie.Need-shared-slice-read-ending-label-3 Inv-loop μ-loop
-shared-slice-read-ending-label-3 c = its-places (c .before .before .before) .in-low .0
+shared-slice-read-ending-label-3 c =
+    let in-loop : tie.In-loop Inv-loop μ-loop = search in
+    its-places in-loop .in-low .0
 
 mul-ending-label-4 : tie.Need-mul-ending-label-4 Inv-loop μ-loop
-mul-ending-label-4 c = omega (arith, its-places (c .before .before .before))
+mul-ending-label-4 c =
+    let in-loop : tie.In-loop Inv-loop μ-loop = search in
+    omega (arith, its-places in-loop)
 
 shared-slice-read-ending-label-4 : tie.Need-shared-slice-read-ending-label-4 Inv-loop μ-loop
-shared-slice-read-ending-label-4 c = its-places (c .before .before .before .before) .in-low .1
+shared-slice-read-ending-label-4 c =
+    let in-loop : tie.In-loop Inv-loop μ-loop = search in
+    its-places in-loop .in-low .1
 
 add-ending-label-2 : tie.Need-add-ending-label-2 Inv-loop μ-loop
-add-ending-label-2 c = omega (arith, its-places (c .before .before .before .before) .low-fits)
+add-ending-label-2 c =
+    let in-loop : tie.In-loop Inv-loop μ-loop = search in
+    omega (arith, its-places in-loop .low-fits)
 
 slice-write-own : tie.Need-slice-write-own Inv-loop μ-loop
 slice-write-own c = omega (arith, looped c .before .loop .inv .1 .size, its-places (looped c) .code-few)
@@ -80,7 +90,9 @@ loop-again c =
     (omega arith, written-next (start i .pre .0) (i .before .loop .inv .1) (omega (arith, h, start i .pre .1)) (c .ending-label .result) (c .ending-label .ensures))
 
 same-length : tie.Need-same-length Inv-loop μ-loop
-same-length c = c .before .loop .inv .1 .size ∙ sym (c .before .before .before .before .before .pre .0 .size)
+same-length c =
+    let start : tie.Start Inv-loop μ-loop = search in
+    c .before .loop .inv .1 .size ∙ sym (start .pre .0 .size)
 
 returns : tie.Need-returns Inv-loop μ-loop
 returns c = written-end (c .before .loop .inv .1) (c .before .loop .inv .0) (c .loop-test .left)

@@ -14,7 +14,7 @@ part-requires-2 c κs = let s = c .before .before in (s .pre .accepted, second-i
 
 arc-count-requires : tie.Need-arc-count-requires
 arc-count-requires c κs =
-    let s = c .before .before .before in
+    let s : tie.Start = search in
     let card = s .args .card .now in
     let h = s .pre in
     (rw (c .before .part .ensures) (shape-of card (s .args .lower) (s .args .other) h (s .args .lower) (first-in card (s .args .lower) (s .args .other) h)), rw (c .part2 .ensures) (shape-of card (s .args .lower) (s .args .other) h (s .args .other) (second-in card (s .args .lower) (s .args .other) h)))

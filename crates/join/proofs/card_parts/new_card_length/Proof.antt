@@ -15,7 +15,7 @@ lengths c = ap (λ (n : ℕ). take n (c .before .part-lengths .result)) (many c)
 
 facts : (c : tie.After-machine-count) → (1 < machineCount (c .before .before .before .before .args .card .now)) × (machineCount (c .before .before .before .before .args .card .now) ≤ 6)
 facts c =
-    let s = c .before .before .before .before in
+    let s : tie.Start = search in
     (omega (arith, s .pre .may .order, second-in (s .args .card .now) (s .args .lower) (s .args .other) (s .pre)), few-machines (s .args .card .now) (s .args .lower) (s .args .other) (s .pre))
 
 as-many : (c : tie.After-machine-count) → length (take (c .machine-count .result - 1) (c .before .part-lengths .result)) ≡ c .machine-count .result - 1
@@ -25,7 +25,9 @@ part-lengths-requires : tie.Need-part-lengths-requires
 part-lengths-requires c κs = (c .before .before .pre, c .arc-count .ensures)
 
 machine-count-requires : tie.Need-machine-count-requires
-machine-count-requires c κs = c .before .before .before .pre .accepted
+machine-count-requires c κs =
+    let start : tie.Start = search in
+    start .pre .accepted
 
 sub-machines : tie.Need-sub-machines
 sub-machines c = omega (arith, c .machine-count .ensures, facts c)
@@ -47,16 +49,17 @@ sum-requires c κs = omega (arith, as-many (c .before), many (c .before), facts 
 
 add-result-2 : tie.Need-add-result-2
 add-result-2 c =
+    let after-shared-slice-known : tie.After-shared-slice-known = search in
+    let s : tie.Start = search in
     let m = c .before .before in
-    let s = m .before .before .before .before in
     let card = s .args .card .now in
-    let small = card-small card (s .args .lower) (s .args .other) (s .pre) (λ k. omega (arith, m .before .before .before .shared-slice-known .given k)) in
+    let small = card-small card (s .args .lower) (s .args .other) (s .pre) (λ k. omega (arith, after-shared-slice-known .shared-slice-known .given k)) in
     omega (arith, many m, facts m, c .sum .ensures, total-length card (s .args .lower) (s .args .other) (s .pre) (take (m .machine-count .result - 1) (m .before .part-lengths .result)) (lengths m), card-length card (s .args .lower) (s .args .other) (s .pre), small)
 
 returns : tie.Need-returns
 returns c =
+    let s : tie.Start = search in
     let m = c .before .before in
-    let s = m .before .before .before .before in
     let card = s .args .card .now in
     omega (arith, many m, c .sum .ensures, total-length card (s .args .lower) (s .args .other) (s .pre) (take (m .machine-count .result - 1) (m .before .part-lengths .result)) (lengths m), card-length card (s .args .lower) (s .args .other) (s .pre))
 

@@ -13,12 +13,14 @@ use Rattle.join.proofs.card_parts.part_length.Tie as tie
 count : (c : tie.After-state-count2) →
     let entry = c .before .before .before .before .before .before in
     c .before .state-count .result * c .state-count2 .result ≡ stateCount (partOf (entry .args .card .now) (entry .args .lower)) * stateCount (partOf (entry .args .card .now) (entry .args .other))
-count c = ap₂ (λ (m n : ℕ). m * n) (c .before .state-count .ensures ∙ ap stateCount (c .before .before .before .part .ensures)) (c .state-count2 .ensures ∙ ap stateCount (c .before .before .part2 .ensures))
+count c =
+    let after-part : tie.After-part = search in
+    ap₂ (λ (m n : ℕ). m * n) (c .before .state-count .ensures ∙ ap stateCount (after-part .part .ensures)) (c .state-count2 .ensures ∙ ap stateCount (c .before .before .part2 .ensures))
 
 -- its size
 size : (c : tie.After-state-count2) → (c .before .state-count .result * c .state-count2 .result ≤ 32) × (c .before .before .before .before .before .before .args .arcs ≤ 255)
 size c =
-    let s = c .before .before .before .before .before .before in
+    let s : tie.Start = search in
     let card = s .args .card .now in
     let j = parts-join card (s .args .lower) (s .args .other) (s .pre .0) in
     let p = partOf card (s .args .lower) in
@@ -30,7 +32,7 @@ in-card : (c : tie.After-old-number)
     → (c .old-number .result < machineCount (c .before .before .before .args .card .now))
     × (getD (joinedParts (c .before .before .before .args .lower) (c .before .before .before .args .other) (partsOf (c .before .before .before .args .card .now))) (c .before .before .before .args .i) [] ≡ partOf (c .before .before .before .args .card .now) (c .old-number .result))
 in-card c =
-    let s = c .before .before .before in
+    let s : tie.Start = search in
     let card = s .args .card .now in
     let w = new-other card (s .args .lower) (s .args .other) (s .pre .0) (s .args .i) (c .before .if1 .left) (s .pre .2) in
     (omega (arith, c .old-number .ensures, w .0), w .1 ∙ ap (partOf card) (sym (c .old-number .ensures)))
@@ -39,18 +41,20 @@ part-requires : tie.Need-part-requires
 part-requires c κs = let s = c .before .before in (s .pre .0 .accepted, first-in (s .args .card .now) (s .args .lower) (s .args .other) (s .pre .0))
 
 part-requires-2 : tie.Need-part-requires-2
-part-requires-2 c κs = let s = c .before .before .before in (s .pre .0 .accepted, second-in (s .args .card .now) (s .args .lower) (s .args .other) (s .pre .0))
+part-requires-2 c κs =
+    let s : tie.Start = search in
+    (s .pre .0 .accepted, second-in (s .args .card .now) (s .args .lower) (s .args .other) (s .pre .0))
 
 state-count-requires : tie.Need-state-count-requires
 state-count-requires c κs =
-    let s = c .before .before .before .before in
+    let s : tie.Start = search in
     let card = s .args .card .now in
     let h = s .pre .0 in
     rw (c .before .part .ensures) (shape-of card (s .args .lower) (s .args .other) h (s .args .lower) (first-in card (s .args .lower) (s .args .other) h))
 
 state-count-requires-2 : tie.Need-state-count-requires-2
 state-count-requires-2 c κs =
-    let s = c .before .before .before .before .before in
+    let s : tie.Start = search in
     let card = s .args .card .now in
     let h = s .pre .0 in
     rw (c .before .part2 .ensures) (shape-of card (s .args .lower) (s .args .other) h (s .args .other) (second-in card (s .args .lower) (s .args .other) h))
@@ -69,12 +73,13 @@ add-result-2 c = omega (arith, size c)
 
 returns : tie.Need-returns
 returns c =
-    let s = c .before .before .before .before .before .before in
+    let then1 : tie.Then1 = search in
+    let s : tie.Start = search in
     let card = s .args .card .now in
     let i = s .args .lower in
     let j = s .args .other in
     let h = s .pre .0 in
-    let e : getD (joinedParts i j (partsOf card)) (s .args .i) [] ≡ joinedPart (partOf card i) (partOf card j) = ap (λ (k : ℕ). getD (joinedParts i j (partsOf card)) k []) (c .before .before .before .before .if1 .taken) ∙ new-here card i j h in
+    let e : getD (joinedParts i j (partsOf card)) (s .args .i) [] ≡ joinedPart (partOf card i) (partOf card j) = ap (λ (k : ℕ). getD (joinedParts i j (partsOf card)) k []) (then1 .if1 .taken) ∙ new-here card i j h in
     let l = ap length e ∙ joined-length (partOf card i) (partOf card j) (parts-join card i j h) in
     (omega (arith, l, count c, s .pre .1), omega (arith, size c))
 
@@ -83,13 +88,13 @@ old-number-requires c κs = let s = c .before .before in omega (arith, few-machi
 
 part-length-requires : tie.Need-part-length-requires
 part-length-requires c κs =
-    let s = c .before .before .before in
+    let s : tie.Start = search in
     is-accepted (s .args .card .now) (s .args .lower) (s .args .other) (s .pre .0) .within (c .old-number .result) (in-card c .0) .place
 
 returns-2 : tie.Need-returns-2
 returns-2 c =
+    let s : tie.Start = search in
     let o = c .before in
-    let s = o .before .before .before in
     let card = s .args .card .now in
     let w = in-card o in
     (c .part-length .ensures .0 ∙ sym (ap length (w .1) ∙ other-length card (s .args .lower) (s .args .other) (s .pre .0) (o .old-number .result) (w .0)), c .part-length .ensures .1)

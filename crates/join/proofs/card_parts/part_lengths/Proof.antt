@@ -24,26 +24,26 @@ loop-holds c = (refl, omega arith, λ k h. absurd (omega (arith, h)))
 
 part-length-requires : tie.Need-part-length-requires Inv-loop μ-loop
 part-length-requires c κs =
+    let s : tie.Start Inv-loop μ-loop = search in
     let k = c .before in
-    let s = k .before .before .before in
     (s .pre .0, s .pre .1, omega (arith, k .before .machine-count .ensures))
 
 mul-lengths : tie.Need-mul-lengths Inv-loop μ-loop
 mul-lengths c =
+    let s : tie.Start Inv-loop μ-loop = search in
     let k = c .before .before in
-    let s = k .before .before .before in
     omega (arith, k .before .machine-count .ensures, few-machines (s .args .card .now) (s .args .lower) (s .args .other) (s .pre .0))
 
 array-write-lengths : tie.Need-array-write-lengths Inv-loop μ-loop
 array-write-lengths c =
+    let s : tie.Start Inv-loop μ-loop = search in
     let k = c .before .before in
-    let s = k .before .before .before in
     omega (arith, k .before .machine-count .ensures, few-machines (s .args .card .now) (s .args .lower) (s .args .other) (s .pre .0), k .loop .inv .0)
 
 loop-again : tie.Need-loop-again Inv-loop μ-loop
 loop-again c =
+    let s : tie.Start Inv-loop μ-loop = search in
     let k = c .before .before in
-    let s = k .before .before .before in
     let P = joinedParts (s .args .lower) (s .args .other) (partsOf (s .args .card .now)) in
     let l = k .loop .lengths in
     let i = k .loop .i in
@@ -55,8 +55,8 @@ loop-again c =
 
 returns : tie.Need-returns Inv-loop μ-loop
 returns c =
+    let s : tie.Start Inv-loop μ-loop = search in
     let k = c .before in
-    let s = k .before .before .before in
     let l = k .loop in
     (l .inv .0, lengths-told (s .args .card .now) (s .args .lower) (s .args .other) (s .pre .0) (l .lengths) (l .inv .0) (λ n h. l .inv .2 n (omega (arith, h, k .before .machine-count .ensures))))
 

@@ -16,7 +16,7 @@ lengths c = ap (λ (n : ℕ). take n (c .before .part-lengths .result)) (many c)
 
 facts : (c : tie.After-machine-count) → (1 < machineCount (c .before .before .before .before .before .args .card .now)) × (machineCount (c .before .before .before .before .before .args .card .now) ≤ 6)
 facts c =
-    let s = c .before .before .before .before .before in
+    let s : tie.Start = search in
     (omega (arith, s .pre .0 .may .order, second-in (s .args .card .now) (s .args .lower) (s .args .other) (s .pre .0)), few-machines (s .args .card .now) (s .args .lower) (s .args .other) (s .pre .0))
 
 as-many : (c : tie.After-machine-count) → length (take (c .machine-count .result - 1) (c .before .part-lengths .result)) ≡ c .machine-count .result - 1
@@ -26,55 +26,64 @@ arc-count-requires : tie.Need-arc-count-requires
 arc-count-requires c κs = c .before .before .pre .0
 
 part-lengths-requires : tie.Need-part-lengths-requires
-part-lengths-requires c κs = (c .before .before .before .pre .0, c .arc-count .ensures)
+part-lengths-requires c κs =
+    let start : tie.Start = search in
+    (start .pre .0, c .arc-count .ensures)
 
 machine-count-requires : tie.Need-machine-count-requires
-machine-count-requires c κs = c .before .before .before .before .pre .0 .accepted
+machine-count-requires c κs =
+    let start : tie.Start = search in
+    start .pre .0 .accepted
 
 sub-machines : tie.Need-sub-machines
 sub-machines c = omega (arith, c .machine-count .ensures, facts c)
 
 symbol-count-requires : tie.Need-symbol-count-requires
-symbol-count-requires c κs = c .before .before .before .before .before .before .pre .0 .accepted
+symbol-count-requires c κs =
+    let start : tie.Start = search in
+    start .pre .0 .accepted
 
 array-share-prefix-lengths : tie.Need-array-share-prefix-lengths
 array-share-prefix-lengths c = let m = c .before .before in omega (arith, many m, facts m)
 
 slice-aggregate-write-table : tie.Need-slice-aggregate-write-table
-slice-aggregate-write-table c = sym (as-many (c .before .before .before))
+slice-aggregate-write-table c =
+    let after-machine-count : tie.After-machine-count = search in
+    sym (as-many after-machine-count)
 
 write-table-requires : tie.Need-write-table-requires
 write-table-requires c κs =
-    let m = c .before .before .before in
-    let s = m .before .before .before .before .before in
+    let m : tie.After-machine-count = search in
+    let after-shared-slice-known : tie.After-shared-slice-known = search in
+    let s : tie.Start = search in
     let card = s .args .card .now in
     let i = s .args .lower in
     let j = s .args .other in
     let ns = take (m .machine-count .result - 1) (m .before .part-lengths .result) in
-    let small = card-small card i j (s .pre .0) (λ k. omega (arith, m .before .before .before .shared-slice-known .given k)) in
+    let small = card-small card i j (s .pre .0) (λ k. omega (arith, after-shared-slice-known .shared-slice-known .given k)) in
     let whole = card-length card i j (s .pre .0) in
     let sum = total-length card i j (s .pre .0) ns (lengths m) in
     (omega (arith, as-many m, many m, facts m), omega (arith, as-many m, many m, whole, s .pre .1), omega (arith, as-many m, many m, whole, sum, small))
 
 write-parts-requires : tie.Need-write-parts-requires
 write-parts-requires c κs =
-    let w = c .before .before .before in
-    let m = w .before .before .before .before in
-    let s = m .before .before .before .before .before in
+    let w : tie.After-write-table = search in
+    let m : tie.After-machine-count = search in
+    let s : tie.Start = search in
     (s .pre .0, m .before .before .arc-count .ensures, omega (arith, s .pre .1, w .write-table .kept))
 
 same-length : tie.Need-same-length
 same-length c =
+    let w : tie.After-write-table = search in
     let v = c .before .before in
-    let w = v .before .before .before .before in
     omega (arith, v .write-parts .kept, w .write-table .kept)
 
 returns : tie.Need-returns
 returns c =
+    let w : tie.After-write-table = search in
+    let m : tie.After-machine-count = search in
+    let s : tie.Start = search in
     let v = c .before .before in
-    let w = v .before .before .before .before in
-    let m = w .before .before .before .before in
-    let s = m .before .before .before .before .before in
     let card = s .args .card .now in
     let i = s .args .lower in
     let j = s .args .other in

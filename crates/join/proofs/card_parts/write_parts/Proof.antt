@@ -21,15 +21,15 @@ many c = ap (λ (n : ℕ). n - 1) (c .machine-count .ensures)
 
 facts : (c : tie.After-machine-count Inv-loop μ-loop) → (1 < machineCount (c .before .before .before .args .card .now)) × (machineCount (c .before .before .before .args .card .now) ≤ 6)
 facts c =
-    let s = c .before .before .before in
+    let s : tie.Start Inv-loop μ-loop = search in
     (omega (arith, s .pre .0 .may .order, second-in (s .args .card .now) (s .args .lower) (s .args .other) (s .pre .0)), few-machines (s .args .card .now) (s .args .lower) (s .args .other) (s .pre .0))
 
 -- the part lies within the target
 room : (c : tie.After-part-length Inv-loop μ-loop) → c .before .before .loop .offset + c .part-length .result ≤ length (c .before .before .loop .target)
 room c =
+    let s : tie.Start Inv-loop μ-loop = search in
     let k = c .before .before in
     let m = k .before in
-    let s = m .before .before .before in
     let card = s .args .card .now in
     let i = s .args .lower in
     let j = s .args .other in
@@ -54,7 +54,7 @@ add-offset c = omega (arith, many c, facts c)
 
 loop-holds : tie.Need-loop-holds Inv-loop μ-loop
 loop-holds c =
-    let s = c .before .before .before in
+    let s : tie.Start Inv-loop μ-loop = search in
     let card = s .args .card .now in
     let i = s .args .lower in
     let j = s .args .other in
@@ -68,8 +68,8 @@ loop-holds c =
 
 part-length-requires : tie.Need-part-length-requires Inv-loop μ-loop
 part-length-requires c κs =
+    let s : tie.Start Inv-loop μ-loop = search in
     let m = c .before .before in
-    let s = m .before .before .before in
     (s .pre .0, s .pre .1, omega (arith, many m, facts m))
 
 add-end : tie.Need-add-end Inv-loop μ-loop
@@ -80,18 +80,18 @@ part-write-part-end c = omega (arith, room c)
 
 write-part-requires : tie.Need-write-part-requires Inv-loop μ-loop
 write-part-requires c κs =
+    let m : tie.After-machine-count Inv-loop μ-loop = search in
+    let s : tie.Start Inv-loop μ-loop = search in
     let p = c .before in
-    let m = p .before .before .before in
-    let s = m .before .before .before in
     (s .pre .0, s .pre .1, omega (arith, many m, facts m), simp (length-take, length-drop) (omega (arith, room p, p .part-length .ensures .0)))
 
 loop-again : tie.Need-loop-again Inv-loop μ-loop
 loop-again c =
+    let s : tie.Start Inv-loop μ-loop = search in
     let w = c .before .before in
     let p = w .before .before in
     let k = p .before .before in
     let m = k .before in
-    let s = m .before .before .before in
     let card = s .args .card .now in
     let i = s .args .lower in
     let j = s .args .other in
@@ -111,9 +111,9 @@ same-length c = c .before .loop .inv .1 .size
 
 returns : tie.Need-returns Inv-loop μ-loop
 returns c =
+    let s : tie.Start Inv-loop μ-loop = search in
     let k = c .before in
     let m = k .before in
-    let s = m .before .before .before in
     let card = s .args .card .now in
     let i = s .args .lower in
     let j = s .args .other in

@@ -16,19 +16,21 @@ write-number-requires : tie.Need-write-number-requires
 write-number-requires c κs = simp length-set (omega arith)
 
 write-number-requires-2 : tie.Need-write-number-requires-2
-write-number-requires-2 c κs = omega (arith, simp length-set at (c .before .before .before .write-number .kept))
+write-number-requires-2 c κs =
+    let after-write-number : tie.After-write-number = search in
+    omega (arith, simp length-set at (after-write-number .write-number .kept))
 
 same-length : tie.Need-same-length
 same-length c =
+    let v : tie.After-write-number = search in
     let w = c .before .before in
-    let v = w .before .before .before .before in
     omega (arith, w .write-number2 .kept, simp length-set at (v .write-number .kept))
 
 returns : tie.Need-returns
 returns c =
+    let v : tie.After-write-number = search in
+    let s : tie.Start = search in
     let w = c .before .before in
-    let v = w .before .before .before .before in
-    let s = v .before .before .before in
     arc-placed (s .args .at) (s .args .arc) (s .args .target .now) (v .write-number .last .0) (w .write-number2 .last .0) (omega arith) (v .write-number .ensures) (w .write-number2 .ensures)
 
 pub write-arc-spec : {M : Type 1} → statement M

@@ -27,7 +27,7 @@ bytes c =
 
 loop-holds : tie.Need-loop-holds Inv-loop μ-loop
 loop-holds c =
-    let s = c .before .before .before in
+    let s : tie.Start Inv-loop μ-loop = search in
     let f = oneByte (s .args .byte) in
     let l = stateBytes (s .args .second .now) in
     let t = s .args .target .now in
@@ -37,20 +37,20 @@ loop-holds c =
 
 joined-byte-requires : tie.Need-joined-byte-requires Inv-loop μ-loop
 joined-byte-requires c κs =
+    let s : tie.Start Inv-loop μ-loop = search in
     let k = c .before .before in
-    let s = k .before .before .before .before in
     let second = s .args .second .now in
     (s .pre .2, omega (arith, c .state-byte .ensures, state-byte-few second (s .pre .0) (s .pre .1) (k .loop .i) (omega arith)))
 
 slice-write-target : tie.Need-slice-write-target Inv-loop μ-loop
 slice-write-target c =
-    let k = c .before .before .before in
+    let k : tie.At-loop Inv-loop μ-loop = search in
     omega (arith, k .loop .inv .2 .size)
 
 loop-again : tie.Need-loop-again Inv-loop μ-loop
 loop-again c =
-    let k = c .before .before .before in
-    let s = k .before .before .before .before in
+    let k : tie.At-loop Inv-loop μ-loop = search in
+    let s : tie.Start Inv-loop μ-loop = search in
     let second = s .args .second .now in
     let byte = s .args .byte in
     let at = s .args .at in
@@ -68,8 +68,8 @@ same-length c = c .before .loop .inv .2 .size
 
 returns : tie.Need-returns Inv-loop μ-loop
 returns c =
+    let s : tie.Start Inv-loop μ-loop = search in
     let k = c .before in
-    let s = k .before .before .before .before in
     let second = s .args .second .now in
     let byte = s .args .byte in
     rest-end (oneByte byte) (stateBytes second) (k .loop .inv .2) (omega (arith, states-length second (s .pre .0))) .0

@@ -21,8 +21,8 @@ abbrev μ-loop : tie.MeasureT-loop
 -- the row has room, and as many bytes as the second part has states
 room : (c : tie.In-loop Inv-loop μ-loop) → c .before .loop .next + stateCount (c .before .before .before .before .before .before .before .args .second .now) ≤ length (c .before .loop .target)
 room c =
+    let s : tie.Start Inv-loop μ-loop = search in
     let k = c .before in
-    let s = k .before .before .before .before .before .before in
     let first = s .args .first .now in
     let second = s .args .second .now in
     let l = k .loop in
@@ -36,30 +36,30 @@ room c =
 
 state-count-requires : tie.Need-state-count-requires Inv-loop μ-loop
 state-count-requires c κs =
-    let s = c .before .before .before in
+    let s : tie.Start Inv-loop μ-loop = search in
     second-accepted (s .args .first .now) (s .args .second .now) (s .pre .0) .shape
 
 state-count-requires-2 : tie.Need-state-count-requires-2 Inv-loop μ-loop
 state-count-requires-2 c κs =
-    let s = c .before .before .before .before in
+    let s : tie.Start Inv-loop μ-loop = search in
     first-accepted (s .args .first .now) (s .args .second .now) (s .pre .0) .shape
 
 loop-holds : tie.Need-loop-holds Inv-loop μ-loop
 loop-holds c =
-    let s = c .before .before .before .before .before in
+    let s : tie.Start Inv-loop μ-loop = search in
     (c .state-count2 .ensures, omega arith, rest-start (row (s .args .second .now)) (stateBytes (s .args .first .now)) (s .args .at) (s .args .target .now) (s .pre .1))
 
 state-byte-requires : tie.Need-state-byte-requires Inv-loop μ-loop
 state-byte-requires c κs =
+    let s : tie.Start Inv-loop μ-loop = search in
     let k = c .before .before in
-    let s = k .before .before .before .before .before .before in
     (first-accepted (s .args .first .now) (s .args .second .now) (s .pre .0) .shape, omega arith)
 
 write-ending-requires : tie.Need-write-ending-requires Inv-loop μ-loop
 write-ending-requires c κs =
+    let s : tie.Start Inv-loop μ-loop = search in
     let i = c .before .before in
     let k = i .before in
-    let s = k .before .before .before .before .before .before in
     let first = s .args .first .now in
     let second = s .args .second .now in
     let a = first-accepted first second (s .pre .0) in
@@ -68,15 +68,16 @@ write-ending-requires c κs =
 
 add-next : tie.Need-add-next Inv-loop μ-loop
 add-next c =
-    let i = c .before .before .before .before .before in
-    omega (arith, room i, i .before .before .before .state-count .ensures)
+    let i : tie.In-loop Inv-loop μ-loop = search in
+    let after-state-count : tie.After-state-count Inv-loop μ-loop = search in
+    omega (arith, room i, after-state-count .state-count .ensures)
 
 loop-again : tie.Need-loop-again Inv-loop μ-loop
 loop-again c =
+    let i : tie.In-loop Inv-loop μ-loop = search in
+    let s : tie.Start Inv-loop μ-loop = search in
     let w = c .before .before in
-    let i = w .before .before .before in
     let k = i .before in
-    let s = k .before .before .before .before .before .before in
     let first = s .args .first .now in
     let second = s .args .second .now in
     let l = k .loop in
@@ -93,8 +94,8 @@ same-length c = c .before .loop .inv .2 .size
 
 returns : tie.Need-returns Inv-loop μ-loop
 returns c =
+    let s : tie.Start Inv-loop μ-loop = search in
     let k = c .before in
-    let s = k .before .before .before .before .before .before in
     let first = s .args .first .now in
     let second = s .args .second .now in
     rest-end (row second) (stateBytes first) (k .loop .inv .2) (omega (arith, states-length first (first-accepted first second (s .pre .0) .shape))) .0

@@ -14,7 +14,7 @@ count c = ap₂ (λ (m n : ℕ). m * n) (c .before .state-count .ensures) (c .st
 
 few : (c : tie.After-state-count2) → c .before .state-count .result * c .state-count2 .result ≤ 32
 few c =
-    let s = c .before .before .before .before .before in
+    let s : tie.Start = search in
     omega (arith, count c, few-states (s .args .first .now) (s .args .second .now) (s .pre .0))
 
 -- what is written, and how long it is
@@ -23,12 +23,12 @@ sizes c = rows-length (c .args .first .now) (c .args .second .now) (c .pre .0) �
 
 state-count-requires : tie.Need-state-count-requires
 state-count-requires c κs =
-    let s = c .before .before .before in
+    let s : tie.Start = search in
     first-accepted (s .args .first .now) (s .args .second .now) (s .pre .0) .shape
 
 state-count-requires-2 : tie.Need-state-count-requires-2
 state-count-requires-2 c κs =
-    let s = c .before .before .before .before in
+    let s : tie.Start = search in
     second-accepted (s .args .first .now) (s .args .second .now) (s .pre .0) .shape
 
 mul-states : tie.Need-mul-states
@@ -38,43 +38,49 @@ cast-stretch : tie.Need-cast-stretch
 cast-stretch c = omega (arith, few c)
 
 slice-write-stretch : tie.Need-slice-write-stretch
-slice-write-stretch c = omega (arith, sizes (c .before .before .before .before .before))
+slice-write-stretch c =
+    let start : tie.Start = search in
+    omega (arith, sizes start)
 
 cast-stretch-2 : tie.Need-cast-stretch-2
 cast-stretch-2 c =
-    let s = c .before .before .before .before .before in
+    let s : tie.Start = search in
     omega (arith, s .pre .2, few-arcs (s .args .first .now) (s .args .second .now) (s .pre .0))
 
 slice-write-stretch-2 : tie.Need-slice-write-stretch-2
-slice-write-stretch-2 c = simp length-set (omega (arith, sizes (c .before .before .before .before .before)))
+slice-write-stretch-2 c =
+    let start : tie.Start = search in
+    simp length-set (omega (arith, sizes start))
 
 write-endings-requires : tie.Need-write-endings-requires
 write-endings-requires c κs =
-    let s = c .before .before .before .before .before .before in
+    let s : tie.Start = search in
     (s .pre .0, simp length-set (omega (arith, sizes s)))
 
 add-write-rows : tie.Need-add-write-rows
-add-write-rows c = omega (arith, few (c .before .before .before .before .before))
+add-write-rows c =
+    let after-state-count2 : tie.After-state-count2 = search in
+    omega (arith, few after-state-count2)
 
 write-rows-requires : tie.Need-write-rows-requires
 write-rows-requires c κs =
-    let w = c .before .before .before in
+    let w : tie.After-write-endings = search in
+    let s : tie.Start = search in
     let n = w .before .before in
-    let s = n .before .before .before .before .before in
     (s .pre .0, omega (arith, sizes s, count n, endings-length (s .args .first .now) (s .args .second .now) (s .pre .0), simp length-set at (w .write-endings .kept)))
 
 same-length : tie.Need-same-length
 same-length c =
+    let w : tie.After-write-endings = search in
     let v = c .before .before in
-    let w = v .before .before .before .before in
     omega (arith, v .write-rows .kept, simp length-set at (w .write-endings .kept))
 
 returns : tie.Need-returns
 returns c =
+    let w : tie.After-write-endings = search in
+    let s : tie.Start = search in
     let v = c .before .before in
-    let w = v .before .before .before .before in
     let n = w .before .before in
-    let s = n .before .before .before .before .before in
     let first = s .args .first .now in
     let second = s .args .second .now in
     let endings = crossed joinedByte (stateBytes first) (stateBytes second) in

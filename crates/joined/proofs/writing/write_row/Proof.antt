@@ -18,24 +18,26 @@ state-count-requires : tie.Need-state-count-requires Inv-loop μ-loop
 state-count-requires c κs = c .before .before .pre .0 .shape
 
 arc-count-requires : tie.Need-arc-count-requires Inv-loop μ-loop
-arc-count-requires c κs = c .before .before .before .pre .0 .shape
+arc-count-requires c κs =
+    let start : tie.Start Inv-loop μ-loop = search in
+    start .pre .0 .shape
 
 loop-holds : tie.Need-loop-holds Inv-loop μ-loop
 loop-holds c =
-    let s = c .before .before .before .before in
+    let s : tie.Start Inv-loop μ-loop = search in
     (omega arith, rest-start (sharedBytes (stateCount (s .args .second .now)) (s .args .arc)) (arcsOf (s .args .second .now)) (s .args .at) (s .args .target .now) (s .pre .1))
 
 nth-arc-requires : tie.Need-nth-arc-requires Inv-loop μ-loop
 nth-arc-requires c κs =
+    let s : tie.Start Inv-loop μ-loop = search in
     let k = c .before in
-    let s = k .before .before .before .before .before in
     (s .pre .0 .shape, k .before .before .state-count .ensures, omega arith)
 
 write-shared-requires : tie.Need-write-shared-requires Inv-loop μ-loop
 write-shared-requires c κs =
+    let s : tie.Start Inv-loop μ-loop = search in
     let n = c .before in
     let k = n .before .before in
-    let s = k .before .before .before .before .before in
     let second = s .args .second .now in
     let room = rest-room (sharedBytes (stateCount second) (s .args .arc)) (arcsOf second) (k .loop .inv .1) noArc (omega (arith, arcs-length second)) in
     shared-ready second (s .args .arc) (n .nth-arc .result) (k .before .before .state-count .result) (k .loop .i) (k .loop .next) (length (k .loop .target))
@@ -43,10 +45,10 @@ write-shared-requires c κs =
 
 loop-again : tie.Need-loop-again Inv-loop μ-loop
 loop-again c =
+    let s : tie.Start Inv-loop μ-loop = search in
     let w = c .before .before in
     let n = w .before .before in
     let k = n .before .before in
-    let s = k .before .before .before .before .before in
     let second = s .args .second .now in
     let arc = s .args .arc in
     let l = k .loop in
@@ -63,8 +65,8 @@ same-length c = c .before .loop .inv .1 .size
 
 returns : tie.Need-returns Inv-loop μ-loop
 returns c =
+    let s : tie.Start Inv-loop μ-loop = search in
     let k = c .before in
-    let s = k .before .before .before .before .before in
     let second = s .args .second .now in
     rest-end (sharedBytes (stateCount second) (s .args .arc)) (arcsOf second) (k .loop .inv .1) (omega (arith, arcs-length second))
 

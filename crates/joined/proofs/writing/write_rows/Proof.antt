@@ -15,30 +15,30 @@ abbrev μ-loop : tie.MeasureT-loop
 
 state-count-requires : tie.Need-state-count-requires Inv-loop μ-loop
 state-count-requires c κs =
-    let s = c .before .before .before in
+    let s : tie.Start Inv-loop μ-loop = search in
     first-accepted (s .args .first .now) (s .args .second .now) (s .pre .0) .shape
 
 arc-count-requires : tie.Need-arc-count-requires Inv-loop μ-loop
 arc-count-requires c κs =
-    let s = c .before .before .before .before in
+    let s : tie.Start Inv-loop μ-loop = search in
     first-accepted (s .args .first .now) (s .args .second .now) (s .pre .0) .shape
 
 loop-holds : tie.Need-loop-holds Inv-loop μ-loop
 loop-holds c =
-    let s = c .before .before .before .before .before in
+    let s : tie.Start Inv-loop μ-loop = search in
     (omega arith, rest-start (rowBytes (s .args .second .now)) (arcsOf (s .args .first .now)) (s .args .at) (s .args .target .now) (s .pre .1))
 
 nth-arc-requires : tie.Need-nth-arc-requires Inv-loop μ-loop
 nth-arc-requires c κs =
+    let s : tie.Start Inv-loop μ-loop = search in
     let k = c .before in
-    let s = k .before .before .before .before .before .before in
     (first-accepted (s .args .first .now) (s .args .second .now) (s .pre .0) .shape, k .before .before .state-count .ensures, omega arith)
 
 write-row-requires : tie.Need-write-row-requires Inv-loop μ-loop
 write-row-requires c κs =
+    let s : tie.Start Inv-loop μ-loop = search in
     let n = c .before in
     let k = n .before .before in
-    let s = k .before .before .before .before .before .before in
     let first = s .args .first .now in
     let second = s .args .second .now in
     let room = rest-room (rowBytes second) (arcsOf first) (k .loop .inv .1) noArc (omega (arith, arcs-length first)) in
@@ -47,10 +47,10 @@ write-row-requires c κs =
 
 loop-again : tie.Need-loop-again Inv-loop μ-loop
 loop-again c =
+    let s : tie.Start Inv-loop μ-loop = search in
     let w = c .before .before in
     let n = w .before .before in
     let k = n .before .before in
-    let s = k .before .before .before .before .before .before in
     let first = s .args .first .now in
     let second = s .args .second .now in
     let l = k .loop in
@@ -66,8 +66,8 @@ same-length c = c .before .loop .inv .1 .size
 
 returns : tie.Need-returns Inv-loop μ-loop
 returns c =
+    let s : tie.Start Inv-loop μ-loop = search in
     let k = c .before in
-    let s = k .before .before .before .before .before .before in
     rest-end (rowBytes (s .args .second .now)) (arcsOf (s .args .first .now)) (k .loop .inv .1) (omega (arith, arcs-length (s .args .first .now))) .0
 
 pub write-rows-spec : {M : Type 1} → statement M

@@ -16,7 +16,7 @@ loop-holds c = search needs
 
 loop-again : tie.Need-loop-again Inv-loop μ-loop
 loop-again c =
-    let k = c .before .before .before in
+    let k : tie.At-loop Inv-loop μ-loop = search in
     let l = k .before .before .args .lengths .now in
     (refl, omega arith, rw add-one (omega (arith, total-next l (k .loop .i) (omega arith))), omega arith)
 

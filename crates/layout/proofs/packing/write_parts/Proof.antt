@@ -20,12 +20,15 @@ abbrev μ-loop : tie.MeasureT-loop
 in-parts : (c : tie.In-loop Inv-loop μ-loop) →
     let entry = c .before .before .before .before .before in
     total (take (c .before .loop .i) (entry .args .lengths .now)) + getD (entry .args .lengths .now) (c .before .loop .i) 0 ≤ total (entry .args .lengths .now)
-in-parts c = total-within (c .before .before .before .before .before .args .lengths .now) (c .before .loop .i) (omega arith)
+in-parts c =
+    let start : tie.Start Inv-loop μ-loop = search in
+    total-within (start .args .lengths .now) (c .before .loop .i) (omega arith)
 
 -- the target keeps its length
 at-loop : (c : tie.At-loop Inv-loop μ-loop) → length (c .loop .target) ≡ length (c .before .before .before .before .args .target .now)
 at-loop c =
-    let a = c .before .before .before .before .args in
+    let start : tie.Start Inv-loop μ-loop = search in
+    let a = start .args in
     ap length (c .loop .inv .4)
     ∙ parts-length (2 + 4 * length (a .lengths .now)) (a .parts .now) (a .target .now) (omega arith) (c .loop .offset)
     (omega (arith, total-parted (c .loop .i) (a .lengths .now)))
@@ -33,7 +36,8 @@ at-loop c =
 loop-holds : tie.Need-loop-holds Inv-loop μ-loop
 unfolding total
 loop-holds c =
-    let a = c .before .before .before .args in
+    let start : tie.Start Inv-loop μ-loop = search in
+    let a = start .args in
     (refl, omega arith, refl, omega arith, parts-none (2 + 4 * length (a .lengths .now)) (a .parts .now) (a .target .now) (omega arith))
 
 add-end : tie.Need-add-end Inv-loop μ-loop
@@ -43,22 +47,27 @@ add-next : tie.Need-add-next Inv-loop μ-loop
 add-next c = omega (arith, in-parts (c .before .before), c .wide .ensures .0)
 
 part-write-part-end : tie.Need-part-write-part-end Inv-loop μ-loop
-part-write-part-end c = omega (arith, in-parts (c .before .before), at-loop (c .before .before .before))
+part-write-part-end c =
+    let at-loop-place : tie.At-loop Inv-loop μ-loop = search in
+    omega (arith, in-parts (c .before .before), at-loop at-loop-place)
 
 part-write-part-end-2 : tie.Need-part-write-part-end-2 Inv-loop μ-loop
-part-write-part-end-2 c = omega (arith, in-parts (c .before .before .before))
+part-write-part-end-2 c =
+    let in-loop : tie.In-loop Inv-loop μ-loop = search in
+    omega (arith, in-parts in-loop)
 
 write-part-requires : tie.Need-write-part-requires Inv-loop μ-loop
 write-part-requires c κs =
-    let k = c .before .before .before .before in
+    let k : tie.In-loop Inv-loop μ-loop = search in
     simp (length-take, length-drop) (omega (arith, in-parts k, at-loop (k .before)))
 
 loop-again : tie.Need-loop-again Inv-loop μ-loop
 loop-again c =
+    let v : tie.After-wide Inv-loop μ-loop = search in
+    let k : tie.At-loop Inv-loop μ-loop = search in
+    let start : tie.Start Inv-loop μ-loop = search in
     let w = c .before .before in
-    let v = w .before .before .before in
-    let k = v .before .before .before in
-    let a = k .before .before .before .before .args in
+    let a = start .args in
     let l = a .lengths .now in
     let more = in-parts (v .before .before) in (
       refl,
@@ -74,12 +83,13 @@ same-length c = at-loop (c .before)
 
 returns : tie.Need-returns Inv-loop μ-loop
 returns c =
+    let start : tie.Start Inv-loop μ-loop = search in
     let k = c .before in
-    let a = k .before .before .before .before .args in
+    let a = start .args in
     let l = a .lengths .now in
     let n = 2 + 4 * length l in
     let e : k .loop .i ≡ length l = omega arith in
-    let f : k .loop .from ≡ length (a .parts .now) = k .loop .inv .2 ∙ ap total (ap (λ m. take m l) e ∙ take-length l) ∙ k .before .before .before .before .pre .1 in
+    let f : k .loop .from ≡ length (a .parts .now) = k .loop .inv .2 ∙ ap total (ap (λ m. take m l) e ∙ take-length l) ∙ start .pre .1 in
     k .loop .inv .4
     ∙ ap (λ m. written (take n (a .target .now) ++ a .parts .now) m (a .target .now)) (k .loop .inv .3 ∙ ap (λ m. n + m) f)
     ∙ parts-all n (a .parts .now) (a .target .now) (omega arith)

@@ -19,7 +19,8 @@ abbrev μ-loop : tie.MeasureT-loop
 -- the target keeps its length
 at-loop : (c : tie.At-loop Inv-loop μ-loop) → length (c .loop .target) ≡ length (c .before .before .before .args .target .now)
 at-loop c =
-    let a = c .before .before .before .args in
+    let start : tie.Start Inv-loop μ-loop = search in
+    let a = start .args in
     let t = set (set (a .target .now) 0 (length (a .lengths .now))) 1 (a .symbols) in
     let s : length t ≡ length (a .target .now) = simp length-set in
     ap length (c .loop .inv .3)
@@ -37,27 +38,30 @@ loop-holds c =
 
 write-short-requires : tie.Need-write-short-requires Inv-loop μ-loop
 write-short-requires c κs =
-    let k = c .before .before .before .before in
-    let l = k .before .before .before .args .lengths .now in
+    let k : tie.At-loop Inv-loop μ-loop = search in
+    let start : tie.Start Inv-loop μ-loop = search in
+    let l = start .args .lengths .now in
     (omega (arith, at-loop k), omega (arith, total-parted (k .loop .i) l))
 
 write-short-requires-2 : tie.Need-write-short-requires-2 Inv-loop μ-loop
 write-short-requires-2 c κs =
-    let w = c .before .before .before in
-    let k = w .before .before .before .before .before in
+    let w : tie.After-write-short Inv-loop μ-loop = search in
+    let k : tie.At-loop Inv-loop μ-loop = search in
     (omega (arith, at-loop k, w .write-short .kept), omega arith)
 
 add-start-2 : tie.Need-add-start-2 Inv-loop μ-loop
 add-start-2 c =
-    let k = c .before .before .before .before .before .before .before .before .before .before .before in
-    omega (arith, total-parted (k .loop .i) (k .before .before .before .args .lengths .now))
+    let k : tie.At-loop Inv-loop μ-loop = search in
+    let start : tie.Start Inv-loop μ-loop = search in
+    omega (arith, total-parted (k .loop .i) (start .args .lengths .now))
 
 loop-again : tie.Need-loop-again Inv-loop μ-loop
 loop-again c =
+    let v : tie.After-write-short Inv-loop μ-loop = search in
+    let k : tie.At-loop Inv-loop μ-loop = search in
+    let start : tie.Start Inv-loop μ-loop = search in
     let w = c .before .before in
-    let v = w .before .before .before .before in
-    let k = v .before .before .before .before .before in
-    let a = k .before .before .before .args in
+    let a = start .args in
     let l = a .lengths .now in
     let i = k .loop .i in (
       refl,
@@ -72,8 +76,9 @@ same-length c = at-loop (c .before)
 
 returns : tie.Need-returns Inv-loop μ-loop
 returns c =
+    let start : tie.Start Inv-loop μ-loop = search in
     let k = c .before in
-    let a = k .before .before .before .args in
+    let a = start .args in
     let e : k .loop .i ≡ length (a .lengths .now) = omega arith in
     k .loop .inv .3
     ∙ ap (λ n. written (packed (a .symbols) (a .lengths .now) []) (2 + 4 * n) (set (set (a .target .now) 0 (length (a .lengths .now))) 1 (a .symbols))) e

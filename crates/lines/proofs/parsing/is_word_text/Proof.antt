@@ -23,13 +23,15 @@ slice-aggregate-is-symbol-text : tie.Need-slice-aggregate-is-symbol-text Inv-loo
 slice-aggregate-is-symbol-text c = sym (length-take-le _ _ (c .before .length-before .ensures .1))
 
 returns-2 : tie.Need-returns-2 Inv-loop μ-loop
-returns-2 c = let k = c .before .before .before in
+returns-2 c =
+    let k : tie.After-length-before Inv-loop μ-loop = search in
     all-fails isSymbolText (segment-first comma _ _ (k .length-before .ensures .0))
     (sym (c .before .is-symbol-text .ensures) ∙ not-true _ (c .if2 .taken))
     (k .before .loop .inv .1)
 
 returns-3 : tie.Need-returns-3 Inv-loop μ-loop
-returns-3 c = let k = c .before .before .before .before in
+returns-3 c =
+    let k : tie.After-length-before Inv-loop μ-loop = search in
     all-end isSymbolText refl
     (all-next isSymbolText (segment-last comma _ _ (k .length-before .ensures .0) (c .if3 .taken))
     (sym (c .before .before .is-symbol-text .ensures) ∙ not-false _ (c .before .if2 .left))
@@ -42,12 +44,14 @@ loop-less : tie.Need-loop-less Inv-loop μ-loop
 loop-less c = simp (length-take, length-drop) (omega arith)
 
 loop-again : tie.Need-loop-again Inv-loop μ-loop
-loop-again c = let k = c .before .before .before .before .before in (
-  simp (length-take, length-drop) (omega arith),
-  all-next isSymbolText (segment-more comma _ _ (k .length-before .ensures .0) (c .before .if3 .left))
-      (sym (c .before .before .before .is-symbol-text .ensures) ∙ not-false _ (c .before .before .if2 .left))
-      (k .before .loop .inv .1),
-)
+loop-again c =
+    let after-is-symbol-text : tie.After-is-symbol-text Inv-loop μ-loop = search in
+    let k : tie.After-length-before Inv-loop μ-loop = search in (
+      simp (length-take, length-drop) (omega arith),
+      all-next isSymbolText (segment-more comma _ _ (k .length-before .ensures .0) (c .before .if3 .left))
+          (sym (after-is-symbol-text .is-symbol-text .ensures) ∙ not-false _ (c .before .before .if2 .left))
+          (k .before .loop .inv .1),
+    )
 
 pub is-word-text-spec : {M : Type 1} → statement M
 is-word-text-spec =

@@ -31,37 +31,51 @@ symbols-length c = simp (length-take, length-drop) (omega arith)
 
 -- both parts have their form
 ranked : (c : tie.Else4) → isRankingText (digits (c .before .before .before .before .before .before)) ≡ true
-ranked c = sym (c .before .before .before .is-ranking-text .ensures) ∙ not-false _ (c .before .before .if3 .left)
+ranked c =
+    let after-is-ranking-text : tie.After-is-ranking-text = search in
+    sym (after-is-ranking-text .is-ranking-text .ensures) ∙ not-false _ (c .before .before .if3 .left)
 
 worded : (c : tie.Else4) → isWordText (symbols (c .before .before .before .before .before .before)) ≡ true
 worded c = sym (c .before .is-word-text .ensures) ∙ not-false _ (c .if4 .left)
 
 returns-3 : tie.Need-returns-3
-returns-3 c = unparsed _ _ _ (spaced (c .before .before .before .before) ∙ parts-unranked _ _ (sym (c .before .is-ranking-text .ensures) ∙ not-true _ (c .if3 .taken)))
+returns-3 c =
+    let else2 : tie.Else2 = search in
+    unparsed _ _ _ (spaced else2 ∙ parts-unranked _ _ (sym (c .before .is-ranking-text .ensures) ∙ not-true _ (c .if3 .taken)))
 
 returns-4 : tie.Need-returns-4
-returns-4 c = unparsed _ _ _ (spaced (c .before .before .before .before .before .before) ∙ parts-unworded _ _ (sym (c .before .is-word-text .ensures) ∙ not-true _ (c .if4 .taken)))
+returns-4 c =
+    let else2 : tie.Else2 = search in
+    unparsed _ _ _ (spaced else2 ∙ parts-unworded _ _ (sym (c .before .is-word-text .ensures) ∙ not-true _ (c .if4 .taken)))
 
 write-ranking-requires : tie.Need-write-ranking-requires
-write-ranking-requires c κs = let f = ranking-digits _ (ranked (c .before)) in (f .digits, le-trans (f .no-more) (c .before .before .before .before .before .before .before .before .before .before .before .before .before .pre .0))
+write-ranking-requires c κs =
+    let start : tie.Start = search in
+    let f = ranking-digits _ (ranked (c .before)) in (f .digits, le-trans (f .no-more) (start .pre .0))
 
 write-word-requires : tie.Need-write-word-requires
 write-word-requires c κs =
-    let entry = c .before .before .before .before .before .before .before .before .before .before .before .before .before .before .before .before .before in
-    let k = c .before .before .before .before .before in (worded k, omega (arith, word-symbols _ (worded k), symbols-length (k .before .before .before .before .before .before), entry .pre .1))
+    let k : tie.Else4 = search in
+    let else2 : tie.Else2 = search in
+    let entry : tie.Start = search in
+    (worded k, omega (arith, word-symbols _ (worded k), symbols-length else2, entry .pre .1))
 
 same-length : tie.Need-same-length
-same-length c = c .before .before .before .before .before .before .write-ranking .kept .1 .0
+same-length c =
+    let after-write-ranking : tie.After-write-ranking = search in
+    after-write-ranking .write-ranking .kept .1 .0
 
 same-length-2 : tie.Need-same-length-2
 same-length-2 c = c .before .before .write-word .kept .1 .0
 
 returns-5 : tie.Need-returns-5
-returns-5 c = let k = c .before .before .before .before .before .before .before .before in
-    let s = k .before .before .before .before .before .before in
+returns-5 c =
+    let after-write-ranking : tie.After-write-ranking = search in
+    let k : tie.Else4 = search in
+    let s : tie.Else2 = search in
     parsed _ (digits s) (symbols s) _ _ (spaced s ∙ parts-formed _ _ (ranked k) (worded k))
     (sym (length-take-le _ _ (s .before .length-before .ensures .1)))
-    (c .before .before .before .before .before .before .write-ranking .ensures)
+    (after-write-ranking .write-ranking .ensures)
     (c .before .before .write-word .ensures .0)
     (c .before .before .write-word .ensures .1)
 

@@ -22,13 +22,15 @@ returns : tie.Need-returns Inv-loop μ-loop
 returns c = rw (symbols-none _ (c .if1 .taken)) (refl, refl)
 
 loop-holds : tie.Need-loop-holds Inv-loop μ-loop
-loop-holds c = let q = symbols-some _ (c .if1 .left) in (
-  search needs,
-  refl,
-  ap (allOf isSymbolText) (sym q) ∙ c .before .before .before .pre .0,
-  omega (arith, ap length q),
-  ap (λ (s : List (List ℕ)). sets (c .before .before .before .args .word .now) 0 (map valueOf s)) (sym q),
-)
+loop-holds c =
+    let start : tie.Start Inv-loop μ-loop = search in
+    let q = symbols-some _ (c .if1 .left) in (
+      search needs,
+      refl,
+      ap (allOf isSymbolText) (sym q) ∙ start .pre .0,
+      omega (arith, ap length q),
+      ap (λ (s : List (List ℕ)). sets (start .args .word .now) 0 (map valueOf s)) (sym q),
+    )
 
 slice-aggregate-value : tie.Need-slice-aggregate-value Inv-loop μ-loop
 slice-aggregate-value c = sym (length-take-le _ _ (c .before .length-before .ensures .1))
@@ -55,22 +57,27 @@ add-count : tie.Need-add-count Inv-loop μ-loop
 add-count c = omega (arith, ap length (first (c .before .before)))
 
 same-length : tie.Need-same-length Inv-loop μ-loop
-same-length c = simp length-set (c .before .before .before .before .loop .inv .1)
+same-length c =
+    let at-loop : tie.At-loop Inv-loop μ-loop = search in
+    simp length-set (at-loop .loop .inv .1)
 
 returns-2 : tie.Need-returns-2 Inv-loop μ-loop
-returns-2 c = let k = c .before .before .before in
-    let a = k .before .before .before .before .before .args in
+returns-2 c =
+    let k : tie.After-length-before Inv-loop μ-loop = search in
+    let start : tie.Start Inv-loop μ-loop = search in
+    let a = start .args in
     let p = segment-last comma _ _ (k .length-before .ensures .0) (c .if2 .taken) in (
       omega (arith, ap length p),
       rw (c .before .value .ensures) (sets-next _ _ (ap (map valueOf) p) (k .before .loop .inv .4))
-          ∙ sets-front (map valueOf (symbolsIn (a .text .now))) (a .word .now) (simp length-map (k .before .before .before .before .before .pre .1)),
+          ∙ sets-front (map valueOf (symbolsIn (a .text .now))) (a .word .now) (simp length-map (start .pre .1)),
     )
 
 loop-less : tie.Need-loop-less Inv-loop μ-loop
 loop-less c = simp (length-take, length-drop) (omega arith)
 
 loop-again : tie.Need-loop-again Inv-loop μ-loop
-loop-again c = let k = c .before .before .before .before in
+loop-again c =
+    let k : tie.After-length-before Inv-loop μ-loop = search in
     let p = segment-more comma _ _ (k .length-before .ensures .0) (c .before .if2 .left) in (
       simp (length-take, length-drop) (omega arith),
       simp length-set (k .before .loop .inv .1),

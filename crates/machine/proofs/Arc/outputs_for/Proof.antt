@@ -7,7 +7,8 @@ use Rattle.machine.proofs.Arc.outputs_for.Tie as tie
 returns : tie.Need-returns
 unfolding takes
 returns c x y i =
-    let a = c .before .before .before .args in
+    let start : tie.Start = search in
+    let a = start .args in
     let e : member (a .self .inputs) x ≡ true = sym (c .before .before .holds .ensures x i) ∙ c .before .if1 .taken in
     rw e (ap (λ (n : ℕ). member n y) (c .of-kind .ensures x i) ∙ out-partners (a .self .kind) (a .self .outputs) x y)
 

@@ -5,26 +5,32 @@ use Rattle.machine.proofs.Position.ending.Statement.{statement}
 use Rattle.machine.proofs.Position.ending.Tie as tie
 
 shared-slice-read-index : tie.Need-shared-slice-read-index
-shared-slice-read-index c = omega (arith, shape-facts _ (c .before .before .before .pre))
+shared-slice-read-index c =
+    let start : tie.Start = search in
+    omega (arith, shape-facts _ (start .pre))
 
 returns : tie.Need-returns
 returns c =
-    let s = c .before .before .before .before .before in
+    let s : tie.Start = search in
     no-state (s .args .part .now) (s .args .self .state) (s .pre) (omega arith)
 
 shared-slice-read-byte : tie.Need-shared-slice-read-byte
-shared-slice-read-byte c = omega (arith, shape-facts _ (c .before .before .before .before .before .before .pre))
+shared-slice-read-byte c =
+    let start : tie.Start = search in
+    omega (arith, shape-facts _ (start .pre))
 
 returns-2 : tie.Need-returns-2
 returns-2 c =
-    let s = c .before .before .before .before .before .before .before in
-    let i = c .before .before .before .before .before .index in
+    let after-index : tie.After-index = search in
+    let s : tie.Start = search in
+    let i = after-index .index in
     not-final (s .args .part .now) (s .args .self .state) (i .result) (i .ensures .0) (omega arith) (c .if2 .taken)
 
 returns-3 : tie.Need-returns-3
 returns-3 c =
-    let s = c .before .before .before .before .before .before .before in
-    let i = c .before .before .before .before .before .index in
+    let after-index : tie.After-index = search in
+    let s : tie.Start = search in
+    let i = after-index .index in
     final (s .args .part .now) (s .args .self .state) (i .result) (i .ensures .0) (omega arith) (c .if2 .left)
 
 pub ending-spec : {M : Type 1} → statement M

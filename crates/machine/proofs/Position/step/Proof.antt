@@ -15,21 +15,29 @@ abbrev μ-loop : tie.MeasureT-loop
 μ-loop part state input output at₀ left₀ at left = left
 
 shared-slice-read-index : tie.Need-shared-slice-read-index Inv-loop μ-loop
-shared-slice-read-index c = omega (arith, shape-facts _ (c .before .before .before .before .pre .0))
+shared-slice-read-index c =
+    let start : tie.Start Inv-loop μ-loop = search in
+    omega (arith, shape-facts _ (start .pre .0))
 
 shared-slice-read-left : tie.Need-shared-slice-read-left Inv-loop μ-loop
-shared-slice-read-left c = omega (arith, shape-facts _ (c .before .before .before .before .before .before .pre .0))
+shared-slice-read-left c =
+    let start : tie.Start Inv-loop μ-loop = search in
+    omega (arith, shape-facts _ (start .pre .0))
 
 loop-holds : tie.Need-loop-holds Inv-loop μ-loop
-loop-holds c = (omega (arith, shape-facts _ (c .before .before .before .before .before .before .pre .0)), λ pair i o. rw (c .before .index .ensures .0))
+loop-holds c =
+    let start : tie.Start Inv-loop μ-loop = search in
+    (omega (arith, shape-facts _ (start .pre .0)), λ pair i o. rw (c .before .index .ensures .0))
 
 returns : tie.Need-returns Inv-loop μ-loop
 unfolding arcAt machineOf
 returns c =
-    let k = c .before .before .before .before in
-    let o = k .before .before .before .before .before in
-    let pair = o .before .before .before .args .pair in
-    step-stop _ _ _ _ pair _ (k .loop-test .taken) (sym (c .before .before .before .takes-from .ensures pair (o .before .set-of .ensures) (o .set-of2 .ensures)) ∙ c .before .before .if1 .taken) (k .before .loop .inv .1 pair (o .before .set-of .ensures) (o .set-of2 .ensures))
+    let after-takes-from : tie.After-takes-from Inv-loop μ-loop = search in
+    let k : tie.In-loop Inv-loop μ-loop = search in
+    let o : tie.After-set-of2 Inv-loop μ-loop = search in
+    let start : tie.Start Inv-loop μ-loop = search in
+    let pair = start .args .pair in
+    step-stop _ _ _ _ pair _ (k .loop-test .taken) (sym (after-takes-from .takes-from .ensures pair (o .before .set-of .ensures) (o .set-of2 .ensures)) ∙ c .before .before .if1 .taken) (k .before .loop .inv .1 pair (o .before .set-of .ensures) (o .set-of2 .ensures))
 
 loop-again : tie.Need-loop-again Inv-loop μ-loop
 loop-again c =
@@ -39,8 +47,9 @@ loop-again c =
 returns-2 : tie.Need-returns-2 Inv-loop μ-loop
 unfolding machineOf
 returns-2 c =
-    let o = c .before .before .before .before .before in
-    let pair = o .before .before .before .args .pair in
+    let o : tie.After-set-of2 Inv-loop μ-loop = search in
+    let start : tie.Start Inv-loop μ-loop = search in
+    let pair = start .args .pair in
     step-end _ _ _ _ pair _ (c .loop-test .left) (c .before .loop .inv .1 pair (o .before .set-of .ensures) (o .set-of2 .ensures))
 
 pub step-spec : {M : Type 1} → statement M

@@ -24,24 +24,31 @@ loop-holds : tie.Need-loop-holds Inv-loop μ-loop
 loop-holds c = (omega arith, every-start (λ s. pairwise (clashFreeFrom s) (arcsOf _)))
 
 check-state-requires : tie.Need-check-state-requires Inv-loop μ-loop
-check-state-requires c κs = (c .before .before .before .before .before .pre .0, c .before .before .index .ensures .0)
+check-state-requires c κs =
+    let start : tie.Start Inv-loop μ-loop = search in
+    (start .pre .0, c .before .before .index .ensures .0)
 
 returns : tie.Need-returns Inv-loop μ-loop
 returns c =
-    let l = arcsOf (c .before .before .before .before .before .before .before .before .args .part .now) in
+    let at-loop : tie.At-loop Inv-loop μ-loop = search in
+    let start : tie.Start Inv-loop μ-loop = search in
+    let l = arcsOf (start .args .part .now) in
     let e = c .before .before .check-state .ensures in
     let f = was-false (c .enum-told2 .given .1) 5 _ e in
-    e ∙ ap (refuse 5) (f ∙ sym (state-clash (c .before .before .before .before .loop .from) l f))
+    e ∙ ap (refuse 5) (f ∙ sym (state-clash (at-loop .loop .from) l f))
 
 loop-again : tie.Need-loop-again Inv-loop μ-loop
 loop-again c =
-    let l = arcsOf (c .before .before .before .before .before .before .before .before .args .part .now) in
-    let k = c .before .before .before .before .loop in
+    let at-loop : tie.At-loop Inv-loop μ-loop = search in
+    let start : tie.Start Inv-loop μ-loop = search in
+    let l = arcsOf (start .args .part .now) in
+    let k = at-loop .loop in
     (search needs, every-next (λ s. pairwise (clashFreeFrom s) l) (k .from) (k .inv .1) (was-true (c .enum-told .given .1) 5 _ (lit< tt) (c .before .before .check-state .ensures)))
 
 returns-2 : tie.Need-returns-2 Inv-loop μ-loop
 returns-2 c =
-    let s = c .before .before .before .before .before in
+    let start : tie.Start Inv-loop μ-loop = search in
+    let s = start in
     let part = s .args .part .now in
     let k = c .before .loop in
     ap (refuse 5) (sym (states-free (stateCount part) (arcsOf part) (s .pre .1) (λ n h. every-at (λ s. pairwise (clashFreeFrom s) (arcsOf part)) (k .from) (k .inv .1) n (omega arith))))

@@ -21,25 +21,35 @@ mul-before : tie.Need-mul-before Inv-loop μ-loop
 mul-before c = omega (arith, c .before .least .ensures .1)
 
 slice-read-before : tie.Need-slice-read-before Inv-loop μ-loop
-slice-read-before c = omega (arith, c .before .before .least .ensures .1, c .before .before .before .before .loop .inv .0)
+slice-read-before c =
+    let at-loop : tie.At-loop Inv-loop μ-loop = search in
+    omega (arith, c .before .before .least .ensures .1, at-loop .loop .inv .0)
 
 same-length : tie.Need-same-length Inv-loop μ-loop
-same-length c = omega (arith, c .before .before .before .before .before .loop .inv .0, c .before .before .before .before .before .before .before .pre)
+same-length c =
+    let at-loop : tie.At-loop Inv-loop μ-loop = search in
+    let start : tie.Start Inv-loop μ-loop = search in
+    omega (arith, at-loop .loop .inv .0, start .pre)
 
 -- nothing new is noted yet at the output
 as-before : (c : tie.After-pairs-with Inv-loop μ-loop) → let l = c .before .least in let k = c .before .before .before .loop in getD (k .taken) (l .result) 0 ≡ getD (c .before .before .before .before .before .args .taken .now) (l .result) 0
 as-before c =
+    let at-loop : tie.At-loop Inv-loop μ-loop = search in
+    let start : tie.Start Inv-loop μ-loop = search in
     let l = c .before .least in
-    let k = c .before .before .before .loop in
-    let a = c .before .before .before .before .before .args in
+    let k = at-loop .loop in
+    let a = start .args in
     not-yet (a .taken .now) (a .arc .kind) (a .arc .inputs) (a .arc .outputs) (k .taken) (k .left) (k .inv .1) (l .result) (l .ensures .2)
 
 returns : tie.Need-returns Inv-loop μ-loop
 unfolding takes
 returns c =
-    let l = c .before .before .before .least in
-    let k = c .before .before .before .before .before .loop in
-    let a = c .before .before .before .before .before .before .before .args in
+    let after-least : tie.After-least Inv-loop μ-loop = search in
+    let at-loop : tie.At-loop Inv-loop μ-loop = search in
+    let start : tie.Start Inv-loop μ-loop = search in
+    let l = after-least .least in
+    let k = at-loop .loop in
+    let a = start .args in
     let w = c .before .before .pairs-with in
     let e = ap₂ bitAnd (as-before (c .before .before)) (w .ensures) in
     pair-found (a .taken .now) (a .arc .kind) (a .arc .inputs) (a .arc .outputs) (k .taken) (l .result) (l .ensures .1) (k .inv .1 .passed .some-left (l .result) (l .ensures .2))
@@ -47,35 +57,47 @@ returns c =
     (λ z. c .if1 .taken (e ∙ z))
 
 mul-taken : tie.Need-mul-taken Inv-loop μ-loop
-mul-taken c = omega (arith, c .before .before .before .least .ensures .1)
+mul-taken c =
+    let after-least : tie.After-least Inv-loop μ-loop = search in
+    omega (arith, after-least .least .ensures .1)
 
 slice-write-taken : tie.Need-slice-write-taken Inv-loop μ-loop
-slice-write-taken c = omega (arith, c .before .before .before .least .ensures .1, c .before .before .before .before .before .loop .inv .0)
+slice-write-taken c =
+    let after-least : tie.After-least Inv-loop μ-loop = search in
+    let at-loop : tie.At-loop Inv-loop μ-loop = search in
+    omega (arith, after-least .least .ensures .1, at-loop .loop .inv .0)
 
 loop-less : tie.Need-loop-less Inv-loop μ-loop
 loop-less c = omega (arith, c .without-least .ensures .0)
 
 loop-again : tie.Need-loop-again Inv-loop μ-loop
 loop-again c =
-    let l = c .before .before .before .before .least in
-    let k = c .before .before .before .before .before .before .loop in
-    let a = c .before .before .before .before .before .before .before .before .args in
-    let w = c .before .before .before .pairs-with in (
+    let after-pairs-with : tie.After-pairs-with Inv-loop μ-loop = search in
+    let after-least : tie.After-least Inv-loop μ-loop = search in
+    let at-loop : tie.At-loop Inv-loop μ-loop = search in
+    let start : tie.Start Inv-loop μ-loop = search in
+    let l = after-least .least in
+    let k = at-loop .loop in
+    let a = start .args in
+    let w = after-pairs-with .pairs-with in (
       simp length-set (k .inv .0),
       pairs-next (a .taken .now) (a .arc .kind) (a .arc .inputs) (a .arc .outputs) (k .taken) (k .left) (k .inv .1) (l .result) (c .without-least .result) _ (omega (arith, l .ensures .1, k .inv .0)) (l .ensures .2)
           (λ n. c .without-least .ensures .1 n ∙ ap (λ (m : ℕ). member (k .left) n && not (eqb n m)) (sym (l .ensures .0)))
-          (sym (ap₂ bitAnd (as-before (c .before .before .before)) (w .ensures)) ∙ c .before .if1 .left)
-          (ap₂ bitOr (as-before (c .before .before .before)) (w .ensures)),
+          (sym (ap₂ bitAnd (as-before after-pairs-with) (w .ensures)) ∙ c .before .if1 .left)
+          (ap₂ bitOr (as-before after-pairs-with) (w .ensures)),
     )
 
 same-length-2 : tie.Need-same-length-2 Inv-loop μ-loop
-same-length-2 c = omega (arith, c .before .loop .inv .0, c .before .before .before .pre)
+same-length-2 c =
+    let start : tie.Start Inv-loop μ-loop = search in
+    omega (arith, c .before .loop .inv .0, start .pre)
 
 returns-2 : tie.Need-returns-2 Inv-loop μ-loop
 unfolding takes
 returns-2 c =
+    let start : tie.Start Inv-loop μ-loop = search in
     let k = c .before .loop in
-    let a = c .before .before .before .args in
+    let a = start .args in
     pairs-end (a .taken .now) (a .arc .kind) (a .arc .inputs) (a .arc .outputs) (k .taken) (k .left) (k .inv .1) (c .loop-test .left)
 
 pub note-pairs-spec : {M : Type 1} → statement M

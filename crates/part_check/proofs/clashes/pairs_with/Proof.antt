@@ -6,16 +6,17 @@ use Rattle.part_check.proofs.clashes.pairs_with.Tie as tie
 
 returns : tie.Need-returns
 returns c =
-    let k = c .before .before .before .before in
+    let after-index : tie.After-index = search in
+    let k : tie.After-set-of = search in
     let a = k .before .args in
-    let e = eq-eqb (a .output) emptySymbol (omega (arith, c .before .before .if1 .taken, c .before .before .before .index .ensures)) in
+    let e = eq-eqb (a .output) emptySymbol (omega (arith, c .before .before .if1 .taken, after-index .index .ensures)) in
     c .of-kind .ensures (a .output) (k .set-of .ensures)
     ∙ ap (λ (n : ℕ). partners (a .kind) n (a .output)) (c .before .without-empty .ensures)
     ∙ ap (λ (b : Bool). partners (a .kind) (cond b (withoutEmpty (a .inputs)) (a .inputs)) (a .output)) (sym e)
 
 returns-2 : tie.Need-returns-2
 returns-2 c =
-    let k = c .before .before .before in
+    let k : tie.After-set-of = search in
     let a = k .before .args in
     let e = ne-eqb (a .output) emptySymbol (λ q. c .before .if1 .left (omega (arith, c .before .before .index .ensures))) in
     c .of-kind2 .ensures (a .output) (k .set-of .ensures) ∙ ap (λ (b : Bool). partners (a .kind) (cond b (withoutEmpty (a .inputs)) (a .inputs)) (a .output)) (sym e)

@@ -10,7 +10,8 @@ use Rattle.ranking.proofs.conditions.derive.Tie as tie
 -- the count passed its check
 few : (c : tie.After-enum-told) → c .before .before .before .args .machines ≤ 6
 few c =
-    let K = c .before .before .before .args .machines in
+    let start : tie.Start = search in
+    let K = start .args .machines in
     machine-count K (was-true (c .enum-told .given .1) 1 (isMachineCount K) (lit< tt) (c .before .before .check-machine-count .ensures)) .most
 
 fewer-in-requires : tie.Need-fewer-in-requires
@@ -21,19 +22,23 @@ fewer-in-requires-2 c κs = few (c .before)
 
 returns : tie.Need-returns
 returns c =
-    let a = c .before .before .before .before .before .args in
+    let after-check-machine-count : tie.After-check-machine-count = search in
+    let start : tie.Start = search in
+    let a = start .args in
     let n = refuse 1 (isMachineCount (a .machines)) in
     let derived : DerivedCondition = record { number = 0; condition = conditionOf (a .machines) (a .first .counts) (a .second .counts) } in
     let e : record { number = 0; condition = record { fewer = c .before .fewer-in .result; more = c .fewer-in2 .result } } ≡ derived = ap₂ (λ (u v : ℕ). record { number = 0; condition = record { fewer = u; more = v } }) (c .before .fewer-in .ensures) (c .fewer-in2 .ensures) in
-    e ∙ sym (accepts (c .before .before .enum-told .given .1) n derived refusedCondition (c .before .before .before .before .check-machine-count .ensures))
+    e ∙ sym (accepts (c .before .before .enum-told .given .1) n derived refusedCondition (after-check-machine-count .check-machine-count .ensures))
 
 returns-2 : tie.Need-returns-2
 returns-2 c =
-    let a = c .before .before .before .before .args in
+    let after-check-machine-count : tie.After-check-machine-count = search in
+    let start : tie.Start = search in
+    let a = start .args in
     let n = refuse 1 (isMachineCount (a .machines)) in
     let derived : DerivedCondition = record { number = 0; condition = conditionOf (a .machines) (a .first .counts) (a .second .counts) } in
     sym
-    (refuses (c .before .refusal .given .1) n derived refusedCondition (c .before .before .before .check-machine-count .ensures))
+    (refuses (c .before .refusal .given .1) n derived refusedCondition (after-check-machine-count .check-machine-count .ensures))
 
 pub derive-spec : {M : Type 1} → statement M
 derive-spec =

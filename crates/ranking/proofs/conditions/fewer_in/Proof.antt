@@ -24,18 +24,18 @@ count-requires-2 c κs = search needs
 
 add-set : tie.Need-add-set Inv-loop μ-loop
 add-set c =
-    let k = c .before .before .before .before in
+    let k : tie.At-loop Inv-loop μ-loop = search in
     let a = k .before .args in
     omega (arith, pow-mono {i = k .loop .machine} {j = 5} (omega arith), fewer-bound (a .first .counts) (a .second .counts) (k .loop .machine))
 
 mul-bit : tie.Need-mul-bit Inv-loop μ-loop
 mul-bit c =
-    let k = c .before .before .before .before in
+    let k : tie.At-loop Inv-loop μ-loop = search in
     omega (arith, pow-mono {i = k .loop .machine} {j = 5} (omega arith))
 
 loop-again : tie.Need-loop-again Inv-loop μ-loop
 loop-again c =
-    let k = c .before .before .before .before in
+    let k : tie.At-loop Inv-loop μ-loop = search in
     let a = k .before .args in
     let m = k .loop .machine in
     let p : 2 ^ (m + 1) ≡ 2 ^ m * 2 = rw add-one (pow-suc 2 m) in

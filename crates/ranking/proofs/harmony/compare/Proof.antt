@@ -10,7 +10,8 @@ use Rattle.ranking.proofs.harmony.compare.Tie as tie
 
 harmony-requires : tie.Need-harmony-requires
 harmony-requires c κs =
-    let a = c .before .before .before .before .args in
+    let start : tie.Start = search in
+    let a = start .args in
     let n = refuse 1 (isMachineCount (a .machines)) in
     let m = refuse 7 (isRanking (a .machines) (a .ranking .now)) in
     let none-refused : firstOf (n ∷ m ∷ []) ≡ 0 = sym (c .before .before .check .ensures) ∙ ap checkedNumber (c .enum-told .given .1) in
@@ -20,19 +21,23 @@ harmony-requires c κs =
 
 returns : tie.Need-returns
 returns c =
-    let a = c .before .before .before .before .before .args in
+    let after-check : tie.After-check = search in
+    let start : tie.Start = search in
+    let a = start .args in
     let n = firstOf (refuse 1 (isMachineCount (a .machines)) ∷ refuse 7 (isRanking (a .machines) (a .ranking .now)) ∷ []) in
     let ordered : Compared = record { number = 0; order = some (harmony (a .ranking .now) (a .first .counts) (a .second .counts)) } in
     let e : record { number = 0; order = some (c .harmony .result) } ≡ ordered = ap (λ (o : Order). record { number = 0; order = some o }) (c .harmony .ensures) in
-    e ∙ sym (accepts (c .before .enum-told .given .1) n ordered refusedComparison (c .before .before .before .check .ensures))
+    e ∙ sym (accepts (c .before .enum-told .given .1) n ordered refusedComparison (after-check .check .ensures))
 
 returns-2 : tie.Need-returns-2
 returns-2 c =
-    let a = c .before .before .before .before .before .args in
+    let after-check : tie.After-check = search in
+    let start : tie.Start = search in
+    let a = start .args in
     let n = firstOf (refuse 1 (isMachineCount (a .machines)) ∷ refuse 7 (isRanking (a .machines) (a .ranking .now)) ∷ []) in
     let ordered : Compared = record { number = 0; order = some (harmony (a .ranking .now) (a .first .counts) (a .second .counts)) } in
     sym
-    (refuses (c .before .refusal .given .1) n ordered refusedComparison (c .before .before .before .check .ensures))
+    (refuses (c .before .refusal .given .1) n ordered refusedComparison (after-check .check .ensures))
 
 pub compare-spec : {M : Type 1} → statement M
 compare-spec =

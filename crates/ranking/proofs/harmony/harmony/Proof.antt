@@ -28,16 +28,17 @@ count-requires c κs =
 
 count-requires-2 : tie.Need-count-requires-2 Inv-loop μ-loop
 count-requires-2 c κs =
-    let k = c .before .before .before in
+    let k : tie.At-loop Inv-loop μ-loop = search in
     let s = k .before .before in
     let r = s .args .ranking .now in
     omega (arith, c .before .machine-at .ensures, ranking-facts (length r) r (s .pre .0) .below (k .loop .place) (omega arith))
 
 returns : tie.Need-returns Inv-loop μ-loop
 returns c =
-    let k = c .before .before .before .before .before in
+    let after-machine-at : tie.After-machine-at Inv-loop μ-loop = search in
+    let k : tie.At-loop Inv-loop μ-loop = search in
     let a = k .before .before .args in
-    let q = c .before .before .before .machine-at .ensures in
+    let q = after-machine-at .machine-at .ensures in
     let one = of-machine (a .first .counts) (c .before .before .count .ensures) q in
     let other = of-machine (a .second .counts) (c .before .count2 .ensures) q in
     let n = left-next (a .ranking .now) (k .loop .place) (omega arith) in
@@ -45,20 +46,24 @@ returns c =
 
 returns-2 : tie.Need-returns-2 Inv-loop μ-loop
 returns-2 c =
-    let k = c .before .before .before .before .before .before in
+    let after-count : tie.After-count Inv-loop μ-loop = search in
+    let after-machine-at : tie.After-machine-at Inv-loop μ-loop = search in
+    let k : tie.At-loop Inv-loop μ-loop = search in
     let a = k .before .before .args in
-    let q = c .before .before .before .before .machine-at .ensures in
-    let one = of-machine (a .first .counts) (c .before .before .before .count .ensures) q in
+    let q = after-machine-at .machine-at .ensures in
+    let one = of-machine (a .first .counts) (after-count .count .ensures) q in
     let other = of-machine (a .second .counts) (c .before .before .count2 .ensures) q in
     let n = left-next (a .ranking .now) (k .loop .place) (omega arith) in
     ap {B = Order} Worse q ∙ sym (harmony-worse (a .first .counts) (a .second .counts) n (omega arith)) ∙ k .loop .inv .1
 
 loop-again : tie.Need-loop-again Inv-loop μ-loop
 loop-again c =
-    let k = c .before .before .before .before .before .before in
+    let after-count : tie.After-count Inv-loop μ-loop = search in
+    let after-machine-at : tie.After-machine-at Inv-loop μ-loop = search in
+    let k : tie.At-loop Inv-loop μ-loop = search in
     let a = k .before .before .args in
-    let q = c .before .before .before .before .machine-at .ensures in
-    let one = of-machine (a .first .counts) (c .before .before .before .count .ensures) q in
+    let q = after-machine-at .machine-at .ensures in
+    let one = of-machine (a .first .counts) (after-count .count .ensures) q in
     let other = of-machine (a .second .counts) (c .before .before .count2 .ensures) q in
     let n = left-next (a .ranking .now) (k .loop .place) (omega arith) in
     (omega arith, sym (harmony-next (a .first .counts) (a .second .counts) n (omega arith) (omega arith)) ∙ k .loop .inv .1)

@@ -7,15 +7,18 @@ use Rattle.ranking.proofs.rankings.check.Tie as tie
 
 returns : tie.Need-returns
 returns c =
-    let a = c .before .before .before .before .before .args in
+    let start : tie.Start = search in
+    let a = start .args in
     goes-up (c .enum-told2 .given .1) (refuse 1 (isMachineCount (a .machines))) (refuse 7 (isRanking (a .machines) (a .ranking .now)) ∷ [])
     (c .before .before .check-machine-count .ensures)
 
 returns-2 : tie.Need-returns-2
 returns-2 c =
-    let a = c .before .before .before .before .before .args in
+    let after-check-ranking : tie.After-check-ranking = search in
+    let start : tie.Start = search in
+    let a = start .args in
     let n = refuse 7 (isRanking (a .machines) (a .ranking .now)) in
-    c .before .before .before .check-ranking .ensures
+    after-check-ranking .check-ranking .ensures
     ∙ sym (last-one n)
     ∙ sym (goes-on (c .enum-told .given .1) (refuse 1 (isMachineCount (a .machines))) (n ∷ []) (c .before .before .check-machine-count .ensures))
 

@@ -22,16 +22,18 @@ loop-holds c = let a = c .before .before .args in (omega arith, omega arith, eve
 
 returns-2 : tie.Need-returns-2 Inv-loop μ-loop
 returns-2 c =
-    let k = c .before .before .before in
-    let a = k .before .before .before .args in
+    let k : tie.At-loop Inv-loop μ-loop = search in
+    let start : tie.Start Inv-loop μ-loop = search in
+    let a = start .args in
     let m = k .loop .machine in
     let e = c .before .stands-once .ensures in
     sym (refuses-with 7 (not-once (a .machines) (a .ranking .now) m (c .before .before .loop-test .taken) (eqb-false (occurrences m (a .ranking .now)) 1 (sym e ∙ not-true _ (c .if2 .taken)))))
 
 loop-again : tie.Need-loop-again Inv-loop μ-loop
 loop-again c =
-    let k = c .before .before .before in
-    let a = k .before .before .before .args in
+    let k : tie.At-loop Inv-loop μ-loop = search in
+    let start : tie.Start Inv-loop μ-loop = search in
+    let a = start .args in
     let m = k .loop .machine in
     let e = c .before .stands-once .ensures in (
       omega arith,
@@ -41,8 +43,9 @@ loop-again c =
 
 returns-3 : tie.Need-returns-3 Inv-loop μ-loop
 returns-3 c =
+    let start : tie.Start Inv-loop μ-loop = search in
     let k = c .before in
-    let a = k .before .before .before .args in
+    let a = start .args in
     let e : k .loop .machine ≡ a .machines = omega arith in
     sym (passes-with 7 (each-once (a .machines) (a .ranking .now) (omega arith) (rw e at (k .loop .inv .2))))
 

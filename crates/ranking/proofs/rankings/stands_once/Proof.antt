@@ -18,7 +18,7 @@ shared-slice-read-if1 c = search needs
 
 returns : tie.Need-returns Inv-loop μ-loop
 returns c =
-    let k = c .before .before .before .before in
+    let k : tie.At-loop Inv-loop μ-loop = search in
     let a = k .before .args in
     let n = left-next (a .list .now) (k .loop .at) (omega arith) in
     let h = occurs-here {n = a .machine} n (c .before .if1 .taken) in
@@ -35,7 +35,7 @@ loop-less c = search needs
 
 loop-again : tie.Need-loop-again Inv-loop μ-loop
 loop-again c =
-    let k = c .before .before .before in
+    let k : tie.At-loop Inv-loop μ-loop = search in
     let a = k .before .args in
     let n = left-next (a .list .now) (k .loop .at) (omega arith) in
     ⊎-elim

@@ -18,13 +18,13 @@ returns c =
 -- what the label of the start says
 loaded : (c : tie.After-load) → labelOf (c .before .before .before .before .before .args .work .now) (c .before .before .before .before .before .args .start) ≡ some (costOf (c .load .result))
 loaded c =
-    let k = c .before .before .before in
+    let k : tie.After-check-found = search in
     is-there _ _ (sym (k .check-found .ensures) ∙ ap checkedNumber (c .before .enum-told .given .1)) ∙ ap {B = Option (Ranked 6)} some (sym (c .load .ensures))
 
 returns-2 : tie.Need-returns-2
 returns-2 c =
+    let s : tie.Start = search in
     let l = c .before in
-    let s = l .before .before .before .before .before in
     c .check-answer .ensures ∙ sym (ap (λ (o : Option (Ranked 6)). labelRefusal o (s .args .room)) (loaded l))
 
 pub check-best-spec : {M : Type 1} → statement M

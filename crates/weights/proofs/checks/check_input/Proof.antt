@@ -27,8 +27,9 @@ card-passed c = passed-number (c .enum-told .given .1) (c .before .before .check
 returns : tie.Need-returns
 unfolding weightedRefusal
 returns c =
+    let start : tie.Start = search in
     let e = c .before in
-    let a = e .before .before .before .before .before .before .args in
+    let a = start .args in
     let n : checkedNumber (e .before .before .check .result) ≡ weightedRefusal (a .card .now) (a .weights .now) (a .word .now) (a .room) =
     goes-up (e .enum-told2 .given .1) (cardRefusal (a .card .now))
     (refuse 26 (soundWeights (machineCount (a .card .now)) (a .weights .now)) ∷ refuse 8 (soundWord (symbolCount (a .card .now)) (a .word .now)) ∷ refuse 9 (leb (2 * nodeCount (machinesOf (a .card .now)) (length (a .word .now))) (a .room)) ∷ [])
@@ -39,12 +40,15 @@ grid-of-requires : tie.Need-grid-of-requires
 grid-of-requires c κs = card-passed c
 
 check-word-requires : tie.Need-check-word-requires
-check-word-requires c κs = few-sizes (c .before .before .before .before .before .before .before .args .card .now) (card-passed (c .before)) (c .grid-of .result) (c .grid-of .ensures)
+check-word-requires c κs =
+    let start : tie.Start = search in
+    few-sizes (start .args .card .now) (card-passed (c .before)) (c .grid-of .result) (c .grid-of .ensures)
 
 returns-2 : tie.Need-returns-2
 returns-2 c =
+    let start : tie.Start = search in
     let g = c .before .grid-of in
-    let a = c .before .before .before .before .before .before .before .before .args in
+    let a = start .args in
     record {
       number = c .check-word .ensures ∙ by-sizes (a .card .now) (a .weights .now) (a .word .now) (a .room) (g .result) (card-passed (c .before .before)) (g .ensures);
       sizes = λ z. g .ensures;

@@ -24,8 +24,10 @@ shared-slice-read-if2 c = search needs
 
 returns-2 : tie.Need-returns-2 Inv-loop μ-loop
 returns-2 c =
-    let a = c .before .before .before .before .before .args in
-    let l = c .before .before .before .loop in
+    let at-loop : tie.At-loop Inv-loop μ-loop = search in
+    let start : tie.Start Inv-loop μ-loop = search in
+    let a = start .args in
+    let l = at-loop .loop in
     sym (refuses-with 26 (one-above (a .machines) (a .weights .now) (l .inv .0) (l .i) (c .before .before .loop-test .taken) (omega (arith, c .if2 .taken)) (l .inv .1)))
 
 add-i : tie.Need-add-i Inv-loop μ-loop
@@ -36,13 +38,16 @@ loop-less c = omega (arith, c .before .before .loop-test .taken)
 
 loop-again : tie.Need-loop-again Inv-loop μ-loop
 loop-again c =
-    let a = c .before .before .before .before .before .args in
-    let l = c .before .before .before .loop in
+    let at-loop : tie.At-loop Inv-loop μ-loop = search in
+    let start : tie.Start Inv-loop μ-loop = search in
+    let a = start .args in
+    let l = at-loop .loop in
     (l .inv .0, one-passes (a .weights .now) (l .i) (c .before .before .loop-test .taken) (omega (arith, c .if2 .left)) (l .inv .1))
 
 returns-3 : tie.Need-returns-3 Inv-loop μ-loop
 returns-3 c =
-    let a = c .before .before .before .args in
+    let start : tie.Start Inv-loop μ-loop = search in
+    let a = start .args in
     let l = c .before .loop in
     sym (passes-with 26 (none-above (a .machines) (a .weights .now) (l .inv .0) (l .i) (c .loop-test .left) (l .inv .1)))
 

@@ -6,7 +6,9 @@ use Rattle.writing.proofs.answers.write_bad_line.Tie as tie
 
 returns : tie.Need-returns
 unfolding badLine
-returns c = let w = c .before .before .write-text .ensures in (front-place w, front-bytes w (c .before .before .before .before .before .before .pre))
+returns c =
+    let start : tie.Start = search in
+    let w = c .before .before .write-text .ensures in (front-place w, front-bytes w (start .pre))
 
 pub write-bad-line-spec : {M : Type 1} → statement M
 write-bad-line-spec =

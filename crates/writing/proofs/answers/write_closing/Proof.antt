@@ -19,28 +19,35 @@ parts c = closing-length (c .before .args .answered) (c .before .args .refused) 
 
 write-number-requires : tie.Need-write-number-requires
 write-number-requires c κs =
-    let at-write-text = c .before .before .before .write-text in
-    let entry = c .before .before .before .before .before .before .before .before in
+    let after-write-text : tie.After-write-text = search in
+    let after-shared-slice-known : tie.After-shared-slice-known = search in
+    let entry : tie.Start = search in
+    let at-write-text = after-write-text .write-text in
     let w = at-write-text .ensures in
-    omega (arith, fits (c .before .before .before .before .before .before .before), parts (c .before .before .before .before .before .before .before), answered-length (entry .args .answered) (entry .args .refused), w .place, written-length w)
+    omega (arith, fits after-shared-slice-known, parts after-shared-slice-known, answered-length (entry .args .answered) (entry .args .refused), w .place, written-length w)
 
 write-text-requires-2 : tie.Need-write-text-requires-2
 write-text-requires-2 c κs =
-    let back-12 = c .before .before .before .before .before .before .before .before .before .before .before .before in
-    let at-write-number = c .before .before .before .before .write-number in
-    let at-write-text = c .before .before .before .before .before .before .before .before .write-text in
-    let entry = c .before .before .before .before .before .before .before .before .before .before .before .before .before in
+    let after-write-number : tie.After-write-number = search in
+    let after-write-text : tie.After-write-text = search in
+    let back-12 : tie.After-shared-slice-known = search in
+    let entry : tie.Start = search in
+    let at-write-number = after-write-number .write-number in
+    let at-write-text = after-write-text .write-text in
     let v = at-write-text .ensures in
     let w = at-write-number .ensures in
     omega (arith, fits (back-12), parts (back-12), answered-length (entry .args .answered) (entry .args .refused), v .place, written-length v, w .place, written-length w)
 
 write-number-requires-2 : tie.Need-write-number-requires-2
 write-number-requires-2 c κs =
-    let back-16 = c .before .before .before .before .before .before .before .before .before .before .before .before .before .before .before .before in
-    let at-write-text2 = c .before .before .before .write-text2 in
-    let at-write-number = c .before .before .before .before .before .before .before .before .write-number in
-    let at-write-text = c .before .before .before .before .before .before .before .before .before .before .before .before .write-text in
-    let entry = c .before .before .before .before .before .before .before .before .before .before .before .before .before .before .before .before .before in
+    let after-write-text2 : tie.After-write-text2 = search in
+    let after-write-number : tie.After-write-number = search in
+    let after-write-text : tie.After-write-text = search in
+    let back-16 : tie.After-shared-slice-known = search in
+    let entry : tie.Start = search in
+    let at-write-text2 = after-write-text2 .write-text2 in
+    let at-write-number = after-write-number .write-number in
+    let at-write-text = after-write-text .write-text in
     let u = at-write-text .ensures in
     let v = at-write-number .ensures in
     let w = at-write-text2 .ensures in
@@ -48,12 +55,16 @@ write-number-requires-2 c κs =
 
 write-byte-requires : tie.Need-write-byte-requires
 write-byte-requires c κs =
-    let back-20 = c .before .before .before .before .before .before .before .before .before .before .before .before .before .before .before .before .before .before .before .before in
-    let at-write-number2 = c .before .before .before .write-number2 in
-    let at-write-text2 = c .before .before .before .before .before .before .before .write-text2 in
-    let at-write-number = c .before .before .before .before .before .before .before .before .before .before .before .before .write-number in
-    let at-write-text = c .before .before .before .before .before .before .before .before .before .before .before .before .before .before .before .before .write-text in
-    let entry = c .before .before .before .before .before .before .before .before .before .before .before .before .before .before .before .before .before .before .before .before .before in
+    let after-write-number2 : tie.After-write-number2 = search in
+    let after-write-text2 : tie.After-write-text2 = search in
+    let after-write-number : tie.After-write-number = search in
+    let after-write-text : tie.After-write-text = search in
+    let back-20 : tie.After-shared-slice-known = search in
+    let entry : tie.Start = search in
+    let at-write-number2 = after-write-number2 .write-number2 in
+    let at-write-text2 = after-write-text2 .write-text2 in
+    let at-write-number = after-write-number .write-number in
+    let at-write-text = after-write-text .write-text in
     let t = at-write-text .ensures in
     let u = at-write-number .ensures in
     let v = at-write-text2 .ensures in
@@ -62,13 +73,18 @@ write-byte-requires c κs =
 
 write-total-requires : tie.Need-write-total-requires
 write-total-requires c κs =
-    let back-24 = c .before .before .before .before .before .before .before .before .before .before .before .before .before .before .before .before .before .before .before .before .before .before .before .before in
-    let at-write-byte = c .before .before .before .write-byte in
-    let at-write-number2 = c .before .before .before .before .before .before .before .write-number2 in
-    let at-write-text2 = c .before .before .before .before .before .before .before .before .before .before .before .write-text2 in
-    let at-write-number = c .before .before .before .before .before .before .before .before .before .before .before .before .before .before .before .before .write-number in
-    let at-write-text = c .before .before .before .before .before .before .before .before .before .before .before .before .before .before .before .before .before .before .before .before .write-text in
-    let entry = c .before .before .before .before .before .before .before .before .before .before .before .before .before .before .before .before .before .before .before .before .before .before .before .before .before in
+    let after-write-byte : tie.After-write-byte = search in
+    let after-write-number2 : tie.After-write-number2 = search in
+    let after-write-text2 : tie.After-write-text2 = search in
+    let after-write-number : tie.After-write-number = search in
+    let after-write-text : tie.After-write-text = search in
+    let back-24 : tie.After-shared-slice-known = search in
+    let entry : tie.Start = search in
+    let at-write-byte = after-write-byte .write-byte in
+    let at-write-number2 = after-write-number2 .write-number2 in
+    let at-write-text2 = after-write-text2 .write-text2 in
+    let at-write-number = after-write-number .write-number in
+    let at-write-text = after-write-text .write-text in
     let s = at-write-text .ensures in
     let t = at-write-number .ensures in
     let u = at-write-text2 .ensures in
@@ -79,14 +95,20 @@ write-total-requires c κs =
 returns : tie.Need-returns
 unfolding closingLines answeredLine
 returns c =
+    let after-write-byte : tie.After-write-byte = search in
+    let after-write-number2 : tie.After-write-number2 = search in
+    let after-write-text2 : tie.After-write-text2 = search in
+    let after-write-number : tie.After-write-number = search in
+    let after-write-text : tie.After-write-text = search in
+    let after-shared-slice-known : tie.After-shared-slice-known = search in
     let at-write-total = c .before .before .write-total in
-    let at-write-byte = c .before .before .before .before .before .before .write-byte in
-    let at-write-number2 = c .before .before .before .before .before .before .before .before .before .before .write-number2 in
-    let at-write-text2 = c .before .before .before .before .before .before .before .before .before .before .before .before .before .before .write-text2 in
-    let at-write-number = c .before .before .before .before .before .before .before .before .before .before .before .before .before .before .before .before .before .before .before .write-number in
-    let at-write-text = c .before .before .before .before .before .before .before .before .before .before .before .before .before .before .before .before .before .before .before .before .before .before .before .write-text in
+    let at-write-byte = after-write-byte .write-byte in
+    let at-write-number2 = after-write-number2 .write-number2 in
+    let at-write-text2 = after-write-text2 .write-text2 in
+    let at-write-number = after-write-number .write-number in
+    let at-write-text = after-write-text .write-text in
     let w = written-append (written-append (written-append (written-append (written-append (at-write-text .ensures) (at-write-number .ensures)) (at-write-text2 .ensures)) (at-write-number2 .ensures)) (at-write-byte .ensures)) (at-write-total .ensures) in
-    (front-place w, front-bytes w (fits (c .before .before .before .before .before .before .before .before .before .before .before .before .before .before .before .before .before .before .before .before .before .before .before .before .before .before .before)))
+    (front-place w, front-bytes w (fits after-shared-slice-known))
 
 pub write-closing-spec : {M : Type 1} → statement M
 write-closing-spec =

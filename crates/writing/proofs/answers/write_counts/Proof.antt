@@ -8,18 +8,26 @@ returns : tie.Need-returns
 returns c = rw (counts-none _ (c .if1 .taken)) (written-nil _ _)
 
 write-number-requires : tie.Need-write-number-requires
-write-number-requires c κs = omega (arith, counts-first-length (c .before .before .before .before .before .args .counts .now) (c .before .before .if1 .left))
+write-number-requires c κs =
+    let start : tie.Start = search in
+    omega (arith, counts-first-length (start .args .counts .now) (c .before .before .if1 .left))
 
 write-next-counts-requires : tie.Need-write-next-counts-requires
-write-next-counts-requires c κs = let w = c .before .before .before .before .write-number .ensures in
-    omega (arith, counts-first-length (c .before .before .before .before .before .before .before .before .before .before .args .counts .now) (c .before .before .before .before .before .before .before .if1 .left), w .place, written-length w)
+write-next-counts-requires c κs =
+    let after-write-number : tie.After-write-number = search in
+    let else1 : tie.Else1 = search in
+    let start : tie.Start = search in
+    let w = after-write-number .write-number .ensures in
+    omega (arith, counts-first-length (start .args .counts .now) (else1 .if1 .left), w .place, written-length w)
 
 returns-2 : tie.Need-returns-2
 returns-2 c =
+    let after-write-number : tie.After-write-number = search in
+    let else1 : tie.Else1 = search in
+    let entry : tie.Start = search in
     let at-write-next-counts = c .before .before .write-next-counts in
-    let at-write-number = c .before .before .before .before .before .before .before .write-number in
-    let at-if1 = c .before .before .before .before .before .before .before .before .before .before .if1 in
-    let entry = c .before .before .before .before .before .before .before .before .before .before .before .before .before in
+    let at-write-number = after-write-number .write-number in
+    let at-if1 = else1 .if1 in
     rw (counts-first (entry .args .counts .now) (at-if1 .left)) (written-append (at-write-number .ensures) (at-write-next-counts .ensures))
 
 pub write-counts-spec : {M : Type 1} → statement M

@@ -9,11 +9,16 @@ write-byte-requires : tie.Need-write-byte-requires
 write-byte-requires c κs = omega (arith, next-count-length (c .before .before .args .count))
 
 write-number-requires : tie.Need-write-number-requires
-write-number-requires c κs = let w = c .before .before .before .write-byte .ensures in omega (arith, next-count-length (c .before .before .before .before .before .before .args .count), w .place, written-length w)
+write-number-requires c κs =
+    let after-write-byte : tie.After-write-byte = search in
+    let start : tie.Start = search in
+    let w = after-write-byte .write-byte .ensures in omega (arith, next-count-length (start .args .count), w .place, written-length w)
 
 returns : tie.Need-returns
 unfolding nextCount
-returns c = written-append (c .before .before .before .before .before .before .write-byte .ensures) (c .before .before .write-number .ensures)
+returns c =
+    let after-write-byte : tie.After-write-byte = search in
+    written-append (after-write-byte .write-byte .ensures) (c .before .before .write-number .ensures)
 
 pub write-next-count-spec : {M : Type 1} → statement M
 write-next-count-spec =

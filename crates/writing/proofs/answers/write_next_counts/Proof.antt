@@ -15,7 +15,9 @@ loop-holds : tie.Need-loop-holds Inv-loop μ-loop
 loop-holds c = (search needs, ahead-start _ _ _)
 
 write-next-count-requires : tie.Need-write-next-count-requires Inv-loop μ-loop
-write-next-count-requires c κs = let k = c .before .before in counts-room _ _ (k .loop-test .taken) (k .before .loop .inv .1) (c .before .before .before .before .before .before .pre)
+write-next-count-requires c κs =
+    let start : tie.Start Inv-loop μ-loop = search in
+    let k = c .before .before in counts-room _ _ (k .loop-test .taken) (k .before .loop .inv .1) (start .pre)
 
 add-i : tie.Need-add-i Inv-loop μ-loop
 add-i c = omega arith
@@ -24,10 +26,11 @@ loop-less : tie.Need-loop-less Inv-loop μ-loop
 loop-less c = omega arith
 
 loop-again : tie.Need-loop-again Inv-loop μ-loop
-loop-again c = let k = c .before .before .before .before .before in (
-  omega arith,
-  ahead-next _ _ (counts-next _ _ (k .loop-test .taken)) (k .before .loop .inv .1) (c .before .before .write-next-count .ensures),
-)
+loop-again c =
+    let k : tie.In-loop Inv-loop μ-loop = search in (
+      omega arith,
+      ahead-next _ _ (counts-next _ _ (k .loop-test .taken)) (k .before .loop .inv .1) (c .before .before .write-next-count .ensures),
+    )
 
 same-length : tie.Need-same-length Inv-loop μ-loop
 same-length c = ahead-length _ (c .before .loop .inv .1)

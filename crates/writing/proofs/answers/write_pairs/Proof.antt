@@ -18,7 +18,10 @@ add-loop : tie.Need-add-loop Inv-loop μ-loop
 add-loop c = omega arith
 
 write-pair-requires : tie.Need-write-pair-requires Inv-loop μ-loop
-write-pair-requires c κs = let k = c .before .before .before in pairs-room _ _ (k .loop-test .taken) (k .before .loop .inv .1) (c .before .before .before .before .before .before .before .pre)
+write-pair-requires c κs =
+    let k : tie.In-loop Inv-loop μ-loop = search in
+    let start : tie.Start Inv-loop μ-loop = search in
+    pairs-room _ _ (k .loop-test .taken) (k .before .loop .inv .1) (start .pre)
 
 add-i : tie.Need-add-i Inv-loop μ-loop
 add-i c = omega arith
@@ -27,10 +30,11 @@ loop-less : tie.Need-loop-less Inv-loop μ-loop
 loop-less c = omega arith
 
 loop-again : tie.Need-loop-again Inv-loop μ-loop
-loop-again c = let k = c .before .before .before .before .before .before in (
-  omega arith,
-  ahead-next _ _ (pairs-next _ _ (k .loop-test .taken)) (k .before .loop .inv .1) (c .before .before .write-pair .ensures),
-)
+loop-again c =
+    let k : tie.In-loop Inv-loop μ-loop = search in (
+      omega arith,
+      ahead-next _ _ (pairs-next _ _ (k .loop-test .taken)) (k .before .loop .inv .1) (c .before .before .write-pair .ensures),
+    )
 
 same-length : tie.Need-same-length Inv-loop μ-loop
 same-length c = ahead-length _ (c .before .loop .inv .1)

@@ -6,15 +6,20 @@ use Rattle.writing.proofs.answers.write_refused.Statement.{statement}
 use Rattle.writing.proofs.answers.write_refused.Tie as tie
 
 write-number-requires : tie.Need-write-number-requires
-write-number-requires c κs = let w = c .before .before .before .write-text .ensures in
-    omega (arith, byte-length (c .before .before .before .before .before .before .before .args .number) (c .before .before .before .before .before .before .before .fits .number .fits), w .place, written-length w)
+write-number-requires c κs =
+    let after-write-text : tie.After-write-text = search in
+    let start : tie.Start = search in
+    let w = after-write-text .write-text .ensures in
+    omega (arith, byte-length (start .args .number) (start .fits .number .fits), w .place, written-length w)
 
 write-byte-requires : tie.Need-write-byte-requires
 write-byte-requires c κs =
-    let at-write-number = c .before .before .before .write-number in
-    let at-write-text = c .before .before .before .before .before .before .before .write-text in
-    let entry = c .before .before .before .before .before .before .before .before .before .before .before in
-    let at-fits = c .before .before .before .before .before .before .before .before .before .before .before .fits in
+    let after-write-number : tie.After-write-number = search in
+    let after-write-text : tie.After-write-text = search in
+    let entry : tie.Start = search in
+    let at-write-number = after-write-number .write-number in
+    let at-write-text = after-write-text .write-text in
+    let at-fits = entry .fits in
     let v = at-write-text .ensures in
     let w = at-write-number .ensures in
     omega (arith, byte-length (entry .args .number) (at-fits .number .fits), v .place, written-length v, w .place, written-length w)
@@ -22,11 +27,13 @@ write-byte-requires c κs =
 returns : tie.Need-returns
 unfolding refusedLine
 returns c =
+    let after-write-number : tie.After-write-number = search in
+    let after-write-text : tie.After-write-text = search in
+    let entry : tie.Start = search in
     let at-write-byte = c .before .before .write-byte in
-    let at-write-number = c .before .before .before .before .before .before .write-number in
-    let at-write-text = c .before .before .before .before .before .before .before .before .before .before .write-text in
-    let entry = c .before .before .before .before .before .before .before .before .before .before .before .before .before .before in
-    let at-fits = c .before .before .before .before .before .before .before .before .before .before .before .before .before .before .fits in
+    let at-write-number = after-write-number .write-number in
+    let at-write-text = after-write-text .write-text in
+    let at-fits = entry .fits in
     let w = written-append (written-append (at-write-text .ensures) (at-write-number .ensures)) (at-write-byte .ensures) in
     (front-place w, front-bytes w (le-trans (refused-fits (entry .args .number) (at-fits .number .fits)) (entry .pre)))
 

@@ -11,14 +11,16 @@ abbrev μ-loop : tie.MeasureT-loop
 μ-loop text at₀ at = length text - at
 
 returns : tie.Need-returns Inv-loop μ-loop
-returns c = let k = c .before .before .before in
+returns c =
+    let k : tie.In-loop Inv-loop μ-loop = search in
     all-fails isDigit (rest-cons _ _ 0 (k .loop-test .taken)) (sym (c .before .is-digit .ensures) ∙ not-true _ (c .if1 .taken)) (k .before .loop .inv .1)
 
 loop-again : tie.Need-loop-again Inv-loop μ-loop
-loop-again c = let k = c .before .before .before in (
-  search needs,
-  all-next isDigit (rest-cons _ _ 0 (k .loop-test .taken)) (sym (c .before .is-digit .ensures) ∙ not-false _ (c .if1 .left)) (k .before .loop .inv .1),
-)
+loop-again c =
+    let k : tie.In-loop Inv-loop μ-loop = search in (
+      search needs,
+      all-next isDigit (rest-cons _ _ 0 (k .loop-test .taken)) (sym (c .before .is-digit .ensures) ∙ not-false _ (c .if1 .left)) (k .before .loop .inv .1),
+    )
 
 returns-2 : tie.Need-returns-2 Inv-loop μ-loop
 returns-2 c = all-end isDigit (drop-of-length-le _ (c .loop-test .left)) (c .before .loop .inv .1)

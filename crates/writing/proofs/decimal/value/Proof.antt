@@ -21,10 +21,14 @@ sub-wide : tie.Need-sub-wide Inv-loop μ-loop
 sub-wide c = digit-facts _ (all-first isDigit (rest-cons _ _ _ (c .before .loop-test .taken)) (c .before .before .loop .inv .2)) .low
 
 digit : (c : tie.After-wide Inv-loop μ-loop) → Digit (getD (c .before .before .before .before .before .args .digits .now) (c .before .before .before .loop .at) 0)
-digit c = digit-facts _ (all-first isDigit (rest-cons _ _ _ (c .before .before .loop-test .taken)) (c .before .before .before .loop .inv .2))
+digit c =
+    let at-loop : tie.At-loop Inv-loop μ-loop = search in
+    digit-facts _ (all-first isDigit (rest-cons _ _ _ (c .before .before .loop-test .taken)) (at-loop .loop .inv .2))
 
 add-n : tie.Need-add-n Inv-loop μ-loop
-add-n c = omega (arith, power-small (c .before .before .before .loop .at) (omega arith), digit c)
+add-n c =
+    let at-loop : tie.At-loop Inv-loop μ-loop = search in
+    omega (arith, power-small (at-loop .loop .at) (omega arith), digit c)
 
 loop-again : tie.Need-loop-again Inv-loop μ-loop
 loop-again c = let k = c .before .before in (

@@ -11,10 +11,14 @@ abbrev μ-loop : tie.MeasureT-loop
 μ-loop text b at₀ at = length text - at
 
 returns : tie.Need-returns Inv-loop μ-loop
-returns c = (before-here _ _ _ (c .before .before .loop-test .taken) (c .if1 .taken) (c .before .before .before .loop .inv .1), search needs)
+returns c =
+    let at-loop : tie.At-loop Inv-loop μ-loop = search in
+    (before-here _ _ _ (c .before .before .loop-test .taken) (c .if1 .taken) (at-loop .loop .inv .1), search needs)
 
 loop-again : tie.Need-loop-again Inv-loop μ-loop
-loop-again c = (search needs, before-on _ _ _ (c .before .before .loop-test .taken) (c .if1 .left) (c .before .before .before .loop .inv .1))
+loop-again c =
+    let at-loop : tie.At-loop Inv-loop μ-loop = search in
+    (search needs, before-on _ _ _ (c .before .before .loop-test .taken) (c .if1 .left) (at-loop .loop .inv .1))
 
 returns-2 : tie.Need-returns-2 Inv-loop μ-loop
 returns-2 c = (before-end _ _ _ (c .loop-test .left) (c .before .loop .inv .1), search needs)
