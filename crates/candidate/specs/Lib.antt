@@ -5,3 +5,4 @@ pub mod Scoring
 pub mod EmptyWord
 pub mod OldCards
 pub mod OldArcs
+pub mod Laws

@@ -8,3 +8,4 @@ pub mod Steps
 pub mod OldStates
 pub mod OldArcs
 pub mod SameAndDifferent
+pub mod Laws
