@@ -1,7 +1,7 @@
 -- Cards from before ending marks and kinds mean what they meant in the base. Assumes nothing.
 use Rattle.basics.proofs.Words.{_≡_, refl, ap, ap₂, _∙_, Bool, true, _&&_, List, [], _∷_, map, Option, some, none, ℕ, allOf, left, right}
 use Rattle.machine.specs.declared.Pair.{Pair}
-use Rattle.machine.specs.Machine.{startState, stepOf}
+use Rattle.machine.specs.Machine.{startState}
 use Rattle.machine.specs.Part.{machineOf}
 use Rattle.machine.specs.OldStates.{OldMachine, oldMachineOf, oldEndingOf, oldStates, ends-as-before}
 use Rattle.machine.specs.OldArcs.{stepBySets, oldArcs, same-steps}

@@ -1,5 +1,5 @@
 -- The answers of reading and packing by the number of their refusal. Assumes nothing.
-use Rattle.basics.specs.Words.{_≡_, refl, ap, ap₂, sym, _∙_, List, [], _∷_, _++_, ℕ, zero, suc, _+_, _*_, _<_, arith, length, take, drop, take-at, drop-at, drop-drop}
+use Rattle.basics.specs.Words.{_≡_, ap, ap₂, sym, _∙_, List, _++_, ℕ, zero, suc, _+_, _*_, _<_, arith, length, take, drop, take-at, drop-at, drop-drop}
 use Rattle.layout.specs.Layout.{offsetOf, lengthOf}
 use Rattle.card.specs.declared.PartPlace.{PartPlace}
 use Rattle.card.specs.Reading.{readingRefusal, reading}

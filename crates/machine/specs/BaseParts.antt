@@ -1,9 +1,9 @@
 -- Parts from before ending marks and kinds, as the base read them: a state byte is 1, final, or 0, not; an arc takes by its sets alone, and its fourth
 -- byte is a zero. Assumes nothing.
-use Rattle.basics.proofs.Words.{_≡_, refl, sym, _∙_, ap, Bool, true, _&&_, List, [], _∷_, ℕ, eqb, ltb, leb, allOf, pairwise, both, left, right}
+use Rattle.basics.proofs.Words.{_≡_, refl, sym, _∙_, ap, Bool, true, _&&_, List, [], _∷_, ℕ, ltb, leb, allOf, pairwise, both, left, right}
 use Rattle.refusals.specs.Refusals.{refuse, firstOf}
 use Rattle.machine.specs.declared.Arc.{Arc}
-use Rattle.machine.specs.Part.{stateCount, arcsOf, shaped, soundSet, soundStates, partRefusal}
+use Rattle.machine.specs.Part.{stateCount, arcsOf, shaped, soundSet, partRefusal}
 use Rattle.machine.specs.Accepted.{verdict}
 use Rattle.machine.specs.OldStates.{oldStates, states-pass}
 use Rattle.machine.specs.OldArcs.{soundBySets, freeBySets, refusalBySets, oldArc, oldArcs, same-refusal}

@@ -1,6 +1,6 @@
 -- S-12 in the request's words, over the calls: the card trimmed of one arc that a word's answer does not travel gives that word the same answer and
 -- profile under the same ranking, provided the second call's slices are long enough.
-use Rattle.basics.specs.Words.{_≡_, sym, ap, subst, false, List, ℕ, _*_, _≤_, length}
+use Rattle.basics.specs.Words.{_≡_, subst, false, List, ℕ, _*_, _≤_, length}
 use Rattle.card.specs.Card.{cardRefusal, machinesOf}
 use Rattle.candidate.specs.declared.Evaluation.{Evaluation}
 use Rattle.product.specs.Nodes.{nodeCount}

@@ -1,5 +1,5 @@
-use Rattle.basics.proofs.Words.{_≡_, refl, ap, sym, _∙_, true, [], _∷_, arith, length, eqb, leb, lit<, needs, eqb-true, eq-eqb}
-use Rattle.refusals.specs.Refusals.{refuse, firstOf, checkedNumber}
+use Rattle.basics.proofs.Words.{_≡_, ap, sym, _∙_, true, [], _∷_, arith, length, eqb, leb, lit<, needs, eqb-true, eq-eqb}
+use Rattle.refusals.specs.Refusals.{refuse, checkedNumber}
 use Rattle.refusals.proofs.Refusals.{first-on, last-one, passed-number, was-true, goes-up}
 use Rattle.card.specs.Layout.{soundCounts}
 use Rattle.card.specs.Card.{machinesRefusal}

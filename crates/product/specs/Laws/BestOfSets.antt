@@ -1,5 +1,5 @@
 -- What the definition of the best over sets lists: the words with one symbol from each set, and their best candidates.
-use Rattle.basics.proofs.Words.{_≡_, refl, sym, _∙_, ap, Bool, true, false≢true, List, [], _∷_, map, List·Memᴰ, List·Memᴰ·head, List·Memᴰ·not-nil, List·Memᴰ·eq-of-singleton, Option, some, none, ℕ, _^_, _<_, arith, length, ltb, decLt, allOf, those, joined, numbersBelow, member, both, left, right, clash, those-member, member-those, joined-member, member-joined, member-numbers, member-beyond}
+use Rattle.basics.proofs.Words.{_≡_, refl, sym, _∙_, ap, true, false≢true, List, [], _∷_, map, List·Memᴰ, List·Memᴰ·head, List·Memᴰ·not-nil, List·Memᴰ·eq-of-singleton, Option, some, none, ℕ, _^_, _<_, arith, length, ltb, decLt, allOf, those, joined, numbersBelow, member, both, left, right, clash, those-member, member-those, joined-member, member-joined, member-numbers, member-beyond}
 use lib.Pow.{pow-lt}
 use borrow.Author.Tests.{ltb-true, lt-ltb}
 use Rattle.machine.specs.declared.Pair.{Pair}
