@@ -142,7 +142,7 @@ def check_line(line, function, known):
 def check(text):
     """Refuses a module that is not what its machine code for other processors rests on. Gives how many lines of functions it has."""
     lines = text.splitlines()
-    known = {found["name"] for found in map(DEFINITION.fullmatch, lines) if found}
+    known = {found["name"] for found in map(DEFINITION.fullmatch, lines) if found} | {f"@{name}" for name in (*INTRINSICS, *SURROUNDINGS)}
     function, count = None, 0
     for number, line in enumerate(lines, 1):
         try:
@@ -150,7 +150,7 @@ def check(text):
             if function and line == "}":
                 function = None
             elif function and line.startswith("  "):
-                check_line(line[2:], function, known | {f"@{name}" for name in (*INTRINSICS, *SURROUNDINGS)})
+                check_line(line[2:], function, known)
                 count += 1
             elif function:
                 if line and not LABEL.fullmatch(line):
