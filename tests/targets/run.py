@@ -5,6 +5,7 @@ For each target, byte for byte:
 - examples/c over include/pastaspur.h and the library of targets/build, which needs of others what docs/TARGETS.md says and has no data
   that could be written.
 Emulated by qemu-user, for wasm32 by node. First, that damaged modules are refused (damage.py)."""
+import concurrent.futures
 import os
 import pathlib
 import shutil
@@ -53,8 +54,8 @@ class Failed(Exception):
 class Runner:
     """A target's programs: compiled into a folder, each with a script that runs it there."""
 
-    def __init__(self, kit, target, folder):
-        self.kit, self.target, self.folder = kit, target, folder
+    def __init__(self, kit, target, modules, folder):
+        self.kit, self.target, self.modules, self.folder = kit, target, modules, folder
         package, emulator, *more = EMULATORS[target]
         found = shutil.which(emulator)
         if not found:
@@ -88,7 +89,7 @@ class Runner:
     def program(self, crate):
         """A proved program."""
         made = self.folder / f"{crate}.o"
-        common.compile_module(self.kit, self.target, common.module(self.kit, crate), made)
+        common.compile_module(self.kit, self.target, self.modules[crate], made)
         return self.link(crate, made)
 
 
@@ -119,7 +120,7 @@ def needs(kit, archive):
 
 def library(runner):
     """The library of targets/build, called from C by the examples; on wasm32 also as it is, from JavaScript."""
-    text = common.module(runner.kit, common.LIBRARY)
+    text = runner.modules[common.LIBRARY]
     made = runner.folder / common.file_name(runner.target)
     made.write_bytes(common.library(runner.kit, runner.target, text))
     part = made
@@ -141,24 +142,32 @@ def library(runner):
     return "examples/c over the library"
 
 
+def on_target(kit, target, modules):
+    """A target's line, and whether it passed."""
+    began = time.monotonic()
+    try:
+        with tempfile.TemporaryDirectory() as folder:
+            runner = Runner(kit, target, modules, pathlib.Path(folder))
+            said, passed = f"{corpus(runner)}, {library(runner)}", True
+    except subprocess.CalledProcessError as wrong:
+        said, passed = f"FAILED: {' '.join(map(str, wrong.cmd))}\n{wrong.stdout}", False
+    except Failed as wrong:
+        said, passed = f"FAILED: {wrong}", False
+    return f"{target}: {said} ({time.monotonic() - began:.1f} s)", passed
+
+
 def main(names):
     for name in names:
         if name not in common.TARGETS:
             sys.exit(f"there is no target '{name}'")
     kit = common.find_kit()
-    print(damage.main(common.module(kit, common.LIBRARY), common.made_by_kit(kit, common.LIBRARY)))
-    failed = False
-    for target in names or common.TARGETS:
-        began = time.monotonic()
-        try:
-            with tempfile.TemporaryDirectory() as folder:
-                runner = Runner(kit, target, pathlib.Path(folder))
-                said = f"{corpus(runner)}, {library(runner)}"
-        except (Failed, subprocess.CalledProcessError) as wrong:
-            failed = True
-            said = f"FAILED: {getattr(wrong, 'stdout', None) or ''}{wrong}"
-        print(f"{target}: {said} ({time.monotonic() - began:.1f} s)", flush=True)
-    sys.exit(failed)
+    modules = {crate: common.module(kit, crate) for crate in (common.LIBRARY, "test_corpus", "test_live")}
+    print(damage.main(modules[common.LIBRARY], common.made_by_kit(kit, common.LIBRARY)), flush=True)
+    with concurrent.futures.ThreadPoolExecutor(os.cpu_count()) as pool:
+        lines = [pool.submit(on_target, kit, target, modules) for target in names or common.TARGETS]
+        for line in lines:
+            print(line.result()[0], flush=True)
+    sys.exit(not all(line.result()[1] for line in lines))
 
 
 main(sys.argv[1:])
