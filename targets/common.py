@@ -41,6 +41,9 @@ def run_script(main):
     except Wrong as wrong:
         print(f"targets/{pathlib.Path(sys.argv[0]).name}: {wrong}", file=sys.stderr)
         sys.exit(2)
+    except portable.NotPortable as wrong:
+        print(f"targets/{pathlib.Path(sys.argv[0]).name}: {wrong}", file=sys.stderr)
+        sys.exit(1)
     except subprocess.CalledProcessError as failed:
         sys.stderr.write(failed.stdout or "")
         print(f"targets/{pathlib.Path(sys.argv[0]).name}: `{pathlib.Path(failed.cmd[0]).name} {' '.join(map(str, failed.cmd[1:]))}` failed", file=sys.stderr)
@@ -120,10 +123,8 @@ def reached(name, crates):
 
 
 def source_key(kit, name, crates):
-    """A number for all that the module of a crate is made from: the kit, the crates that it rests on, these scripts."""
+    """A number for all that the module of a crate is made from: the kit, and the crates that it rests on."""
     key = hashlib.sha256((kit.home / "KIT-ID").read_bytes() + os.uname().machine.encode())
-    for file in (ROOT / "targets" / "common.py", ROOT / "targets" / "portable.py"):
-        key.update(file.read_bytes())
     for crate in reached(name, crates):
         key.update(f"{crate}: {crates[crate]}\n".encode())
         for part in ("src", "specs", "proofs"):
@@ -136,7 +137,7 @@ def source_key(kit, name, crates):
 # The module
 
 def prove(kit, name, crates):
-    """Proves a crate, and the module that its machine code is made from, as text."""
+    """Proves a crate, and gives the module that the kit compiles for it, as text."""
     below = [crate for crate in crates[name] if crate in crates]
     if below:
         run("rt", "check", *below, cwd=ROOT)
@@ -156,8 +157,8 @@ def prove(kit, name, crates):
         return run(kit.clang, "-w", "-S", "-emit-llvm", "-Xclang", "-disable-llvm-passes", "-x", "ir", "module.bc", "-o", "-", cwd=place)
 
 
-def module(kit, name):
-    """The file with the module of a crate, free of x86-64 and checked. It is made once for what it is made from, and kept under target/."""
+def made_by_kit(kit, name):
+    """The module of a crate as the kit made it, as text. It is made once for what it is made from, and kept under target/."""
     crates = dependencies()
     if name not in crates or not (ROOT / "crates" / name / "src").is_dir():
         raise Wrong(f"there is no crate '{name}': crates.txt names them")
@@ -167,12 +168,18 @@ def module(kit, name):
         fcntl.flock(lock, fcntl.LOCK_EX)
         file = kept / f"{name}-{source_key(kit, name, crates)}.ll"
         if not file.exists():
-            text = portable.without_machine(prove(kit, name, crates))
-            portable.check(text)
+            text = prove(kit, name, crates)
             for old in kept.glob(f"{name}-*.ll"):
                 old.unlink()
             write(file, text.encode())
-        return file
+        return file.read_text()
+
+
+def module(kit, name):
+    """The module of a crate, free of x86-64 and checked, as text."""
+    text = portable.without_machine(made_by_kit(kit, name))
+    portable.check(text)
+    return text
 
 
 def write(file, content):
@@ -187,28 +194,38 @@ def write(file, content):
 
 # Machine code
 
-def compile_module(kit, target, source, made, level=None):
-    """The object code of a module for a target. It is compiled in the module's folder by its bare name, so that no path is in it."""
+def compile_module(kit, target, text, made, level=None):
+    """Writes the object code of a module for a target to the file `made`. The compiler sees no path, so none is in it."""
     target = TARGETS[target]
-    run(kit.clang, f"--target={target.triple}", *target.flags, level or target.level, "-w", "-c", "-x", "ir", source.name, "-o", str(made.resolve()), cwd=source.parent)
+    run(kit.clang, f"--target={target.triple}", *target.flags, level or target.level, "-w", "-c", "-x", "ir", "-", "-o", made.name, cwd=made.parent, input=text)
 
 
-def exported(source):
+def exported(text):
     """The calls that a module exports."""
-    return sorted(re.findall(r"^define (?!internal|private)[^@]*@(pastaspur_\w+)\(", source.read_text(), re.M))
+    return sorted(re.findall(r"^define (?!internal|private)[^@]*@(pastaspur_\w+)\(", text, re.M))
 
 
-def build(kit, target, source, made, level=None):
-    """The library for a target, as bytes, from the module `source`; `made` is an empty folder."""
-    calls = exported(source)
-    assert len(calls) == CALLS, calls
-    compile_module(kit, target, source, made / "pastaspur.o", level)
-    if target == "wasm32":
-        # lld is one program that goes by the name it is called by.
-        linker = made / "wasm-ld"
+def link_wasm(kit, made, stack, exports, *words):
+    """Links a WebAssembly module into the file `made`. lld does so where it is called by the name wasm-ld."""
+    with tempfile.TemporaryDirectory() as place:
+        linker = pathlib.Path(place, "wasm-ld")
         linker.symlink_to(kit.linker)
-        run(str(linker), "--no-entry", "--gc-sections", "--strip-all", "-z", f"stack-size={STACK_BYTES}", "--export=__heap_base",
-            *(f"--export={call}" for call in calls), "pastaspur.o", "-o", "made", cwd=made)
-    else:
-        run(kit.archiver, "rcsD", "made", "pastaspur.o", cwd=made)
-    return (made / "made").read_bytes()
+        run(str(linker), "--no-entry", "--gc-sections", "--strip-all", "-z", f"stack-size={stack}", *(f"--export-if-defined={name}" for name in exports),
+            *map(str, words), "-o", str(made))
+
+
+def file_name(target):
+    return "pastaspur.wasm" if target == "wasm32" else "libpastaspur.a"
+
+
+def library(kit, target, text, level=None):
+    """The library for a target, as bytes, from the module of the library's crate."""
+    with tempfile.TemporaryDirectory() as place:
+        place = pathlib.Path(place)
+        compile_module(kit, target, text, place / "pastaspur.o", level)
+        made = place / file_name(target)
+        if target == "wasm32":
+            link_wasm(kit, made, STACK_BYTES, (*exported(text), "__heap_base"), place / "pastaspur.o")
+        else:
+            run(kit.archiver, "rcsD", made.name, "pastaspur.o", cwd=place)
+        return made.read_bytes()
