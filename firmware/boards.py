@@ -20,13 +20,16 @@ DEPTHS = {"writing::decimal::write_number": 10}
 TRAP_BYTES = 40
 SECONDS = 120  # that a run may take
 
-Board = collections.namedtuple("Board", "what target source flags ram slot emulator package machine")
+KB = 1024
+Board = collections.namedtuple("Board", "what target source flags rom ram slot emulator package machine")
 BOARDS = {
-    "arm": Board("ARM Cortex-M3, qemu's mps2-an385", "thumbv7m", "mps2", (), 192 * 1024, 0x21000000, "qemu-system-arm", "qemu-system-arm",
+    "arm": Board("ARM Cortex-M3, qemu's mps2-an385", "thumbv7m", "mps2", (), 32 * KB, 192 * KB, 0x21000000, "qemu-system-arm", "qemu-system-arm",
                  ("-M", "mps2-an385", "-semihosting-config", "enable=on,target=native")),
-    "riscv": Board("32-bit RISC-V, qemu's virt", "rv32imac", "virt", ("-march=rv32imac_zicsr",), 192 * 1024, 0x81000000, "qemu-system-riscv32", "qemu-system-misc",
-                   ("-M", "virt", "-bios", "none")),
+    "riscv": Board("32-bit RISC-V, qemu's virt", "rv32imac", "virt", ("-march=rv32imac_zicsr",), 32 * KB, 192 * KB, 0x81000000, "qemu-system-riscv32",
+                   "qemu-system-misc", ("-M", "virt", "-bios", "none")),
 }
+# The code of a Cortex-M0 on the Cortex-M3, which has all its instructions: the emulator has no board with a Cortex-M0 and as much memory.
+MEASURED = {**BOARDS, "cortex-m0": BOARDS["arm"]._replace(what="ARM Cortex-M0, its code on qemu's mps2-an385", target="thumbv6m", rom=64 * KB)}
 STRICT = ("-std=c11", "-Wall", "-Wextra", "-Wpedantic", "-Wconversion", "-Werror", "-Os", "-ffreestanding", "-fno-builtin")
 Sizes = collections.namedtuple("Sizes", "rom rom_bytes stack data ram_bytes")
 
@@ -60,27 +63,26 @@ def sections(elf):
     return {section.name: section.size for section in callgraph.Sections(elf.read_bytes()).sections}
 
 
-def link(kit, board, objects, elf, ram=None):
+def link(kit, board, objects, elf, depths):
     """Links a firmware, with as much stack as the call graph says. The linker says what does not fit."""
-    board = BOARDS[board]
-    ram = ram or board.ram
-    stack = callgraph.Graph(objects).bound("reset", DEPTHS) + TRAP_BYTES
-    common.run(str(kit.linker), "-T", str(HERE / f"{board.source}.ld"), "--gc-sections", "--fatal-warnings", f"--defsym=stack_bytes={stack}", f"--defsym=ram_bytes={ram}",
-               *map(str, objects), "-o", str(elf))
+    stack = callgraph.Graph(objects).bound("reset", depths) + TRAP_BYTES
+    common.run(str(kit.linker), "-T", str(HERE / f"{board.source}.ld"), "--gc-sections", "--fatal-warnings", f"--defsym=stack_bytes={stack}",
+               f"--defsym=rom_bytes={board.rom}", f"--defsym=ram_bytes={board.ram}", *map(str, objects), "-o", str(elf))
     sizes = sections(elf)
-    return Sizes(sizes[".rom"], 32 * 1024, sizes[".stack"], sizes.get(".ram", 0), ram)
+    return Sizes(sizes[".rom"], board.rom, sizes[".stack"], sizes.get(".ram", 0), board.ram)
 
 
-def build(name, program="board", sources=(), ram=None, label=None):
-    """Builds the firmware of a board: a proved crate, or C sources with the function `main`. Gives the file and the sizes."""
-    board, kit, label = BOARDS[name], common.find_kit(), label or program
+def build(name, program="board", sources=(), ram=None, label=None, depths=None):
+    """Builds the firmware of a board from a proved crate, or C sources with the function `main`, or both. Gives the file and the sizes."""
+    board, kit, label = MEASURED[name], common.find_kit(), label or program
+    board = board._replace(ram=ram or board.ram)
     made = MADE / name / label
     made.mkdir(parents=True, exist_ok=True)
     objects = [compile_c(kit, board.target, source, made, board.flags) for source in [HERE / "port.c", HERE / f"{board.source}.c", HERE / "runtime.c", *sources]]
     if program:
         objects.append(compile_module(kit, board.target, program, made))
     elf = made / f"{label}.elf"
-    return elf, link(kit, name, objects, elf, ram)
+    return elf, link(kit, board, objects, elf, depths or DEPTHS)
 
 
 def memory(sizes):
@@ -92,7 +94,7 @@ def memory(sizes):
 
 def emulator(name):
     """A board's emulator, or the line that installs it."""
-    board = BOARDS[name]
+    board = MEASURED[name]
     found = shutil.which(board.emulator)
     if not found:
         raise common.Wrong(f"there is no {board.emulator}, which runs the board '{name}': apt-get install --no-install-recommends {board.package}")
@@ -103,14 +105,14 @@ def loaded(board, card):
     """The arguments that put a card into the slot; none leaves the slot empty."""
     if not card:
         return []
-    slot = BOARDS[board].slot
+    slot = MEASURED[board].slot
     return ["-device", f"loader,addr={slot:#x},data={card.stat().st_size},data-len={SLOT_LENGTH_BYTES}",
             "-device", f"loader,addr={slot + SLOT_LENGTH_BYTES:#x},file={card},force-raw=on"]
 
 
 def command(name, elf, card=None, more=()):
     """The command that runs a firmware with its UART on standard input and output."""
-    return [emulator(name), *BOARDS[name].machine, *more, "-display", "none", "-serial", "stdio", "-monitor", "none", *loaded(name, card), "-kernel", str(elf)]
+    return [emulator(name), *MEASURED[name].machine, *more, "-display", "none", "-serial", "stdio", "-monitor", "none", *loaded(name, card), "-kernel", str(elf)]
 
 
 def run(name, elf, card, lines, more=()):
