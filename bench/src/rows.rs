@@ -126,8 +126,7 @@ fn large() -> Vec<Case> {
 /// kind 1 and one of kind 2 on the same sets.
 fn kinds() -> Vec<Case> {
     let mut random = Random::new(10);
-    let [first, second] =
-        [(); 2].map(|_| random_machine(&mut random, 63, Constraint::Shapes, &[by(10, 6, 6); 4]));
+    let [first, second] = [(); 2].map(|_| random_machine(&mut random, 63, Constraint::Shapes, &[by(10, 6, 6); 4]));
     let any = set(0..=63);
     let faithful = machine(&[true], vec![same(arc(0, 0, 0, any, any)), unlike(arc(0, 0, 1, any, any))]);
     let card = card(63, &[first, second, faithful]);

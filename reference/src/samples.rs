@@ -236,7 +236,7 @@ pub fn chain_full() -> Vec<u8> {
     let [first, second] = counters(10, 36, 63, 15);
     let (empty, segment, any) = (set([0]), set(1..64), set(0..64));
     let rest = machine(&[true], vec![arc(0, 0, 15, empty, segment), arc(0, 0, 15, segment, any)]);
-    card(63, &[first, second, rest.clone(), rest.clone(), rest.clone(), rest].each_ref().map(split))
+    card(63, &[&first, &second, &rest, &rest, &rest, &rest].map(split))
 }
 
 /// The chain without marks, and leaps along it with 15: with the first machine on top the best still passes every node,
