@@ -84,9 +84,13 @@ def failed_write(out, what):
 
 
 def full_device():
-    """A full device takes nothing. That nothing more is written is seen at a pipe that is full, does not wait, and is emptied after the first failure."""
+    """A full device takes nothing."""
     with open("/dev/full", "wb") as full:
         failed_write(full, "/dev/full")
+
+
+def full_pipe():
+    """A pipe that is full and does not wait: the first answer finds no room. The program ends, though its input is open, and has put nothing in."""
     from_program, to_pipe = os.pipe()
     fcntl.fcntl(to_pipe, fcntl.F_SETFL, os.O_NONBLOCK)
     put = 0
@@ -96,37 +100,18 @@ def full_device():
     except BlockingIOError:
         pass
     process = start(subprocess.PIPE, to_pipe)
-    process.stdin.write(LINES[0])
-    process.wait(SECONDS)
     os.close(to_pipe)
+    process.stdin.write(LINES[0])
+    try:
+        process.wait(SECONDS)
+    except subprocess.TimeoutExpired:
+        must(False, "a full pipe: the program reads on")
+        process.kill()
     left = b""
     while piece := os.read(from_program, 65536):
         left += piece
     must(left == b"." * put, f"a full pipe: {left[put:]!r} was written after a write that failed")
     process.stdin.close()
-
-
-def written_after_failure():
-    """The first answer finds the pipe full; it is then emptied. What comes after it would be seen: three more lines and the closing lines."""
-    from_program, to_pipe = os.pipe()
-    fcntl.fcntl(to_pipe, fcntl.F_SETFL, os.O_NONBLOCK)
-    size = fcntl.fcntl(to_pipe, 1032)  # F_GETPIPE_SZ
-    os.write(to_pipe, b"." * size)
-    process = start(subprocess.PIPE, to_pipe)
-    os.close(to_pipe)
-    try:
-        process.stdin.write(LINES[0])
-        time.sleep(0.3)
-        os.read(from_program, size)
-        process.stdin.write(b"".join(LINES[1:4]))
-        process.stdin.close()
-    except BrokenPipeError:
-        pass
-    seen = b""
-    while piece := os.read(from_program, 65536):
-        seen += piece
-    must(seen.strip(b".") == b"", f"after a write that failed {seen!r} was written")
-    process.wait(SECONDS)
 
 
 def failed_reads():
@@ -148,7 +133,7 @@ line_by_line(lambda line: [line], "a line at a time")
 line_by_line(lambda line: [line[i:i + 1] for i in range(len(line))], "a byte at a time")
 stopped_and_continued()
 full_device()
-written_after_failure()
+full_pipe()
 failed_reads()
 print("\n".join(wrong) or "the program's loop is as docs/FORMAT.md says")
 sys.exit(bool(wrong))
