@@ -25,7 +25,7 @@ Board = collections.namedtuple("Board", "what target source flags rom ram slot e
 BOARDS = {
     "arm": Board("ARM Cortex-M3, qemu's mps2-an385", "thumbv7m", "mps2", (), 32 * KB, 192 * KB, 0x21000000, "qemu-system-arm", "qemu-system-arm",
                  ("-M", "mps2-an385", "-semihosting-config", "enable=on,target=native")),
-    "riscv": Board("32-bit RISC-V, qemu's virt", "rv32imac", "virt", ("-march=rv32imac_zicsr",), 32 * KB, 192 * KB, 0x81000000, "qemu-system-riscv32",
+    "riscv": Board("32-bit RISC-V, qemu's virt", "rv32imac", "virt", ("-march=rv32imac_zicsr",), 64 * KB, 192 * KB, 0x81000000, "qemu-system-riscv32",
                    "qemu-system-misc", ("-M", "virt", "-bios", "none")),
 }
 # The code of a Cortex-M0 on the Cortex-M3, which has all its instructions: the emulator has no board with a Cortex-M0 and as much memory.
