@@ -121,3 +121,11 @@ def run(name, elf, card, lines, more=()):
         raise common.Wrong("the input has byte 4, which is the key 'end'")
     done = subprocess.run(command(name, elf, card, more), input=lines + END_KEY, stdout=subprocess.PIPE, stderr=subprocess.STDOUT, timeout=SECONDS)
     return done.returncode, done.stdout
+
+
+def rewrite(file, name, lines):
+    """Puts lines between the markers of a table."""
+    begin, end = f"<!-- {name}: begin -->", f"<!-- {name}: end -->"
+    text = file.read_text()
+    before, rest = text.split(begin)
+    file.write_text(before + "\n".join([begin, "", *lines, "", end]) + rest.split(end)[1])
