@@ -129,3 +129,20 @@ def rewrite(file, name, lines):
     text = file.read_text()
     before, rest = text.split(begin)
     file.write_text(before + "\n".join([begin, "", *lines, "", end]) + rest.split(end)[1])
+
+
+def run_script(main):
+    """Runs `main` on the script's arguments. A wrong input is one line and status 2; where a proof, a tool or the stack's bound fails, why and status 1."""
+    name = pathlib.Path(sys.argv[0]).resolve().relative_to(ROOT)
+    try:
+        main(sys.argv[1:])
+    except common.Wrong as wrong:
+        print(f"{name}: {wrong}", file=sys.stderr)
+        sys.exit(2)
+    except callgraph.Unbounded as why:
+        print(f"{name}: the stack has no bound: {why}", file=sys.stderr)
+        sys.exit(1)
+    except subprocess.CalledProcessError as failed:
+        sys.stderr.write(failed.stdout or "")
+        print(f"{name}: `{' '.join(map(str, failed.cmd))}` failed", file=sys.stderr)
+        sys.exit(1)
