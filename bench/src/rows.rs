@@ -153,6 +153,7 @@ pub fn rows() -> Vec<Row> {
     let chain = include_str!("../../tests/data/chain/stdin");
     let chain_full = include_str!("../../tests/data/chain_full/stdin");
     let full = include_str!("../../tests/data/full/stdin");
+    let slowest = (include_bytes!("../../tests/data/slowest/card.bin"), include_str!("../../tests/data/slowest/stdin"));
     vec![
         row("classroom", from_lines(tag.0, tag.1)),
         row("medium", medium()),
@@ -163,5 +164,6 @@ pub fn rows() -> Vec<Row> {
         row("chain to the joint state before", from_lines(&samples::chain_before(), chain)),
         row("worst card, all pairs taken", from_lines(&samples::full(), full)),
         row("faithfulness by kinds", kinds()),
+        row("slowest found", from_lines(slowest.0, slowest.1)),
     ]
 }
