@@ -159,6 +159,7 @@ pub fn rows() -> Vec<Row> {
     let chain = include_str!("../../tests/data/chain/stdin");
     let chain_full = include_str!("../../tests/data/chain_full/stdin");
     let full = include_str!("../../tests/data/full/stdin");
+    let slowest = (include_bytes!("../../tests/data/slowest/card.bin"), include_str!("../../tests/data/slowest/stdin"));
     vec![
         row("classroom", from_lines(tag.0, tag.1)),
         row("medium", medium()),
@@ -170,5 +171,6 @@ pub fn rows() -> Vec<Row> {
         row("falling insertions", falling()),
         row("worst card, all pairs taken", from_lines(&samples::full(), full)),
         row("faithfulness by kinds", kinds()),
+        row("slowest found", from_lines(slowest.0, slowest.1)),
     ]
 }
