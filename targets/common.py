@@ -41,6 +41,9 @@ def run_script(main):
     except Wrong as wrong:
         print(f"targets/{pathlib.Path(sys.argv[0]).name}: {wrong}", file=sys.stderr)
         sys.exit(2)
+    except portable.NotPortable as wrong:
+        print(f"targets/{pathlib.Path(sys.argv[0]).name}: {wrong}", file=sys.stderr)
+        sys.exit(1)
     except subprocess.CalledProcessError as failed:
         sys.stderr.write(failed.stdout or "")
         print(f"targets/{pathlib.Path(sys.argv[0]).name}: `{pathlib.Path(failed.cmd[0]).name} {' '.join(map(str, failed.cmd[1:]))}` failed", file=sys.stderr)
@@ -154,8 +157,8 @@ def prove(kit, name, crates):
         return run(kit.clang, "-w", "-S", "-emit-llvm", "-Xclang", "-disable-llvm-passes", "-x", "ir", "module.bc", "-o", "-", cwd=place)
 
 
-def module(kit, name):
-    """The module of a crate, free of x86-64 and checked, as text. What the kit made is kept under target/, by what it was made from."""
+def made_by_kit(kit, name):
+    """The module of a crate as the kit made it, as text. It is made once for what it is made from, and kept under target/."""
     crates = dependencies()
     if name not in crates or not (ROOT / "crates" / name / "src").is_dir():
         raise Wrong(f"there is no crate '{name}': crates.txt names them")
@@ -169,7 +172,12 @@ def module(kit, name):
             for old in kept.glob(f"{name}-*.ll"):
                 old.unlink()
             write(file, text.encode())
-    text = portable.without_machine(file.read_text())
+        return file.read_text()
+
+
+def module(kit, name):
+    """The module of a crate, free of x86-64 and checked, as text."""
+    text = portable.without_machine(made_by_kit(kit, name))
     portable.check(text)
     return text
 
@@ -197,18 +205,27 @@ def exported(text):
     return sorted(re.findall(r"^define (?!internal|private)[^@]*@(pastaspur_\w+)\(", text, re.M))
 
 
+def link_wasm(kit, made, stack, exports, *words):
+    """Links a WebAssembly module into the file `made`. lld does so where it is called by the name wasm-ld."""
+    with tempfile.TemporaryDirectory() as place:
+        linker = pathlib.Path(place, "wasm-ld")
+        linker.symlink_to(kit.linker)
+        run(str(linker), "--no-entry", "--gc-sections", "--strip-all", "-z", f"stack-size={stack}", *(f"--export-if-defined={name}" for name in exports),
+            *map(str, words), "-o", str(made))
+
+
+def file_name(target):
+    return "pastaspur.wasm" if target == "wasm32" else "libpastaspur.a"
+
+
 def library(kit, target, text, level=None):
     """The library for a target, as bytes, from the module of the library's crate."""
-    calls = exported(text)
     with tempfile.TemporaryDirectory() as place:
         place = pathlib.Path(place)
         compile_module(kit, target, text, place / "pastaspur.o", level)
+        made = place / file_name(target)
         if target == "wasm32":
-            # lld links for WebAssembly where it is called by this name.
-            linker = place / "wasm-ld"
-            linker.symlink_to(kit.linker)
-            run(str(linker), "--no-entry", "--gc-sections", "--strip-all", "-z", f"stack-size={STACK_BYTES}", "--export=__heap_base",
-                *(f"--export={call}" for call in calls), "pastaspur.o", "-o", "made", cwd=place)
+            link_wasm(kit, made, STACK_BYTES, (*exported(text), "__heap_base"), place / "pastaspur.o")
         else:
-            run(kit.archiver, "rcsD", "made", "pastaspur.o", cwd=place)
-        return (place / "made").read_bytes()
+            run(kit.archiver, "rcsD", made.name, "pastaspur.o", cwd=place)
+        return made.read_bytes()
