@@ -117,11 +117,11 @@ def names():
     """Every name is somewhere in the crates; one with its crate and file is there."""
     crates = {path.name: path for path in pathlib.Path("crates").iterdir()}
     crates.setdefault("pastaspur", crates[LIBRARY])
-    beside = [path for part in ("include", "bench", "reference/src", "demo", "targets", "release", "tests") for path in pathlib.Path(part).rglob("*")
+    beside = [path for part in ("include", "bench", "reference/src", "demo", "targets", "release", "tests", "firmware", "python", "desk/src") for path in pathlib.Path(part).rglob("*")
               if "target" not in path.parts]
     words = set(crates) | {path.name for path in beside} | NAMES_OF_OTHERS
     for path in beside:
-        if path.suffix in (".h", ".cc", ".c", ".rs", ".py"):
+        if path.suffix in (".h", ".cc", ".c", ".rs", ".py", ".ts", ".tsx", ".mjs"):
             words |= set(re.findall(r"[\w-]+", path.read_text()))
     texts = {}
     for path in pathlib.Path("crates").glob("*/*/**/*"):
