@@ -1,0 +1,77 @@
+/** Asking the engine for words under all rankings of a card: every answer is asked, none is inferred from another. */
+import { Engine } from "../engine/engine";
+import { Refusal, Refused, unless } from "../engine/refusals";
+import { Best, Ranking, Word } from "../engine/results";
+import { BadInput, counted } from "../model/badInput";
+import { Card, distinct, keyOf } from "../model/card";
+import { wordText } from "../model/notation";
+import { Task } from "./task";
+
+/** The best candidate, or null where the word has no complete candidate (refusal 10). */
+export type Answer = Best | null;
+
+/** The answers to some words under some rankings: `answers[ranking][word]`. */
+export interface Asked {
+  readonly words: readonly Word[];
+  readonly rankings: readonly Ranking[];
+  readonly answers: readonly (readonly Answer[])[];
+}
+
+/** All rankings, the smallest first. */
+export function allRankings(machines: number): Ranking[] {
+  const grown = (taken: readonly number[]): number[][] =>
+    taken.length === machines
+      ? [[...taken]]
+      : Array.from({ length: machines }, (_, machine) => machine).filter((machine) => !taken.includes(machine)).flatMap((machine) => grown([...taken, machine]));
+  return grown([]);
+}
+
+export function ask(engine: Engine, card: Card, ranking: Ranking, word: Word): Answer {
+  return unless(Refusal.NO_CANDIDATE, () => engine.optimize(card.bytes, ranking, word));
+}
+
+/** A word that the engine does not take is bad input, named. */
+export function checkWords(engine: Engine, card: Card, words: readonly Word[]): void {
+  const ranking = card.machines.map((_, machine) => machine);
+  for (const word of words) {
+    try {
+      ask(engine, card, ranking, word);
+    } catch (error) {
+      if (error instanceof Refused) throw new BadInput(`word ${wordText(card, word)}: ${error.message}`);
+      throw error;
+    }
+  }
+}
+
+/** Every word under every ranking, or under those that are named. */
+export function* askAll(engine: Engine, card: Card, words: readonly Word[], rankings: readonly Ranking[] = allRankings(card.machines.length)): Task<Asked> {
+  checkWords(engine, card, words);
+  const answers: Answer[][] = [];
+  const languages = new Set<string>();
+  // Equal answers are one value: what is kept is small, and is compared by identity first.
+  const known = new Map<string, Best>();
+  for (const ranking of rankings) {
+    const row: Answer[] = [];
+    for (const word of words) {
+      yield { done: answers.length, of: rankings.length, what: "rankings", found: counted(languages.size, "language") };
+      const best = ask(engine, card, ranking, word);
+      row.push(best && shared(known, best));
+    }
+    answers.push(row);
+    languages.add(keyOf(row.map((answer) => answer && answer.candidate)));
+  }
+  return { words, rankings, answers };
+}
+
+function shared(known: Map<string, Best>, best: Best): Best {
+  const key = keyOf([best.counts, best.candidate]);
+  const found = known.get(key);
+  if (found) return found;
+  known.set(key, best);
+  return best;
+}
+
+/** The answers that some ranking gives a word, in the order of the smallest rankings that give them. */
+export function contenders(asked: Asked, word: number): Best[] {
+  return distinct(asked.answers.flatMap((answers) => answers[word] ?? []));
+}
