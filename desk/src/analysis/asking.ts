@@ -3,7 +3,7 @@ import { Engine } from "../engine/engine";
 import { Refusal, Refused, unless } from "../engine/refusals";
 import { Best, Ranking, Word } from "../engine/results";
 import { BadInput, counted } from "../model/badInput";
-import { Card, distinct, keyOf } from "../model/card";
+import { allRankings, Card, distinct, keyOf } from "../model/card";
 import { wordText } from "../model/notation";
 import { Task } from "./task";
 
@@ -15,15 +15,6 @@ export interface Asked {
   readonly words: readonly Word[];
   readonly rankings: readonly Ranking[];
   readonly answers: readonly (readonly Answer[])[];
-}
-
-/** All rankings, the smallest first. */
-export function allRankings(machines: number): Ranking[] {
-  const grown = (taken: readonly number[]): number[][] =>
-    taken.length === machines
-      ? [[...taken]]
-      : Array.from({ length: machines }, (_, machine) => machine).filter((machine) => !taken.includes(machine)).flatMap((machine) => grown([...taken, machine]));
-  return grown([]);
 }
 
 export function ask(engine: Engine, card: Card, ranking: Ranking, word: Word): Answer {

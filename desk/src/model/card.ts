@@ -126,6 +126,15 @@ export function setName(card: Card, bits: SymbolSet): string {
   return symbolsOf(bits).map((symbol) => card.symbols[symbol]).join(",");
 }
 
+/** All rankings, the smallest first. */
+export function allRankings(machines: number): Ranking[] {
+  const grown = (taken: readonly number[]): number[][] =>
+    taken.length === machines
+      ? [[...taken]]
+      : Array.from({ length: machines }, (_, machine) => machine).filter((machine) => !taken.includes(machine)).flatMap((machine) => grown([...taken, machine]));
+  return grown([]);
+}
+
 /** The word that a candidate spells: its in symbols. */
 export function spelledBy(candidate: Candidate): Word {
   return candidate.map(([input]) => input).filter((symbol) => symbol);
