@@ -5,7 +5,7 @@ import { Candidate, Ranking, Word } from "../engine/results";
 import { BadInput } from "../model/badInput";
 import { allRankings, Card, cardBytes, distinct, same, setName } from "../model/card";
 import { Arc, Machine, travelled } from "../model/machine";
-import { ask, askAll } from "./asking";
+import { ask, askAll, Asked } from "./asking";
 import { Task } from "./task";
 
 /** The proved promise that they can be left out. */
@@ -29,7 +29,7 @@ function unusedArcs(machine: Machine, candidates: readonly Candidate[]): number[
 /** Asks the words under the rankings, all of them where none is named, and the card without the unused arcs once more. */
 export function* trim(engine: Engine, card: Card, words: readonly Word[], named: readonly Ranking[]): Task<Trimming> {
   const rankings = named.length ? named : allRankings(card.machines.length);
-  let asked;
+  let asked: Asked;
   try {
     asked = yield* askAll(engine, card, words, rankings);
   } catch (error) {

@@ -25,3 +25,5 @@ export const WORK_NUMBERS = 25600;
 export const WEIGHTS_WORK_NUMBERS = 6400;
 export const ANSWER_BYTES = 6398;
 export const CARD_BYTES = 30830;
+/** More than any accepted card has: of a longer file the engine sees that much, and refuses it. */
+export const FILE_BYTES = CARD_BYTES + 1;
