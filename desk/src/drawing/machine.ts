@@ -79,7 +79,10 @@ export function machineSvg(card: Card, machine: Machine): string {
   });
   const states = machine.states.map((state, at) => stateText(state.name, state.ending, graph.node(String(at)), sizes[at]! / 2));
   const start = graph.node(START);
-  const { width, height } = graph.graph();
+  // dagre leaves the labels of loops out of the graph's size.
+  const reach = graph.edges().map((edge) => graph.edge(edge)).filter(({ x }) => x !== undefined);
+  const width = Math.max(graph.graph().width, ...reach.map((edge) => edge.x + edge.width / 2 + MARGIN));
+  const height = Math.max(graph.graph().height, ...reach.map((edge) => edge.y + edge.height / 2 + MARGIN));
   return [
     `<svg xmlns="http://www.w3.org/2000/svg" role="img" aria-label="${escaped(machine.name)}: the machine" width="${number(width)}" height="${number(height)}" viewBox="0 0 ${number(width)} ${number(height)}" font-family="${FONT}">`,
     `<defs><marker id="arrow" viewBox="0 0 8 8" refX="7.5" refY="4" markerWidth="7" markerHeight="7" orient="auto"><path d="M0 0.6 L8 4 L0 7.4z" fill="${SOFT}"/></marker></defs>`,
