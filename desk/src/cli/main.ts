@@ -7,7 +7,7 @@ import { Card } from "../model/card";
 import { load, placeOf } from "./cards";
 import { Asked, draw, joinTwo, judgeTableaux, page, rank, sets, show, tableau, typology, unused, weighWord } from "./commands";
 import { answers, make } from "./make";
-import { isFile, readBytes } from "./output";
+import { isFile, print, readBytes, sink } from "./output";
 import { Stopped } from "./running";
 
 const STATUS = `CARD is a card.bin, a card.txt or the folder that has one. RANKING is digits, 012, or names, 'NoCoda >> DEP >> PARSE', the highest first.
@@ -113,9 +113,19 @@ function parse(name: string, { options }: Command, given: readonly string[]): Ty
   return typed;
 }
 
-/** The engine and the page: both are in dist/pastaspur.html. */
-function html(): string {
-  const file = join(__dirname, "..", "..", "dist", "pastaspur.html");
+/** The engine and the page: both are in dist/pastaspur.html, two folders above the program. Read once. */
+let whole: { html: string; engine: Engine } | null = null;
+
+function inPage(): { html: string; engine: Engine } {
+  if (!whole) {
+    const html = pageText();
+    whole = { html, engine: engineIn(html) };
+  }
+  return whole;
+}
+
+function pageText(): string {
+  const file = process.env["PASTASPUR_PAGE"] ?? join(__dirname, "..", "..", "dist", "pastaspur.html");
   if (!isFile(file)) throw new BadInput("dist/pastaspur.html is not there, which has the engine inside: run targets/build wasm32 and desk/build");
   return new TextDecoder().decode(readBytes(file));
 }
@@ -126,10 +136,10 @@ function engineIn(text: string): Engine {
   return Engine.load(new Uint8Array(Buffer.from(found[1]!, "base64")));
 }
 
-async function main(typedWords: readonly string[]): Promise<number> {
+async function ran(typedWords: readonly string[]): Promise<number> {
   const [name, ...rest] = typedWords;
   if (name === "-h" || name === "--help") {
-    process.stdout.write(`${help(null)}\n`);
+    print(help(null));
     return 0;
   }
   if (name === undefined) throw new BadInput(`the following arguments are required: COMMAND: ${Object.keys(COMMANDS).join(", ")}`);
@@ -137,7 +147,7 @@ async function main(typedWords: readonly string[]): Promise<number> {
   if (!command) throw new BadInput(`argument COMMAND: invalid choice: ${quoted(name)}: there are ${Object.keys(COMMANDS).join(", ")}`);
   const typed = parse(name, command, rest);
   if (typed.help) {
-    process.stdout.write(`${help(name)}\n`);
+    print(help(name));
     return 0;
   }
   const open = command.takes[command.takes.length - 1]!;
@@ -146,8 +156,7 @@ async function main(typedWords: readonly string[]): Promise<number> {
   if (lacking.length) throw new BadInput(`${name}: the following arguments are required: ${lacking.join(", ")}`);
   if (!/ (\.\.|\+)$/.test(open) && typed.words.length > due) throw new BadInput(`not understood: ${typed.words.slice(due).join(" ")}`);
   for (const option of command.needs ?? []) if (!typed.options.has(option)) throw new BadInput(`${name}: the following arguments are required: ${option}`);
-  const text = html();
-  const engine = engineIn(text);
+  const { html, engine } = inPage();
   const ofCards = command.takes[0] === "CARD";
   const path = ofCards ? typed.words[0]! : "";
   // `show` says itself where a card is refused.
@@ -156,7 +165,7 @@ async function main(typedWords: readonly string[]): Promise<number> {
     engine,
     path,
     card,
-    html: text,
+    html,
     json: typed.options.has("--json"),
     check: typed.options.has("--check"),
     words: ofCards ? typed.words.slice(1) : typed.words,
@@ -165,26 +174,20 @@ async function main(typedWords: readonly string[]): Promise<number> {
   });
 }
 
-/** A complaint as one line, whatever was typed. */
-function complain(text: string): void {
-  process.stderr.write(`desk: ${text.replace(/\n/g, "\\n")}\n`);
-}
-
-// Who reads has seen enough: what is left to write goes nowhere.
-process.stdout.on("error", (error: { code?: string }) => process.exit(error.code === "EPIPE" ? 0 : 1));
-
-main(process.argv.slice(2)).then(
-  (status) => void (process.exitCode = status),
-  (error: unknown) => {
+/** Runs a command, and answers its status. A complaint is one line on standard error, whatever was typed. */
+export async function main(typed: readonly string[]): Promise<number> {
+  const complain = (text: string) => sink.err(`desk: ${text.replace(/\n/g, "\\n")}\n`);
+  try {
+    return await ran(typed);
+  } catch (error) {
     if (error instanceof BadInput || error instanceof Refused) {
       complain(error.message);
-      process.exitCode = 2;
-    } else if (error instanceof Stopped) {
-      complain(error.message);
-      process.exitCode = STOPPED;
-    } else {
-      process.stderr.write(`${error instanceof Error ? error.stack ?? error.message : String(error)}\n`);
-      process.exitCode = 70;
+      return 2;
     }
-  },
-);
+    if (error instanceof Stopped) {
+      complain(error.message);
+      return STOPPED;
+    }
+    throw error;
+  }
+}

@@ -14,7 +14,6 @@ export function painted(text: string, paint: Paint): string {
 
 /** The places that a text takes on a terminal, its colours and combining letters not counted. */
 function width(text: string): number {
-  // eslint-disable-next-line no-control-regex
   return [...text.replace(/\x1b\[[0-9;]*m/g, "").replace(/\p{M}/gu, "")].length;
 }
 
@@ -24,8 +23,14 @@ export function table(rows: readonly (readonly string[])[], indent = ""): string
   return rows.map((row) => (indent + row.map((cell, at) => cell + " ".repeat(widths[at]! - width(cell))).join("  ")).trimEnd()).join("\n");
 }
 
+/** Where what is said goes: a test listens by setting these. */
+export const sink = {
+  out: (text: string): void => void process.stdout.write(text),
+  err: (text: string): void => void process.stderr.write(text),
+};
+
 export function print(text: string): void {
-  process.stdout.write(`${text}\n`);
+  sink.out(`${text}\n`);
 }
 
 /** JSON on one line, with a space behind commas and colons. */
