@@ -3,7 +3,7 @@ import { Engine } from "../engine/engine";
 import { Refusal, Refused, unless } from "../engine/refusals";
 import { Best, Ranking, Word } from "../engine/results";
 import { BadInput, counted } from "../model/badInput";
-import { allRankings, Card, distinct, keyOf } from "../model/card";
+import { allRankings, Card, distinct } from "../model/card";
 import { wordText } from "../model/notation";
 import { Task } from "./task";
 
@@ -34,35 +34,34 @@ export function checkWords(engine: Engine, card: Card, words: readonly Word[]): 
   }
 }
 
-/** Every word under every ranking, or under those that are named. */
+/** Every word under every ranking, or under those that are named. Equal answers are one value. */
 export function* askAll(engine: Engine, card: Card, words: readonly Word[], rankings: readonly Ranking[] = allRankings(card.machines.length)): Task<Asked> {
   checkWords(engine, card, words);
+  const search = engine.searcher(card.bytes, words);
   const answers: Answer[][] = [];
+  const numbers = new Map<Answer, number>();
   const languages = new Set<string>();
-  // Equal answers are one value: what is kept is small, and is compared by identity first.
-  const known = new Map<string, Best>();
   for (const ranking of rankings) {
     const row: Answer[] = [];
-    for (const word of words) {
-      yield { done: answers.length, of: rankings.length, what: "rankings", found: counted(languages.size, "language") };
-      const best = ask(engine, card, ranking, word);
-      row.push(best && shared(known, best));
+    let language = "";
+    for (let word = 0; word < words.length; word++) {
+      if (word % LOOK === 0) yield { done: answers.length, of: rankings.length, what: "rankings", found: counted(languages.size, "language") };
+      const best = unless(Refusal.NO_CANDIDATE, () => search(ranking, word));
+      row.push(best);
+      if (!numbers.has(best)) numbers.set(best, numbers.size);
+      language += ` ${numbers.get(best)}`;
     }
     answers.push(row);
-    languages.add(keyOf(row.map((answer) => answer && answer.candidate)));
+    languages.add(language);
   }
   return { words, rankings, answers };
 }
 
-function shared(known: Map<string, Best>, best: Best): Best {
-  const key = keyOf([best.counts, best.candidate]);
-  const found = known.get(key);
-  if (found) return found;
-  known.set(key, best);
-  return best;
-}
+/** So many words are asked between two looks at who waits: of the worst accepted card some milliseconds. */
+const LOOK = 8;
 
 /** The answers that some ranking gives a word, in the order of the smallest rankings that give them. */
 export function contenders(asked: Asked, word: number): Best[] {
-  return distinct(asked.answers.flatMap((answers) => answers[word] ?? []));
+  const found = new Set(asked.answers.map((answers) => answers[word] ?? null));
+  return distinct([...found].flatMap((answer) => answer ?? []));
 }

@@ -24,8 +24,14 @@ const keyOfAnswer = (answer: Answer): string => keyOf(answer && answer.candidate
 /** The languages of what was asked under all rankings. */
 export function typologyOf(engine: Engine, card: Card, asked: Asked): Typology {
   const found = new Map<string, { answers: readonly Answer[]; rankings: Ranking[] }>();
+  const keys = new Map<Answer, string>();
+  const known = (answer: Answer): string => {
+    const key = keys.get(answer) ?? keyOfAnswer(answer);
+    keys.set(answer, key);
+    return key;
+  };
   asked.answers.forEach((answers, at) => {
-    const key = keyOf(answers.map(keyOfAnswer));
+    const key = answers.map(known).join();
     const language = found.get(key) ?? { answers, rankings: [] };
     language.rankings.push(asked.rankings[at]!);
     found.set(key, language);

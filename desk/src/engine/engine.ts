@@ -1,7 +1,7 @@
 /** The sixteen calls of include/pastaspur.h, over WebAssembly. A refusal is thrown as Refused. */
 import { ANSWER_BYTES, CARD_BYTES, MACHINES, ROWS, WEIGHTS_WORK_NUMBERS, WORK_NUMBERS } from "./limits";
 import { Memory, Slice } from "./memory";
-import { Refused } from "./refusals";
+import { Refusal, Refused } from "./refusals";
 import { Best, Candidate, Comparison, Condition, Evaluation, Judged, LiveRow, Pair, Place, Profile, Ranking, SymbolSet, Weighed, Word } from "./results";
 
 type Call = (...words: (number | bigint)[]) => number;
@@ -39,6 +39,39 @@ export class Engine {
   /** The best candidate for a word under a ranking: refusals 1 to 10, 12. */
   optimize(card: Uint8Array, ranking: Ranking, word: Word, lent: Lent = {}): Best {
     return this.search("optimize", card, ranking, () => this.memory.put(word), lent);
+  }
+
+  /**
+   * Many words under many rankings of one card: what is asked lies in memory once, and equal answers are one value. Between two of its
+   * calls no other call of this engine may run: they lay their input over it.
+   */
+  searcher(card: Uint8Array, asked: readonly Word[]): (ranking: Ranking, word: number) => Best {
+    const { memory } = this;
+    const lent = memory.startWith(card);
+    const order = memory.take(MACHINES);
+    const placed = asked.map((word) => memory.put(word)).map(({ at, length }) => [at, BigInt(length)] as const);
+    const [work, answer, result] = [memory.take(2 * WORK_NUMBERS).at, memory.take(ANSWER_BYTES).at, memory.take(16).at];
+    const [cardLength, workLength, answerLength] = [BigInt(lent.length), BigInt(WORK_NUMBERS), BigInt(ANSWER_BYTES)];
+    const [bytes, numbers] = [memory.bytes(0, result + 16), memory.shorts(result, 8)];
+    const known = new Map<string, Best>();
+    return (ranking, word) => {
+      if (ranking.length > MACHINES) throw new Refused(Refusal.RANKING);
+      bytes.set(ranking, order.at);
+      const [at, length] = placed[word]!;
+      const number = this.calls.optimize(lent.at, cardLength, order.at, BigInt(ranking.length), at, length, work, workLength, answer, answerLength, result);
+      if (number) throw new Refused(number);
+      const end = answer + 2 * numbers[MACHINES]!;
+      let key = "";
+      for (let place = 0; place < MACHINES; place++) key += String.fromCharCode(numbers[place]!);
+      for (let place = answer; place < end; place++) key += String.fromCharCode(bytes[place]!);
+      let best = known.get(key);
+      if (!best) {
+        const [counts, , wordLength] = evaluation(numbers);
+        best = { counts, candidate: pairsOf(bytes.subarray(answer, end)), wordLength };
+        known.set(key, best);
+      }
+      return best;
+    };
   }
 
   /** The same by Ellison's cull. */

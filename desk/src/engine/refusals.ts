@@ -31,6 +31,7 @@ const REFUSALS: Readonly<Record<number, readonly [name: string, reason: string]>
 
 /** The refusals that the program asks for by name. */
 export const Refusal = {
+  RANKING: 7,
   NO_CANDIDATE: 10,
   CANDIDATE: 13,
   NOT_COMPLETE: 14,
