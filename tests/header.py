@@ -8,7 +8,7 @@ import subprocess
 import sys
 
 source, archive, directory = sys.argv[1:]
-NUMBERS = {"u8": "uint8_t", "u16": "uint16_t", "u32": "uint32_t", "u64": "uint64_t", "usize": "size_t", "Row": "pastaspur_row"}
+NUMBERS = {"u8": "uint8_t", "u16": "uint16_t", "u32": "uint32_t", "u64": "uint64_t", "usize": "pastaspur_length", "Row": "pastaspur_row"}
 
 
 def without_comments(text):
@@ -25,7 +25,7 @@ def exported():
             kind = parameter.split(":")[1].strip()
             slice_, array = re.fullmatch(r"&(mut )?\[(\w+)\]", kind), re.fullmatch(r"&(mut )?\[(\w+); (\d+)\]", kind)
             if slice_:
-                calls[name] += [(NUMBERS[slice_[2]], not slice_[1], None, "*"), ("size_t", False, None, "")]
+                calls[name] += [(NUMBERS[slice_[2]], not slice_[1], None, "*"), ("pastaspur_length", False, None, "")]
             elif array:
                 calls[name].append((NUMBERS[array[2]], not array[1], int(array[3]), "*"))
             else:
