@@ -63,7 +63,7 @@ class Library:
 
     def __getattr__(self, name: str) -> Callable[..., int]:
         if not PATH.is_file():
-            raise NotBuilt(f"{PATH.name} is not built: run desk/build")
+            raise NotBuilt(f"{PATH.name} is not built: run python/build")
         try:
             library = ctypes.CDLL(str(PATH))
             for each, types in CALLS.items():
@@ -71,7 +71,7 @@ class Library:
                 call.argtypes, call.restype = types, ctypes.c_uint32
                 setattr(self, "pastaspur_" + each, call)
         except (OSError, AttributeError) as error:
-            raise NotBuilt(f"{PATH.name} cannot be loaded: run desk/build anew ({error})") from error
+            raise NotBuilt(f"{PATH.name} cannot be loaded: run python/build anew ({error})") from error
         return self.__dict__[name]
 
 

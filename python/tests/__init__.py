@@ -1,8 +1,5 @@
-"""The desk's tests, run by desk/test."""
+"""The binding's tests, run by python/test."""
 import pathlib
 
-HERE = pathlib.Path(__file__).resolve().parent
-DESK = HERE.parent
-REPOSITORY = DESK.parent
+REPOSITORY = pathlib.Path(__file__).resolve().parents[2]
 DEMO = REPOSITORY / "demo"
-CARDS = sorted(path.parent for path in DEMO.glob("*/card.bin"))
