@@ -54,7 +54,7 @@ describe("the page", () => {
       await browser.size(DESKTOP);
       browser.requests.length = 0;
       await browser.open(ADDRESS);
-      times.push(await browser.evaluate<number>("performance.now()"));
+      times.push(await browser.evaluate<number>("performance.getEntriesByName('tableau')[0].startTime"));
       assert.ok(browser.requests.every((address) => /^(file:|blob:|about:|data:)/.test(address)), browser.requests.join(" "));
     }
     assert.ok(Math.min(...times) < 1000, times.join(" "));

@@ -1,4 +1,4 @@
-"""Pastaspur's proved calls for Python: every call of include/pastaspur.h, over the shared object that desk/build links.
+"""Pastaspur's proved calls for Python: every call of include/pastaspur.h, over the shared object that python/build links.
 
     >>> import pastaspur
     >>> pastaspur.optimize(card, bytes([0, 2, 1]), bytes([2]))

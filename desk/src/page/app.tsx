@@ -108,6 +108,10 @@ export function App({ examples, quick, long }: { examples: readonly Example[]; q
     return () => void (current = false);
   }, [held, study, ask, complain]);
 
+  // When the first tableau was there, for whoever measures.
+  const first = Boolean(tableaux);
+  useEffect(() => void (first && performance.mark("tableau")), [first]);
+
   useEffect(() => {
     if (held) history.replaceState(null, "", `#${digits(held.ranking)}`);
   }, [held]);

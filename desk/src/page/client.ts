@@ -19,13 +19,12 @@ interface Waiting {
 }
 
 export class Lane {
-  private worker: Worker;
+  /** Started at the first question. */
+  private worker: Worker | null = null;
   private readonly waiting = new Map<number, Waiting>();
   private next = 0;
 
-  constructor(private readonly script: string, private readonly engine: Uint8Array) {
-    this.worker = this.start();
-  }
+  constructor(private readonly script: string, private readonly engine: Uint8Array) {}
 
   private start(): Worker {
     const worker = new Worker(this.script);
@@ -52,16 +51,18 @@ export class Lane {
     const id = this.next++;
     return new Promise((resolve, reject) => {
       this.waiting.set(id, { resolve, reject, progress });
+      this.worker ??= this.start();
       this.post(this.worker, { kind: "task", id, name, given });
     });
   }
 
-  /** Ends what runs and what waits. */
+  /** Ends what runs and what waits. A worker that nothing is asked of is kept. */
   stop(reason: Error = new Stopped()): void {
-    this.worker.terminate();
     const ended = [...this.waiting.values()];
+    if (!ended.length) return;
+    this.worker?.terminate();
+    this.worker = null;
     this.waiting.clear();
-    this.worker = this.start();
     for (const { reject } of ended) reject(reason);
   }
 }
