@@ -3,7 +3,7 @@
 --
 -- `f.statement M` is what Rattle makes of the contract of f in src/: for every input f returns, traps nowhere, reads and writes nothing but what it was lent,
 -- and meets its `ensures`. No public call has a `requires`. M is the logic's, and says nothing of the call.
-use Rattle.basics.specs.Words.{_≡_, Bool, true, false, List, List·Memᴰ, [], _∷_, _++_, map, Option, some, none, _⊎_, _↔_, ℕ, suc, _+_, _*_, _-_, _<_, _≤_, max, length, getD, take, replicate, leb, ltb, allOf, pairwise, joined}
+use Rattle.basics.specs.Words.{_≡_, true, false, List, List·Memᴰ, [], _∷_, _++_, map, some, none, _⊎_, _↔_, ℕ, suc, _+_, _*_, _-_, _<_, _≤_, max, length, getD, take, replicate, leb, ltb, allOf, pairwise, joined}
 -- the contracts of the public calls
 use Rattle.ranking.proofs.harmony.compare.Statement as compare
 use Rattle.ranking.proofs.conditions.derive.Statement as derive
