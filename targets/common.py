@@ -36,22 +36,23 @@ class Wrong(Exception):
 
 
 def run_script(main):
-    """Runs `main` on the script's arguments. A wrong input is one line and status 2; where a proof or a tool fails, its output and status 1."""
+    """Runs `main` on the script's arguments. A wrong input is one line and status 2; where a proof, a tool or the module's check fails, its words and status 1."""
+    script = pathlib.Path(sys.argv[0]).resolve().relative_to(ROOT)
+
+    def stop(status, line):
+        print(f"{script}: {line}", file=sys.stderr)
+        sys.exit(status)
     try:
         main(sys.argv[1:])
     except Wrong as wrong:
-        print(f"targets/{pathlib.Path(sys.argv[0]).name}: {wrong}", file=sys.stderr)
-        sys.exit(2)
+        stop(2, wrong)
     except OSError as wrong:
-        print(f"targets/{pathlib.Path(sys.argv[0]).name}: {wrong.filename}: {wrong.strerror}", file=sys.stderr)
-        sys.exit(2)
+        stop(2, f"{wrong.filename}: {wrong.strerror}")
     except portable.NotPortable as wrong:
-        print(f"targets/{pathlib.Path(sys.argv[0]).name}: {wrong}", file=sys.stderr)
-        sys.exit(1)
+        stop(1, wrong)
     except subprocess.CalledProcessError as failed:
         sys.stderr.write(failed.stdout or "")
-        print(f"targets/{pathlib.Path(sys.argv[0]).name}: `{pathlib.Path(failed.cmd[0]).name} {' '.join(map(str, failed.cmd[1:]))}` failed", file=sys.stderr)
-        sys.exit(1)
+        stop(1, f"`{' '.join(map(str, failed.cmd))}` failed")
 
 
 def run(*words, **more):

@@ -1,7 +1,7 @@
 """Whether a module means the same on every processor: portable.py FILE ...
 
-The kit compiles for x86-64 alone, but the module that it compiles is made of few kinds of lines. Every line must be one of them, so that a
-later kit that lowers otherwise is refused and not compiled to something else:
+The kit compiles for x86-64 alone, but the module that it compiles is made of few kinds of lines. Every line must be one of them, so that what
+a later kit lowers otherwise is refused:
 
 - Addresses are in bytes (`getelementptr i8`), and no number is made a pointer or a pointer a number.
 - Numbers have 1, 8, 16, 32 or 64 bits. Every load and store says its alignment, and none asks for more than its type has.
@@ -54,12 +54,12 @@ DEFINITION = re.compile(rf"define (?:internal )?(?:noundef )?(?:zeroext )?(?P<re
 DECLARATION = re.compile(rf"declare (?:noundef )?(?P<result>{NUMBER}|void) (?P<name>{FUNCTION})\((?P<parameters>[^)]*(?:\(none\)[^)]*)*)\) #\d+")
 ATTRIBUTE = r"(?:nounwind|nobuiltin|nocallback|nofree|nosync|noreturn|willreturn|speculatable|cold|memory\([\w: ,]+\))"
 OUTSIDE = [re.compile(shape) for shape in (
-    rf"; Function Attrs: [^\n]*",
+    r"; Function Attrs: .*",
     rf"attributes #\d+ = \{{(?: {ATTRIBUTE})+ \}}",
     r'!llvm\.ident = !\{!\d+\}|!\d+ = !\{!"rattle logic=[0-9a-f]+"\}|!\d+ = !\{\}|!\d+ = !\{i8 0, i8 \d+\}',
 )]
 LABEL = re.compile(r'(?:"[^"]*"|[\w.]+):(?: +; (?:preds = .*|No predecessors!))?')
-COUNT = re.compile(rf"{TYPE} (?:align \d+ )?({VALUE})")
+ARGUMENT = re.compile(rf"{TYPE} (?:align \d+ )?({VALUE})")
 
 
 class NotPortable(Exception):
@@ -118,7 +118,7 @@ class Function:
             raise NotPortable(f"the intrinsic {name} is not known")
         if found["name"] not in known:
             raise NotPortable(f"a call of {name}, which is not there")
-        for value in COUNT.findall(found["arguments"]):
+        for value in ARGUMENT.findall(found["arguments"]):
             if value in self.pointer_slots:
                 raise NotPortable("a variable that is one pointer, handed on")
         signature = {**INTRINSICS, **SURROUNDINGS}.get(name)

@@ -111,10 +111,10 @@ def corpus(runner):
     return f"{lines} lines of the corpus, {cases} cases of tests/calls"
 
 
-def needs(kit, archive):
+def needs(archive):
     """What an archive takes from elsewhere, and its names that could be written."""
-    symbols = common.run("nm", str(archive)).splitlines()
-    return {line.split()[-1] for line in symbols if line.split()[-2:-1] == ["U"]}, [line for line in symbols if line.split()[-2:-1] and line.split()[-2] in "bBcCdD"]
+    symbols = [line.split()[-2:] for line in common.run("nm", str(archive)).splitlines() if len(line.split()) > 1]
+    return {name for kind, name in symbols if kind == "U"}, [name for kind, name in symbols if kind in "bBcCdD"]
 
 
 def library(runner):
@@ -134,7 +134,7 @@ def library(runner):
         if said != due:
             raise Failed(f"pastaspur.wasm:\n{said}for\n{due}")
     else:
-        taken, written = needs(runner.kit, made)
+        taken, written = needs(made)
         if not taken <= NEEDS[runner.target] or written:
             raise Failed(f"the library needs {sorted(taken - NEEDS[runner.target])} besides what is known, and has to write {written}")
     stdio = runner.compile(HERE / "stdio.c")
