@@ -280,7 +280,7 @@ describe("the page", () => {
     assert.equal(new Set(asked).size, 100);
     const address = await own(file, ...asked);
     const times: number[] = [];
-    for (let turn = 0; turn < 2; turn++) {
+    for (let turn = 0; turn < 3; turn++) {
       await browser.size(DESKTOP);
       await browser.open(address, "document.querySelector('.tableau')");
       const began = Date.now();
