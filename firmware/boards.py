@@ -25,7 +25,7 @@ Board = collections.namedtuple("Board", "what target source flags rom ram slot e
 BOARDS = {
     "arm": Board("ARM Cortex-M3, qemu's mps2-an385", "thumbv7m", "mps2", (), 32 * KB, 192 * KB, 0x21000000, "qemu-system-arm", "qemu-system-arm",
                  ("-M", "mps2-an385", "-semihosting-config", "enable=on,target=native")),
-    "riscv": Board("32-bit RISC-V, qemu's virt", "rv32imac", "virt", ("-march=rv32imac_zicsr",), 32 * KB, 192 * KB, 0x81000000, "qemu-system-riscv32",
+    "riscv": Board("32-bit RISC-V, qemu's virt", "rv32imac", "virt", ("-march=rv32imac_zicsr",), 64 * KB, 192 * KB, 0x81000000, "qemu-system-riscv32",
                    "qemu-system-misc", ("-M", "virt", "-bios", "none")),
 }
 # The code of a Cortex-M0 on the Cortex-M3, which has all its instructions: the emulator has no board with a Cortex-M0 and as much memory.
@@ -121,3 +121,28 @@ def run(name, elf, card, lines, more=()):
         raise common.Wrong("the input has byte 4, which is the key 'end'")
     done = subprocess.run(command(name, elf, card, more), input=lines + END_KEY, stdout=subprocess.PIPE, stderr=subprocess.STDOUT, timeout=SECONDS)
     return done.returncode, done.stdout
+
+
+def rewrite(file, name, lines):
+    """Puts lines between the markers of a table."""
+    begin, end = f"<!-- {name}: begin -->", f"<!-- {name}: end -->"
+    text = file.read_text()
+    before, rest = text.split(begin)
+    file.write_text(before + "\n".join([begin, "", *lines, "", end]) + rest.split(end)[1])
+
+
+def run_script(main):
+    """Runs `main` on the script's arguments. A wrong input is one line and status 2; where a proof, a tool or the stack's bound fails, why and status 1."""
+    name = pathlib.Path(sys.argv[0]).resolve().relative_to(ROOT)
+    try:
+        main(sys.argv[1:])
+    except common.Wrong as wrong:
+        print(f"{name}: {wrong}", file=sys.stderr)
+        sys.exit(2)
+    except callgraph.Unbounded as why:
+        print(f"{name}: the stack has no bound: {why}", file=sys.stderr)
+        sys.exit(1)
+    except subprocess.CalledProcessError as failed:
+        sys.stderr.write(failed.stdout or "")
+        print(f"{name}: `{' '.join(map(str, failed.cmd))}` failed", file=sys.stderr)
+        sys.exit(1)

@@ -296,7 +296,7 @@ class Graph:
                         code = {ARM: thumb, RISCV: riscv, AARCH64: aarch64}[object.machine](section.data, at, end)
                     self.edges(number, object, index, places[index], code, references, used)
             for at, kind, symbol, added in references:
-                if section.name != VECTORS and at not in used and kind not in NO_REFERENCE.get(object.machine, ()) and self.is_function(number, object, symbol, added):
+                if section.name != VECTORS and at not in used and kind not in NO_REFERENCE.get(object.machine, ()) and (self.is_function(object, symbol, added) or in_code(object, section, symbol)):
                     raise Unbounded(f"{object.name}: the address of {symbol.name or 'a function'} is taken in {section.name}")
 
         for place in object.functions:
@@ -306,7 +306,7 @@ class Graph:
             # The compiler's size leaves out the arguments that are pushed for a call; all that is ever pushed is a bound on them.
             self.frame[key] = max(object.frames[place], self.lowered[key]) + RETURN_ADDRESS[object.machine]
 
-    def is_function(self, number, object, symbol, added):
+    def is_function(self, object, symbol, added):
         if not symbol.section:
             return symbol.name in self.named
         if symbol.kind not in (2, 3):
@@ -396,6 +396,11 @@ class Graph:
                 found.add(place)
                 todo += self.calls.get(place, ())
         return found
+
+
+def in_code(object, section, symbol):
+    """Whether code refers to code by its section. On x86-64 what is added counts from the end of the instruction, so it is any function."""
+    return object.machine == X86_64 and symbol.kind == 3 and bool(section.flags & object.sections[symbol.section].flags & 4)
 
 
 def disassembled(object):

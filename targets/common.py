@@ -1,5 +1,6 @@
 """What the scripts here share: the kit, the module of a proved crate, the processors, and a module's machine code for each."""
 import collections
+import contextlib
 import fcntl
 import hashlib
 import os
@@ -13,8 +14,8 @@ import tempfile
 import portable
 
 ROOT = pathlib.Path(__file__).resolve().parent.parent
+KEPT = ROOT / "target" / "module"  # where modules are kept
 LIBRARY = "pastaspur"  # the crate that is the static library
-CALLS = 16  # that it exports
 STACK_BYTES = 131_072  # in the memory of a module for wasm32
 
 Target = collections.namedtuple("Target", "triple flags level what")
@@ -23,9 +24,9 @@ ELF = ("-ffunction-sections", "-fdata-sections", "-fstack-size-section")
 TARGETS = {
     "x86_64": Target("x86_64-unknown-linux-gnu", (*ELF, "-fPIC"), "-O3", "64-bit x86, Linux"),
     "aarch64": Target("aarch64-unknown-linux-gnu", (*ELF, "-fPIC"), "-O3", "64-bit ARM, Linux"),
-    "thumbv6m": Target("thumbv6m-none-eabi", ELF, "-Os", "ARM Cortex-M0, M0+ and M1"),
+    "thumbv6m": Target("thumbv6m-none-eabi", ELF, "-O3", "ARM Cortex-M0, M0+ and M1"),
     "thumbv7m": Target("thumbv7m-none-eabi", ELF, "-Os", "ARM Cortex-M3 and above"),
-    "rv32imac": Target("riscv32-unknown-elf", (*ELF, "-march=rv32imac", "-mabi=ilp32"), "-Os", "32-bit RISC-V microcontrollers"),
+    "rv32imac": Target("riscv32-unknown-elf", (*ELF, "-march=rv32imac", "-mabi=ilp32"), "-O3", "32-bit RISC-V microcontrollers"),
     "wasm32": Target("wasm32-unknown-unknown", ("-mbulk-memory",), "-O3", "WebAssembly, in a browser or node"),
 }
 
@@ -40,6 +41,9 @@ def run_script(main):
         main(sys.argv[1:])
     except Wrong as wrong:
         print(f"targets/{pathlib.Path(sys.argv[0]).name}: {wrong}", file=sys.stderr)
+        sys.exit(2)
+    except OSError as wrong:
+        print(f"targets/{pathlib.Path(sys.argv[0]).name}: {wrong.filename}: {wrong.strerror}", file=sys.stderr)
         sys.exit(2)
     except portable.NotPortable as wrong:
         print(f"targets/{pathlib.Path(sys.argv[0]).name}: {wrong}", file=sys.stderr)
@@ -136,11 +140,21 @@ def source_key(kit, name, crates):
 
 # The module
 
+@contextlib.contextmanager
+def locked(name):
+    """One at a time makes what has the name."""
+    KEPT.mkdir(parents=True, exist_ok=True)
+    with open(KEPT / f"{name}.lock", "w") as lock:
+        fcntl.flock(lock, fcntl.LOCK_EX)
+        yield
+
+
 def prove(kit, name, crates):
     """Proves a crate, and gives the module that the kit compiles for it, as text."""
     below = [crate for crate in crates[name] if crate in crates]
     if below:
-        run("rt", "check", *below, cwd=ROOT)
+        with locked("rt"):
+            run("rt", "check", *below, cwd=ROOT)
     with tempfile.TemporaryDirectory() as place:
         # The crate is proved in a folder of links to the repository, so that nothing is taken from under a program that runs in it.
         place = pathlib.Path(place)
@@ -162,14 +176,11 @@ def made_by_kit(kit, name):
     crates = dependencies()
     if name not in crates or not (ROOT / "crates" / name / "src").is_dir():
         raise Wrong(f"there is no crate '{name}': crates.txt names them")
-    kept = ROOT / "target" / "module"
-    kept.mkdir(parents=True, exist_ok=True)
-    with open(kept / f"{name}.lock", "w") as lock:
-        fcntl.flock(lock, fcntl.LOCK_EX)
-        file = kept / f"{name}-{source_key(kit, name, crates)}.ll"
+    with locked(name):
+        file = KEPT / f"{name}-{source_key(kit, name, crates)}.ll"
         if not file.exists():
             text = prove(kit, name, crates)
-            for old in kept.glob(f"{name}-*.ll"):
+            for old in KEPT.glob(f"{name}-*.ll"):
                 old.unlink()
             write(file, text.encode())
         return file.read_text()

@@ -23,6 +23,16 @@ fn the_cases() {
     }
 }
 
+/// The slowest cards that bench/slowest found, which are in no sample.
+#[test]
+fn the_slowest() {
+    for name in ["slowest", "slowest_other"] {
+        let place = repository().join("tests/data").join(name);
+        let text = run(&read(place.join("card.bin")).unwrap(), &read(place.join("stdin")).unwrap());
+        assert!(read(place.join("stdout")).unwrap() == text.as_bytes(), "{name}");
+    }
+}
+
 #[test]
 fn the_demo() {
     let mut cards = 0;

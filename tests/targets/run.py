@@ -1,10 +1,10 @@
 """The proved programs and the library on every processor: run.py [TARGET ..].
 
 For each target, byte for byte:
-- `test_corpus` on the whole corpus, and on every case of tests/calls; `test_live`;
-- examples/c over include/pastaspur.h and the library of targets/build, which needs of others what docs/TARGETS.md says and has no data
+- the proved program `test_corpus` on the whole corpus, and on every case of tests/calls;
+- examples/c, which make all sixteen calls, over include/pastaspur.h and the library of targets/build, which needs of others what docs/TARGETS.md says and has no data
   that could be written.
-Emulated by qemu-user, for wasm32 by node. First, that damaged modules are refused (damage.py)."""
+Emulated by qemu, for wasm32 run by node. First, that damaged modules (damage.py) and wrong inputs are refused."""
 import concurrent.futures
 import os
 import pathlib
@@ -101,15 +101,14 @@ def prints(script, folder, stdout):
 
 
 def corpus(runner):
-    """The proved test programs."""
-    live, calls = runner.program("test_live"), runner.program("test_corpus")
-    lines = prints(live, runner.folder, ROOT / "crates" / "test_live" / "stdout")
-    lines += prints(calls, ROOT / "crates" / "test_corpus" / "data", ROOT / "crates" / "test_corpus" / "stdout")
+    """The proved test program."""
+    calls = runner.program("test_corpus")
+    lines = prints(calls, ROOT / "crates" / "test_corpus" / "data", ROOT / "crates" / "test_corpus" / "stdout")
     said = subprocess.run([sys.executable, ROOT / "tests" / "calls" / "run.py", calls], stdout=subprocess.PIPE, stderr=subprocess.STDOUT, text=True, check=False)
     if said.returncode != 0:
         raise Failed(said.stdout)
     cases = sum(int(line.split()[1]) for line in said.stdout.splitlines())
-    return f"{lines} lines of the corpus and of the live tableau, {cases} cases of tests/calls"
+    return f"{lines} lines of the corpus, {cases} cases of tests/calls"
 
 
 def needs(kit, archive):
@@ -123,6 +122,9 @@ def library(runner):
     text = runner.modules[common.LIBRARY]
     made = runner.folder / common.file_name(runner.target)
     made.write_bytes(common.library(runner.kit, runner.target, text))
+    for path in (ROOT, runner.kit.home, tempfile.gettempdir()):
+        if str(path).encode() in made.read_bytes():
+            raise Failed(f"a path of this machine is in {made.name}")
     part = made
     if runner.target == "wasm32":
         part = runner.folder / "pastaspur.o"
@@ -140,6 +142,23 @@ def library(runner):
         script = runner.link(example, runner.compile(ROOT / "examples" / "c" / f"{example}.c"), stdio, part)
         prints(script, ROOT / "demo" / card, ROOT / "examples" / "c" / f"{example}.stdout")
     return "examples/c over the library"
+
+
+# Each is refused in a line, with status 2.
+WRONG_INPUT = [("build", "wasm64"), ("build", "wasm32", "nix"), ("build", ""), ("build", "--help"), ("module",), ("module", "board"), ("module", "nix", "made"), ("module", "", "made"),
+               ("module", "../crates", "made"), ("module", "board", "nowhere/made"), ("module", "board", "."), ("module", "board", "made", "more")]
+
+
+def wrong_input():
+    for script, *words in WRONG_INPUT:
+        with tempfile.TemporaryDirectory() as folder:
+            said = subprocess.run([ROOT / "targets" / script, *words], cwd=folder, capture_output=True, text=True, check=False)
+            if said.returncode != 2 or said.stdout or len(said.stderr.splitlines()) != 1 or list(pathlib.Path(folder).iterdir()):
+                sys.exit(f"targets/{script} {words}: status {said.returncode}, {said.stdout}{said.stderr}")
+    listed = subprocess.run([ROOT / "targets" / "build"], stdout=subprocess.PIPE, text=True, check=True).stdout
+    if [line.split()[0] for line in listed.splitlines()] != list(common.TARGETS):
+        sys.exit(f"targets/build lists {listed}")
+    print(f"{len(WRONG_INPUT)} wrong inputs refused")
 
 
 def on_target(kit, target, modules):
@@ -161,9 +180,11 @@ def main(names):
         if name not in common.TARGETS:
             sys.exit(f"there is no target '{name}'")
     kit = common.find_kit()
-    modules = {crate: common.module(kit, crate) for crate in (common.LIBRARY, "test_corpus", "test_live")}
-    print(damage.main(modules[common.LIBRARY], common.made_by_kit(kit, common.LIBRARY)), flush=True)
     with concurrent.futures.ThreadPoolExecutor(os.cpu_count()) as pool:
+        crates = (common.LIBRARY, "test_corpus")
+        modules = dict(zip(crates, pool.map(lambda crate: common.module(kit, crate), crates)))
+        print(damage.main(modules[common.LIBRARY], common.made_by_kit(kit, common.LIBRARY)), flush=True)
+        wrong_input()
         lines = [pool.submit(on_target, kit, target, modules) for target in names or common.TARGETS]
         for line in lines:
             print(line.result()[0], flush=True)

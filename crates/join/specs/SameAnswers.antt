@@ -11,8 +11,7 @@ use Rattle.card.specs.Card.{machinesOf}
 use Rattle.candidate.specs.declared.Evaluation.{Evaluation}
 use Rattle.candidate.specs.Candidates.{profileOf}
 use Rattle.product.specs.Nodes.{nodeCount}
-use Rattle.product.specs.Best.{Contender, ProfileOrder, contenderOf, harmonic}
-use Rattle.product.specs.Prices.{byRanking}
+use Rattle.product.specs.Best.{Contender, ProfileOrder, contenderOf}
 use Rattle.product.specs.Answering.{beforeSearch}
 use Rattle.product.specs.Optimizing.{soundWord, inputRefusal}
 use Rattle.product.specs.OptimizingSets.{setsRefusal, setsInputRefusal}
@@ -77,10 +76,10 @@ module _ {i j u : ℕ} {card new : List ℕ} (joins : CardJoins card i j) (joine
   sets-input-too ranking sets room = passes-too ranking (λ S. setsRefusal S sets) (length sets) room
 
   -- both answers, whatever is asked for, from what demand 3 says of each
-  module _ {Meant : List Machine → List Pair → Type 0} {bestOn : ProfileOrder → List ℕ → Option Contender} (asked : Searches Meant bestOn) {ranking sets word answer after newAfter : List ℕ} {r s : Evaluation}
+  module _ {Meant : List Machine → List Pair → Type 0} {bestOn : ProfileOrder → List ℕ → Option Contender} (asked : Searches Meant bestOn) {ranking word answer after newAfter : List ℕ} {r s : Evaluation}
       (is : isRanking (machineCount card) ranking ≡ true)
-      (old : Demands (byRanking ranking) (harmonic ranking) card sets (Meant (machinesOf card)) (IsBestBy (Beats ranking (machinesOf card)) (Meant (machinesOf card))) word answer after r)
-      (there : Demands (byRanking (joinedRanking i j u ranking)) (harmonic (joinedRanking i j u ranking)) new sets (Meant (machinesOf new)) (IsBestBy (Beats (joinedRanking i j u ranking) (machinesOf new)) (Meant (machinesOf new))) word answer newAfter s)
+      (old : Demands (machinesOf card) (Meant (machinesOf card)) (IsBestBy (Beats ranking (machinesOf card)) (Meant (machinesOf card))) word answer after r)
+      (there : Demands (machinesOf new) (Meant (machinesOf new)) (IsBestBy (Beats (joinedRanking i j u ranking) (machinesOf new)) (Meant (machinesOf new))) word answer newAfter s)
     where
       abbrev Best : List Pair → Type 0
       Best = IsBestBy (Beats ranking (machinesOf card)) (Meant (machinesOf card))

@@ -9,12 +9,12 @@ use native.Mathlib.Decide.{ℕ-discrete}
 use lib.ListN.{length}
 
 -- x is not in the list
-abbrev pub NotIn : ℕ → List ℕ → Type 0
+abbrev pub NotIn : {A : Type 0} → A → List A → Type 0
 NotIn x [] = Unit {0}
 NotIn x (y ∷ ys) = (x ≢ y) × NotIn x ys
 
--- no number is in the list twice
-abbrev pub Distinct : List ℕ → Type 0
+-- nothing is in the list twice
+abbrev pub Distinct : {A : Type 0} → List A → Type 0
 Distinct [] = Unit {0}
 Distinct (x ∷ xs) = NotIn x xs × Distinct xs
 

@@ -11,6 +11,7 @@ pub mod Edges
 pub mod Codes
 pub mod Accepted
 pub mod CardGraph
+pub mod PassedNodes
 pub mod Setting
 pub mod Letters
 pub mod Entering

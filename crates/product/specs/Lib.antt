@@ -11,6 +11,7 @@ pub mod Answering
 pub mod Optimizing
 pub mod OptimizingSets
 pub mod BestCandidate
+pub mod PassedNodes
 -- definitions of Harmonic Grammar: constraints have weights, and sums are compared
 pub mod Weights
 pub mod Dominance

@@ -3,25 +3,20 @@
 use Rattle.basics.specs.Words.{_≡_, _∙_, ap, ap₂, List, Option, some, ℕ, _*_, _≤_, arith, length}
 use borrow.Author.Tests.{le-leb}
 use Rattle.machine.specs.declared.Pair.{Pair}
-use Rattle.card.specs.Layout.{symbolCount}
 use Rattle.card.specs.Card.{machinesOf}
 use Rattle.candidate.specs.Candidates.{profileOf, IsCandidate}
 use Rattle.product.specs.Best.{Contender, contenderOf}
-use Rattle.product.specs.Sets.{singletons}
-use Rattle.product.specs.CountsFit.{unbeaten-fit}
-use Rattle.input.specs.AcceptedInput.{short-word}
 use Rattle.optimizer.specs.Demands.{Demands, demanded}
-use Rattle.product.specs.Weights.{weightedSum, bySum, bestByWeights}
-use Rattle.product.specs.WeightedPaths.{byWeights, weights-agree}
+use Rattle.product.specs.Weights.{weightedSum, bestByWeights}
 use Rattle.weights.specs.declared.Weighing.{Weighing}
 use Rattle.weights.specs.Weighing.{weightedRefusal, answeredSum}
 use Rattle.weights.specs.Accepting.{Accepts, accepts}
-use Rattle.weights.specs.WeightedBest.{IsBestByWeights, sum-beats, BestOfAllByWeights, weighted-best-is-best-of-all}
+use Rattle.weights.specs.WeightedBest.{IsBestByWeights, BestOfAllByWeights, weighted-best-is-best-of-all}
 use Rattle.weights.specs.Searching.{Optimizes}
 
 pub record Demand3 (card weights word answer after : List ℕ) (r : Weighing) : Type 0 where
   -- what demand 3 says, of the best by weights
-  pub demands : Demands (byWeights weights) (bySum weights) card (singletons word) (IsCandidate (machinesOf card) word) (IsBestByWeights weights (machinesOf card) word) word answer after (r .evaluation)
+  pub demands : Demands (machinesOf card) (IsCandidate (machinesOf card) word) (IsBestByWeights weights (machinesOf card) word) word answer after (r .evaluation)
   -- and the result carries its sum
   pub its-sum : r .evaluation .number ≡ 0 → (c : List Pair) → IsBestByWeights weights (machinesOf card) word c → r .sum ≡ weightedSum weights (profileOf (machinesOf card) c)
 
@@ -32,9 +27,8 @@ module _ {card weights word work workAfter answer answerAfter : List ℕ} {r : W
   all : BestOfAllByWeights card weights word
   all = weighted-best-is-best-of-all card weights word (accepted .accepted)
 
-  of-word : Demands (byWeights weights) (bySum weights) card (singletons word) (IsCandidate (machinesOf card) word) (IsBestByWeights weights (machinesOf card) word) word answer answerAfter (r .evaluation)
-  of-word =
-      demanded (weights-agree weights) (unbeaten-fit (weights-agree weights) card (accepted .accepted) word (short-word (symbolCount card) word (accepted .sound))) (sum-beats weights (machinesOf card)) all (c .answers) ok
+  of-word : Demands (machinesOf card) (IsCandidate (machinesOf card) word) (IsBestByWeights weights (machinesOf card) word) word answer answerAfter (r .evaluation)
+  of-word = demanded all (c .answers) ok
 
   -- the sum of a best that the answer slice has room for
   sum-of-best : (b : Contender) → bestByWeights card weights word ≡ some b → 2 * length (b .candidate) ≤ length answer → r .sum ≡ weightedSum weights (b .profile)

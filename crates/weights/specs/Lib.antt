@@ -9,7 +9,8 @@ pub mod GangingUp
 -- the walk and the search
 pub mod WeightedWalk
 pub mod Searching
--- theorems of what the call answers: demand 3, that the two engines agree, and two calls with work slices of their own
+-- theorems of what the call answers: demand 3, the bound of S-8, that the two engines agree, and two calls with work slices of their own
 pub mod Demand3
+pub mod CountsThatFit
 pub mod TwoEngines
 pub mod TwoCalls
