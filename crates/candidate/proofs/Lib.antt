@@ -1,4 +1,3 @@
-pub mod Pairs
 pub mod Running
 pub mod Scoring
 pub mod Answers

@@ -5,3 +5,5 @@ pub mod Scoring
 pub mod EmptyWord
 pub mod OldCards
 pub mod OldArcs
+pub mod BaseCards
+pub mod Laws

@@ -1,10 +1,10 @@
 -- A candidate's profile is the merge of its pairs' marks: what its pairs cost in the violation semiring, one after another, and its ending, is
 -- the profile of a complete candidate, and infinite of any other. Assumes nothing.
-use Rattle.basics.proofs.Words.{_≡_, refl, _∙_, ap, true, false, _&&_, List, [], _∷_, map, Option, some, none, ℕ, allOf, clash}
+use Rattle.basics.proofs.Words.{_≡_, refl, sym, _∙_, ap, subst, true, false, _&&_, List, [], _∷_, map, Option, some, none, ℕ, suc, length, allOf, clash}
 use Rattle.machine.specs.declared.Pair.{Pair}
 use Rattle.machine.specs.Machine.{Machine, startState, stepOf, endingOf}
 use Rattle.ranking.specs.Profiles.{merge}
-use Rattle.ranking.specs.Violations.{Violations, finite, infinite, mergeCosts}
+use Rattle.ranking.specs.Violations.{Violations, finite, infinite, OfCounts, mergeCosts}
 use Rattle.candidate.specs.Candidates.{addMarks, marksFrom, marksOf, isSome, countOf, isComplete, profileOf}
 
 -- a machine and the state that it is in
@@ -88,6 +88,17 @@ module _ {A : Type 0} where
       go none k t = refl
       go (some n) k t = ap (inFront (some n)) (k t)
 
+  -- as many counts as there are that give them
+  each-counted : (f : A → Option ℕ) (xs : List A) → OfCounts (length xs) (costOfEach f xs)
+  unfolding costOfEach
+  each-counted f [] = refl
+  each-counted f (x ∷ xs) = go (f x) (costOfEach f xs) (each-counted f xs)
+    where
+      go : (o : Option ℕ) (rest : Violations) → OfCounts (length xs) rest → OfCounts (suc (length xs)) (inFront o rest)
+      go none rest h = tt
+      go (some n) infinite h = tt
+      go (some n) (finite v) h = ap suc h
+
 map-each : {A B : Type 0} (f : B → Option ℕ) (h : A → B) (xs : List A) → costOfEach f (map h xs) ≡ costOfEach (λ x. f (h x)) xs
 unfolding costOfEach
 map-each f h [] = refl
@@ -118,6 +129,10 @@ module _ (ms : List Machine) (c : List Pair) where
   pub profile-is-merge : isComplete ms c ≡ true → costOfPairs (atStart ms) c ≡ finite (profileOf ms c)
   unfolding isComplete profileOf
   profile-is-merge t = cost-of-candidate ∙ all-give (marksOf c) ms t
+
+  -- its cost is in the semiring of as many counts as there are machines
+  pub cost-counted : OfCounts (length ms) (costOfPairs (atStart ms) c)
+  cost-counted = subst (OfCounts (length ms)) (sym cost-of-candidate) (each-counted (marksOf c) ms)
 
   pub not-complete-infinite : isComplete ms c ≡ false → costOfPairs (atStart ms) c ≡ infinite
   unfolding isComplete

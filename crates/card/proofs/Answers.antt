@@ -1,22 +1,10 @@
 -- The answers of reading and packing by the number of their refusal. Assumes nothing.
-use Rattle.basics.specs.Words.{_≡_, refl, ap, ap₂, sym, _∙_, List, [], _∷_, _++_, ℕ, zero, suc, _+_, _*_, _<_, arith, length, take, drop, take-at, drop-at, drop-drop}
-use Rattle.refusals.specs.Refusals.{firstOf}
+use Rattle.basics.specs.Words.{_≡_, ap, ap₂, sym, _∙_, List, _++_, ℕ, zero, suc, _+_, _*_, _<_, arith, length, take, drop, take-at, drop-at, drop-drop}
 use Rattle.layout.specs.Layout.{offsetOf, lengthOf}
 use Rattle.card.specs.declared.PartPlace.{PartPlace}
 use Rattle.card.specs.Reading.{readingRefusal, reading}
 use Rattle.card.specs.Packing.{table, packed, packingRefusal, packing, packedTarget}
 use Rattle.card.specs.Laws.Packed.{length-table, packed-length}
-
--- two refusals in a row, and others behind them
-pub two-up : (p d n : ℕ) (ns : List ℕ) → n ≡ firstOf (p ∷ d ∷ []) → 0 < n → n ≡ firstOf (p ∷ d ∷ ns)
-two-up zero zero n ns e h = absurd (omega arith)
-two-up zero (suc d) n ns e h = e
-two-up (suc p) d n ns e h = e
-
-pub two-on : (p d : ℕ) (ns : List ℕ) → firstOf (p ∷ d ∷ []) ≡ 0 → firstOf (p ∷ d ∷ ns) ≡ firstOf ns
-two-on zero zero ns e = refl
-two-on zero (suc d) ns e = absurd (omega arith)
-two-on (suc p) d ns e = absurd (omega arith)
 
 -- reading
 pub read-refused : (card : List ℕ) (i n : ℕ) → readingRefusal card i ≡ n → 0 < n → reading card i ≡ record { number = n; offset = 0; length = 0 }

@@ -6,7 +6,7 @@ use Rattle.refusals.proofs.Refusals.{passed}
 use Rattle.machine.specs.Part.{stateCount, partRefusal}
 use Rattle.layout.specs.Layout.{Bytes, laidOut, partOf}
 use Rattle.card.specs.Layout.{machineCount, symbolCount, counted, partsOf}
-use Rattle.card.specs.Card.{partsRefusal, fewStates, cardRefusal}
+use Rattle.card.specs.Card.{partsRefusal, fewStates, machinesRefusal, cardRefusal}
 use Rattle.card.specs.Laws.Search.{first-passed, rest-passed}
 use Rattle.layout.specs.Laws.Bytes.{bytes-drop}
 use Rattle.layout.specs.LaidOut.{LaidOut, PartWithin, layout-told, part-within}
@@ -32,11 +32,12 @@ accepted card e =
     let b = laidOut (machineCount card) card in
     let p = partsRefusal S (partsOf card) in
     let d = fewStates (partsOf card) in
-    let ta = passed 1 a (lit< tt) (first-passed (refuse 1 a) (refuse 2 b ∷ p ∷ refuse 6 d ∷ []) e) in
-    let eb = rest-passed (refuse 1 a) (refuse 2 b ∷ p ∷ refuse 6 d ∷ []) e in
-    let ep = rest-passed (refuse 2 b) (p ∷ refuse 6 d ∷ []) eb in
+    let m = machinesRefusal S (partsOf card) in
+    let ta = passed 1 a (lit< tt) (first-passed (refuse 1 a) (refuse 2 b ∷ m ∷ []) e) in
+    let eb = rest-passed (refuse 1 a) (refuse 2 b ∷ m ∷ []) e in
+    let ep = first-passed m [] (rest-passed (refuse 2 b) (m ∷ []) eb) in
     let ed = rest-passed p (refuse 6 d ∷ []) ep in
-    let l = layout-told (machineCount card) card (passed 2 b (lit< tt) (first-passed (refuse 2 b) (p ∷ refuse 6 d ∷ []) eb)) in
+    let l = layout-told (machineCount card) card (passed 2 b (lit< tt) (first-passed (refuse 2 b) (m ∷ []) eb)) in
     let q = first-passed p (refuse 6 d ∷ []) ep in
     record {
       head = head-told card ta;

@@ -25,5 +25,4 @@ machinesRefusal S parts = firstOf (partsRefusal S parts ∷ refuse 6 (fewStates 
 -- 0 where the card is accepted, else the first refusal met
 unfoldable pub cardRefusal : List ℕ → ℕ
 cardRefusal card =
-    firstOf
-    (refuse 1 (counted card) ∷ refuse 2 (laidOut (machineCount card) card) ∷ partsRefusal (symbolCount card) (partsOf card) ∷ refuse 6 (fewStates (partsOf card)) ∷ [])
+    firstOf (refuse 1 (counted card) ∷ refuse 2 (laidOut (machineCount card) card) ∷ machinesRefusal (symbolCount card) (partsOf card) ∷ [])

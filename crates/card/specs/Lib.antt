@@ -6,5 +6,7 @@ pub mod Laws
 pub mod Accepted
 pub mod RoundTrip
 pub mod OfParts
+pub mod OldCards
 pub mod OldStates
 pub mod OldArcs
+pub mod BaseCards

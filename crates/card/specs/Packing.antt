@@ -3,7 +3,7 @@ use Rattle.basics.specs.Words.{List, [], _∷_, _++_, ℕ, length, drop, eqb, l
 use Rattle.refusals.specs.Refusals.{refuse, firstOf, unlessRefused}
 use Rattle.card.specs.declared.Packed.{Packed}
 use Rattle.card.specs.Layout.{soundCounts}
-use Rattle.card.specs.Card.{partsRefusal, fewStates}
+use Rattle.card.specs.Card.{machinesRefusal}
 pub use Rattle.layout.specs.Packing.{table}
 unfoldable pub use Rattle.layout.specs.Packing.{total, split, places, packed}
 
@@ -13,8 +13,7 @@ packingRefusal S lengths joined room =
     firstOf
     (refuse 1 (soundCounts (length lengths) S)
     ∷ refuse 17 (eqb (total lengths) (length joined))
-    ∷ partsRefusal S (split lengths joined)
-    ∷ refuse 6 (fewStates (split lengths joined))
+    ∷ machinesRefusal S (split lengths joined)
     ∷ refuse 18 (leb (length (packed S lengths joined)) room)
     ∷ [])
 

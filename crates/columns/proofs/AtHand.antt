@@ -2,6 +2,7 @@
 use Rattle.basics.proofs.Words.{_≡_, refl, sym, _∙_, ap, Bool, true, false, cond, _&&_, List, _∷_, some, none, _⊎_, inl, inr, ℕ, suc, _+_, _*_, _<_, _≤_, arith, length, getD, drop, replicate, getD-replicate, length-replicate, drop-cons, drop-length, ℕ-discrete, member, eq-eqb, ne-eqb, left-fails, right-fails, no-member, member-or, member-and}
 use lib.Bits.{bitAnd, bitOr}
 use Rattle.machine.specs.declared.Arc.{Arc}
+use Rattle.machine.specs.Symbols.{emptySymbol}
 use Rattle.machine.specs.Machine.{takes, takesFrom, stepAmong, stepOf}
 use Rattle.machine.specs.Part.{stateCount, arcCount, arcsOf, machineOf}
 use Rattle.machine.specs.Accepted.{shape-facts, accepted as part-accepted, sound-facts}
@@ -123,8 +124,8 @@ pub record AtHandTo (card states steps : List ℕ) (x m taken : ℕ) : Type 0 wh
   pub small : Small steps
   pub step : (j y : ℕ) → j < m → y ≤ 64 → stepAt steps (length states) y j ≡ stepCode (stepOf (machineAt (machinesOf card) j) (getD states j 0) (record { input = x; output = y }))
   pub blank : (y p : ℕ) → m ≤ p → p < length states → y ≤ 64 → stepAt steps (length states) y p ≡ 65535
-  pub missing : (y : ℕ) → y < 64 → member taken y ≡ false → ((x ≡ 0) × (y ≡ 0)) ⊎ Stuck (machinesOf card) states x y
-  pub no-pair : x ≡ 0 → member taken 0 ≡ false
+  pub missing : (y : ℕ) → y < 64 → member taken y ≡ false → ((x ≡ emptySymbol) × (y ≡ emptySymbol)) ⊎ Stuck (machinesOf card) states x y
+  pub no-pair : x ≡ emptySymbol → member taken emptySymbol ≡ false
 
 module _ {card counts states xs : List ℕ} {x : ℕ} (pre : AtHandPre card states xs x) (are : counts ≡ stateCounts (machinesOf card)) where
   pub counts-long : length counts ≡ length states
@@ -172,7 +173,7 @@ module _ {card counts states xs : List ℕ} {x : ℕ} (pre : AtHandPre card stat
       step = λ j y l hy. at j y l hy (ℕ-discrete j m);
       blank = λ y p a b c. G .others y p b (λ (e : p ≡ m). omega arith) ∙ F .blank y p (omega arith) b c;
       missing = λ y l t. gone y l (member taken y) refl (sym (member-and taken outputs y) ∙ t);
-      no-pair = λ z. member-and taken outputs 0 ∙ ap (λ (b : Bool). b && member outputs 0) (F .no-pair z);
+      no-pair = λ z. member-and taken outputs emptySymbol ∙ ap (λ (b : Bool). b && member outputs emptySymbol) (F .no-pair z);
     }
       where
         at : (j y : ℕ) → j < m + 1 → y ≤ 64 → Dec (j ≡ m)
@@ -180,7 +181,7 @@ module _ {card counts states xs : List ℕ} {x : ℕ} (pre : AtHandPre card stat
         at j y l hy (yes z) = rw z (G .step y hy)
         at j y l hy (no z) = G .others y j (omega arith) z ∙ F .step j y (omega arith) hy
 
-        gone : (y : ℕ) → y < 64 → (b : Bool) → member taken y ≡ b → (member taken y && member outputs y) ≡ false → ((x ≡ 0) × (y ≡ 0)) ⊎ Stuck (machinesOf card) states x y
+        gone : (y : ℕ) → y < 64 → (b : Bool) → member taken y ≡ b → (member taken y && member outputs y) ≡ false → ((x ≡ emptySymbol) × (y ≡ emptySymbol)) ⊎ Stuck (machinesOf card) states x y
         gone y l false t k = F .missing y l t
         gone y l true t k =
             let u : member outputs y ≡ false = sym (ap (λ (b : Bool). b && member outputs y) t) ∙ k in

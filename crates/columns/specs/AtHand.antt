@@ -1,6 +1,7 @@
 -- The steps of an input from one state of each machine, the states at hand: columns with a place for each machine.
 use Rattle.basics.specs.Words.{_≡_, false, cond, List, some, none, _⊎_, ℕ, _*_, _<_, _≤_, length, getD, member}
 use Rattle.machine.specs.declared.Arc.{Arc}
+use Rattle.machine.specs.Symbols.{emptySymbol}
 use Rattle.machine.specs.Machine.{Machine, stateCountOf, takesFrom, stepOf}
 use Rattle.card.specs.Card.{machinesOf, cardRefusal}
 use Rattle.tables.specs.StepTable.{stepCode, machineAt}
@@ -58,5 +59,5 @@ pub record Stuck (ms : List Machine) (states : List ℕ) (x y : ℕ) : Type 0 wh
 pub record FilledAtHand (ms : List Machine) (states : List ℕ) (x : ℕ) (steps : List ℕ) (outputs : ℕ) : Type 0 where
   pub step : (m y : ℕ) → m < length ms → y ≤ 64 → stepAt steps (length ms) y m ≡ stepCode (stepOf (machineAt ms m) (getD states m 0) (record { input = x; output = y }))
   pub small : Small steps
-  pub missing : (y : ℕ) → y < 64 → member outputs y ≡ false → ((x ≡ 0) × (y ≡ 0)) ⊎ Stuck ms states x y
-  pub no-pair : x ≡ 0 → member outputs 0 ≡ false
+  pub missing : (y : ℕ) → y < 64 → member outputs y ≡ false → ((x ≡ emptySymbol) × (y ≡ emptySymbol)) ⊎ Stuck ms states x y
+  pub no-pair : x ≡ emptySymbol → member outputs emptySymbol ≡ false

@@ -12,6 +12,7 @@ ghost use Rattle.columns.specs.Endings.{EndingNumber, PartEndingsPre, Pa
 use basics::index;
 use cells::fours;
 use machine::Arc;
+use machine::Pair;
 use machine::sets;
 use outputs::worth;
 use tables::NO_STEP;
@@ -112,10 +113,10 @@ fn fill_machine(
 fn partners(input: u8) -> u64
     ensures { λ r. ⌜ FirstSet input r ⌝ }
 {
-    if input == 0 {
-        18446744073709551614
+    if input == Pair::EMPTY {
+        sets::without_empty(u64::MAX)
     } else {
-        18446744073709551615
+        u64::MAX
     }
 }
 

@@ -15,7 +15,7 @@ use Rattle.product.specs.ProductGraph.{pairs, Move}
 use Rattle.product.specs.Codes.{codeStep}
 use Rattle.tables.specs.Places.{sixPlaces, markNumber}
 use Rattle.tables.specs.JointNumbers.{numbered, jointFrom}
-use Rattle.machine.proofs.SetLoops.{with-true}
+use Rattle.machine.specs.Laws.SetLoops.{with-true}
 use Rattle.product.specs.Laws.Entering.{NotLeft}
 use Rattle.machine.specs.Symbols.{emptySymbol, isPair}
 use Rattle.product.specs.Setting.{positionOf, Setting}

@@ -1,6 +1,7 @@
 -- Trying the pairs of one input, four kept outputs after the other.
 use Rattle.basics.proofs.Words.{_≡_, refl, sym, _∙_, ap, subst, Bool, true, false, List, [], _∷_, Option, some, Option·none-ne-some, _⊎_, inl, inr, ℕ, _+_, _-_, _*_, _^_, _<_, _≤_, arith, length, getD, member, eq-eqb, clash, no-member, member-one}
 use Rattle.machine.specs.declared.Pair.{Pair}
+use Rattle.machine.specs.Symbols.{emptySymbol}
 use Rattle.card.specs.Layout.{symbolCount}
 use Rattle.card.specs.Card.{machinesOf, cardRefusal}
 use Rattle.paths.specs.Costs.{Costs, Labels}
@@ -197,7 +198,7 @@ fours-end {card} {ws} {next = next} {x = x} {kept = kept} {left = left} ok reads
         its : pricedStep (cellPrice ws) ((i + 1) * codes card) (step (p .output)) ≡ some e
         its = sym (edge-is (p .output)) ∙ ap (cellGraph ws card sets .edge u) (sym this) ∙ h
 
-        go : ((x ≡ 0) × (p .output ≡ 0)) ⊎ (NoSteps (machinesOf card) x (p .output) ⊎ Covered (machinesOf card) x kept (p .output)) → (q : Pair) × KeptTried rest x kept left u q × (cellGraph ws card sets .edge u q ≡ some e)
+        go : ((x ≡ emptySymbol) × (p .output ≡ emptySymbol)) ⊎ (NoSteps (machinesOf card) x (p .output) ⊎ Covered (machinesOf card) x kept (p .output)) → (q : Pair) × KeptTried rest x kept left u q × (cellGraph ws card sets .edge u q ≡ some e)
         go (inl n) = absurd (omega (arith, n .0))
         go (inr (inl n)) = absurd (Option·none-ne-some e (ap (pricedStep (cellPrice ws) ((i + 1) * codes card)) (sym (n (u - i * codes card))) ∙ its))
         go (inr (inr v)) =

@@ -12,7 +12,7 @@ use Rattle.product.specs.Answering.{beforeSearch}
 use Rattle.product.specs.Optimizing.{soundWord, inputRefusal}
 use Rattle.product.specs.OptimizingSets.{setsRefusal, setsInputRefusal}
 use Rattle.product.specs.Laws.Words.{accepted-word}
-use Rattle.product.specs.Laws.BestOfSets.{are64Bits}
+use Rattle.product.specs.Sets.{are64Bits}
 use Rattle.product.specs.Laws.SymbolSets.{AcceptedSets, accepted-sets, sets-64}
 
 -- ---- in general: each check passes, by its number

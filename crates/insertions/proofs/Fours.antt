@@ -1,7 +1,7 @@
 -- The kept outputs four by four: which are there, and how many.
 use Rattle.basics.proofs.Words.{_≡_, refl, sym, _∙_, ap, true, false, cond, _⊎_, inl, inr, _≢_, ℕ, zero, suc, _+_, _^_, _<_, _≤_, arith, getD, eqb, ℕ-discrete, decLt, add-one, member, ne-eqb, clash, no-member, has-member}
 use Rattle.machine.specs.SymbolSets.{leastSymbol}
-use Rattle.machine.proofs.SymbolSets.{least-at}
+use Rattle.machine.specs.Laws.SymbolSets.{least-at}
 use Rattle.cells.specs.Fours.{afterLeast, nextFour, withoutFour}
 use Rattle.cells.specs.Laws.Fours.{least-member, was-member, after-small, least-rises, without-small, four-member, left-member, four-or-left}
 use Rattle.insertions.specs.Tables.{afterFours, FoursOf}

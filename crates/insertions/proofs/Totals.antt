@@ -135,7 +135,7 @@ module _ {S : ℕ} {ms : List Machine} {W : ℕ} {steps ws : List ℕ} (M : Card
       let z = move-most f (λ j. uses (getD (nextFour (afterFours q kept)) j 0)) ((q * product (stateCounts ms) + c) * 4) 4 (λ j l. lane-most q c j (omega arith) l) in
       rw e (omega (arith, z, rows-most q c (omega arith), suc-mul c (usesOf (afterFours q kept))))
 
-  module _ (small : kept < 2 ^ 64) (no-pair : member kept 0 ≡ false) where
+  module _ (small : kept < 2 ^ 64) (no-pair : member kept emptySymbol ≡ false) where
     all-most : (q : ℕ) → moveTo (keptLane steps ws (stateCounts ms) W kept) (q * product (stateCounts ms) * 4) + product (stateCounts ms) ≤ product (stateCounts ms) * leastSymbol (afterFours q kept)
     unfolding afterFours moveTo
     all-most zero =

@@ -48,7 +48,7 @@ pub record ListPre (steps counts ws : List ℕ) (W kept : ℕ) (g : Groups) : Ty
   pub weights : WeightsOf counts ws
   pub groups : GroupsOf counts g
   pub few : g .front + g .back ≤ 66
-  pub no-pair : member kept 0 ≡ false
+  pub no-pair : member kept emptySymbol ≡ false
 
 -- one place behind each list is where it starts, by the numbers of the insertions in the lists before it
 pub record Counted (steps counts ws : List ℕ) (W kept : ℕ) (ends : List ℕ) : Type 0 where

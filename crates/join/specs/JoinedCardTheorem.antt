@@ -20,11 +20,10 @@ use Rattle.card.specs.Laws.Bytes.{bytes-take, bytes-drop}
 use Rattle.candidate.specs.Candidates.{isComplete, profileOf}
 use Rattle.candidate.specs.Evaluating.{evaluating}
 use Rattle.product.specs.Best.{best}
-use Rattle.product.specs.Sets.{bestOfSets}
+use Rattle.product.specs.Sets.{are64Bits, bestOfSets}
 use Rattle.product.specs.Searches.{of-word, of-sets}
 use Rattle.product.specs.Nodes.{stateCountOf, stateCounts, product}
 use Rattle.product.specs.Laws.Accepted.{part-states}
-use Rattle.product.specs.Laws.BestOfSets.{are64Bits}
 use Rattle.join.specs.Merged.{mergedCounts}
 use Rattle.join.specs.JoinedMachine.{machineAt, joinedMachine, joinedMachines, markless}
 use Rattle.join.specs.Laws.Machines.{soundMachine}

@@ -4,7 +4,7 @@ use Rattle.machine.specs.declared.Arc.{Arc}
 use Rattle.machine.specs.Machine.{stateCountOf}
 use Rattle.machine.specs.Part.{stateCount, arcCount, stateBytes, endingByte, arcsOf, machineOf, shaped, soundArc, soundStates}
 use Rattle.machine.specs.Accepted.{Accepted, accepted, shape-facts, state-count, sound-facts}
-use Rattle.machine.proofs.Arcs.{arcs-count}
+use Rattle.machine.specs.Laws.Arcs.{arcs-count}
 use Rattle.joined.specs.JoinedMachine.{joinedState, joinedKind, joinedArcs, crossed, joinedMachine, endsFree, markless}
 use Rattle.joined.specs.MachineBytes.{joinedPart}
 use Rattle.joined.specs.Writing.{placed, joinedByte, sharedBytes, rowsBytes, ArcsFit, RowFits, PartsJoin}

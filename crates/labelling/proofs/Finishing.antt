@@ -1,5 +1,6 @@
 -- A position that was entered, settled and closed: one position more is labelled.
 use Rattle.basics.proofs.Words.{_≡_, sym, _∙_, subst, Bool, List, ℕ, suc, _+_, _*_, _/_, _%_, _<_, _≤_, arith, length, suc-mul, mul-le-mul-right, eq-eqb, ne-eqb}
+use Rattle.machine.specs.Symbols.{emptySymbol}
 use Rattle.card.specs.Card.{machinesOf}
 use Rattle.paths.specs.Costs.{Labels}
 use Rattle.paths.specs.Ranked.{rankedCosts}
@@ -33,7 +34,7 @@ pub record PositionClosed (card ws sets ranked sums own next : List ℕ) (K P i 
   pub own-size : length own ≡ 256
   pub next-size : length next ≡ 256
 
-module _ {card ws hs marks sets steps entries ends : List ℕ} {P W kept : ℕ} {counts : Bool} (s : Setting card sets P) (O : OrderPre counts card sets ws hs marks P) (X : Prepared (machinesOf card) 0 W steps kept)
+module _ {card ws hs marks sets steps entries ends : List ℕ} {P W kept : ℕ} {counts : Bool} (s : Setting card sets P) (O : OrderPre counts card sets ws hs marks P) (X : Prepared (machinesOf card) emptySymbol W steps kept)
     (Y : Listed (machinesOf card) (O .order) kept entries ends) {i : ℕ} (within : i ≤ length sets)
     {own : List ℕ} (L : Labels (rankedCosts 1)) (A : Position own P) (E : Entered (cellGraph ws card sets) (positionOf card) (placed (i * P) P L (cellAt own)) i) where
   ties : Tied (numberGraph ws card sets) (positionOf card) i (listsOf entries ends hs counts) (i * P) P

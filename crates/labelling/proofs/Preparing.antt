@@ -1,6 +1,7 @@
 -- What the search is given, from the call's parts: the order, columns and lists.
 use Rattle.basics.specs.Words.{_≡_, refl, sym, _∙_, subst, true, true≢false, List, [], ℕ, zero, suc, _+_, _*_, _<_, _≤_, arith, length, take, replicate, length-replicate, length-take-le, mul-le-mul-left, mul-zero, suc-mul}
 use Rattle.ranking.specs.Rankings.{isRanking}
+use Rattle.machine.specs.Symbols.{emptySymbol}
 use Rattle.card.specs.Layout.{symbolCount}
 use Rattle.card.specs.Card.{machinesOf}
 use Rattle.product.specs.Nodes.{stateCounts}
@@ -36,10 +37,10 @@ sum-few (suc a) (suc b) h = let k : a * 1 ≤ a * suc b = mul-le-mul-left a (ome
 -- ---- the columns of the insertions, counted and in lists
 
 module _ {ranked sums card : List ℕ} {grid : Grid} {ws hs marks sets : List ℕ} (Q : SearchPre ranked sums card grid ws hs marks sets) where
-  pub fill-ready : {steps : List ℕ} → 65 * grid .states ≤ length steps → FillPre card (take (grid .machines) (grid .counts)) steps (grid .states) 0
+  pub fill-ready : {steps : List ℕ} → 65 * grid .states ≤ length steps → FillPre card (take (grid .machines) (grid .counts)) steps (grid .states) emptySymbol
   fill-ready room = record { accepted = Q .setting .accepted; counts-are = counts-are (Q .setting .accepted) (Q .grid-of); input = omega arith; width = states-are (Q .setting .accepted) (Q .grid-of); room = room }
 
-  module _ {steps : List ℕ} {kept : ℕ} (X : Prepared (machinesOf card) 0 (grid .states) steps kept) where
+  module _ {steps : List ℕ} {kept : ℕ} (X : Prepared (machinesOf card) emptySymbol (grid .states) steps kept) where
     insertion-columns : InsertionColumns (symbolCount card) (machinesOf card) steps (take (grid .machines) (grid .counts)) (grid .states)
     insertion-columns = record { machines = card-machines card (Q .setting .accepted); counts-are = counts-are (Q .setting .accepted) (Q .grid-of); columns = X .columns }
 

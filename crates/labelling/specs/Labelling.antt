@@ -1,6 +1,7 @@
 -- Labelling all nodes, position by position, from the last to the first.
 use Rattle.basics.specs.Words.{_≡_, Bool, true, false, List, some, _≢_, ℕ, _+_, _*_, _^_, _<_, _≤_, length}
 use Rattle.ranking.specs.Rankings.{isRanking}
+use Rattle.machine.specs.Symbols.{emptySymbol}
 use Rattle.card.specs.Layout.{machineCount}
 use Rattle.card.specs.Card.{machinesOf}
 use Rattle.paths.specs.Costs.{Labels}
@@ -84,7 +85,7 @@ pub record PositionsPre (ranked sums card : List ℕ) (grid : Grid) (ws hs sets 
   pub marks : List ℕ
   pub search : SearchPre ranked sums card grid ws hs marks sets
   pub kept : ℕ
-  pub prepared : Prepared (machinesOf card) 0 (grid .states) steps kept
+  pub prepared : Prepared (machinesOf card) emptySymbol (grid .states) steps kept
   pub columns : 65 * grid .states ≤ length steps
   pub listed : Listed (machinesOf card) (search .order-pre .order) kept entries ends
 

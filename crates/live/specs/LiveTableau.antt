@@ -8,10 +8,10 @@ use Rattle.refusals.proofs.Refusals as by-number
 use Rattle.ranking.specs.Rankings.{isMachineCount, isRanking}
 use Rattle.live.specs.declared.Row.{Row}
 use Rattle.live.specs.declared.Counted.{Counted}
-use Rattle.live.specs.Rows.{zeroRow, present, without, removed, fits, hasRoom, leaderOf, counted, refusedCount, unled, leadAnswer}
+use Rattle.live.specs.Rows.{zeroRow, present, without, lacks, differ, removed, fits, hasRoom, leaderOf, counted, refusedCount, unled, leadAnswer}
 use Rattle.live.specs.Calls.{Adds, Removes, adding, addedList, removing, removedList, addingRefusal, removingRefusal, leading}
 use Rattle.live.specs.Afresh.{Call, Add, Remove, Table, started, Does, Ran, begun, accepts, refuses, afresh}
-use Rattle.live.specs.Laws.Rows.{lacks, differ, length-without, without-those, differ-last}
+use Rattle.live.specs.Laws.Rows.{length-without, without-those, differ-last}
 use Rattle.live.specs.Laws.Afresh.{afresh-add, afresh-remove}
 
 -- the table t after calls of which those accepted are done, from an empty table over a list as long as l

@@ -25,6 +25,14 @@ unfoldable pub without : ℕ → List Row → List Row
 without id [] = []
 without id (row ∷ rows) = elim (hasId id row) [ true ↦ rows | false ↦ row ∷ without id rows ]
 
+-- a row that has another id
+abbrev pub lacks : ℕ → Row → Bool
+lacks id row = not (hasId id row)
+
+-- two rows have different ids
+abbrev pub differ : Row → Row → Bool
+differ row other = lacks (row .id) other
+
 -- a list after a row is added: the record behind the rows is set to it
 abbrev pub added : ℕ → List Row → Row → List Row
 added count l row = set l count row

@@ -45,7 +45,8 @@ pub record Accepted (S : ℕ) (part : List ℕ) : Type 0 where
   pub arcs : soundArcs S part ≡ true
   pub clashes : noClash part ≡ true
 
-verdict : (a b d e : Bool) → firstOf (refuse 3 a ∷ refuse 4 b ∷ refuse 4 d ∷ refuse 5 e ∷ []) ≡ 0 → (a ≡ true) × (b ≡ true) × (d ≡ true) × (e ≡ true)
+-- the four tests of a part
+pub verdict : (a b d e : Bool) → firstOf (refuse 3 a ∷ refuse 4 b ∷ refuse 4 d ∷ refuse 5 e ∷ []) ≡ 0 → (a ≡ true) × (b ≡ true) × (d ≡ true) × (e ≡ true)
 verdict true true true true h = (refl, refl, refl, refl)
 verdict true true true false h = absurd (omega arith)
 verdict true true false e h = absurd (omega arith)

@@ -7,4 +7,6 @@ pub mod CommonPair
 pub mod Steps
 pub mod OldStates
 pub mod OldArcs
+pub mod BaseParts
 pub mod SameAndDifferent
+pub mod Laws

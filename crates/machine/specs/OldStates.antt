@@ -4,7 +4,7 @@ use borrow.Author.Tests.{leb-true, le-leb}
 use Rattle.refusals.specs.Refusals.{refuse, firstOf}
 use Rattle.machine.specs.declared.Arc.{Arc}
 use Rattle.machine.specs.Machine.{endingOf}
-use Rattle.machine.specs.Part.{stateBytes, arcsOf, endingByte, machineOf, shaped, soundArcs, noClash, partRefusal}
+use Rattle.machine.specs.Part.{stateBytes, arcsOf, endingByte, machineOf, shaped, soundStates, soundArcs, noClash, partRefusal}
 
 -- for each state whether it is final; and the arcs
 pub record OldMachine : Type 0 where
@@ -45,11 +45,14 @@ bytes-pass (b ∷ bs) t =
     let small = leb-true b 1 (left (oldByte b) (allOf oldByte bs) t) in
     both (le-leb b 16 (omega (arith, small))) (bytes-pass bs (right (oldByte b) (allOf oldByte bs) t))
 
+pub states-pass : (part : List ℕ) → oldStates part ≡ true → soundStates part ≡ true
+states-pass part t = bytes-pass (stateBytes part) t
+
 pub refused-as-before : (S : ℕ) (part : List ℕ) → oldStates part ≡ true → partRefusal S part ≡ oldPartRefusal S part
 unfolding partRefusal oldPartRefusal
 refused-as-before S part t =
     ap (λ (b : Bool). firstOf (refuse 3 (shaped part) ∷ refuse 4 b ∷ refuse 4 (soundArcs S part) ∷ refuse 5 (noClash part) ∷ []))
-    (bytes-pass (stateBytes part) t ∙ sym t)
+    (states-pass part t ∙ sym t)
 
 -- and say the same of ending
 bytes-end : (bytes : List ℕ) → allOf oldByte bytes ≡ true → (s : ℕ) → getD (map endingByte bytes) s none ≡ freeEnding (getD (map finalByte bytes) s false)

@@ -33,9 +33,14 @@ module _ (a : Arc) (p : Pair) (t : takes a p ≡ true) where
   pub takes-different : a .kind ≡ 2 → p .input ≡ p .output → ⊥
   takes-different e = kind-different (a .kind) p e is-of-kind
 
--- whatever their sets are
-pub same-and-different : (a b : Arc) → a .kind ≡ 1 → b .kind ≡ 2 → clash a b ≡ false
+-- no pair is taken by arcs of both
+no-common : (a b : Arc) (p : Pair) → a .kind ≡ 1 → b .kind ≡ 2 → takes a p ≡ true → takes b p ≡ true → ⊥
+no-common a b p e f ta tb = takes-different b p tb f (takes-same a p ta e .1)
+
+-- so the two do not clash, whichever comes first and whatever their sets are
+pub same-and-different : (a b : Arc) → a .kind ≡ 1 → b .kind ≡ 2 → (clash a b ≡ false) × (clash b a ≡ false)
 unfolding clash
-same-and-different a b e f = fails (clash a b) (λ t.
-    let c = common-pair a b (right (eqb (a .from) (b .from)) (takeOnePair a b) t) in
-    takes-different b (c .pair) (c .second) f (takes-same a (c .pair) (c .first) e .1))
+same-and-different a b e f = (
+  fails (clash a b) (λ t. let c = common-pair a b (right (eqb (a .from) (b .from)) (takeOnePair a b) t) in no-common a b (c .pair) e f (c .first) (c .second)),
+  fails (clash b a) (λ t. let c = common-pair b a (right (eqb (b .from) (a .from)) (takeOnePair b a) t) in no-common a b (c .pair) e f (c .second) (c .first)),
+)

@@ -11,9 +11,9 @@ use Rattle.machine.specs.CommonPair.{common-pair}
 use Rattle.machine.specs.Steps.{clash-at}
 use Rattle.machine.specs.SymbolSets.{withoutEmpty}
 use Rattle.part_check.specs.Clashes.{LeavesStates, clashFreeFrom, pairsWith, noted, takenFrom, Taken, PairsNoted}
-use Rattle.machine.proofs.Partners.{without-empty, in-partners}
-use Rattle.machine.proofs.SetLoops.{Passed, with-true, passed-none, still-old, passed-next, passed-all}
-use Rattle.machine.proofs.Arcs.{leaves, leaves-other, arc-at, arcs-count}
+use Rattle.machine.specs.Laws.Partners.{without-empty, in-partners}
+use Rattle.machine.specs.Laws.SetLoops.{Passed, with-true, passed-none, still-old, passed-next, passed-all}
+use Rattle.machine.specs.Laws.Arcs.{leaves, leaves-other, arc-at, arcs-count}
 
 -- the inputs that make a pair of a kind with an output
 pub pairs-member : (kind w : ℕ) (p : Pair) → member (pairsWith kind w (p .output)) (p .input) ≡ (isPair p && (member w (p .input) && ofKind kind p))

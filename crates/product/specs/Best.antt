@@ -3,7 +3,7 @@ use Rattle.basics.specs.Words.{Bool, true, false, not, _&&_, _||_, List, [], _�
 use Rattle.machine.specs.declared.Pair.{Pair}
 use Rattle.machine.specs.Symbols.{isPair}
 use Rattle.machine.specs.Machine.{Machine}
-use Rattle.ranking.specs.Harmony.{harmony, isBetter}
+use Rattle.ranking.specs.Harmony.{better}
 use Rattle.ranking.specs.ByteStrings.{smaller}
 use Rattle.card.specs.Layout.{symbolCount}
 use Rattle.card.specs.Card.{machinesOf}
@@ -72,7 +72,7 @@ bestIn better card word = bestOf (symbolCount card) (machinesOf card) better wor
 
 -- the order of a ranking
 abbrev pub harmonic : List ℕ → ProfileOrder
-harmonic ranking v w = isBetter (harmony ranking v w)
+harmonic ranking = better ranking
 
 -- the best candidate under a ranking
 unfoldable pub best : List ℕ → List ℕ → List ℕ → Option Contender

@@ -12,13 +12,12 @@ use Rattle.paths.specs.Best.{IsBest, before-total}
 use Rattle.product.specs.Prices.{Price, Agrees}
 use Rattle.product.specs.ProductGraph.{pairs, pricedGraph, cardStart}
 use Rattle.product.specs.Best.{Contender, ProfileOrder}
-use Rattle.product.specs.Sets.{IsCandidateOf, bestOfSetsIn}
+use Rattle.product.specs.Sets.{are64Bits, IsCandidateOf, bestOfSetsIn}
 use Rattle.product.specs.BestCandidate.{BeatsOn, BestOf}
 use Rattle.product.specs.SetsTheorem.{no-path-no-best-of-sets, best-in-is-best-of-all-words}
 use Rattle.product.specs.Laws.Accepted.{accepted-machines}
 use Rattle.product.specs.Laws.Candidates.{fitting-cost, cost-fitting}
 use Rattle.product.specs.Laws.BestCandidate.{best-of-sets-path}
-use Rattle.product.specs.Laws.BestOfSets.{are64Bits}
 
 -- the best over the sets, whose path costs x
 pub record BestAt {costs : Costs} (price : Price costs) (better : ProfileOrder) (card sets : List ℕ) (x : costs .Cost) : Type 0 where

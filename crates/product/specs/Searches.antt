@@ -6,12 +6,11 @@ use Rattle.card.specs.Card.{machinesOf, cardRefusal}
 use Rattle.candidate.specs.Candidates.{isComplete, IsCandidate}
 use Rattle.paths.specs.Costs.{Costs}
 use Rattle.product.specs.Best.{Contender, ProfileOrder, bestIn}
-use Rattle.product.specs.Sets.{IsCandidateOf, bestOfSetsIn}
+use Rattle.product.specs.Sets.{are64Bits, IsCandidateOf, bestOfSetsIn}
 use Rattle.product.specs.Prices.{Price, Agrees}
 use Rattle.product.specs.BestCandidate.{BeatsOn, BestOf}
 use Rattle.product.specs.BestTheorem.{best-in-is-best-of-all}
 use Rattle.product.specs.SetsTheorem.{best-in-is-best-of-all-words}
-use Rattle.product.specs.Laws.BestOfSets.{are64Bits}
 
 pub record Searches (Meant : List Machine → List Pair → Type 0) (best : ProfileOrder → List ℕ → Option Contender) : Type 1 where
   -- a list that is meant is a candidate for some word

@@ -1,5 +1,5 @@
 -- Words heard only in part: a set of symbols, a 64-bit number, at each position.
-use Rattle.basics.specs.Words.{_≡_, Bool, true, false, _&&_, List, [], _∷_, map, Option, some, none, ℕ, _^_, those, joined, numbersBelow, member}
+use Rattle.basics.specs.Words.{_≡_, Bool, true, false, _&&_, List, [], _∷_, map, Option, some, none, ℕ, _^_, ltb, allOf, those, joined, numbersBelow, member}
 use Rattle.machine.specs.declared.Pair.{Pair}
 use Rattle.machine.specs.Machine.{Machine}
 use Rattle.candidate.specs.Candidates.{IsCandidate}
@@ -15,6 +15,10 @@ fitsSets (set ∷ sets) (x ∷ word) = member set x && fitsSets sets word
 -- a word as sets of one symbol each
 abbrev pub singletons : List ℕ → List ℕ
 singletons word = map (λ x. 2 ^ x) word
+
+-- the sets are 64-bit numbers
+abbrev pub are64Bits : List ℕ → Bool
+are64Bits sets = allOf (λ set. ltb set (2 ^ 64)) sets
 
 -- a list of pairs that is a complete candidate for a word with one symbol from each set
 pub record IsCandidateOf (ms : List Machine) (sets : List ℕ) (c : List Pair) : Type 0 where

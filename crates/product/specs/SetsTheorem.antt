@@ -9,7 +9,7 @@ use Rattle.card.specs.Layout.{machineCount}
 use Rattle.card.specs.Card.{machinesOf, cardRefusal}
 use Rattle.candidate.specs.Candidates.{profileOf, IsCandidate}
 use Rattle.product.specs.Best.{Contender, contenderOf, ProfileOrder, bestIn, best}
-use Rattle.product.specs.Sets.{singletons, IsCandidateOf, bestOfSetsIn, bestOfSets}
+use Rattle.product.specs.Sets.{singletons, are64Bits, IsCandidateOf, bestOfSetsIn, bestOfSets}
 use Rattle.paths.specs.Total.{Upto}
 use Rattle.paths.specs.Costs.{Costs}
 use Rattle.paths.specs.Graph.{pathCost}
@@ -23,7 +23,7 @@ use Rattle.product.specs.Laws.Preference.{keyOf, earlier-beats}
 use Rattle.product.specs.Laws.Accepted.{accepted-machines}
 use Rattle.product.specs.Laws.Best.{best-contender}
 use Rattle.product.specs.Laws.BestCandidate.{best-of-ranked, path-best-of-sets, best-of-sets-path}
-use Rattle.product.specs.Laws.BestOfSets.{are64Bits, singletons-64, BestForOne, best-for-one, BestUpto, best-upto}
+use Rattle.product.specs.Laws.BestOfSets.{singletons-64, BestForOne, best-for-one, BestUpto, best-upto}
 
 -- ---- in an order on profiles, with a price that agrees with it
 

@@ -9,12 +9,16 @@ use Rattle.ranking.specs.Harmony.{harmony, isBetter, isWorse, better, wo
 use Rattle.ranking.specs.Lemmas.Rankings.{Ranking, ranking-facts, place-of}
 use Rattle.ranking.specs.Lemmas.Harmony.{Standing, fewer, same, more, standing, at-fewer, at-same, at-more}
 
+-- v and w agree at every machine ranked above a place
+abbrev pub AgreeAbove : ℕ → List ℕ → List ℕ → List ℕ → Type 0
+AgreeAbove place r v w = (i : ℕ) → i < place → getD v (getD r i 0) 0 ≡ getD w (getD r i 0) 0
+
 -- v is more harmonic than w: it has the smaller count at the highest ranked machine where the two differ
 pub record MoreHarmonic (r v w : List ℕ) : Type 0 where
   pub place : ℕ
   pub ranked : place < length r
   pub smaller : getD v (getD r place 0) 0 < getD w (getD r place 0) 0
-  pub equal-above : (i : ℕ) → i < place → getD v (getD r i 0) 0 ≡ getD w (getD r i 0) 0
+  pub agree-above : AgreeAbove place r v w
 
 -- the first K counts are equal
 abbrev pub Agree : ℕ → List ℕ → List ℕ → Type 0
@@ -54,24 +58,27 @@ better-is [] v w e = absurd (clash e (ap isBetter (nothing-ranked v w)))
 better-is (m ∷ r) v w e = go (standing (getD v m 0) (getD w m 0)) (better-is r v w)
   where
     go : Standing (getD v m 0) (getD w m 0) → (better r v w ≡ true → MoreHarmonic r v w) → MoreHarmonic (m ∷ r) v w
-    go (fewer h) k = record { place = 0; ranked = omega arith; smaller = h; equal-above = λ i q. absurd (omega arith) }
+    go (fewer h) k = record { place = 0; ranked = omega arith; smaller = h; agree-above = λ i q. absurd (omega arith) }
     go (more h) k = absurd (clash e (ap isBetter (at-more m r v w h)))
     go (same h) k =
         let d = k (ap isBetter (sym (at-same m r v w h)) ∙ e) in
-        record { place = suc (d .place); ranked = omega (arith, d .ranked); smaller = d .smaller; equal-above = above d }
+        record { place = suc (d .place); ranked = omega (arith, d .ranked); smaller = d .smaller; agree-above = above d }
       where
         above : (d : MoreHarmonic r v w) (i : ℕ) → i < suc (d .place) → getD v (getD (m ∷ r) i 0) 0 ≡ getD w (getD (m ∷ r) i 0) 0
         above d zero q = h
-        above d (suc i) q = d .equal-above i (omega arith)
+        above d (suc i) q = d .agree-above i (omega arith)
 
-is-better : (r v w : List ℕ) (i : ℕ) → i < length r → getD v (getD r i 0) 0 < getD w (getD r i 0) 0
-    → ((j : ℕ) → j < i → getD v (getD r j 0) 0 ≡ getD w (getD r j 0) 0) → better r v w ≡ true
-is-better [] v w i q h a = absurd (omega arith)
-is-better (m ∷ r) v w zero q h a = ap isBetter (at-fewer m r v w h)
-is-better (m ∷ r) v w (suc i) q h a = ap isBetter (at-same m r v w (a 0 (omega arith))) ∙ is-better r v w i (omega arith) h (λ j p. a (suc j) (omega arith))
+-- and what is more harmonic is better, by the machine at that place
+by-place : (r v w : List ℕ) (i : ℕ) → i < length r → getD v (getD r i 0) 0 < getD w (getD r i 0) 0 → AgreeAbove i r v w → harmony r v w ≡ Better (getD r i 0)
+by-place [] v w i q h a = absurd (omega arith)
+by-place (m ∷ r) v w zero q h a = at-fewer m r v w h
+by-place (m ∷ r) v w (suc i) q h a = at-same m r v w (a 0 (omega arith)) ∙ by-place r v w i (omega arith) h (λ j p. a (suc j) (omega arith))
+
+pub decided-at : (r v w : List ℕ) (d : MoreHarmonic r v w) → harmony r v w ≡ Better (getD r (d .place) 0)
+decided-at r v w d = by-place r v w (d .place) (d .ranked) (d .smaller) (d .agree-above)
 
 pub better-means : (r v w : List ℕ) → (better r v w ≡ true) ↔ MoreHarmonic r v w
-better-means r v w = (better-is r v w, λ d. is-better r v w (d .place) (d .ranked) (d .smaller) (d .equal-above))
+better-means r v w = (better-is r v w, λ d. ap isBetter (decided-at r v w d))
 
 -- better one way is worse the other way
 pub reversed : (r v w : List ℕ) → harmony r w v ≡ opposite (harmony r v w)

@@ -1,9 +1,10 @@
--- The violation semiring (Riggle, (2) and (4)), its infinite cost included: the better of two is its sum, with the infinite cost as identity;
--- merge is its product, with the zero profile as identity and the infinite cost as annihilator. Assumes nothing.
-use Rattle.basics.specs.Words.{_≡_, refl, sym, _∙_, ap, true, List, ℕ}
+-- The violation semiring (Riggle, (2) and (4)), its infinite cost included, over profiles of K counts: the better of two is its sum, with the infinite
+-- cost as identity; merge is its product, with the zero profile as identity and the infinite cost as annihilator. Assumes nothing.
+use Rattle.basics.specs.Words.{_≡_, refl, sym, _∙_, ap, true, List, ℕ, _≤_, length-take-le}
+use Rattle.ranking.specs.Profiles.{zeroProfile}
 use Rattle.ranking.specs.Rankings.{isRanking}
-use Rattle.ranking.specs.Violations.{Violations, finite, infinite, noViolations, mergeCosts, betterCost, AgreeOnFirst, OfSix}
-use Rattle.ranking.specs.Lemmas.Profiles.{counts-associative, counts-commutative, zero-counts, merge-length, profile-idempotent, profile-associative, profile-commutative, counts-distribute}
+use Rattle.ranking.specs.Violations.{Violations, finite, infinite, OfCounts, noViolations, mergeCosts, betterCost}
+use Rattle.ranking.specs.Lemmas.Profiles.{counts-associative, counts-commutative, zero-counts, merge-length, profile-idempotent, profile-associative, profile-length, profile-commutative, counts-distribute}
 
 -- merge: a commutative monoid with the zero profile
 
@@ -19,18 +20,22 @@ merge-commutative infinite (finite w) = refl
 merge-commutative (finite v) infinite = refl
 merge-commutative (finite v) (finite w) = ap finite (counts-commutative v w)
 
-pub zero-merge : (a : Violations) → OfSix a → mergeCosts noViolations a ≡ a
-zero-merge infinite h = refl
-zero-merge (finite v) h = ap finite (zero-counts v h)
+module _ (K : ℕ) (few : K ≤ 6) where
+  pub zero-merge : (a : Violations) → OfCounts K a → mergeCosts (noViolations K) a ≡ a
+  zero-merge infinite h = refl
+  zero-merge (finite v) h = ap finite (zero-counts K few v h)
 
-pub merge-zero : (a : Violations) → OfSix a → mergeCosts a noViolations ≡ a
-merge-zero a h = merge-commutative a noViolations ∙ zero-merge a h
+  pub merge-zero : (a : Violations) → OfCounts K a → mergeCosts a (noViolations K) ≡ a
+  merge-zero a h = merge-commutative a (noViolations K) ∙ zero-merge a h
 
--- six counts merged with six are six
-pub merge-six : (a b : Violations) → OfSix a → OfSix b → OfSix (mergeCosts a b)
-merge-six infinite b h k = tt
-merge-six (finite v) infinite h k = tt
-merge-six (finite v) (finite w) h k = merge-length v w (h ∙ sym k) ∙ h
+  pub zero-counted : OfCounts K (noViolations K)
+  zero-counted = length-take-le K (zeroProfile .counts) few
+
+-- K counts merged with K are K
+pub merge-counted : (K : ℕ) (a b : Violations) → OfCounts K a → OfCounts K b → OfCounts K (mergeCosts a b)
+merge-counted K infinite b h k = tt
+merge-counted K (finite v) infinite h k = tt
+merge-counted K (finite v) (finite w) h k = merge-length v w (h ∙ sym k) ∙ h
 
 -- the infinite cost annihilates
 
@@ -70,9 +75,15 @@ module _ (r : List ℕ) where
   pub distributes-right : (a b c : Violations) → mergeCosts (betterCost r b c) a ≡ betterCost r (mergeCosts b a) (mergeCosts c a)
   distributes-right a b c = rw (merge-commutative (betterCost r b c) a, merge-commutative b a, merge-commutative c a) (distributes-left a b c)
 
--- and commutative on the first K places, which alone are compared: of two profiles that agree there the second is given, whatever stands behind
-pub better-commutative : (K : ℕ) (r : List ℕ) → isRanking K r ≡ true → (a b : Violations) → AgreeOnFirst K (betterCost r a b) (betterCost r b a)
-better-commutative K r is infinite infinite = tt
-better-commutative K r is infinite (finite w) = λ m h. refl
-better-commutative K r is (finite v) infinite = λ m h. refl
-better-commutative K r is (finite v) (finite w) = profile-commutative K r is v w
+-- of two of K counts it is one of K counts, and their order does not matter under a ranking of K machines
+module _ (K : ℕ) where
+  pub better-counted : (r : List ℕ) (a b : Violations) → OfCounts K a → OfCounts K b → OfCounts K (betterCost r a b)
+  better-counted r infinite b h k = k
+  better-counted r (finite v) infinite h k = h
+  better-counted r (finite v) (finite w) h k = profile-length r v w h k
+
+  pub better-commutative : (r : List ℕ) → isRanking K r ≡ true → (a b : Violations) → OfCounts K a → OfCounts K b → betterCost r a b ≡ betterCost r b a
+  better-commutative r is infinite infinite h k = refl
+  better-commutative r is infinite (finite w) h k = refl
+  better-commutative r is (finite v) infinite h k = refl
+  better-commutative r is (finite v) (finite w) h k = ap finite (profile-commutative K r is v w h k)

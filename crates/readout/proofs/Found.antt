@@ -14,14 +14,13 @@ use Rattle.paths.specs.Labels.{Closed, Attained}
 use Rattle.paths.specs.Best.{IsBest, best-unique}
 use Rattle.ranking.specs.Harmony.{isBetter}
 use Rattle.product.specs.Best.{Contender, harmonic}
-use Rattle.product.specs.Sets.{bestOfSetsIn, bestOfSets}
+use Rattle.product.specs.Sets.{are64Bits, bestOfSetsIn, bestOfSets}
 use Rattle.product.specs.Prices.{ranking-agrees}
 use Rattle.product.specs.ProductGraph.{cardStart}
 use Rattle.product.specs.SetsTheorem.{same-order}
 use Rattle.product.specs.LabelTheorem.{no-label-no-best, label-best}
 use Rattle.product.specs.Laws.Accepted.{accepted-machines}
 use Rattle.product.specs.Laws.BestCandidate.{profile-length}
-use Rattle.product.specs.Laws.BestOfSets.{are64Bits}
 use Rattle.tables.specs.Engine.{engineGraph}
 use Rattle.tables.specs.Places.{sixPlaces}
 use Rattle.tables.specs.Laws.Harmony.{six-harmony}

@@ -12,7 +12,7 @@ use Rattle.paths.specs.Ranked.{Ranked, letterCount}
 use Rattle.product.specs.Nodes.{product, stateCounts}
 use Rattle.product.specs.ProductGraph.{cardStart}
 use Rattle.product.specs.Setting.{Setting}
-use Rattle.product.specs.Laws.BestOfSets.{are64Bits}
+use Rattle.product.specs.Sets.{are64Bits}
 use Rattle.tables.specs.Work.{labelOf, costAt}
 use Rattle.labelling.specs.Labelling.{PositionsDone}
 

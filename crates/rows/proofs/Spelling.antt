@@ -3,7 +3,7 @@ use Rattle.basics.proofs.Words.{_≡_, sym, ap, Bool, false, List, [], _∷_, �
 use Rattle.machine.specs.Symbols.{emptySymbol}
 use Rattle.candidate.specs.Candidates.{pairsOf, spelled}
 use Rattle.product.specs.Best.{sameWord}
-use Rattle.candidate.proofs.Pairs.{pairs-next, pairs-end}
+use Rattle.candidate.specs.Laws.Pairs.{pairs-next, pairs-end}
 
 -- what is left of the word that the candidate spells, and of the word
 abbrev pub restSame : List ℕ → List ℕ → ℕ → ℕ → Bool

@@ -1,6 +1,7 @@
 -- Trying the joint steps of a symbol, four outputs after the other.
 use Rattle.basics.proofs.Words.{_≡_, refl, sym, _∙_, ap, subst, Bool, true, false, List, Option, none, some, Option·none-ne-some, _⊎_, inl, inr, ℕ, zero, suc, _+_, _-_, _*_, _≤_, _<_, arith, length, getD, member, clash, no-member}
 use Rattle.machine.specs.declared.Pair.{Pair}
+use Rattle.machine.specs.Symbols.{emptySymbol}
 use Rattle.machine.specs.Machine.{Machine}
 use Rattle.card.specs.Layout.{symbolCount}
 use Rattle.card.specs.Card.{machinesOf}
@@ -194,7 +195,7 @@ fours-end {card} {ws} {xs} {ys} {x = x} {b = b} {k = k} {kept = kept} {left = le
 
     serves : (ranking : List ℕ) (S : Graph (rankedCosts 1) pairs) → SymbolLinked S xs card ranking k x b (b + P) P → Relaxes S (stageLabel xs k) (stageLabel ys k) (λ w q. (q .input ≡ x) × (b ≤ w) × (w < b + P) × (member kept (q .output) ≡ true) × (member left (q .output) ≡ false))
         → (u : ℕ) (p : Pair) (e : Edge (Ranked 1)) (d : Ranked 1) → Among x b P u p → S .edge u p ≡ some e → stageLabel xs k (e .target) ≡ some d
-        → ((x ≡ 0) × (p .output ≡ 0)) ⊎ (NoSteps (machinesOf card) x (p .output) ⊎ Covered (machinesOf card) x kept (p .output)) → AtMost (Less 1) (stageLabel ys k u) (add 1 (e .cost) d)
+        → ((x ≡ emptySymbol) × (p .output ≡ emptySymbol)) ⊎ (NoSteps (machinesOf card) x (p .output) ⊎ Covered (machinesOf card) x kept (p .output)) → AtMost (Less 1) (stageLabel ys k u) (add 1 (e .cost) d)
     serves ranking S E R u p e d a h l (inl c) = absurd (omega (arith, c .0))
     serves ranking S E R u p e d a h l (inr c) = go c
       where

@@ -1,5 +1,6 @@
 -- The insertions of a card in lists: what listing them needs, and what it gives.
 use Rattle.basics.specs.Words.{refl, List, ℕ, _≤_}
+use Rattle.machine.specs.Symbols.{emptySymbol}
 use Rattle.card.specs.Layout.{symbolCount}
 use Rattle.card.specs.Card.{machinesOf}
 use Rattle.product.specs.Nodes.{product}
@@ -16,7 +17,7 @@ module _ {card counts ws steps : List ℕ} {g : Groups} (Q : ListPre card counts
   pub codes-few : product counts ≤ 128
   codes-few = rw (Q .counts-are) (card-machines card (Q .accepted) .joint-states)
 
-  module _ {steps′ : List ℕ} {W kept : ℕ} (X : Prepared (machinesOf card) 0 W steps′ kept) where
+  module _ {steps′ : List ℕ} {W kept : ℕ} (X : Prepared (machinesOf card) emptySymbol W steps′ kept) where
     columns-are : InsertionColumns (symbolCount card) (machinesOf card) steps′ counts W
     columns-are = record { machines = card-machines card (Q .accepted); counts-are = Q .counts-are; columns = X .columns }
 

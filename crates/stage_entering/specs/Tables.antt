@@ -1,5 +1,6 @@
 -- What is written down of a card's machines for every stage.
 use Rattle.basics.specs.Words.{_≡_, List, ℕ, _+_, _*_, _≤_, length}
+use Rattle.machine.specs.Symbols.{emptySymbol}
 use Rattle.card.specs.Card.{machinesOf, cardRefusal}
 use Rattle.product.specs.Nodes.{stateCounts}
 use Rattle.tables.specs.Places.{sixPlaces}
@@ -24,5 +25,5 @@ pub record ListsOf (card ranking entries ends : List ℕ) : Type 0 where
   pub kept : ℕ
   pub width : ℕ
   pub steps : List ℕ
-  pub prepared : Prepared (machinesOf card) 0 width steps kept
+  pub prepared : Prepared (machinesOf card) emptySymbol width steps kept
   pub listed : Listed (machinesOf card) (sixPlaces ranking) kept entries ends

@@ -1,2 +1,3 @@
 pub mod Symbols
 pub mod SymbolSets
+pub mod Laws

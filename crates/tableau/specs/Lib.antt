@@ -1,5 +1,6 @@
 -- definitions
 pub mod Tableau
+pub mod Winning
 pub mod Judging
 pub mod Judges
 -- lemmas

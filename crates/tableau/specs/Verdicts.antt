@@ -13,7 +13,7 @@ use Rattle.tableau.specs.declared.Judged.{Judged}
 use Rattle.rows.specs.declared.Verdict.{Verdict}
 use Rattle.rows.specs.declared.Verdict.the-variants.{Right, AnotherRow, NotInTable}
 use Rattle.tableau.specs.Tableau.{rowCount, claimedRow, rowOf, candidateOf, everyRow, soundTableau}
-use Rattle.tableau.specs.Laws.Winning.{NoneBetter}
+use Rattle.tableau.specs.Winning.{NoneBetter}
 use Rattle.tableau.specs.Judging.{isForWord, countsAreProfile, verdictNumbers, refusedJudging, hasProfileOf, firstRow, verdictOf, judgingRefusal, judging}
 use Rattle.tableau.specs.Judges.{Judges}
 use Rattle.tableau.specs.Laws.Rows.{FirstBelow, none-passes, first-below}

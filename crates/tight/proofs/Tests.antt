@@ -1,8 +1,8 @@
 -- Whether a step keeps to the labels, as the test finds out; the least output. Assumes nothing.
 use Rattle.basics.proofs.Words.{_≡_, refl, sym, _∙_, ap, Bool, true, false, _&&_, not, List, ℕ, _+_, _%_, _<_, _≤_, arith, eqb, member, eqb-true, eq-eqb, left, right, both, clash, no-member}
 use Rattle.machine.specs.SymbolSets.{leastSymbol}
-use Rattle.machine.proofs.SymbolSets.{below-least}
-use Rattle.machine.proofs.SetLoops.{with-true}
+use Rattle.machine.specs.Laws.SymbolSets.{below-least}
+use Rattle.machine.specs.Laws.SetLoops.{with-true}
 use Rattle.cells.specs.declared.Cell.{Cell}
 use Rattle.cells.specs.Cells.{nowhere}
 use Rattle.tight.specs.Labels.{cellOf}

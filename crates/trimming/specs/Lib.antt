@@ -9,3 +9,4 @@ pub mod Acceptance
 pub mod SameBest
 -- the theorem, over the calls
 pub mod Trimming
+pub mod TrimmedAnswers

@@ -1,6 +1,7 @@
 -- The columns of an input at the places of the states at hand: the joint step there, its marks, and the states that it leads to. Assumes nothing.
 use Rattle.basics.specs.Words.{_≡_, refl, sym, _∙_, ap, subst, true, false, List, [], _∷_, map, Option, some, none, Option·none-ne-some, _⊎_, ℕ, zero, suc, _+_, _*_, _/_, _%_, _^_, _<_, _≤_, arith, length, getD, drop, List·getD-eq-default, suc-mul, mul-le-mul-right, mul-le-mul-left, decLt, member}
 use Rattle.machine.specs.declared.Pair.{Pair}
+use Rattle.machine.specs.Symbols.{emptySymbol}
 use Rattle.machine.specs.Machine.{Machine, stateCountOf, stepOf}
 use Rattle.product.specs.Nodes.{product, stateCounts, codeOf, statesOf}
 use Rattle.product.specs.JointStep.{andThose, ofEach, jointStep}
@@ -35,8 +36,8 @@ pub record HoldsAt (ms : List Machine) (c x W : ℕ) (steps ps : List ℕ) (kept
   pub small : Small steps
   pub places : length ps ≡ length ms
   pub step : (m y : ℕ) → m < length ms → y ≤ 64 → stepAt steps W y (getD ps m 0) ≡ stepCode (stepOf (machineAt ms m) (getD (statesOf (stateCounts ms) c) m 0) (record { input = x; output = y }))
-  pub covers : (y : ℕ) → y < 64 → ((x ≡ 0) × (y ≡ 0)) ⊎ ((codeStep ms c (record { input = x; output = y }) ≡ none) ⊎ Told ms c x kept y)
-  pub no-pair : x ≡ 0 → member kept 0 ≡ false
+  pub covers : (y : ℕ) → y < 64 → ((x ≡ emptySymbol) × (y ≡ emptySymbol)) ⊎ ((codeStep ms c (record { input = x; output = y }) ≡ none) ⊎ Told ms c x kept y)
+  pub no-pair : x ≡ emptySymbol → member kept emptySymbol ≡ false
 
 -- ---- the joint step of some states, machine by machine
 

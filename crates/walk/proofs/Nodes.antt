@@ -1,7 +1,7 @@
 -- The pairs with an input at the node that the walk has reached: which keep to the labels, and where the walk is after one. Assumes nothing.
 use Rattle.basics.proofs.Words.{_≡_, sym, _∙_, ap, subst, true, and-false, List, [], _∷_, _++_, append-assoc, Option, some, none, _⊎_, inl, inr, ℕ, _+_, _*_, _%_, _<_, _≤_, arith, length, getD, take, length-set, length-append, ℕ-discrete, member, eq-eqb, ne-eqb, clash}
 use Rattle.machine.specs.declared.Pair.{Pair}
-use Rattle.machine.specs.Symbols.{isPair}
+use Rattle.machine.specs.Symbols.{emptySymbol, isPair}
 use Rattle.ranking.specs.Profiles.{merge}
 use Rattle.ranking.specs.HarmonicInequality.{merge-count}
 use Rattle.ranking.specs.Lemmas.Profiles.{counts-associative}
@@ -137,9 +137,9 @@ module _ {ranked sums card ws sets : List ℕ} {size : ℕ} {L : Labels (rankedC
       kept-pair : (y : ℕ) → member kept y ≡ true → isPair (record { input = x; output = y }) ≡ true
       kept-pair y m = go (ℕ-discrete x 0)
         where
-          go : Dec (x ≡ 0) → isPair (record { input = x; output = y }) ≡ true
+          go : Dec (x ≡ emptySymbol) → isPair (record { input = x; output = y }) ≡ true
           go (no n) = rw (ne-eqb x 0 n)
-          go (yes e) = rw (ne-eqb y 0 (λ z. clash m (rw z (H .no-pair e))), and-false)
+          go (yes e) = rw (ne-eqb y emptySymbol (λ z. clash m (rw z (H .no-pair e))), and-false)
 
       -- where none of the kept outputs below a number keeps to the labels, no pair below it does
       none-below : (top : ℕ) → top ≤ 64 → ((y : ℕ) → y < top → member kept y ≡ true → ¬ (KeepsAt (at .label) ranked sums steps ps ws (j * size) W y)) → (q : Pair) → q .input ≡ x → q .output < top → ¬ (Tight (cellGraph ws card sets) L (at .position * size + at .code) q)
@@ -154,7 +154,7 @@ module _ {ranked sums card ws sets : List ℕ} {size : ℕ} {L : Labels (rankedC
           tight : Tights (q .output)
           tight = subst (Tight (cellGraph ws card sets) L here) same t
 
-          go : ((x ≡ 0) × (q .output ≡ 0)) ⊎ ((codeStep (machinesOf card) (at .code) (record { input = x; output = q .output }) ≡ none) ⊎ Told (machinesOf card) (at .code) x kept (q .output)) → ⊥
+          go : ((x ≡ emptySymbol) × (q .output ≡ emptySymbol)) ⊎ ((codeStep (machinesOf card) (at .code) (record { input = x; output = q .output }) ≡ none) ⊎ Told (machinesOf card) (at .code) x kept (q .output)) → ⊥
           go (inl z) = clash pair (rw (eq-eqb x 0 (z .0), eq-eqb (q .output) 0 (z .1)))
           go (inr (inl n)) = no-edge-not-tight (cellGraph ws card sets) L (edges (q .output) pair ∙ ap (pricedStep (cellPrice ws) (j * size)) n) tight
           go (inr (inr k)) =

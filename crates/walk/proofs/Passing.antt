@@ -75,7 +75,7 @@ module _ {S : ℕ} {ms : List Machine} (M : CardMachines S ms) (c : ℕ) (h : c 
     no-pair = B .no-pair;
   }
     where
-      go : (y : ℕ) → ((x ≡ 0) × (y ≡ 0)) ⊎ (NoSteps ms x y ⊎ Covered ms x kept y) → ((x ≡ 0) × (y ≡ 0)) ⊎ ((codeStep ms c (record { input = x; output = y }) ≡ none) ⊎ Told ms c x kept y)
+      go : (y : ℕ) → ((x ≡ emptySymbol) × (y ≡ emptySymbol)) ⊎ (NoSteps ms x y ⊎ Covered ms x kept y) → ((x ≡ emptySymbol) × (y ≡ emptySymbol)) ⊎ ((codeStep ms c (record { input = x; output = y }) ≡ none) ⊎ Told ms c x kept y)
       go y (inl e) = inl e
       go y (inr (inl n)) = inr (inl (n c))
       go y (inr (inr t)) = inr (inr (record { other = t .other; before = t .before; is-kept = t .is-kept; same = t .same c h }))
@@ -132,7 +132,7 @@ module _ {S : ℕ} {ms : List Machine} (M : CardMachines S ms) (c : ℕ) {ss : L
       at-hand : (m : ℕ) → m < length ms → getD (take (length ms) hand) m 0 ≡ m
       at-hand m k = getD-take (length ms) hand m 0 k ∙ hand-at m (omega (arith, M .machines))
 
-      stuck : (y : ℕ) → ((x ≡ 0) × (y ≡ 0)) ⊎ Stuck ms ss x y → ((x ≡ 0) × (y ≡ 0)) ⊎ ((codeStep ms c (record { input = x; output = y }) ≡ none) ⊎ Told ms c x outputs y)
+      stuck : (y : ℕ) → ((x ≡ emptySymbol) × (y ≡ emptySymbol)) ⊎ Stuck ms ss x y → ((x ≡ emptySymbol) × (y ≡ emptySymbol)) ⊎ ((codeStep ms c (record { input = x; output = y }) ≡ none) ⊎ Told ms c x outputs y)
       stuck y (inl e) = inl e
       stuck y (inr u) =
           inr
@@ -141,7 +141,7 @@ module _ {S : ℕ} {ms : List Machine} (M : CardMachines S ms) (c : ℕ) {ss : L
           (stuck-none ms (statesOf (stateCounts ms) c) (record { input = x; output = y }) (u .machine) (u .there)
           (ap (λ (qs : List ℕ). stepOf (machineAt ms (u .machine)) (getD qs (u .machine) 0) (record { input = x; output = y })) (sym are) ∙ u .stuck))))
 
-      told : (y : ℕ) → y < 64 → (b : Bool) → member outputs y ≡ b → ((x ≡ 0) × (y ≡ 0)) ⊎ ((codeStep ms c (record { input = x; output = y }) ≡ none) ⊎ Told ms c x outputs y)
+      told : (y : ℕ) → y < 64 → (b : Bool) → member outputs y ≡ b → ((x ≡ emptySymbol) × (y ≡ emptySymbol)) ⊎ ((codeStep ms c (record { input = x; output = y }) ≡ none) ⊎ Told ms c x outputs y)
       told y h true m = inr (inr (record { other = y; before = omega arith; is-kept = m; same = refl }))
       told y h false m = stuck y (F .missing y h m)
 

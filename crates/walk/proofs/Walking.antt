@@ -1,5 +1,7 @@
 -- What the walk's requires says, for every node on the way. Assumes nothing.
 use Rattle.basics.specs.Words.{_≡_, sym, _∙_, ap, subst, List, ℕ, _+_, _*_, _<_, _≤_, arith, length, take, replicate, length-replicate, length-take-le, mul-le-mul-right}
+use Rattle.ranking.specs.declared.Profile.{Profile}
+use Rattle.ranking.specs.Profiles.{zeroProfile}
 use Rattle.machine.specs.Symbols.{emptySymbol}
 use Rattle.machine.specs.Machine.{Machine, startState}
 use Rattle.card.specs.Card.{machinesOf}
@@ -78,11 +80,11 @@ module _ {ranked sums card counts ws sets : List ℕ} {size room : ℕ} (pre : W
     start-there = (subst (HasLabel ranked sums) (sym first) (nodes (cardStart card) start-node), omega (arith, first, start-node, few-nodes (ground-there .labelled .setting)))
 
     -- every labels in the slices have the same at the start
-    pub starts-walk : {L : Labels (rankedCosts 1)} → Ground ranked sums card ws sets size L → {state : ℕ} → state ≡ startState → {label : Cell} → label ≡ cellOf ranked sums code → (before : List ℕ) → length before ≡ room
-        → Reached card ws sets before before size L (record { position = 0; code = code; states = replicate 6 state; label = label; pairs = 0; passed = replicate 6 0 })
-    starts-walk G initial its before e =
+    pub starts-walk : {L : Labels (rankedCosts 1)} → Ground ranked sums card ws sets size L → {state : ℕ} → state ≡ startState → {label : Cell} → label ≡ cellOf ranked sums code → {profile : Profile} → profile ≡ zeroProfile → (before : List ℕ) → length before ≡ room
+        → Reached card ws sets before before size L (record { position = 0; code = code; states = replicate 6 state; label = label; pairs = 0; passed = profile .counts })
+    starts-walk {L} G {state} initial {label} its none before e =
         let K = pre .walk-labels in
-        starts-reached G first initial its before (K .cost) (G .stored (cardStart card) start-node ∙ sym (ground-there .stored (cardStart card) start-node) ∙ K .cost-is) (omega (arith, K .answer-fits))
+        subst (λ (p : Profile). Reached card ws sets before before size L (record { position = 0; code = code; states = replicate 6 state; label = label; pairs = 0; passed = p .counts })) (sym none) (starts-reached G first initial its before (K .cost) (G .stored (cardStart card) start-node ∙ sym (ground-there .stored (cardStart card) start-node) ∙ K .cost-is) (omega (arith, K .answer-fits)))
 
 -- the front of a new array for columns
 pub front-length : (room n : ℕ) → n ≤ room → n ≡ length {A = ℕ} (take n (replicate room 65535))

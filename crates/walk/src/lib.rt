@@ -57,7 +57,7 @@ fn walk_by(
     let mut low = label.low;
     let mut steps = [65535u16; 390];
     let mut states = [state; 6];
-    let mut marks = [0u16; 6];
+    let mut marks = Profile::zero().counts;
     let mut position = 0;
     let mut written = 0;
     let pairs = loop {

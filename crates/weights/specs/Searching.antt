@@ -7,7 +7,7 @@ use Rattle.product.specs.Best.{Contender}
 use Rattle.product.specs.Optimizing.{soundWord}
 use Rattle.product.specs.Nodes.{product, stateCounts}
 use Rattle.product.specs.Setting.{Setting}
-use Rattle.product.specs.Laws.BestOfSets.{are64Bits}
+use Rattle.product.specs.Sets.{are64Bits}
 use Rattle.readout.specs.Searching as ranked
 use Rattle.optimizer.specs.Optimizes.{Answers}
 use Rattle.product.specs.Weights.{soundWeights, bestByWeights}

@@ -2,7 +2,7 @@ use Rattle.basics.proofs.Words.{_≡_, sym, _∙_, _≤_, _-_, _%_, arith, leng
 use Rattle.refusals.proofs.Refusals.{passes-with, refuses-with}
 use Rattle.candidate.specs.Candidates.{pairsOf}
 use Rattle.candidate.specs.Evaluating.{soundPair}
-use Rattle.candidate.proofs.Pairs.{pairs-next, pairs-end, odd-refused, long-refused, sound-is}
+use Rattle.candidate.specs.Laws.Pairs.{pairs-next, pairs-end, odd-refused, long-refused, sound-is}
 use Rattle.candidate.proofs.check_candidate.Statement.{statement}
 use Rattle.candidate.proofs.check_candidate.Tie as tie
 

@@ -5,7 +5,7 @@ use Rattle.card.specs.Card.{cardRefusal, machinesOf}
 use Rattle.refusals.specs.Refusals.{checkedNumber}
 use Rattle.candidate.specs.Candidates.{pairsOf, isComplete}
 use Rattle.candidate.specs.Evaluating.{soundCandidate, refused}
-use Rattle.candidate.proofs.Pairs.{sound-shape, length-pairs}
+use Rattle.candidate.specs.Laws.Pairs.{sound-shape, length-pairs}
 use Rattle.candidate.proofs.Answers.{card-refused, candidate-refused, completion-refused, evaluated}
 use Rattle.candidate.proofs.evaluate.Statement.{statement}
 use Rattle.candidate.proofs.evaluate.Tie as tie

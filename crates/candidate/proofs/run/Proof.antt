@@ -8,7 +8,7 @@ use Rattle.machine.specs.Accepted.{accepted}
 use Rattle.machine.specs.Steps.{step-bounds, ending-bounds}
 use Rattle.candidate.specs.Evaluating.{soundPair}
 use Rattle.candidate.specs.Candidates.{pairAt, pairsOf, addMarks, marksFrom, marksOf}
-use Rattle.candidate.proofs.Pairs.{pairs-next, pairs-end, pair-here, pairs-after, sound-facts}
+use Rattle.candidate.specs.Laws.Pairs.{pairs-next, pairs-end, pair-here, pairs-after, sound-facts}
 use Rattle.candidate.proofs.Running.{add-zero-marks, marks-next, marks-stuck, marks-end}
 use Rattle.candidate.proofs.run.Statement.{statement}
 use Rattle.candidate.proofs.run.Tie as tie

@@ -5,7 +5,7 @@ use Rattle.card.specs.Accepted.{accepted}
 use Rattle.refusals.proofs.Refusals.{passes-with, refuses-with}
 use Rattle.candidate.specs.Candidates.{pairsOf, marksOf}
 use Rattle.candidate.specs.Evaluating.{marked}
-use Rattle.candidate.proofs.Pairs.{sound-shape}
+use Rattle.candidate.specs.Laws.Pairs.{sound-shape}
 use Rattle.candidate.proofs.Scoring.{ScoredBelow, scored-start, scored-next, not-complete, all-complete, its-profile}
 use Rattle.candidate.proofs.score.Statement.{statement}
 use Rattle.candidate.proofs.score.Tie as tie

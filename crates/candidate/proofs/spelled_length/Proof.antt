@@ -1,6 +1,6 @@
 use Rattle.basics.proofs.Words.{_≡_, sym, _∙_, ⊎-elim, _≤_, _-_, _+_, _*_, _%_, arith, length, drop, needs, not-true, not-false}
 use Rattle.candidate.specs.Candidates.{pairsOf, spelled}
-use Rattle.candidate.proofs.Pairs.{spelled-next, spelled-same, spelled-end}
+use Rattle.candidate.specs.Laws.Pairs.{spelled-next, spelled-same, spelled-end}
 use Rattle.candidate.proofs.spelled_length.Statement.{statement}
 use Rattle.candidate.proofs.spelled_length.Tie as tie
 

@@ -1,9 +1,9 @@
-use Rattle.basics.proofs.Words.{_≡_, true, [], _∷_, lit<, needs}
+use Rattle.basics.proofs.Words.{_≡_, sym, _∙_, true, [], _∷_, lit<, needs}
 use Rattle.refusals.specs.Refusals.{refuse}
 use Rattle.layout.specs.Layout.{laidOut}
 use Rattle.card.specs.Layout.{machineCount, symbolCount, counted, partsOf}
-use Rattle.card.specs.Card.{partsRefusal, fewStates, cardRefusal}
-use Rattle.refusals.proofs.Refusals.{was-true, goes-up}
+use Rattle.card.specs.Card.{machinesRefusal, cardRefusal}
+use Rattle.refusals.proofs.Refusals.{last-one, was-true, goes-up}
 use Rattle.card.proofs.check.Statement.{statement}
 use Rattle.card.proofs.check.Tie as tie
 
@@ -25,7 +25,7 @@ returns c =
     let start : tie.Start = search in
     let l = start .args .card .now in
     goes-up (c .enum-told2 .given .1) (refuse 1 (counted l))
-    (refuse 2 (laidOut (machineCount l) l) ∷ partsRefusal (symbolCount l) (partsOf l) ∷ refuse 6 (fewStates (partsOf l)) ∷ [])
+    (refuse 2 (laidOut (machineCount l) l) ∷ machinesRefusal (symbolCount l) (partsOf l) ∷ [])
     (c .before .before .check-head .ensures)
 
 check-layout-requires : tie.Need-check-layout-requires
@@ -38,7 +38,7 @@ returns-2 c =
     let start : tie.Start = search in
     let l = start .args .card .now in
     rw (head-passed p)
-    (goes-up (c .enum-told4 .given .1) (refuse 2 (laidOut (machineCount l) l)) (partsRefusal (symbolCount l) (partsOf l) ∷ refuse 6 (fewStates (partsOf l)) ∷ [])
+    (goes-up (c .enum-told4 .given .1) (refuse 2 (laidOut (machineCount l) l)) (machinesRefusal (symbolCount l) (partsOf l) ∷ [])
     (c .before .before .check-layout .ensures))
 
 check-card-requires : tie.Need-check-card-requires
@@ -50,7 +50,9 @@ returns-3 : tie.Need-returns-3
 unfolding cardRefusal
 returns-3 c =
     let after-enum-told : tie.After-enum-told = search in
-    rw (head-passed after-enum-told, layout-passed (c .before)) (c .check-card .ensures)
+    let start : tie.Start = search in
+    let l = start .args .card .now in
+    rw (head-passed after-enum-told, layout-passed (c .before)) (c .check-card .ensures ∙ sym (last-one (machinesRefusal (symbolCount l) (partsOf l))))
 
 pub check-spec : {M : Type 1} → statement M
 check-spec =

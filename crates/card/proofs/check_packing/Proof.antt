@@ -1,12 +1,11 @@
-use Rattle.basics.proofs.Words.{_≡_, refl, ap, sym, _∙_, true, [], _∷_, arith, length, eqb, leb, lit<, needs, eqb-true, eq-eqb}
-use Rattle.refusals.specs.Refusals.{refuse, firstOf, checkedNumber}
-use Rattle.refusals.proofs.Refusals.{last-one, passed-number, was-true, refused-number, goes-up}
+use Rattle.basics.proofs.Words.{_≡_, ap, sym, _∙_, true, [], _∷_, arith, length, eqb, leb, lit<, needs, eqb-true, eq-eqb}
+use Rattle.refusals.specs.Refusals.{refuse, checkedNumber}
+use Rattle.refusals.proofs.Refusals.{first-on, last-one, passed-number, was-true, goes-up}
 use Rattle.card.specs.Layout.{soundCounts}
-use Rattle.card.specs.Card.{partsRefusal, fewStates}
+use Rattle.card.specs.Card.{machinesRefusal}
 use Rattle.card.specs.Packing.{total, split, packed, packingRefusal}
 use Rattle.card.specs.Laws.Layout.{Counted, counts-told}
 use Rattle.card.specs.Laws.Packed.{packed-length}
-use Rattle.card.proofs.Answers.{two-up, two-on}
 use Rattle.card.proofs.check_packing.Statement.{statement}
 use Rattle.card.proofs.check_packing.Tie as tie
 
@@ -39,9 +38,7 @@ sum-passed c =
 -- the refusal of parts that pass
 parts-passed : (c : tie.After-enum-told5) →
     let entry = c .before .before .before .before .before .before .before .before .before .before .before .before in
-    firstOf (partsRefusal (entry .args .symbols) (split (entry .args .lengths .now) (entry .args .parts .now))
-    ∷ refuse 6 (fewStates (split (entry .args .lengths .now) (entry .args .parts .now))) ∷ [])
-    ≡ 0
+    machinesRefusal (entry .args .symbols) (split (entry .args .lengths .now) (entry .args .parts .now)) ≡ 0
 parts-passed c = passed-number (c .enum-told5 .given .1) (c .before .before .check-parts .ensures)
 
 returns : tie.Need-returns
@@ -51,7 +48,7 @@ returns c =
     let a = start .args in
     let parts = split (a .lengths .now) (a .parts .now) in
     goes-up (c .enum-told2 .given .1) (refuse 1 (soundCounts (length (a .lengths .now)) (a .symbols)))
-    (refuse 17 (eqb (total (a .lengths .now)) (length (a .parts .now))) ∷ partsRefusal (a .symbols) parts ∷ refuse 6 (fewStates parts)
+    (refuse 17 (eqb (total (a .lengths .now)) (length (a .parts .now))) ∷ machinesRefusal (a .symbols) parts
     ∷ refuse 18 (leb (length (packed (a .symbols) (a .lengths .now) (a .parts .now))) (a .room)) ∷ [])
     (c .before .before .check-counts .ensures)
 
@@ -67,7 +64,7 @@ returns-2 c =
     let parts = split (a .lengths .now) (a .parts .now) in
     rw (counts-passed p)
     (goes-up (c .enum-told4 .given .1) (refuse 17 (eqb (total (a .lengths .now)) (length (a .parts .now))))
-    (partsRefusal (a .symbols) parts ∷ refuse 6 (fewStates parts) ∷ refuse 18 (leb (length (packed (a .symbols) (a .lengths .now) (a .parts .now))) (a .room)) ∷ [])
+    (machinesRefusal (a .symbols) parts ∷ refuse 18 (leb (length (packed (a .symbols) (a .lengths .now) (a .parts .now))) (a .room)) ∷ [])
     (sum-tested (c .before .before)))
 
 check-parts-requires : tie.Need-check-parts-requires
@@ -84,9 +81,9 @@ returns-3 c =
     let a = start .args in
     let parts = split (a .lengths .now) (a .parts .now) in
     rw (counts-passed p, eq-eqb (total (a .lengths .now)) (length (a .parts .now)) (sum-passed q))
-    (two-up (partsRefusal (a .symbols) parts) (refuse 6 (fewStates parts)) (checkedNumber (c .before .before .check-parts .result))
+    (goes-up (c .enum-told6 .given .1) (machinesRefusal (a .symbols) parts)
     (refuse 18 (leb (length (packed (a .symbols) (a .lengths .now) (a .parts .now))) (a .room)) ∷ [])
-    (c .before .before .check-parts .ensures) (refused-number (c .enum-told6 .given .1) refl))
+    (c .before .before .check-parts .ensures))
 
 add-tested-2 : tie.Need-add-tested-2
 add-tested-2 c =
@@ -106,7 +103,7 @@ returns-4 c =
     rw (counts-passed p, eq-eqb (total (a .lengths .now)) (length (a .parts .now)) (sum-passed q))
     (c .tested2 .ensures
     ∙ ap (λ n. refuse 18 (leb n (a .room))) (sym (packed-length (a .symbols) (a .lengths .now) (a .parts .now)))
-    ∙ sym (two-on (partsRefusal (a .symbols) parts) (refuse 6 (fewStates parts)) (room ∷ []) (parts-passed m) ∙ last-one room))
+    ∙ sym (first-on (machinesRefusal (a .symbols) parts) (room ∷ []) (parts-passed m) ∙ last-one room))
 
 pub check-packing-spec : {M : Type 1} → statement M
 check-packing-spec =

@@ -5,7 +5,7 @@ use Rattle.refusals.specs.Refusals.{refuse}
 use Rattle.refusals.proofs.Refusals.{passed}
 use Rattle.machine.specs.Part.{stateCount}
 use Rattle.card.specs.Layout.{soundCounts}
-use Rattle.card.specs.Card.{partsRefusal, fewStates}
+use Rattle.card.specs.Card.{partsRefusal, fewStates, machinesRefusal}
 use Rattle.card.specs.Packing.{total, split, packed, packingRefusal}
 use Rattle.card.specs.Laws.Search.{first-passed, rest-passed}
 use Rattle.card.specs.Laws.Parts.{joined-split, joined-total}
@@ -26,16 +26,18 @@ packable S lengths bytes room e =
     let b = eqb (total lengths) (length bytes) in
     let p = partsRefusal S (split lengths bytes) in
     let d = fewStates (split lengths bytes) in
+    let m = machinesRefusal S (split lengths bytes) in
     let f = leb (length (packed S lengths bytes)) room in
-    let eb = rest-passed (refuse 1 a) (refuse 17 b ∷ p ∷ refuse 6 d ∷ refuse 18 f ∷ []) e in
-    let ep = rest-passed (refuse 17 b) (p ∷ refuse 6 d ∷ refuse 18 f ∷ []) eb in
-    let ed = rest-passed p (refuse 6 d ∷ refuse 18 f ∷ []) ep in
-    let ef = rest-passed (refuse 6 d) (refuse 18 f ∷ []) ed in
+    let eb = rest-passed (refuse 1 a) (refuse 17 b ∷ m ∷ refuse 18 f ∷ []) e in
+    let em = rest-passed (refuse 17 b) (m ∷ refuse 18 f ∷ []) eb in
+    let ep = first-passed m (refuse 18 f ∷ []) em in
+    let ed = rest-passed p (refuse 6 d ∷ []) ep in
+    let ef = rest-passed m (refuse 18 f ∷ []) em in
     record {
-      counts = passed 1 a (lit< tt) (first-passed (refuse 1 a) (refuse 17 b ∷ p ∷ refuse 6 d ∷ refuse 18 f ∷ []) e);
-      sum = eqb-true (total lengths) (length bytes) (passed 17 b (lit< tt) (first-passed (refuse 17 b) (p ∷ refuse 6 d ∷ refuse 18 f ∷ []) eb));
-      parts = first-passed p (refuse 6 d ∷ refuse 18 f ∷ []) ep;
-      states = passed 6 d (lit< tt) (first-passed (refuse 6 d) (refuse 18 f ∷ []) ed);
+      counts = passed 1 a (lit< tt) (first-passed (refuse 1 a) (refuse 17 b ∷ m ∷ refuse 18 f ∷ []) e);
+      sum = eqb-true (total lengths) (length bytes) (passed 17 b (lit< tt) (first-passed (refuse 17 b) (m ∷ refuse 18 f ∷ []) eb));
+      parts = first-passed p (refuse 6 d ∷ []) ep;
+      states = passed 6 d (lit< tt) (first-passed (refuse 6 d) [] ed);
       fits = leb-true (length (packed S lengths bytes)) room (passed 18 f (lit< tt) (first-passed (refuse 18 f) [] ef));
     }
 

@@ -4,8 +4,8 @@ use lib.Bits.{and-le-l, and-le-r}
 use lib.Count.{trailingZeros, trailing-le}
 use borrow.Author.Tests.{eq-eqb, ne-eqb}
 use Rattle.machine.specs.SymbolSets.{leastSymbol}
-use Rattle.machine.proofs.SymbolSets.{least-at, without-least, below-least}
-use Rattle.machine.proofs.SetLoops.{with-true}
+use Rattle.machine.specs.Laws.SymbolSets.{least-at, without-least, below-least}
+use Rattle.machine.specs.Laws.SetLoops.{with-true}
 use Rattle.cells.specs.Fours.{afterLeast, nextFour, withoutFour}
 
 pub least-most : (set : ℕ) → leastSymbol set ≤ 64

@@ -1,7 +1,7 @@
 use Rattle.basics.proofs.Words.{_≡_, refl, _∙_, ℕ, _≤_, _-_, _+_, _^_, arith, length, needs}
 use Rattle.machine.specs.Part.{stateCount, arcCount, arcsOf}
 use Rattle.machine.specs.Accepted.{accepted}
-use Rattle.machine.proofs.Arcs.{arcs-count}
+use Rattle.machine.specs.Laws.Arcs.{arcs-count}
 use Rattle.columns.proofs.AtHand.{arc-of, StateIn, state-none, state-next, state-all}
 use Rattle.columns.proofs.fill_state.Statement.{statement}
 use Rattle.columns.proofs.fill_state.Tie as tie

@@ -1,6 +1,6 @@
 use Rattle.basics.proofs.Words.{_≡_, refl, sym, subst, true, not, _||_, _⊎_, inl, inr, ⊎-elim, ℕ, _^_, _<_, arith, eqb, needs, eqb-true, eqb-false, either, left-fails, right-fails}
 use lib.Bits.{bitOr, and-le-r, or-lt, or-add-and}
-use Rattle.machine.proofs.SymbolSets.{least-at}
+use Rattle.machine.specs.Laws.SymbolSets.{least-at}
 use lib.Count.{trailingZeros}
 use Rattle.joined.specs.CommonPairs.{HasPair}
 use Rattle.joined.specs.Laws.CommonPairs.{none-in, any-in, same-in, unlike-in}

@@ -8,7 +8,7 @@ use Rattle.machine.specs.Symbols.{emptySymbol, isPair}
 use Rattle.machine.specs.SymbolSets.{withoutEmpty}
 use Rattle.machine.specs.Machine.{ofKind, takes, takeOnePair}
 use Rattle.machine.specs.CommonPair.{take-one, common-pair}
-use Rattle.machine.proofs.Partners.{without-empty}
+use Rattle.machine.specs.Laws.Partners.{without-empty}
 use Rattle.joined.specs.JoinedMachine.{joinedKind}
 use Rattle.joined.specs.Laws.KindsInCommon.{no-common-kind, kinds-joined}
 use Rattle.joined.specs.CommonPairs.{kindsClash, PairIn, HasPair}

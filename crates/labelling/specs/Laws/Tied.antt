@@ -101,7 +101,7 @@ module _ {card sets : List ℕ} {P : ℕ} (s : Setting card sets P) (i : ℕ) (i
   inserting : (c y : ℕ) → c < P → y ≢ emptySymbol → move sets (machinesOf card) (i * P + c) (pairOf emptySymbol y) ≡ movedBy (i * P) (insertionStep (machinesOf card) c y)
   inserting c y h n =
       subst (λ (Q : ℕ). move sets (machinesOf card) (i * Q + c) (pairOf emptySymbol y) ≡ movedBy (i * Q) (insertionStep (machinesOf card) c y)) (sym (s .states))
-      (insertion-move sets (machinesOf card) i c (omega (arith, s .states)) (pairOf emptySymbol y) inside (rw (ne-eqb y 0 n)) refl)
+      (insertion-move sets (machinesOf card) i c (omega (arith, s .states)) (pairOf emptySymbol y) inside (rw (ne-eqb y emptySymbol n)) refl)
 
   -- its edge
   module _ (ws : List ℕ) {places highs lows : List ℕ} (whole : (m : ℕ) → highOf ws m % 256 ≡ 0) (T : SamePrices places highs lows ws) (c y : ℕ) (w : Move) (b : c < P) (n : y ≢ emptySymbol) (e : insertionStep (machinesOf card) c y ≡ some w) where
@@ -122,7 +122,7 @@ module _ {card sets : List ℕ} {P : ℕ} (s : Setting card sets P) (i : ℕ) (i
         ∙ ap {B = Option (Edge (Ranked 1))} (λ (k : Ranked 1). some (record { target = i * P + w .target; cost = k })) price-is
 
   module _ (ws : List ℕ) {places highs entries ends steps : List ℕ} {W kept : ℕ} (ranked : Bool) (Z : WeightsOf (stateCounts (machinesOf card)) ws) (T : SamePrices places highs (lowsBy ranked) ws)
-      (X : Prepared (machinesOf card) 0 W steps kept) (Y : Listed (machinesOf card) places kept entries ends) where
+      (X : Prepared (machinesOf card) emptySymbol W steps kept) (Y : Listed (machinesOf card) places kept entries ends) where
     -- a kept output is a symbol
     kept-symbol : (y : ℕ) → member kept y ≡ true → y ≢ emptySymbol
     kept-symbol y m q = clash m (ap (member kept) q ∙ X .no-pair refl)
@@ -172,7 +172,7 @@ module _ {card sets : List ℕ} {P : ℕ} (s : Setting card sets P) (i : ℕ) (i
             let z : w .target ≡ v = omega (arith, ap (λ (f : Edge (Ranked 1)). f .target) f, t) in
             entry-at w f z (Y .all j y w (omega (arith, s .states)) m q (λ r. n (sym r ∙ z)))
 
-        told : (w : Move) → insertionStep (machinesOf card) j (p .output) ≡ some w → (_≡_ {A = ℕ} 0 0 × (p .output ≡ 0)) ⊎ (NoSteps (machinesOf card) 0 (p .output) ⊎ Covered (machinesOf card) 0 kept (p .output)) → Entry (listsOf entries ends highs ranked) j v (e .cost)
+        told : (w : Move) → insertionStep (machinesOf card) j (p .output) ≡ some w → (_≡_ {A = ℕ} emptySymbol emptySymbol × (p .output ≡ emptySymbol)) ⊎ (NoSteps (machinesOf card) emptySymbol (p .output) ⊎ Covered (machinesOf card) emptySymbol kept (p .output)) → Entry (listsOf entries ends highs ranked) j v (e .cost)
         told w k (inl z) = absurd (symbol (z .1))
         told w k (inr (inl z)) = absurd (Option·none-ne-some w (sym (z j) ∙ k))
         told w k (inr (inr C)) = entry-of w k (C .other) (C .is-kept) (C .same j (omega (arith, s .states)) ∙ k)

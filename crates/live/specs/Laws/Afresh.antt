@@ -2,9 +2,8 @@
 use Rattle.basics.proofs.Words.{_≡_, refl, sym, ap, _∙_, Bool, true, false, not, _||_, List, [], _∷_, _++_, ℕ, eqb, those, same, those-here, those-later}
 use borrow.Author.Tests.{eqb-true, eq-eqb}
 use Rattle.live.specs.declared.Row.{Row}
-use Rattle.live.specs.Rows.{hasId}
+use Rattle.live.specs.Rows.{hasId, lacks}
 use Rattle.live.specs.Afresh.{Call, Add, Remove, removes, afresh}
-use Rattle.live.specs.Laws.Rows.{lacks}
 
 afresh-gone : (row : Row) (cs : List Call) → removes (row .id) cs ≡ true → afresh (Add row ∷ cs) ≡ afresh cs
 unfolding afresh

@@ -2,7 +2,7 @@
 use Rattle.basics.proofs.Words.{_≡_, refl, sym, ap, _∙_, Bool, true, false, not, List, [], _∷_, _++_, ℕ, zero, suc, _<_, arith, length, take, allOf, pairwise, those, both, left, right, clash, fails, all-append, those-here, those-later}
 use borrow.Author.Tests.{eqb-true, eq-eqb}
 use Rattle.live.specs.declared.Row.{Row}
-use Rattle.live.specs.Rows.{hasId, present, without}
+use Rattle.live.specs.Rows.{hasId, present, without, lacks, differ}
 
 pub without-none : (id : ℕ) (r : Row) (l : List Row) → hasId id r ≡ false → without id (r ∷ l) ≡ r ∷ without id l
 unfolding without
@@ -34,14 +34,6 @@ length-without id (r ∷ l) t = go (hasId id r) refl (length-without id l)
     go : (b : Bool) → hasId id r ≡ b → (present id l ≡ true → suc (length (without id l)) ≡ length l) → suc (length (without id (r ∷ l))) ≡ suc (length l)
     go true h k = ap {B = ℕ} (λ (t : List Row). suc (length t)) (without-here id r l h)
     go false h k = ap {B = ℕ} (λ (t : List Row). suc (length t)) (without-none id r l h) ∙ ap {B = ℕ} suc (k (sym (present-later id r l h) ∙ t))
-
--- a row that has another id
-abbrev pub lacks : ℕ → Row → Bool
-lacks id row = not (hasId id row)
-
--- no two rows have one id
-abbrev pub differ : Row → Row → Bool
-differ row other = lacks (row .id) other
 
 -- those that pass, where all do
 those-all : {A : Type 0} (f : A → Bool) (xs : List A) → allOf f xs ≡ true → those f xs ≡ xs

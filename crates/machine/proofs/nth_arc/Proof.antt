@@ -1,7 +1,7 @@
 use Rattle.basics.specs.Words.{sym, ap, _∙_, ℕ, _+_, _*_, arith}
 use Rattle.machine.specs.Part.{stateCount, arcCount, arcAt}
 use Rattle.machine.specs.Accepted.{shape-facts}
-use Rattle.machine.proofs.Arcs.{arc-at}
+use Rattle.machine.specs.Laws.Arcs.{arc-at}
 use Rattle.machine.proofs.nth_arc.Statement.{statement}
 use Rattle.machine.proofs.nth_arc.Tie as tie
 

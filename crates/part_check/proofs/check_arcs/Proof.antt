@@ -2,7 +2,7 @@ use Rattle.basics.proofs.Words.{_≡_, ap, sym, _∙_, _≤_, _+_, _*_, arith, 
 use Rattle.refusals.specs.Refusals.{refuse}
 use Rattle.machine.specs.Part.{arcsAt, soundArc, soundArcs}
 use Rattle.machine.specs.Accepted.{shape-facts}
-use Rattle.machine.proofs.Arcs.{all-go-on, all-stop, all-end}
+use Rattle.machine.specs.Laws.Arcs.{all-go-on, all-stop, all-end}
 use Rattle.part_check.proofs.check_arcs.Statement.{statement}
 use Rattle.part_check.proofs.check_arcs.Tie as tie
 

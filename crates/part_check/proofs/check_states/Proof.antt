@@ -2,7 +2,7 @@ use Rattle.basics.proofs.Words.{_≡_, ap, sym, _∙_, [], _≤_, _-_, _+_, ari
 use Rattle.refusals.specs.Refusals.{refuse}
 use Rattle.machine.specs.Part.{soundStates}
 use Rattle.machine.specs.Accepted.{shape-facts}
-use Rattle.machine.proofs.States.{bytes-cons}
+use Rattle.machine.specs.Laws.States.{bytes-cons}
 use Rattle.part_check.proofs.check_states.Statement.{statement}
 use Rattle.part_check.proofs.check_states.Tie as tie
 

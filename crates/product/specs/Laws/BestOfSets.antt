@@ -1,12 +1,12 @@
 -- What the definition of the best over sets lists: the words with one symbol from each set, and their best candidates.
-use Rattle.basics.proofs.Words.{_≡_, refl, sym, _∙_, ap, Bool, true, false≢true, List, [], _∷_, map, List·Memᴰ, List·Memᴰ·head, List·Memᴰ·not-nil, List·Memᴰ·eq-of-singleton, Option, some, none, ℕ, _^_, _<_, arith, length, ltb, decLt, allOf, those, joined, numbersBelow, member, both, left, right, clash, those-member, member-those, joined-member, member-joined, member-numbers, member-beyond}
+use Rattle.basics.proofs.Words.{_≡_, refl, sym, _∙_, ap, true, false≢true, List, [], _∷_, map, List·Memᴰ, List·Memᴰ·head, List·Memᴰ·not-nil, List·Memᴰ·eq-of-singleton, Option, some, none, ℕ, _^_, _<_, arith, length, ltb, decLt, allOf, those, joined, numbersBelow, member, both, left, right, clash, those-member, member-those, joined-member, member-joined, member-numbers, member-beyond}
 use lib.Pow.{pow-lt}
 use borrow.Author.Tests.{ltb-true, lt-ltb}
 use Rattle.machine.specs.declared.Pair.{Pair}
 use Rattle.card.specs.Card.{machinesOf, cardRefusal}
 use Rattle.candidate.specs.Candidates.{IsCandidate}
 use Rattle.product.specs.Best.{Contender, contenderOf, ProfileOrder, bestIn}
-use Rattle.product.specs.Sets.{fitsSets, singletons, IsCandidateOf, wordsFrom, found, bestOfSetsIn}
+use Rattle.product.specs.Sets.{fitsSets, singletons, are64Bits, IsCandidateOf, wordsFrom, found, bestOfSetsIn}
 use Rattle.paths.specs.Total.{Upto, upto-trans, not-less-upto, asym, less-not-same}
 use Rattle.paths.specs.Costs.{Costs}
 use Rattle.paths.specs.Best.{Before, before-total}
@@ -18,10 +18,6 @@ use Rattle.product.specs.Laws.Listing.{map-member, member-map, least-mem
 use Rattle.product.specs.Laws.Best.{best-contender}
 
 -- ---- the words
-
--- the sets are 64-bit numbers
-abbrev pub are64Bits : List ℕ → Bool
-are64Bits sets = allOf (λ set. ltb set (2 ^ 64)) sets
 
 pub singletons-64 : (word : List ℕ) → allOf (λ x. ltb x 64) word ≡ true → are64Bits (singletons word) ≡ true
 unfolding allOf

@@ -4,7 +4,7 @@ use Rattle.basics.proofs.Words.{_≡_, refl, sym, _∙_, ap, Bool, true, false,
 use borrow.Author.Tests.{eqb-true}
 use Rattle.machine.specs.declared.Pair.{Pair}
 use Rattle.machine.specs.Symbols.{emptySymbol}
-use Rattle.machine.proofs.SetLoops.{with-true}
+use Rattle.machine.specs.Laws.SetLoops.{with-true}
 use Rattle.card.specs.Layout.{symbolCount}
 use Rattle.paths.specs.Costs.{Costs, Labels}
 use Rattle.paths.specs.Graph.{Edge, Graph}

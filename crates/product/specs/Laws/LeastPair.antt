@@ -5,8 +5,8 @@ use borrow.Author.Tests.{eqb-true, eq-eqb}
 use Rattle.machine.specs.declared.Pair.{Pair}
 use Rattle.machine.specs.Symbols.{emptySymbol}
 use Rattle.machine.specs.SymbolSets.{leastSymbol}
-use Rattle.machine.proofs.SymbolSets.{below-least}
-use Rattle.machine.proofs.SetLoops.{with-true}
+use Rattle.machine.specs.Laws.SymbolSets.{below-least}
+use Rattle.machine.specs.Laws.SetLoops.{with-true}
 use Rattle.product.specs.ProductGraph.{pairs}
 use Rattle.product.specs.Laws.Letters.{PairAt}
 

@@ -6,10 +6,9 @@ use Rattle.refusals.specs.Refusals.{refuse}
 use Rattle.refusals.proofs.Refusals.{passed, none-first}
 use Rattle.machine.specs.Symbols.{emptySymbol}
 use Rattle.machine.specs.Part.{soundSet}
-use Rattle.product.specs.Sets.{singletons}
+use Rattle.product.specs.Sets.{singletons, are64Bits}
 use Rattle.product.specs.OptimizingSets.{symbolSet, setsRefusal}
 use Rattle.product.specs.Laws.Sets.{member-within}
-use Rattle.product.specs.Laws.BestOfSets.{are64Bits}
 
 -- ---- one set
 

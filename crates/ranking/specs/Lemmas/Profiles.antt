@@ -1,11 +1,11 @@
 -- How profiles merge, and which is the better of two: the laws of the violation semiring for what is finite in it. Profiles are lists of counts
--- here; those of the engine have six. Assumes nothing.
-use Rattle.basics.specs.Words.{_≡_, refl, sym, _∙_, ap, Bool, true, false, List, [], _∷_, ℕ, zero, suc, _+_, _≤_, arith, length, replicate}
+-- here. Assumes nothing.
+use Rattle.basics.specs.Words.{_≡_, refl, sym, _∙_, ap, Bool, true, false, List, [], _∷_, ℕ, zero, suc, _+_, _≤_, arith, length, take, replicate, ext-getD}
 use Rattle.ranking.specs.declared.Order.the-variants.{Equal}
 use Rattle.ranking.specs.Profiles.{zeroProfile, merge}
 use Rattle.ranking.specs.Rankings.{isRanking}
 use Rattle.ranking.specs.Harmony.{harmony, isBetter, better, firstIf, betterOf}
-use Rattle.ranking.specs.HarmonicInequality.{Agree, itself, one-way, neither-way, transitive, not-better, equal-means, merged-alike}
+use Rattle.ranking.specs.HarmonicInequality.{itself, one-way, neither-way, transitive, not-better, equal-means, merged-alike}
 
 -- merge is a commutative monoid with the zero profile
 
@@ -29,8 +29,14 @@ zeros-merge zero v h = refl
 zeros-merge (suc n) [] h = absurd (omega arith)
 zeros-merge (suc n) (x ∷ v) h = let e : 0 + x ≡ x = omega arith in let t = zeros-merge n v (omega arith) in λ i. e i ∷ t i
 
-pub zero-counts : (v : List ℕ) → length v ≡ 6 → merge (zeroProfile .counts) v ≡ v
-zero-counts v h = zeros-merge 6 v (omega arith)
+-- the first K counts of the zero profile are K zeros
+zeros : (K n : ℕ) → K ≤ n → take K (replicate n 0) ≡ replicate {A = ℕ} K 0
+zeros zero n h = refl
+zeros (suc K) zero h = absurd (omega arith)
+zeros (suc K) (suc n) h = ap (λ (l : List ℕ). 0 ∷ l) (zeros K n (omega arith))
+
+pub zero-counts : (K : ℕ) → K ≤ 6 → (v : List ℕ) → length v ≡ K → merge (take K (zeroProfile .counts)) v ≡ v
+zero-counts K few v h = rw (zeros K 6 few) (zeros-merge K v (omega arith))
 
 -- two of one length merged keep it
 pub merge-length : (v w : List ℕ) → length v ≡ length w → length (merge v w) ≡ length v
@@ -75,5 +81,17 @@ module _ (r : List ℕ) where
       go true e = rw (chosen v w e, chosen (merge u v) (merge u w) (ap isBetter (merged-alike r u v w) ∙ e))
       go false e = rw (chosen v w e, chosen (merge u v) (merge u w) (ap isBetter (merged-alike r u v w) ∙ e))
 
-pub profile-commutative : (K : ℕ) (r : List ℕ) → isRanking K r ≡ true → (v w : List ℕ) → Agree K (betterOf r v w) (betterOf r w v)
-profile-commutative K r is v w = equal-means K r is (betterOf r v w) (betterOf r w v) .0 (either-way r v w)
+-- the better of two of one length has it, too
+pub profile-length : {K : ℕ} (r v w : List ℕ) → length v ≡ K → length w ≡ K → length (betterOf r v w) ≡ K
+unfolding betterOf
+profile-length {K} r v w h k = go (better r v w)
+  where
+    go : (b : Bool) → length (firstIf b v w) ≡ K
+    go true = h
+    go false = k
+
+-- so for profiles of K counts the order of the two does not matter at all
+pub profile-commutative : (K : ℕ) (r : List ℕ) → isRanking K r ≡ true → (v w : List ℕ) → length v ≡ K → length w ≡ K → betterOf r v w ≡ betterOf r w v
+profile-commutative K r is v w h k =
+    let n = profile-length r v w h k in
+    ext-getD 0 (betterOf r v w) (betterOf r w v) (n ∙ sym (profile-length r w v k h)) (λ i l. equal-means K r is (betterOf r v w) (betterOf r w v) .0 (either-way r v w) i (omega (arith, n)))

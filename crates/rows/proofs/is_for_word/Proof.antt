@@ -6,7 +6,7 @@ use Rattle.card.specs.Card.{machinesOf}
 use Rattle.candidate.specs.Candidates.{pairsOf, spelled, isComplete}
 use Rattle.candidate.specs.Evaluating.{soundCandidate}
 use Rattle.product.specs.Best.{sameWord}
-use Rattle.candidate.proofs.Pairs.{sound-shape}
+use Rattle.candidate.specs.Laws.Pairs.{sound-shape}
 use Rattle.rows.specs.Tableau.{candidateOf}
 use Rattle.rows.proofs.Rows.{candidate-bytes, not-sound, not-complete, word-decides}
 use Rattle.rows.proofs.is_for_word.Statement.{statement}

@@ -19,7 +19,8 @@ use Rattle.product.specs.Laws.Candidates.{same-word}
 use Rattle.input.specs.AcceptedInput.{AcceptedInput, accepted-input}
 use Rattle.tableau.specs.Tableau.{rowCount, rowOf, countsOf, candidateOf, everyRow, soundTableau}
 use Rattle.tableau.specs.Judging.{isForWord, countsAreProfile, hasProfileOf, judgingRefusal}
-use Rattle.tableau.specs.Laws.Winning.{NoneBetter, wins-by-best}
+use Rattle.tableau.specs.Winning.{NoneBetter}
+use Rattle.tableau.specs.Laws.Winning.{wins-by-best}
 use Rattle.tableau.specs.Laws.Counts.{equal-counts}
 pub use Rattle.rows.specs.Laws.{SoundTableau, tableau-told, row-complete}
 

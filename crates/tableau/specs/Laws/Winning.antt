@@ -7,10 +7,7 @@ use Rattle.ranking.specs.Harmony.{harmony, isBetter, better}
 use Rattle.ranking.specs.HarmonicInequality.{not-both, one-way, neither-way, equal-at, same-at}
 use Rattle.candidate.specs.Candidates.{profileOf, IsCandidate}
 use Rattle.product.specs.BestCandidate.{Beats, better-profile, fewer-pairs, smaller-bytes, IsBestCandidate}
-
--- no complete candidate for the word, however long, has a better profile than c
-abbrev pub NoneBetter : List ℕ → List Machine → List ℕ → List Pair → Type 0
-NoneBetter ranking ms word c = (d : List Pair) → IsCandidate ms word d → ¬ (better ranking (profileOf ms d) (profileOf ms c) ≡ true)
+use Rattle.tableau.specs.Winning.{NoneBetter}
 
 module _ (r : List ℕ) (ms : List Machine) (word : List ℕ) (b : List Pair) (is : IsBestCandidate r ms word b) where
   -- no candidate's profile is better than the best's

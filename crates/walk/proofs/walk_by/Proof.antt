@@ -34,9 +34,12 @@ abbrev μ-loop : tie.MeasureT-loop
 μ-loop ranked sums card counts weights sets size insertions answer₀ machines width kept hand state code₀ high₀ low₀ steps₀ states₀ marks₀ position₀ written₀ answer code high low steps states marks position written =
     low
 
--- from the head of a loop to the function's entry, and to the head of the outer loop
+-- from the head of a loop to the function's entry, to the columns of the insertions, and to the head of the outer loop
 abbrev entry : tie.At-loop Inv-least μ-least Inv-loop μ-loop → tie.Start Inv-least μ-least Inv-loop μ-loop
-entry c = c .before .before .before .before .before .before .before .before .before .before .before .before .before .before .before .before .before
+entry c = c .before .before .before .before .before .before .before .before .before .before .before .before .before .before .before .before .before .before .before
+
+abbrev filled-insertions : tie.At-loop Inv-least μ-least Inv-loop μ-loop → tie.After-prepare Inv-least μ-least Inv-loop μ-loop
+filled-insertions c = c .before .before .before .before .before .before .before .before
 
 abbrev node : tie.At-least Inv-least μ-least Inv-loop μ-loop → tie.At-loop Inv-least μ-least Inv-loop μ-loop
 node c = c .before .before .before .before .before .before .before
@@ -83,10 +86,16 @@ label-at-requires c κs =
     let start : tie.Start Inv-least μ-least Inv-loop μ-loop = search in
     start-there (start .pre .0) (c .start-node .ensures)
 
+zero-requires : tie.Need-zero-requires Inv-least μ-least Inv-loop μ-loop
+zero-requires c κs = tt
+
 loop-holds : tie.Need-loop-holds Inv-least μ-least Inv-loop μ-loop
 loop-holds c =
     let start : tie.Start Inv-least μ-least Inv-loop μ-loop = search in
-    (λ L G. starts-walk (start .pre .0) (c .before .start-node .ensures) G (c .before .before .start .ensures) (c .label-at .ensures) _ refl, refl, refl)
+    let after-start : tie.After-start Inv-least μ-least Inv-loop μ-loop = search in
+    let after-start-node : tie.After-start-node Inv-least μ-least Inv-loop μ-loop = search in
+    let after-label-at : tie.After-label-at Inv-least μ-least Inv-loop μ-loop = search in
+    (λ L G. starts-walk (start .pre .0) (after-start-node .start-node .ensures) G (after-start .start .ensures) (after-label-at .label-at .ensures) (c .before .zero .ensures) _ refl, refl, refl)
 
 slice-aggregate-places-of : tie.Need-slice-aggregate-places-of Inv-least μ-least Inv-loop μ-loop
 slice-aggregate-places-of c = refl
@@ -141,13 +150,12 @@ least-tight-requires : tie.Need-least-tight-requires Inv-least μ-least Inv-loop
 least-tight-requires c κs =
     let t : tie.At-least Inv-least μ-least Inv-loop μ-loop = search in
     let after-places-of : tie.After-places-of Inv-least μ-least Inv-loop μ-loop = search in
-    let after-prepare : tie.After-prepare Inv-least μ-least Inv-loop μ-loop = search in
     let l = node t in
     let s = entry l in
     let G = ground-there (s .pre .0) in
     let O = l .loop .inv .0 _ G in
     let R = reached-same (t .least .inv .1) (t .least .inv .2 _) O in
-    way-least G R (insertion-way G O (s .pre .0 .counts-are) refl (after-places-of .places-of .ensures) (after-prepare .prepare .ensures) (c .before .before .if2 .taken)) (nodes (s .pre .0))
+    way-least G R (insertion-way G O (s .pre .0 .counts-are) refl (after-places-of .places-of .ensures) (filled-insertions l .prepare .ensures) (c .before .before .if2 .taken)) (nodes (s .pre .0))
 
 slice-aggregate-go-on : tie.Need-slice-aggregate-go-on Inv-least μ-least Inv-loop μ-loop
 slice-aggregate-go-on c =
@@ -184,7 +192,7 @@ go-on-requires c κs =
     let G = ground-there (s .pre .0) in
     let O = l .loop .inv .0 _ G in
     let R = reached-same (t .least .inv .1) (t .least .inv .2 _) O in
-    let Y = insertion-way G O (s .pre .0 .counts-are) refl (after-places-of .places-of .ensures) (l .before .before .before .before .before .before .prepare .ensures) (then2 .if2 .taken) in
+    let Y = insertion-way G O (s .pre .0 .counts-are) refl (after-places-of .places-of .ensures) (filled-insertions l .prepare .ensures) (then2 .if2 .taken) in
     way-go G R Y (after-least-tight .least-tight .ensures) (t .least .inv .0 _ G _ _ O) (then3 .if3 .taken) (after-least2 .least2 .ensures .0)
 
 add-written : tie.Need-add-written Inv-least μ-least Inv-loop μ-loop
@@ -327,7 +335,6 @@ least-again : tie.Need-least-again Inv-least μ-least Inv-loop μ-loop
 least-again c =
     let t : tie.At-least Inv-least μ-least Inv-loop μ-loop = search in
     let after-places-of : tie.After-places-of Inv-least μ-least Inv-loop μ-loop = search in
-    let after-prepare : tie.After-prepare Inv-least μ-least Inv-loop μ-loop = search in
     let l = node t in
     let s = entry l in
     let x = c .before .before .least2 .ensures in
@@ -337,7 +344,7 @@ least-again c =
       λ L G code before O.
           let R = reached-same (t .least .inv .1) (t .least .inv .2 code) O in
           let T = t .least .inv .0 L G code before O in
-          ⊎-elim (λ w. way-none G R (insertion-way G O C refl (after-places-of .places-of .ensures) (after-prepare .prepare .ensures) (w .0 .taken)) (w .3 .ensures) T (w .5 .left) _ after)
+          ⊎-elim (λ w. way-none G R (insertion-way G O C refl (after-places-of .places-of .ensures) (filled-insertions l .prepare .ensures) (w .0 .taken)) (w .3 .ensures) T (w .5 .left) _ after)
           (λ w. way-none G R (symbol-way G R e (w .3 .kept .0 ∙ t .least .inv .3) (w .3 .ensures) T (x .2) (w .0 .left)) (w .7 .ensures) T (w .9 .left) _ after)
           (c .before .if2 .came),
       t .least .inv .1,
@@ -364,7 +371,7 @@ loop-less c =
     let R = reached-same (t .least .inv .1) (t .least .inv .2 _) O in
     let T = t .least .inv .0 _ G _ _ O in
     let same : t .least .low ≡ l .loop .low = ap (λ (a : At). a .label .low) (t .least .inv .2 0) in
-    subst (λ (n : ℕ). at-least-tight .result .low < n) same (way-falls G R (insertion-way G O (s .pre .0 .counts-are) refl (after-places-of .places-of .ensures) (l .before .before .before .before .before .before .prepare .ensures) (at-if2 .taken)) (at-least-tight .ensures) T (at-if3 .taken))
+    subst (λ (n : ℕ). at-least-tight .result .low < n) same (way-falls G R (insertion-way G O (s .pre .0 .counts-are) refl (after-places-of .places-of .ensures) (filled-insertions l .prepare .ensures) (at-if2 .taken)) (at-least-tight .ensures) T (at-if3 .taken))
 
 loop-again : tie.Need-loop-again Inv-least μ-least Inv-loop μ-loop
 loop-again c =
@@ -386,7 +393,7 @@ loop-again c =
           let O = l .loop .inv .0 L G in
           let R = reached-same (t .least .inv .1) (t .least .inv .2 _) O in
           let T = t .least .inv .0 L G _ _ O in
-          way-next G R (insertion-way G O (s .pre .0 .counts-are) refl (after-places-of .places-of .ensures) (l .before .before .before .before .before .before .prepare .ensures) (at-if2 .taken)) (at-least-tight .ensures) T (at-if3 .taken) (at-least2 .ensures .0) (at-go-on .ensures),
+          way-next G R (insertion-way G O (s .pre .0 .counts-are) refl (after-places-of .places-of .ensures) (filled-insertions l .prepare .ensures) (at-if2 .taken)) (at-least-tight .ensures) T (at-if3 .taken) (at-least2 .ensures .0) (at-go-on .ensures),
       t .least .inv .3,
       ap length (at-go-on .ensures .bytes) ∙ simp length-set (ap length (t .least .inv .1) ∙ l .loop .inv .2),
     )
@@ -492,6 +499,7 @@ walk-by-spec =
     start-requires
     start-node-requires
     label-at-requires
+    zero-requires
     loop-holds
     slice-aggregate-places-of
     slice-aggregate-places-of-2

@@ -1,6 +1,6 @@
 use Rattle.basics.proofs.Words.{_≡_, sym, _∙_, ap, true, false, ℕ, member, needs, no-member}
 use Rattle.machine.specs.Machine.{takes}
-use Rattle.machine.proofs.Partners.{out-partners}
+use Rattle.machine.specs.Laws.Partners.{out-partners}
 use Rattle.machine.proofs.Arc.outputs_for.Statement.{statement}
 use Rattle.machine.proofs.Arc.outputs_for.Tie as tie
 

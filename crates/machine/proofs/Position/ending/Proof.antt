@@ -1,6 +1,6 @@
 use Rattle.basics.proofs.Words.{arith, needs}
 use Rattle.machine.specs.Accepted.{shape-facts}
-use Rattle.machine.proofs.States.{not-final, final, no-state}
+use Rattle.machine.specs.Laws.States.{not-final, final, no-state}
 use Rattle.machine.proofs.Position.ending.Statement.{statement}
 use Rattle.machine.proofs.Position.ending.Tie as tie
 

@@ -3,7 +3,7 @@ use Rattle.machine.specs.declared.Pair.{Pair}
 use Rattle.machine.specs.Machine.{stepAmong}
 use Rattle.machine.specs.Part.{arcAt, arcsAt, arcsOf, machineOf}
 use Rattle.machine.specs.Accepted.{shape-facts}
-use Rattle.machine.proofs.Arcs.{step-go-on, step-stop, step-end}
+use Rattle.machine.specs.Laws.Arcs.{step-go-on, step-stop, step-end}
 use Rattle.machine.proofs.Position.step.Statement.{statement}
 use Rattle.machine.proofs.Position.step.Tie as tie
 

@@ -1,6 +1,6 @@
 use Rattle.basics.proofs.Words.{sym, _∙_, needs}
 use Rattle.machine.specs.Part.{arcAt}
-use Rattle.machine.proofs.Arcs.{leaves, leaves-other}
+use Rattle.machine.specs.Laws.Arcs.{leaves, leaves-other}
 use Rattle.machine.proofs.part.takes_from.Statement.{statement}
 use Rattle.machine.proofs.part.takes_from.Tie as tie
 

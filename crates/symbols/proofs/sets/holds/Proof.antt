@@ -1,5 +1,5 @@
 use borrow.Author.Needs.{needs}
-use Rattle.symbols.proofs.SymbolSets.{meets-one}
+use Rattle.symbols.specs.Laws.SymbolSets.{meets-one}
 use Rattle.symbols.proofs.sets.holds.Statement.{statement}
 use Rattle.symbols.proofs.sets.holds.Tie as tie
 

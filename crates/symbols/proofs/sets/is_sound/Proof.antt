@@ -1,5 +1,5 @@
 use Rattle.basics.specs.Words.{ap, Bool, not, _&&_, eqb}
-use Rattle.symbols.proofs.SymbolSets.{half-below}
+use Rattle.symbols.specs.Laws.SymbolSets.{half-below}
 use Rattle.symbols.proofs.sets.is_sound.Statement.{statement}
 use Rattle.symbols.proofs.sets.is_sound.Tie as tie
 

@@ -1,6 +1,6 @@
 use Rattle.basics.proofs.Words.{refl, arith, needs}
 use lib.Count.{trailing-le}
-use Rattle.symbols.proofs.SymbolSets.{least-at}
+use Rattle.symbols.specs.Laws.SymbolSets.{least-at}
 use Rattle.symbols.proofs.sets.least.Statement.{statement}
 use Rattle.symbols.proofs.sets.least.Tie as tie
 

@@ -1,5 +1,5 @@
 use Rattle.basics.proofs.Words.{_∙_, needs}
-use Rattle.symbols.proofs.Partners.{any-partners, same-partners, unlike-partners}
+use Rattle.symbols.specs.Laws.Partners.{any-partners, same-partners, unlike-partners}
 use Rattle.symbols.proofs.sets.of_kind.Statement.{statement}
 use Rattle.symbols.proofs.sets.of_kind.Tie as tie
 

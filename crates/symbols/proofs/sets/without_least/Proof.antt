@@ -1,6 +1,6 @@
 use Rattle.basics.proofs.Words.{_-_, arith, needs}
 use lib.Bits.{and-le-r}
-use Rattle.symbols.proofs.SymbolSets.{without-least}
+use Rattle.symbols.specs.Laws.SymbolSets.{without-least}
 use Rattle.symbols.proofs.sets.without_least.Statement.{statement}
 use Rattle.symbols.proofs.sets.without_least.Tie as tie
 

@@ -1,11 +1,11 @@
 -- The symbols of a set that make a pair of an arc's kind with a symbol. Assumes nothing.
 use Rattle.basics.proofs.Words.{_≡_, refl, sym, _∙_, ap, ap₂, Bool, true, false, not, _&&_, and-true, and-false, and-self, and-comm, and-assoc, ℕ, zero, suc, _^_, eqb, member, eqb-true, eq-eqb, same, member-one, member-and}
 use lib.Bits.{bitAnd}
-use Rattle.symbols.proofs.Partners.{without-symbol}
+use Rattle.symbols.specs.Laws.Partners.{without-symbol}
 use Rattle.machine.specs.Symbols.{emptySymbol, pairOf}
 use Rattle.machine.specs.SymbolSets.{partners}
 use Rattle.machine.specs.Machine.{ofKind}
-pub use Rattle.symbols.proofs.Partners.{without-empty}
+pub use Rattle.symbols.specs.Laws.Partners.{without-empty}
 
 -- in and out may be exchanged
 eqb-swap : (x y : ℕ) → eqb x y ≡ eqb y x

@@ -1,5 +1,0 @@
-pub mod SymbolSets
-pub mod Partners
-pub mod SetLoops
-pub mod Arcs
-pub mod States

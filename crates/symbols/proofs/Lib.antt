@@ -1,2 +1,0 @@
-pub mod SymbolSets
-pub mod Partners

@@ -1,0 +1,3 @@
+-- Laws of sets of symbols that other crates and the functions' proofs rest on.
+pub mod SymbolSets
+pub mod Partners
