@@ -8,7 +8,7 @@ use crate::join::moved;
 use crate::live::{Row, Step};
 use crate::optimizer::Method;
 use crate::random::Random;
-use crate::shrinking::smallest;
+use crate::shrinking::shrunk;
 use crate::tableau::read_tableau;
 use crate::weights::dominates;
 use crate::Profile;
@@ -322,16 +322,16 @@ fn describe_outcome(outcome: &Outcome) -> String {
 }
 
 impl Failure {
-    /// The smallest call that this one leads to and that is still answered in another way.
-    pub fn smallest(&self, engine: &dyn Engine) -> Call {
-        smallest(&self.call, &|call| differs(engine, call))
+    /// What is left of this call when no step makes it smaller and it is still answered in another way.
+    pub fn shrunk(&self, engine: &dyn Engine) -> Call {
+        shrunk(&self.call, &|call| differs(engine, call))
     }
 
-    /// The smallest call whole, and what each side answers.
+    /// What is left of the call, whole, and what each side answers.
     pub fn report(&self, engine: &dyn Engine) -> String {
-        let call = self.smallest(engine);
+        let call = self.shrunk(engine);
         let (expected, found) = (reference(&call), engine.answer(&call));
-        let mut text = format!("the smallest call that still is: {}", describe(&call));
+        let mut text = format!("a smaller call that still is: {}", describe(&call));
         writeln!(text, "reference: {}", describe_outcome(&expected)).unwrap();
         writeln!(text, "engine:    {}", describe_outcome(&found)).unwrap();
         writeln!(text, "not alike: {}", differences(&expected, &found).join(", ")).unwrap();

@@ -1,4 +1,5 @@
-//! The smallest call: from a call that fails, step by step to smaller ones that still fail, until no step does.
+//! A smaller call: from a call that fails, step by step to smaller ones that still fail, until no step does. Another may
+//! be smaller still.
 
 use crate::call::Call;
 use crate::card::{lay_out, read_card, share_a_pair, Arc};
@@ -13,7 +14,7 @@ use crate::Profile;
 use std::ops::Range;
 
 /// Makes a call smaller as long as it fails.
-pub fn smallest(call: &Call, fails: &dyn Fn(&Call) -> bool) -> Call {
+pub fn shrunk(call: &Call, fails: &dyn Fn(&Call) -> bool) -> Call {
     let mut search = Search { call: call.clone(), size: size(&mut call.clone()), fails };
     loop {
         let before = search.call.clone();

@@ -1,4 +1,4 @@
-//! Engines that are wrong in a known way are found out by calls made by chance, and the smallest call shows how.
+//! Engines that are wrong in a known way are found out by calls made by chance, and what is left of the call shows how.
 
 use reference::call::{reference, row_bytes, Call, Outcome};
 use reference::candidate::Pair;
@@ -12,12 +12,12 @@ use reference::samples::{self, arc, machine, set};
 use reference::tableau::{read_tableau, verdict, Tableau, Verdict};
 use reference::weights::HEAVIEST;
 
-/// The smallest call on which the engine is found out, from some thousands made by chance. It is one from which no single
-/// step leads to a smaller one, so its size depends on the seed. This seed was chosen for that: of 7 to 19 only 10 and 11 give
+/// What is left of the first call on which the engine is found out, of some thousands made by chance. No single step leads
+/// from it to a smaller one that differs, so its size depends on the seed. This seed was chosen for that: of 7 to 19 only 10 and 11 give
 /// every size that the tests say. With those of the others that were looked into the engine was found out too, by a larger call.
 fn found_out(engine: impl Fn(&Call) -> Outcome) -> Call {
     let failure = compare(&engine, 10, 30_000).err().expect("a call that is answered in another way");
-    let call = failure.smallest(&engine);
+    let call = failure.shrunk(&engine);
     println!("case {}: {}", failure.case, describe(&call));
     call
 }
@@ -281,7 +281,7 @@ fn trespasses() {
     assert_eq!((machines, states, arcs, symbols, word, answer), (1, 1, 0, 1, 5, 0));
 }
 
-/// A number in the result of a refusal: the smallest call that is refused so.
+/// A number in the result of a refusal: a small call that is refused so.
 #[test]
 fn results_on_refusals() {
     let on = |name: &str, number: u32| {

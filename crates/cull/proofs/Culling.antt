@@ -16,7 +16,6 @@ use Rattle.cells.specs.declared.Groups.{Groups}
 use Rattle.product.specs.Laws.Letters.{over-positioned}
 use Rattle.product.specs.Laws.Entering.{NotLeft, symbols-begun, symbols-entered}
 use Rattle.tables.specs.Engine.{engineGraph}
-use Rattle.labelling.specs.Labelling.{PositionsDone}
 use Rattle.cull.specs.Cull.{FewestBelow}
 use Rattle.cull.specs.Left.{left-same, fewest-same}
 use Rattle.cull.specs.OneConstraint.{stageMarks, LeastPrices}
@@ -30,7 +29,8 @@ use Rattle.stage_entering.specs.Tables.{ListPre}
 use Rattle.stage_entering.specs.Inputs.{InputPre, InputTried}
 use Rattle.stage_settling.specs.Settling.{SettlePre, SettledBy}
 use Rattle.cull.specs.Culling.{pairsCounted, stageGraph, leftBy, Culled, StageAt, CullPre, LentTables, SymbolsAt, SymbolsPre, PositionEntered, SymbolsEntered, EndsTried, LastPre, LastTried, StagePre, StageDone, Blanked, PlaceCleared}
-use Rattle.cull.specs.Survivors.{counts-fewest}
+use Rattle.cull.specs.Ways.{StagesDone}
+use Rattle.cull.specs.Survivors.{counts-fewest, stage-leaves}
 use Rattle.stage.proofs.StageWork.{stage-labelled, stage-unlabelled, stage-alike, spaced}
 use Rattle.cull.proofs.Positions.{culled-kept, stage-over, position-there, symbol-nodes, insertion-ready, symbol-entering, position-settled}
 use Rattle.stage_entering.proofs.Front.{ahead-kept}
@@ -358,14 +358,17 @@ stages-idle {card} {ranking} {sets} {xs} {ys} {zs} {cs = cs} {P = P} {k = suc j}
     label u (yes e) = stage-unlabelled zs (suc j) u e ∙ sym (ap (Option·map unmarked) (stage-unlabelled zs j u e))
     label u (no n) = stage-labelled zs (suc j) u n ∙ ap {B = Option (Ranked 1)} (λ (m : ℕ). some (m, pairCountOf zs u)) (no-marks u n (decLt u ((length sets + 1) * P))) ∙ sym (ap (Option·map unmarked) (stage-labelled zs j u n))
 
-pub stages-end : {card ranking sets xs ys : List ℕ} {k : ℕ} → StagesGone card ranking sets xs ys k → k ≡ 6 → PositionsDone card ranking sets xs ys 0
-stages-end {card} {ranking} {sets} {xs} {ys} A q =
+pub stages-end : {card ranking sets cs ws entries ends xs ys : List ℕ} {P j k : ℕ} → CullPre card ranking sets cs ws entries ends xs P j → StagesGone card ranking sets xs ys k → k ≡ 6 → StagesDone card ranking sets xs ys
+stages-end {card} {ranking} {sets} {ys = ys} Q A q =
     let D = A .last 5 q in
     record {
-      size = A .size;
-      done = record {
-        attained = last-attained (engineGraph (machinesOf card) ranking sets) ys (D .before) (D .labels);
-        closed = λ u h. last-closed (engineGraph (machinesOf card) ranking sets) ys (D .before) (D .labels) u;
-        blank = λ u h. absurd (omega arith);
+      stages = λ i h. stage-leaves card ranking (Q .setting .accepted) (Q .ranked ∙ counts-length Q) sets ys i h (λ m l. A .before m (omega (arith, q, h, l, machines-few (Q .setting))));
+      labels = record {
+        size = A .size;
+        done = record {
+          attained = last-attained (engineGraph (machinesOf card) ranking sets) ys (D .before) (D .labels);
+          closed = λ u h. last-closed (engineGraph (machinesOf card) ranking sets) ys (D .before) (D .labels) u;
+          blank = λ u h. absurd (omega arith);
+        };
       };
     }

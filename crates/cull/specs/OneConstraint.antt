@@ -7,7 +7,7 @@ use Rattle.paths.specs.RankedGraph.{one-letter-positive, ranked-sized, ranked-c
 use Rattle.paths.specs.Graph.{Alphabet, Edge, Graph, pathCost, Within, Run, run→cost, cost→run}
 use Rattle.paths.specs.Labels.{Closed, Attained, run-lower-bound, held→run}
 use Rattle.paths.specs.Bounds.{Sized, BoundedCount}
-use Rattle.cull.specs.Harmony.{Alike, alike-next, fewer-beats, beats-less, letters-less, letters-same}
+use Rattle.cull.specs.Laws.FirstPlaces.{SameOn, same-next, fewer-less, less-whole, letters-less, letters-same}
 use Rattle.cull.specs.Cull.{Way, Fewest}
 
 abbrev pub price : (K k : ℕ) → Ranked K → Ranked 1
@@ -19,17 +19,17 @@ pricedEdge K k e = record { target = e .target; cost = price K k (e .cost) }
 price-add : (K k : ℕ) (a b : Ranked K) → price K k (add K a b) ≡ add 1 (price K k a) (price K k b)
 price-add K k a b i = (countAt-add K k a b i, letterCount-add K a b i)
 
--- among costs that are alike on the constraints above k, with none below it, the price decides
-module _ (K k : ℕ) (lowest : K ≤ suc k) (c d : Ranked K) (a : Alike (countAt K) k c d) where
-  all-alike : countAt K k c ≡ countAt K k d → Alike (countAt K) K c d
-  all-alike e i l = alike-next (countAt K) a e i (omega arith)
+-- among costs with the same marks of the constraints above k, with none below it, the price decides
+module _ (K k : ℕ) (lowest : K ≤ suc k) (c d : Ranked K) (a : SameOn (countAt K) k c d) where
+  all-same : countAt K k c ≡ countAt K k d → SameOn (countAt K) K c d
+  all-same e i l = same-next (countAt K) a e i (omega arith)
 
   pub price-less : Less 1 (price K k c) (price K k d) → Less K c d
-  price-less (inl h) = beats-less K (suc k) c d (fewer-beats (countAt K) a h)
-  price-less (inr h) = letters-less K c d (all-alike (h .0)) (h .1)
+  price-less (inl h) = less-whole K (suc k) c d (fewer-less (countAt K) a h)
+  price-less (inr h) = letters-less K c d (all-same (h .0)) (h .1)
 
   pub price-same : price K k c ≡ price K k d → c ≡ d
-  price-same e = letters-same K c d (all-alike (ap (λ (x : Ranked 1). x .0) e)) (ap (λ (x : Ranked 1). x .1) e)
+  price-same e = letters-same K c d (all-same (ap (λ (x : Ranked 1). x .0) e)) (ap (λ (x : Ranked 1). x .1) e)
 
 -- of a label the marks
 abbrev pub stageMarks : Option (Ranked 1) → Option ℕ

@@ -12,6 +12,7 @@ ghost use Rattle.cull.specs.Tables.{TablesPre, RankedBy};
 ghost use Rattle.stage_entering.specs.Entering.{codesAt};
 ghost use Rattle.cull.specs.Entering.{EndingsPre};
 ghost use Rattle.cull.specs.Culling.{LentTables, CullPre, SymbolsPre, SymbolsEntered, CodesEnded, LastPre, LastTried, StagePre, StageDone, Blanked, PlaceCleared};
+ghost use Rattle.cull.specs.Ways.{StagesDone};
 use candidate::Evaluation;
 use candidate::refused;
 use cells::Groups;
@@ -184,7 +185,7 @@ fn label_stage(
     }
 }
 
-// Goes down the ranking, stage by stage. Past the last machine there are no marks, so that there is nothing to be dropped.
+// Goes down the ranking, a stage for each constraint. Past the last machine there are no marks, so that there is nothing to be dropped.
 fn label_stages(
     work: &mut [u16],
     card: &[u8],
@@ -199,7 +200,7 @@ fn label_stages(
     g: Groups,
 )
     requires { ⌜ ((ranking : List ℕ) × CullPre (now card) ranking (now sets) (now counts) (now weights) (now entries) (now ends) (now work) (g .size) 0) × LentTables (now card) (now counts) (now weights) (now steps) (now high) (now low) g (g .size) ⌝ }
-    ensures { λ _. ⌜ ((ranking : List ℕ) → CullPre (now (card .entry)) ranking (now (sets .entry)) (now (counts .entry)) (now (weights .entry)) (now (entries .entry)) (now (ends .entry)) (now (work .entry)) (g .size) 0 → PositionsDone (now (card .entry)) ranking (now (sets .entry)) (now (work .entry)) (now (work .exit)) 0) ⌝ }
+    ensures { λ _. ⌜ ((ranking : List ℕ) → CullPre (now (card .entry)) ranking (now (sets .entry)) (now (counts .entry)) (now (weights .entry)) (now (entries .entry)) (now (ends .entry)) (now (work .entry)) (g .size) 0 → StagesDone (now (card .entry)) ranking (now (sets .entry)) (now (work .entry)) (now (work .exit))) ⌝ }
 {
     let size = g.size;
     let mut stage = 0;

@@ -36,7 +36,7 @@ returns c =
     let s : tie.After-label-stages = search in
     let after-list-insertions : tie.After-list-insertions = search in
     let l = after-list-insertions .list-insertions in
-    λ ranking R. s .label-stages .ensures ranking (cull-ready (t .pre .0) ranking R (l .ensures _ (R .weights)))
+    λ ranking R. s .label-stages .ensures ranking (cull-ready (t .pre .0) ranking R (l .ensures _ (R .weights))) .labels
 
 pub label-by-spec : {M : Type 1} → statement M
 label-by-spec =

@@ -132,7 +132,7 @@ same-length-4 c =
 returns : tie.Need-returns Inv-loop μ-loop Inv-loop2 μ-loop2
 returns c =
     let at-loop : tie.At-loop Inv-loop μ-loop Inv-loop2 μ-loop2 = search in
-    λ r Q. stages-end (c .before .loop2 .inv .3 r _ Q (at-loop .loop .inv .1 r Q)) (omega (arith, c .before .loop2 .inv .0, c .loop2-test .left))
+    λ r Q. stages-end Q (c .before .loop2 .inv .3 r _ Q (at-loop .loop .inv .1 r Q)) (omega (arith, c .before .loop2 .inv .0, c .loop2-test .left))
 
 pub label-stages-spec : {M : Type 1} → statement M
 label-stages-spec =
