@@ -10,11 +10,20 @@
  * - writes its whole result, of fixed size, through its last pointer. On a refusal every byte of the result is 0;
  * - ends, and neither reads nor writes outside what it was lent, whatever the slices hold and however long they are;
  * - takes no memory but its stack and what it is lent, keeps nothing between calls, and may run in several threads at once.
- *   bench/README.md has the bytes of stack that each call was measured to take.
  *
- * A slice is a pointer and a length. The length counts elements, not bytes, and may be 0. The caller owes: a pointer is not null, not
- * for an empty slice either; it is aligned for its elements and leads to as many as the length says; what a call may write (work,
- * answer, target, rows, result) overlaps nothing else that the call is lent.
+ * A slice is a pointer and a length. The length counts elements, not bytes, and may be 0; the pointer may then be null. The caller owes:
+ * - any other pointer is not null, is aligned for its elements and leads to as many as the length or the type says;
+ * - what a call may write (work, answer, target, rows, result) overlaps nothing else that the call is lent;
+ * - nothing else changes what is lent while the call runs: no thread, no interrupt handler, no device. A card is checked once and then
+ *   read in place. If it changes in between, nothing is promised: a call was seen to trap. Copy a card out of a slot that it can be
+ *   pulled from before you lend it.
+ * What is lent for writing need not be initialised. No answer depends on what work held before.
+ *
+ * Stack and interrupts
+ * - A call takes at most PASTASPUR_STACK_BYTES bytes of stack. It does not recurse. bench/README.md has what each call was measured to
+ *   take.
+ * - On x86-64 its code uses the red zone, the 128 bytes below the stack pointer, and the SSE registers. An interrupt handler on the same
+ *   stack must leave those bytes alone, and save the SSE registers that it changes.
  *
  * A card holds K constraint machines over the symbols 1 to S: byte K, byte S, K pairs of 16-bit offset and length, and the machines'
  * parts one after another, each a byte Q (states), a byte A (arcs), Q state bytes and A arcs of 20 bytes. Numbers are little-endian.
@@ -32,6 +41,14 @@
 #ifdef __cplusplus
 extern "C" {
 #endif
+
+#define PASTASPUR_VERSION "2.1.0" /* of this header and of the library that stands beside it */
+
+/* A length, a row count or an offset: 64 bits on every processor. On x86-64 Linux it is the same type as size_t. */
+typedef uint64_t pastaspur_length;
+
+/* Bytes of stack that are enough for any call, on every processor that the library is built for. */
+#define PASTASPUR_STACK_BYTES 57344
 
 /* Lengths that are enough for every accepted card and word. P is the product of the machines' state counts, at most 128; n is the
  * word's length, at most 24. */
@@ -94,8 +111,8 @@ typedef struct {
 
 /* Where a machine's part stands in its card, in bytes. */
 typedef struct {
-    size_t offset;
-    size_t length;
+    pastaspur_length offset;
+    pastaspur_length length;
 } pastaspur_part;
 
 /* How the first of two profiles stands to the second; 0 on a refusal. */
@@ -140,7 +157,7 @@ typedef struct {
 #endif
 PASTASPUR_SIZE(pastaspur_evaluation, 8 * 2);
 PASTASPUR_SIZE(pastaspur_weighing, 9 * 8);
-PASTASPUR_SIZE(pastaspur_part, 2 * sizeof(size_t));
+PASTASPUR_SIZE(pastaspur_part, 2 * 8);
 PASTASPUR_SIZE(pastaspur_comparison, 2);
 PASTASPUR_SIZE(pastaspur_ranking_condition, 2);
 PASTASPUR_SIZE(pastaspur_judgement, 2);
@@ -152,41 +169,46 @@ PASTASPUR_SIZE(pastaspur_lead, 8 * 2);
  * then the smallest byte string, of all complete candidates, however long.
  * result: the best candidate's counts (none above 48,000), its pair count (at most 3,199), the word's length.
  * answer: its pairs fill the front; the other bytes, and on a refusal all of them, keep their values.
- * work: at least 8 * (n + 1) * P numbers, else 9. Kept on refusals 1 to 9; otherwise its contents are left open. */
-uint32_t pastaspur_optimize(const uint8_t *card, size_t card_len, const uint8_t *ranking, size_t ranking_len,
-                            const uint8_t *word, size_t word_len, uint16_t *work, size_t work_len,
-                            uint8_t *answer, size_t answer_len, pastaspur_evaluation *result);
+ * work: at least 8 * (n + 1) * P numbers, else 9. Kept on refusals 1 to 9; otherwise its contents are left open. It need not be
+ * initialised. */
+uint32_t pastaspur_optimize(const uint8_t *card, pastaspur_length card_len, const uint8_t *ranking, pastaspur_length ranking_len,
+                            const uint8_t *word, pastaspur_length word_len, uint16_t *work, pastaspur_length work_len,
+                            uint8_t *answer, pastaspur_length answer_len, pastaspur_evaluation *result);
 
-/* The same by another method, Ellison's cull: for every input the same number, result and answer. What is left in work may differ. */
-uint32_t pastaspur_cull(const uint8_t *card, size_t card_len, const uint8_t *ranking, size_t ranking_len,
-                        const uint8_t *word, size_t word_len, uint16_t *work, size_t work_len,
-                        uint8_t *answer, size_t answer_len, pastaspur_evaluation *result);
+/* The same by another method, Ellison's cull: for every input the same number, result and answer. What is left in work may differ.
+ * work: need not be initialised here either; but some numbers are read before they are written, which changes no answer. A memory
+ * checker such as valgrind reports it, unless work was set to any numbers before. */
+uint32_t pastaspur_cull(const uint8_t *card, pastaspur_length card_len, const uint8_t *ranking, pastaspur_length ranking_len,
+                        const uint8_t *word, pastaspur_length word_len, uint16_t *work, pastaspur_length work_len,
+                        uint8_t *answer, pastaspur_length answer_len, pastaspur_evaluation *result);
 
 /* Answers the best candidate over all words with one symbol from each set, for words heard only in part: refusals 1 to 8, 25, 9, 10,
  * 12. Bit n of a set is symbol n. Of 8 there is the length limit alone; 25 stands in the place of its symbol test. So sets of one symbol
  * each give what pastaspur_optimize gives for the word, but that a symbol 0 or over S is 25 here and 8 there.
  * result, answer, work: as pastaspur_optimize has them, n being the number of sets; work is kept on 25 too. */
-uint32_t pastaspur_optimize_sets(const uint8_t *card, size_t card_len, const uint8_t *ranking, size_t ranking_len,
-                                 const uint64_t *sets, size_t sets_len, uint16_t *work, size_t work_len,
-                                 uint8_t *answer, size_t answer_len, pastaspur_evaluation *result);
+uint32_t pastaspur_optimize_sets(const uint8_t *card, pastaspur_length card_len, const uint8_t *ranking, pastaspur_length ranking_len,
+                                 const uint64_t *sets, pastaspur_length sets_len, uint16_t *work, pastaspur_length work_len,
+                                 uint8_t *answer, pastaspur_length answer_len, pastaspur_evaluation *result);
 
-/* The same by Ellison's cull: for every input the same number, result and answer. */
-uint32_t pastaspur_cull_sets(const uint8_t *card, size_t card_len, const uint8_t *ranking, size_t ranking_len,
-                             const uint64_t *sets, size_t sets_len, uint16_t *work, size_t work_len,
-                             uint8_t *answer, size_t answer_len, pastaspur_evaluation *result);
+/* The same by Ellison's cull: for every input the same number, result and answer.
+ * work: read before it is written, as pastaspur_cull has it. */
+uint32_t pastaspur_cull_sets(const uint8_t *card, pastaspur_length card_len, const uint8_t *ranking, pastaspur_length ranking_len,
+                             const uint64_t *sets, pastaspur_length sets_len, uint16_t *work, pastaspur_length work_len,
+                             uint8_t *answer, pastaspur_length answer_len, pastaspur_evaluation *result);
 
 /* Answers the best candidate for a word by weights, one for each machine in card order, in whole thousandths: refusals 1 to 6, 26,
  * 8, 9, 10, 12. The best has the smallest sum of weight times count, then the fewest pairs, then the smallest byte string.
  * result: the best candidate's counts, its pair count, the word's length, its sum.
  * answer: as pastaspur_optimize has it.
- * work: at least 2 * (n + 1) * P numbers, else 9. Kept on refusals 1 to 6, 26, 8 and 9; otherwise its contents are left open. */
-uint32_t pastaspur_optimize_weights(const uint8_t *card, size_t card_len, const uint32_t *weights, size_t weights_len,
-                                    const uint8_t *word, size_t word_len, uint64_t *work, size_t work_len,
-                                    uint8_t *answer, size_t answer_len, pastaspur_weighing *result);
+ * work: at least 2 * (n + 1) * P numbers, else 9. Kept on refusals 1 to 6, 26, 8 and 9; otherwise its contents are left open. It need
+ * not be initialised. */
+uint32_t pastaspur_optimize_weights(const uint8_t *card, pastaspur_length card_len, const uint32_t *weights, pastaspur_length weights_len,
+                                    const uint8_t *word, pastaspur_length word_len, uint64_t *work, pastaspur_length work_len,
+                                    uint8_t *answer, pastaspur_length answer_len, pastaspur_weighing *result);
 
 /* Evaluates a candidate: refusals 1 to 6, 13, 14.
  * result: its counts, its pair count, the length of the word that it spells. */
-uint32_t pastaspur_evaluate(const uint8_t *card, size_t card_len, const uint8_t *candidate, size_t candidate_len,
+uint32_t pastaspur_evaluate(const uint8_t *card, pastaspur_length card_len, const uint8_t *candidate, pastaspur_length candidate_len,
                             pastaspur_evaluation *result);
 
 /* Says whether a tableau is right for a card, a ranking and a word: refusals 1 to 9, 19, 20, 21.
@@ -194,31 +216,34 @@ uint32_t pastaspur_evaluate(const uint8_t *card, size_t card_len, const uint8_t 
  * counts and its candidate.
  * result: right exactly when the claimed row wins, that is, when no complete candidate for the word has a better profile.
  * work: as pastaspur_optimize has it. */
-uint32_t pastaspur_judge(const uint8_t *card, size_t card_len, const uint8_t *ranking, size_t ranking_len,
-                         const uint8_t *word, size_t word_len, uint16_t *work, size_t work_len,
-                         const uint8_t *tableau, size_t tableau_len, pastaspur_judgement *result);
+uint32_t pastaspur_judge(const uint8_t *card, pastaspur_length card_len, const uint8_t *ranking, pastaspur_length ranking_len,
+                         const uint8_t *word, pastaspur_length word_len, uint16_t *work, pastaspur_length work_len,
+                         const uint8_t *tableau, pastaspur_length tableau_len, pastaspur_judgement *result);
 
 /* Reads where a machine's part stands in the card: refusals 1 to 6, 17. */
-uint32_t pastaspur_read_part(const uint8_t *card, size_t card_len, uint8_t machine, pastaspur_part *result);
+uint32_t pastaspur_read_part(const uint8_t *card, pastaspur_length card_len, uint8_t machine, pastaspur_part *result);
 
 /* Packs parts, joined, into a card of as many machines as there are lengths: refusals 1, 17, 3 to 6, 18.
  * symbols: S. lengths: of the parts, in bytes.
  * result: the card's length in bytes.
- * target: the card fills the front; the other bytes, and on a refusal all of them, keep their values. */
-uint32_t pastaspur_pack(uint8_t symbols, const uint16_t *lengths, size_t lengths_len, const uint8_t *parts, size_t parts_len,
-                        uint8_t *target, size_t target_len, size_t *result);
+ * target: the card fills the front; the other bytes, and on a refusal all of them, keep their values. A card cannot be packed in place:
+ * target shares no byte with lengths or parts. */
+uint32_t pastaspur_pack(uint8_t symbols, const uint16_t *lengths, pastaspur_length lengths_len,
+                        const uint8_t *parts, pastaspur_length parts_len, uint8_t *target, pastaspur_length target_len,
+                        pastaspur_length *result);
 
 /* Joins two machines of a card, in either order, by Ellison's product: refusals 1 to 6, 27, 28, 18. One of the two must have no marks.
  * The joined machine stands in the lower place, and those after the other one move down one number. A candidate is complete on the new
  * card exactly when it is on the old, and its counts there are the old ones with the two added.
  * result: the new card's length in bytes.
- * target: the new card fills the front; the other bytes, and on a refusal all of them, keep their values. */
-uint32_t pastaspur_join(const uint8_t *card, size_t card_len, uint8_t first, uint8_t second, uint8_t *target, size_t target_len,
-                        size_t *result);
+ * target: the new card fills the front; the other bytes, and on a refusal all of them, keep their values. Machines cannot be joined in
+ * place: target shares no byte with card. */
+uint32_t pastaspur_join(const uint8_t *card, pastaspur_length card_len, uint8_t first, uint8_t second,
+                        uint8_t *target, pastaspur_length target_len, pastaspur_length *result);
 
 /* Compares two profiles of as many machines under a ranking: refusals 1 (for machines), 7. Counts from place K on are not looked at.
  * result: how the first stands to the second, and the highest ranked machine where they differ. */
-uint32_t pastaspur_compare(uint8_t machines, const uint8_t *ranking, size_t ranking_len,
+uint32_t pastaspur_compare(uint8_t machines, const uint8_t *ranking, pastaspur_length ranking_len,
                            const uint16_t first[PASTASPUR_MACHINES], const uint16_t second[PASTASPUR_MACHINES],
                            pastaspur_comparison *result);
 
@@ -230,28 +255,29 @@ uint32_t pastaspur_condition(uint8_t machines, const uint16_t first[PASTASPUR_MA
  * L is empty or the highest ranked machine in either is in W.
  * conditions: two bytes each, W before L; the length counts bytes.
  * result: the ranking; places from K on 0. */
-uint32_t pastaspur_find_ranking(uint8_t machines, const uint8_t *conditions, size_t conditions_len,
+uint32_t pastaspur_find_ranking(uint8_t machines, const uint8_t *conditions, pastaspur_length conditions_len,
                                 uint8_t result[PASTASPUR_MACHINES]);
 
 /* The rows of a live tableau are the first `count` records of a list, in order of arrival; a table starts with count 0. Each call takes
- * the machine count, the ranking, the row count that the last accepted add or removal answered, and the list. A row's counts from place
- * K on are kept and answered, and not looked at in comparing; records from `count` on are not looked at. */
+ * the machine count, the ranking, the row count that the last accepted add or removal answered, and the list. A refused call answers
+ * 0 as the row count: give `result` a variable of its own, and take its value over where the call is accepted. A row's counts from
+ * place K on are kept and answered, and not looked at in comparing; records from `count` on are not looked at. */
 
 /* Adds a row behind the others: refusals 1, 7, 23, 24.
  * result: the new row count.
  * rows: record `count` is the row; the others, and on a refusal all of them, keep their values. */
-uint32_t pastaspur_add_row(uint8_t machines, const uint8_t *ranking, size_t ranking_len, size_t count, pastaspur_row *rows,
-                           size_t rows_len, const pastaspur_row *row, size_t *result);
+uint32_t pastaspur_add_row(uint8_t machines, const uint8_t *ranking, pastaspur_length ranking_len, pastaspur_length count,
+                           pastaspur_row *rows, pastaspur_length rows_len, const pastaspur_row *row, pastaspur_length *result);
 
 /* Takes out the first row that has the id: refusals 1, 7, 23, 24.
  * result: the new row count.
  * rows: the later rows have moved up, and the freed last record is zeros; the others, and on a refusal all, keep their values. */
-uint32_t pastaspur_remove_row(uint8_t machines, const uint8_t *ranking, size_t ranking_len, size_t count, pastaspur_row *rows,
-                              size_t rows_len, uint16_t id, size_t *result);
+uint32_t pastaspur_remove_row(uint8_t machines, const uint8_t *ranking, pastaspur_length ranking_len, pastaspur_length count,
+                              pastaspur_row *rows, pastaspur_length rows_len, uint16_t id, pastaspur_length *result);
 
 /* Answers the row with the best profile under the ranking, the earliest arrival among equals: refusals 1, 7, 23. */
-uint32_t pastaspur_leader(uint8_t machines, const uint8_t *ranking, size_t ranking_len, size_t count, const pastaspur_row *rows,
-                          size_t rows_len, pastaspur_lead *result);
+uint32_t pastaspur_leader(uint8_t machines, const uint8_t *ranking, pastaspur_length ranking_len, pastaspur_length count,
+                          const pastaspur_row *rows, pastaspur_length rows_len, pastaspur_lead *result);
 
 #ifdef __cplusplus
 }

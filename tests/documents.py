@@ -1,14 +1,25 @@
 """Holds the documents to the tree: documents.py LIBRARY, the crate of the static library.
 
-README's program is examples/c/best.c; the cards of docs/FORMAT.md are those of the demo and of the examples; its refusals and calls are those of
-the header; docs/ARCHITECTURE.md has the crates of crates.txt; every name in backquotes that looks like one of the code's, and every path, is
-there."""
+README's lines of C are of examples/c/best.c, its theorem is of crate optimizer, and every path in it is a link; the cards of docs/FORMAT.md are
+those of the demo and of the examples; its refusals and calls are those of the header; docs/ARCHITECTURE.md has the crates of crates.txt. In every
+document every relative link leads somewhere, and every name in backquotes that looks like one of the code's, and every path, is there."""
+import os
 import pathlib
 import re
 import sys
 
 LIBRARY = sys.argv[1]
 wrong = []
+
+
+def documents():
+    """Everything that is written for readers, the README of each folder too."""
+    for folder, folders, files in os.walk("."):
+        folders[:] = sorted(name for name in folders if name not in ("target", ".git", "node_modules"))
+        yield from (str(pathlib.Path(folder, file)) for file in sorted(files) if file.endswith(".md"))
+
+
+DOCUMENTS = list(documents())
 
 
 def read(path):
@@ -44,10 +55,47 @@ def refusals():
 
 
 def readme():
-    lines = read("README.md").splitlines()
-    must(len(lines) <= 120, f"README.md: {len(lines)} lines")
-    must(re.findall(r"```c\n(.*?)```", read("README.md"), re.S) == [read("examples/c/best.c")], "README.md: its program is not examples/c/best.c")
-    must(read("examples/c/best.stdout").strip() in read("README.md"), "README.md: not what examples/c/best prints")
+    text = read("README.md")
+    must(len(text.splitlines()) <= 120, f"README.md: {len(text.splitlines())} lines")
+    programs = re.findall(r"```c\n(.*?)```", text, re.S)
+    must(programs and all(program in read("examples/c/best.c") for program in programs), "README.md: its lines of C are not of examples/c/best.c")
+    must(read("examples/c/best.stdout").strip() in text, "README.md: not what examples/c/best prints")
+    theorem = re.findall(r"```antt\n(.*?)```", text, re.S)
+    fields = {line.strip() for line in read("crates/optimizer/specs/Demands.antt").splitlines()}
+    must(len(theorem) == 1, "README.md: no theorem, or two")
+    for line in "".join(theorem).splitlines():
+        must("pub " + line in fields, f"README.md: no field of crates/optimizer/specs/Demands.antt: {line}")
+    bare = re.sub(r"```.*?```|^ {4}.*?$|\[[^\]]*\]\([^)]*\)\]?(\([^)]*\))?", "", text, flags=re.S | re.M)
+    for word in re.findall(r"[\w.]+(?:/[\w.]+)*/?", bare):
+        path = pathlib.Path(word.rstrip("."))
+        must(not ("/" in word or path.suffix) or not path.exists(), f"README.md: {word} is no link")
+
+
+def versions():
+    """One version: of the file VERSION, the header, the newest entry of the changes, and the citation."""
+    version = read("VERSION").strip()
+    must(f'#define PASTASPUR_VERSION "{version}"' in read("include/pastaspur.h"), f"include/pastaspur.h: not version {version}")
+    newest = re.search(r"^## ([\d.]+), ([\d-]+)$", read("CHANGELOG.md"), re.M)
+    must(newest and newest[1] == version, f"CHANGELOG.md: its newest entry is not {version}")
+    must(f"version: {version}\ndate-released: {newest and newest[2]}\n" in read("CITATION.cff"), f"CITATION.cff: not version {version}, or another date")
+
+
+def links():
+    """Every relative link leads to a file or folder, and one with a heading to that heading."""
+    found = 0
+    for document in DOCUMENTS:
+        for link in re.findall(r"\]\(([^)\s]+)\)", re.sub(r"```.*?```|`[^`\n]*`(?!\])", "", read(document), flags=re.S)):
+            if re.match(r"[a-z]+:", link):
+                continue
+            found += 1
+            file, _, heading = link.partition("#")
+            target = pathlib.Path(document).parent / file if file else pathlib.Path(document)
+            must(target.exists(), f"{document}: no {link}")
+            if heading and target.is_file():
+                headings = {re.sub(r"[^\w\- ]", "", line.lstrip("#").strip().lower()).replace(" ", "-")
+                            for line in target.read_text().splitlines() if line.startswith("#")}
+                must(heading in headings, f"{document}: no heading {link}")
+    must(found > 20, f"{found} links found: too few")
 
 
 def architecture():
@@ -61,14 +109,19 @@ def architecture():
         must("test" in name or "board" in name or f"`{name}`" in text, f"docs/ARCHITECTURE.md: no test program `{name}`")
 
 
+NAMES_OF_OTHER_TREES = ["docs/LANDINGS.md"]  # each note has the names of its own landing
+NAMES_OF_OTHERS = {"SccQueue", "GreetingIs"}  # OpenFst's, the kit's guide's
+
+
 def names():
     """Every name is somewhere in the crates; one with its crate and file is there."""
     crates = {path.name: path for path in pathlib.Path("crates").iterdir()}
     crates.setdefault("pastaspur", crates[LIBRARY])
-    beside = [path for part in ("include", "bench", "reference/src", "demo") for path in pathlib.Path(part).rglob("*") if "target" not in path.parts]
-    words = set(crates) | {path.name for path in beside}
+    beside = [path for part in ("include", "bench", "reference/src", "demo", "targets", "release", "tests", "firmware", "python", "desk/src") for path in pathlib.Path(part).rglob("*")
+              if "target" not in path.parts]
+    words = set(crates) | {path.name for path in beside} | NAMES_OF_OTHERS
     for path in beside:
-        if path.suffix in (".h", ".cc", ".c", ".rs", ".py"):
+        if path.suffix in (".h", ".cc", ".c", ".rs", ".py", ".ts", ".tsx", ".mjs"):
             words |= set(re.findall(r"[\w-]+", path.read_text()))
     texts = {}
     for path in pathlib.Path("crates").glob("*/*/**/*"):
@@ -77,7 +130,9 @@ def names():
             words |= texts[path] | {path.stem}
         elif path.suffix == ".edit":
             words.add(path.stem)
-    for document in ["README.md", "docs/PROMISES.md", "docs/ARCHITECTURE.md", "docs/PROOFS.md", "docs/DECISIONS.md", "CONTRIBUTING.md"]:
+    for document in DOCUMENTS:
+        if document in NAMES_OF_OTHER_TREES:
+            continue
         for name in re.findall(r"`([^`\n]+)`", re.sub(r"```.*?```", "", read(document), flags=re.S)):
             if name.startswith("rattle_") or (pathlib.Path("crates") / name).exists():  # the kit's; a file of a crate
                 continue
@@ -105,12 +160,12 @@ def edits():
 def paths():
     """What looks like a path of the repository is one."""
     roots = "docs|bench|demo|include|examples/c|reference|tests"
-    for document in ["README.md", "CONTRIBUTING.md", *map(str, pathlib.Path("docs").glob("*.md")), "bench/README.md", "demo/README.md", "reference/README.md"]:
+    for document in DOCUMENTS:
         for path in re.findall(rf"(?<![\w/.])((?:{roots})/[\w/.]*\w)", read(document)):
             must(pathlib.Path(path).exists() or "/target/" in path, f"{document}: no {path}")
 
 
-for check in (cards, refusals, readme, architecture, names, edits, paths):
+for check in (cards, refusals, readme, versions, links, architecture, names, edits, paths):
     check()
 print("\n".join(wrong) or "as the tree has it")
 sys.exit(bool(wrong))

@@ -5,13 +5,19 @@ mod rows;
 
 use reference::optimizer::optimize;
 use rows::{rows, Row};
-use std::ffi::{c_char, CString};
+use std::ffi::CString;
+use std::os::raw::c_char;
 use std::slice;
-use std::sync::OnceLock;
 
-fn all() -> &'static Vec<(CString, Row)> {
-    static ROWS: OnceLock<Vec<(CString, Row)>> = OnceLock::new();
-    ROWS.get_or_init(|| rows().into_iter().map(|row| (CString::new(row.name).expect("no zero byte"), row)).collect())
+thread_local! {
+    /// Made once, by the one thread that measures, and kept to its end.
+    static ROWS: &'static [(CString, Row)] = Vec::leak(
+        rows().into_iter().map(|row| (CString::new(row.name).expect("no zero byte"), row)).collect()
+    );
+}
+
+fn all() -> &'static [(CString, Row)] {
+    ROWS.with(|rows| *rows)
 }
 
 #[no_mangle]

@@ -126,12 +126,18 @@ fn large() -> Vec<Case> {
 /// kind 1 and one of kind 2 on the same sets.
 fn kinds() -> Vec<Case> {
     let mut random = Random::new(10);
-    let [first, second] =
-        [(); 2].map(|_| random_machine(&mut random, 63, Constraint::Shapes, &[by(10, 6, 6); 4]));
+    let [first, second] = [(); 2].map(|_| random_machine(&mut random, 63, Constraint::Shapes, &[by(10, 6, 6); 4]));
     let any = set(0..=63);
     let faithful = machine(&[true], vec![same(arc(0, 0, 0, any, any)), unlike(arc(0, 0, 1, any, any))]);
     let card = card(63, &[first, second, faithful]);
     (0..4).map(|_| random_case(&mut random, &card, 24)).collect()
+}
+
+/// Insertions that lead down, K = 3, S = 10, n = 24, P = 128: under every ranking with the price of insertions in another place.
+fn falling() -> Vec<Case> {
+    let word: Vec<u8> = (0..24).map(|place| 1 + place % 10).collect();
+    let case = |ranking: [u8; 3]| Case { card: samples::falling(), ranking: ranking.to_vec(), word: word.clone() };
+    [[0, 1, 2], [0, 2, 1], [2, 0, 1]].map(case).into()
 }
 
 /// The cases that lines of the board's program ask for, but for the empty word, which would be measured with long ones.
@@ -153,6 +159,7 @@ pub fn rows() -> Vec<Row> {
     let chain = include_str!("../../tests/data/chain/stdin");
     let chain_full = include_str!("../../tests/data/chain_full/stdin");
     let full = include_str!("../../tests/data/full/stdin");
+    let slowest = (include_bytes!("../../tests/data/slowest/card.bin"), include_str!("../../tests/data/slowest/stdin"));
     vec![
         row("classroom", from_lines(tag.0, tag.1)),
         row("medium", medium()),
@@ -161,7 +168,9 @@ pub fn rows() -> Vec<Row> {
         row("worst chain, full machines", from_lines(&samples::chain_full(), chain_full)),
         row("chain to the joint state behind", from_lines(&samples::chain_behind(), chain)),
         row("chain to the joint state before", from_lines(&samples::chain_before(), chain)),
+        row("falling insertions", falling()),
         row("worst card, all pairs taken", from_lines(&samples::full(), full)),
         row("faithfulness by kinds", kinds()),
+        row("slowest found", from_lines(slowest.0, slowest.1)),
     ]
 }

@@ -94,7 +94,8 @@ static void compare(void) {
 /* The card's parts read, packed again, and two of its machines joined. */
 static void change(void) {
     uint16_t lengths[MACHINES];
-    size_t length, start = 2 + 4 * MACHINES;
+    pastaspur_length length;
+    size_t start = 2 + 4 * MACHINES;
     for (uint8_t i = 0; i < MACHINES; i++) {
         pastaspur_part part;
         made("read_part", pastaspur_read_part(card, card_len, i, &part));
@@ -102,24 +103,29 @@ static void change(void) {
         lengths[i] = (uint16_t)part.length;
     }
     made("pack", pastaspur_pack(card[1], lengths, MACHINES, card + start, card_len - start, target, sizeof target, &length));
-    printf(" %lu bytes, %s\n", (unsigned long)length, length == card_len && memcmp(card, target, length) == 0 ? "the card" : "another card");
+    printf(" %lu bytes, %s\n", (unsigned long)length, length == card_len && memcmp(card, target, card_len) == 0 ? "the card" : "another card");
     made("join", pastaspur_join(card, card_len, 0, 3, target, sizeof target, &length));
     printf(" %lu bytes, %u machines\n", (unsigned long)length, target[0]);
 }
 
-/* Two candidates proposed, one withdrawn. */
+/* Two candidates proposed, one withdrawn. A refused call answers 0 as the row count, so each call answers into a variable of its own:
+ * `count` takes the new number over where the call was accepted, and a refusal loses no row. */
 static void live(void) {
     static pastaspur_row rows[PASTASPUR_LIVE_ROWS];
     const pastaspur_row proposed[2] = {{7, {1, 0, 1, 0, 0, 0}}, {9, {0, 0, 2, 0, 0, 0}}};
     pastaspur_lead lead;
-    size_t count = 0;
+    pastaspur_length count = 0, new_count;
     for (int i = 0; i < 2; i++) {
-        made("add_row", pastaspur_add_row(MACHINES, ranking, sizeof ranking, count, rows, PASTASPUR_LIVE_ROWS, &proposed[i], &count));
+        made("add_row", pastaspur_add_row(MACHINES, ranking, sizeof ranking, count, rows, PASTASPUR_LIVE_ROWS, &proposed[i], &new_count));
+        count = new_count;
         printf(" %lu rows\n", (unsigned long)count);
     }
+    if (pastaspur_add_row(MACHINES, ranking, sizeof ranking, count, rows, PASTASPUR_LIVE_ROWS, &proposed[0], &new_count) == PASTASPUR_REFUSED_PRESENCE)
+        printf("add_row           refused, and still %lu rows\n", (unsigned long)count);
     made("leader", pastaspur_leader(MACHINES, ranking, sizeof ranking, count, rows, PASTASPUR_LIVE_ROWS, &lead));
     printf(" id %u\n", lead.row.id);
-    made("remove_row", pastaspur_remove_row(MACHINES, ranking, sizeof ranking, count, rows, PASTASPUR_LIVE_ROWS, 9, &count));
+    made("remove_row", pastaspur_remove_row(MACHINES, ranking, sizeof ranking, count, rows, PASTASPUR_LIVE_ROWS, 9, &new_count));
+    count = new_count;
     printf(" %lu row\n", (unsigned long)count);
 }
 

@@ -79,7 +79,10 @@ impl Call {
     /// The same call of the other engine, if there is one.
     pub fn twin(&self) -> Option<Call> {
         let mut twin = self.clone();
-        let (Call::Optimize { method, .. } | Call::OptimizeSets { method, .. }) = &mut twin else { return None };
+        let method = match &mut twin {
+            Call::Optimize { method, .. } | Call::OptimizeSets { method, .. } => method,
+            _ => return None,
+        };
         *method = match method {
             Method::Ranked => Method::Cull,
             Method::Cull => Method::Ranked,
@@ -157,7 +160,10 @@ pub fn row_bytes(rows: &[Row]) -> Vec<u8> {
 
 /// Whether there is a leader, its id and its counts.
 fn leader(found: Option<Row>) -> Vec<usize> {
-    let Some(row) = found else { return vec![0; 8] };
+    let row = match found {
+        Some(row) => row,
+        None => return vec![0; 8],
+    };
     [1, row.id as usize].into_iter().chain(row.counts.map(usize::from)).collect()
 }
 

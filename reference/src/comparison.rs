@@ -82,7 +82,10 @@ pub fn compare(engine: &dyn Engine, seed: u64, count: usize) -> Result<Coverage,
 
 /// The ranked call that a call with weights has to agree with, if there is one: its candidate and profile are the same.
 fn ranked_calls(call: &Call, outcome: &Outcome, coverage: &mut Coverage) -> Vec<Call> {
-    let Some(ranked) = ranked_alike(call, outcome) else { return vec![] };
+    let ranked = match ranked_alike(call, outcome) {
+        Some(ranked) => ranked,
+        None => return vec![],
+    };
     let found = reference(&ranked);
     let bytes = 2 * found.result[6];
     let alike = (&found.result[..], &found.slice[..bytes]) == (&outcome.result[..8], &outcome.slice[..bytes]);
@@ -94,7 +97,10 @@ fn ranked_calls(call: &Call, outcome: &Outcome, coverage: &mut Coverage) -> Vec<
 /// Evaluations of candidates on a card and on the card with two machines joined: each is complete on both or on neither, and its
 /// profile on the new card is the old one with the two counts added.
 fn evaluations(call: &Call, outcome: &Outcome, random: &mut Random, coverage: &mut Coverage) -> Vec<Call> {
-    let Call::Join { card: old, first, second, .. } = call else { return vec![] };
+    let (old, first, second) = match call {
+        Call::Join { card: old, first, second, .. } => (old, first, second),
+        _ => return vec![],
+    };
     if outcome.number != 0 {
         return vec![];
     }
@@ -105,7 +111,7 @@ fn evaluations(call: &Call, outcome: &Outcome, random: &mut Random, coverage: &m
         let pairs = random.below(12);
         let candidate = walk(random, card, pairs);
         let both = [old, new].map(|card| Call::Evaluate { card: card.to_vec(), candidate: candidate.clone() });
-        let [before, after] = both.each_ref().map(reference);
+        let [before, after] = [&both[0], &both[1]].map(reference);
         let mut right = before.clone();
         if before.number == 0 {
             let counts: Profile = std::array::from_fn(|place| before.result[place] as u16);
@@ -122,7 +128,10 @@ fn evaluations(call: &Call, outcome: &Outcome, random: &mut Random, coverage: &m
 /// The ranked call that a call with weights has to agree with: both answer, all weights are above zero, and each is more than
 /// c times the sum of those ranked below it, c being the largest count in the two profiles.
 fn ranked_alike(call: &Call, outcome: &Outcome) -> Option<Call> {
-    let Call::OptimizeWeights { card, weights, word, .. } = call else { return None };
+    let (card, weights, word) = match call {
+        Call::OptimizeWeights { card, weights, word, .. } => (card, weights, word),
+        _ => return None,
+    };
     if outcome.number != 0 || weights.contains(&0) {
         return None;
     }
@@ -169,7 +178,10 @@ fn symbols(set: u64) -> String {
 
 /// An accepted card's machines in words.
 fn describe_card(card: &[u8]) -> String {
-    let Ok(card) = read_card(card) else { return String::new() };
+    let card = match read_card(card) {
+        Ok(card) => card,
+        Err(_) => return String::new(),
+    };
     let mut text = format!("  the card: {} symbols\n", card.symbols);
     for (place, machine) in card.machines.iter().enumerate() {
         let ending = |(state, ending): (usize, &Option<u16>)| match ending {
@@ -210,7 +222,10 @@ fn describe_step(step: &Step) -> String {
 
 /// The rows of a tableau that is laid out as it should.
 fn describe_tableau(tableau: &[u8]) -> String {
-    let Ok(tableau) = read_tableau(tableau, 6) else { return String::new() };
+    let tableau = match read_tableau(tableau, 6) {
+        Ok(tableau) => tableau,
+        Err(_) => return String::new(),
+    };
     let mut text = format!("  the tableau: row {} claimed\n", tableau.claimed);
     for (place, row) in tableau.rows.iter().enumerate() {
         writeln!(text, "    row {place}: counts {}, candidate {}", numbers(&row.counts), hexadecimal(&row.candidate))

@@ -343,8 +343,8 @@ fn joins() -> Vec<Call> {
     machines[2].arcs.iter_mut().for_each(|arc| arc.marks = 0);
     let plain = samples::card(2, &machines);
     let length = reference(&call(&plain, 0, 2, 1_000)).result[0];
-    let of_b = [(0, 2, 0), (2, 0, 3), (0, 2, -1), (2, 2, 0), (0, 3, 0), (255, 1, 0), (0, 1, 0)];
-    let of_b = of_b.map(|(first, second, more)| call(&plain, first, second, length.wrapping_add_signed(more)));
+    let of_b = [(0, 2, 0_isize), (2, 0, 3), (0, 2, -1), (2, 2, 0), (0, 3, 0), (255, 1, 0), (0, 1, 0)];
+    let of_b = of_b.map(|(first, second, more)| call(&plain, first, second, length.wrapping_add(more as usize)));
     let mut random = Random::new(SEED);
     let at_the_limits = [(4, 9, 8), (3, 7, 11), (1, 51, 5), (1, 64, 4)].map(|(states, arcs, others)| {
         let Card { symbols, machines, .. } = two_machines(&mut random, 16, states, arcs, others);

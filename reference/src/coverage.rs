@@ -159,7 +159,7 @@ fn traits(card: &Card, pairs: &[u8], counts: &[usize]) -> [bool; 10] {
     [
         pairs.is_empty(),
         inserts,
-        pairs.chunks(2).next_back().is_some_and(|pair| pair[0] == 0),
+        pairs.chunks(2).next_back().map_or(false, |pair| pair[0] == 0),
         any(|_, output| output == 0),
         any(|input, output| input != 0 && output != 0 && input != output),
         marks,

@@ -62,7 +62,7 @@ impl Graph {
             changed = false;
             for node in (0..labels.len()).rev() {
                 let onward = self.edges[node].iter().filter_map(|edge| Some(edge_cost(edge) + labels[edge.to]?)).min();
-                if onward.is_some_and(|cost| labels[node].is_none_or(|old| cost < old)) {
+                if onward.map_or(false, |cost| labels[node].map_or(true, |old| cost < old)) {
                     labels[node] = onward;
                     changed = true;
                 }
@@ -79,7 +79,7 @@ impl Graph {
         ending_cost: impl Fn(&Profile) -> u64,
     ) {
         for (node, edges) in self.edges.iter_mut().enumerate() {
-            edges.retain(|edge| labels[edge.to].is_some_and(|rest| labels[node] == Some(edge_cost(edge) + rest)));
+            edges.retain(|edge| labels[edge.to].map_or(false, |rest| labels[node] == Some(edge_cost(edge) + rest)));
             self.endings[node] = self.endings[node].filter(|ending| labels[node] == Some(ending_cost(ending)));
         }
     }
@@ -108,7 +108,10 @@ impl Graph {
         lengths[0] = Some(0);
         let mut list = vec![0];
         for place in 0.. {
-            let Some(&node) = list.get(place) else { break };
+            let node = match list.get(place) {
+                Some(&node) => node,
+                None => break,
+            };
             for edge in &self.edges[node] {
                 if lengths[edge.to].is_none() {
                     lengths[edge.to] = lengths[node].map(|length| length + 1);

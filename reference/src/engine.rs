@@ -5,7 +5,8 @@ use crate::lent::Lent;
 use crate::live::{Row, Step};
 use crate::optimizer::Method;
 use crate::random::Random;
-use std::hash::{DefaultHasher, Hash, Hasher};
+use std::collections::hash_map::DefaultHasher;
+use std::hash::{Hash, Hasher};
 
 /// A row as C has it: the id, then six counts.
 type RowNumbers = [u16; 7];

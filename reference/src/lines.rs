@@ -33,8 +33,9 @@ pub fn parse(line: &[u8]) -> Option<(Vec<u8>, Vec<u8>)> {
 
 /// What the program prints for a line, without the line end.
 pub fn answer(card: &[u8], line: &[u8]) -> String {
-    let Some((ranking, word)) = parse(line) else {
-        return "bad line".to_string();
+    let (ranking, word) = match parse(line) {
+        Some(parsed) => parsed,
+        None => return "bad line".to_string(),
     };
     let mut bytes = [0; 6_398];
     match optimize(card, &ranking, &word, 25_600, &mut bytes) {

@@ -103,9 +103,12 @@ pub fn best_of_positions(card: &Card, ranking: &[u8], positions: &[Vec<u8>]) -> 
             changed = false;
             for state in 0..here.len() {
                 for (_, to, cost) in &insertions[state] {
-                    let Some(rest) = &here[*to] else { continue };
+                    let rest = match &here[*to] {
+                        Some(rest) => rest,
+                        None => continue,
+                    };
                     let found = sum(cost, rest);
-                    if here[state].is_none_or(|old| found < old) {
+                    if here[state].map_or(true, |old| found < old) {
                         here[state] = Some(found);
                         changed = true;
                     }
@@ -158,7 +161,10 @@ pub fn list(card: &Card, word: &[u8], most: usize, found: &mut dyn FnMut(&[Pair]
         for input in [0].iter().chain(rest.first()) {
             for output in 0..=card.symbols {
                 let taken = card.machines.iter().zip(states).map(|(m, &state)| m.step(state, *input, output));
-                let Some(taken) = taken.collect::<Option<Vec<_>>>() else { continue };
+                let taken = match taken.collect::<Option<Vec<_>>>() {
+                    Some(taken) => taken,
+                    None => continue,
+                };
                 if (*input, output) != (0, 0) {
                     let next: Vec<usize> = taken.iter().map(|&(state, _)| state).collect();
                     let read = (*input != 0) as usize;
@@ -176,7 +182,7 @@ pub fn list(card: &Card, word: &[u8], most: usize, found: &mut dyn FnMut(&[Pair]
 pub fn best_by_listing(card: &Card, ranking: &[u8], word: &[u8], most: usize) -> Option<Vec<Pair>> {
     let mut best: Option<(Vec<Pair>, Profile)> = None;
     list(card, word, most, &mut |candidate, profile| {
-        let better = best.as_ref().is_none_or(|(old, counts)| {
+        let better = best.as_ref().map_or(true, |(old, counts)| {
             let by_length = candidate.len().cmp(&old.len());
             harmony(ranking, profile, counts).then(by_length).then(candidate.cmp(old)).is_lt()
         });

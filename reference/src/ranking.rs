@@ -50,7 +50,7 @@ pub fn condition(count: u8, first: &Profile, second: &Profile) -> Result<(u8, u8
 
 pub fn fits(ranking: &[u8], fewer: u8, more: u8) -> bool {
     let highest = ranking.iter().find(|&&m| (fewer | more) >> m & 1 == 1);
-    more == 0 || highest.is_some_and(|&m| fewer >> m & 1 == 1)
+    more == 0 || highest.map_or(false, |&m| fewer >> m & 1 == 1)
 }
 
 /// The smallest ranking, as a byte string, that fits all: every string of `count` bytes below `count` in order.

@@ -169,6 +169,32 @@ pub fn chain_before() -> Vec<u8> {
     card(3, &[turned(&second), turned(&first)])
 }
 
+/// Insertions that lead down by one to five joint states, the longer the dearer in proportion, where everything else is dearer the
+/// higher the joint state: of the two machines that make the code, 8 × 16 states, each gives as many marks for taking a symbol as
+/// its state's number. Taking a symbol leads to code 127, and a candidate ends at code 0. Inserting `fall`, 1 to 5, leads down by
+/// `fall` codes, and `LONGEST + fall` does where the first machine goes down by one state; the third machine gives `fall` marks.
+pub fn falling() -> Vec<u8> {
+    const LONGEST: u8 = 5;
+    const HIGH: usize = 8;
+    const LOW: usize = 16;
+    let (empty, within, across) = (set([0]), set(1..=LONGEST), set(LONGEST + 1..=2 * LONGEST));
+    let segment = within | across;
+    let taking = |states: usize| (0..states).map(move |state| arc(state, states - 1, state as u16, segment, segment));
+    let first = |states: usize| (0..states).map(|state| state == 0).collect::<Vec<bool>>();
+    let mut high: Vec<Arc> = taking(HIGH).collect();
+    high.extend((0..HIGH).map(|state| arc(state, state, 0, empty, within)));
+    high.extend((1..HIGH).map(|state| arc(state, state - 1, 0, empty, across)));
+    let mut low: Vec<Arc> = taking(LOW).collect();
+    let mut prices = vec![arc(0, 0, 0, segment, segment)];
+    for fall in 1..=LONGEST {
+        let states = fall as usize;
+        low.extend((states..LOW).map(|state| arc(state, state - states, 0, empty, set([fall]))));
+        low.extend((0..states).map(|state| arc(state, state + LOW - states, 0, empty, set([LONGEST + fall]))));
+        prices.push(arc(0, 0, fall as u16, empty, set([fall, LONGEST + fall])));
+    }
+    card(2 * LONGEST, &[machine(&first(HIGH), high), machine(&first(LOW), low), machine(&[true], prices)])
+}
+
 /// The chain with ending marks: for 24 symbols both counts are 48,000, the most that there can be.
 pub fn chain_ending() -> Vec<u8> {
     let mut machines = counters(1, 1, 3, 15);
@@ -210,7 +236,7 @@ pub fn chain_full() -> Vec<u8> {
     let [first, second] = counters(10, 36, 63, 15);
     let (empty, segment, any) = (set([0]), set(1..64), set(0..64));
     let rest = machine(&[true], vec![arc(0, 0, 15, empty, segment), arc(0, 0, 15, segment, any)]);
-    card(63, &[first, second, rest.clone(), rest.clone(), rest.clone(), rest].each_ref().map(split))
+    card(63, &[&first, &second, &rest, &rest, &rest, &rest].map(split))
 }
 
 /// The chain without marks, and leaps along it with 15: with the first machine on top the best still passes every node,

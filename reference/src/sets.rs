@@ -56,7 +56,7 @@ pub fn optimize_sets(
     if sets.len() > 24 {
         return Err(8);
     }
-    let too_high = |set: u64| symbols(set).last().is_some_and(|&symbol| symbol > card.symbols);
+    let too_high = |set: u64| symbols(set).last().map_or(false, |&symbol| symbol > card.symbols);
     if sets.iter().any(|&set| set == 0 || set & 1 == 1 || too_high(set)) {
         return Err(25);
     }

@@ -261,7 +261,10 @@ fn with_grammar(call: &Call, grammar: &Grammar) -> Call {
 
 /// A call's tableau, if it is laid out as it should.
 fn tableau(call: &Call) -> Option<Tableau> {
-    let Call::Judge { tableau, .. } = call else { return None };
+    let tableau = match call {
+        Call::Judge { tableau, .. } => tableau,
+        _ => return None,
+    };
     read_tableau(tableau, 6).ok()
 }
 
@@ -504,7 +507,10 @@ fn without_symbols(call: &Call, gone: &Range<usize>) -> Option<Call> {
     let symbols = gone.start + 1..gone.end + 1;
     grammar.symbols -= gone.len() as u8;
     for bytes in &mut grammar.parts {
-        let Some(mut part) = Part::read(bytes) else { continue };
+        let mut part = match Part::read(bytes) {
+            Some(part) => part,
+            None => continue,
+        };
         for arc in &mut part.arcs {
             for place in [4, 12] {
                 let set = u64::from_le_bytes(arc[place..place + 8].try_into().expect("8 bytes"));
@@ -540,7 +546,10 @@ fn without_symbols(call: &Call, gone: &Range<usize>) -> Option<Call> {
 /// What is to be packed, as much shorter at the end as one of its lengths.
 fn with_shorter_length(call: &Call, place: usize, less: usize) -> Option<Call> {
     let mut call = call.clone();
-    let Call::Pack { lengths, parts, .. } = &mut call else { return None };
+    let (lengths, parts) = match &mut call {
+        Call::Pack { lengths, parts, .. } => (lengths, parts),
+        _ => return None,
+    };
     lengths[place] = lengths[place].checked_sub(less as u16)?;
     parts.truncate(parts.len().checked_sub(less)?);
     if lengths[place] == 0 && less > 0 {
@@ -569,12 +578,15 @@ impl Search<'_> {
 
     /// Takes the call, or the same with slices refitted.
     fn attempt(&mut self, call: Option<Call>) -> bool {
-        let Some(mut call) = call else { return false };
+        let mut call = match call {
+            Some(call) => call,
+            None => return false,
+        };
         if self.try_one(&mut call) {
             return true;
         }
         let refitted = refitted(&self.call, &call).filter(|other| *other != call);
-        refitted.is_some_and(|mut other| self.try_one(&mut other))
+        refitted.map_or(false, |mut other| self.try_one(&mut other))
     }
 
     /// Tries every stretch of something that there is so much of, from the whole to single ones; after a stretch that is
@@ -704,7 +716,10 @@ impl Search<'_> {
 
     /// Lowers weights, and takes work and weights away.
     fn lower_weights(&mut self) {
-        let Call::OptimizeWeights { weights, work, .. } = &self.call else { return };
+        let (weights, work) = match &self.call {
+            Call::OptimizeWeights { weights, work, .. } => (weights, work),
+            _ => return,
+        };
         let (count, numbers) = (weights.len(), work.len());
         for length in [0, numbers / 2, numbers - numbers.min(1)] {
             let mut call = self.call.clone();

@@ -72,7 +72,10 @@ pub fn lay_out(claimed: u8, rows: &[Vec<u8>]) -> Vec<u8> {
 
 /// A tableau for so many machines: refusal 19.
 pub fn read_tableau(bytes: &[u8], machines: usize) -> Result<Tableau, Refusal> {
-    let (&[count, claimed], _) = bytes.split_first_chunk().ok_or(19)?;
+    let (count, claimed) = match *bytes {
+        [count, claimed, ..] => (count, claimed),
+        _ => return Err(19),
+    };
     if !(1..=32).contains(&count) || claimed >= count {
         return Err(19);
     }
@@ -119,7 +122,10 @@ pub fn verdict(claimed: u8, wins: &[bool]) -> Verdict {
 
 /// What is said of a tableau for a card and a line with ranking and word, in words.
 pub fn say(card: &[u8], line: &str, tableau: &[u8]) -> String {
-    let Some((ranking, word)) = parse(line.as_bytes()) else { return "bad line".to_string() };
+    let (ranking, word) = match parse(line.as_bytes()) {
+        Some(parsed) => parsed,
+        None => return "bad line".to_string(),
+    };
     match judge(card, &ranking, &word, 25_600, tableau) {
         Ok(verdict) => verdict.to_string(),
         Err(number) => format!("refused {number}"),

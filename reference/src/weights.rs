@@ -26,7 +26,10 @@ pub fn best_by_weights(card: &Card, weights: &[u32], word: &[u8]) -> Option<Vec<
     let mut begun = BinaryHeap::from([Reverse((0, 0, vec![], Some(0)))]);
     let mut passed = vec![false; graph.edges.len()];
     while let Some(Reverse((sum, length, pairs, node))) = begun.pop() {
-        let Some(node) = node else { return Some(pairs) };
+        let node = match node {
+            Some(node) => node,
+            None => return Some(pairs),
+        };
         if std::mem::replace(&mut passed[node], true) {
             continue;
         }
@@ -53,7 +56,7 @@ pub fn best_by_weights_listed(card: &Card, weights: &[u32], word: &[u8], most: u
     let mut best: Option<(u64, usize, Vec<Pair>)> = None;
     list(card, word, most, &mut |candidate, profile| {
         let found = (weight(weights, profile), candidate.len(), candidate.to_vec());
-        if best.as_ref().is_none_or(|old| found < *old) {
+        if best.as_ref().map_or(true, |old| found < *old) {
             best = Some(found);
         }
     });

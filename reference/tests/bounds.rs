@@ -55,7 +55,10 @@ fn chains_by_codes() {
     for (card, to, pairs) in [(chain_behind(), 1, 3_199), (chain_before(), -1, 24 * 128)] {
         let read = read_card(&card).unwrap();
         assert_eq!(read.states(), 128);
-        let [front, back] = &read.machines[..] else { panic!("two machines") };
+        let (front, back) = match &read.machines[..] {
+            [front, back] => (front, back),
+            _ => panic!("two machines"),
+        };
         let states = back.endings.len();
         for code in 0..128 {
             let step = |output| {
@@ -64,7 +67,7 @@ fn chains_by_codes() {
                 Some(front * states + back)
             };
             let reached: BTreeSet<usize> = (1..=read.symbols).filter_map(step).collect();
-            let next = code.checked_add_signed(to).filter(|&next| next < 128);
+            let next = usize::try_from(code as i64 + to).ok().filter(|&next| next < 128);
             assert_eq!(reached, next.into_iter().collect());
         }
         let word: Vec<u8> = [1, 2, 3].repeat(8);

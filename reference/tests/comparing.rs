@@ -39,7 +39,7 @@ fn conditions_and_comparison() {
                 assert_eq!(fits(&ranking, w, l), order != Greater);
                 // the machine that decided is in W where the first is better, in L where it is worse
                 assert_eq!(order == Equal, decided.is_none());
-                assert!(decided.is_none_or(|machine| (if order == Less { w } else { l }) >> machine & 1 == 1));
+                assert!(decided.map_or(true, |machine| (if order == Less { w } else { l }) >> machine & 1 == 1));
             }
         }
     }

@@ -23,6 +23,16 @@ fn the_cases() {
     }
 }
 
+/// The slowest cards that bench/slowest found, which are in no sample.
+#[test]
+fn the_slowest() {
+    for name in ["slowest", "slowest_other"] {
+        let place = repository().join("tests/data").join(name);
+        let text = run(&read(place.join("card.bin")).unwrap(), &read(place.join("stdin")).unwrap());
+        assert!(read(place.join("stdout")).unwrap() == text.as_bytes(), "{name}");
+    }
+}
+
 #[test]
 fn the_demo() {
     let mut cards = 0;
@@ -41,10 +51,16 @@ fn the_demo() {
 fn the_tableaux() {
     let mut met = std::collections::BTreeMap::new();
     for place in std::fs::read_dir(repository().join("demo")).unwrap().map(|entry| entry.unwrap().path()) {
-        let Ok(verdicts) = std::fs::read_to_string(place.join("tableaux/verdicts")) else { continue };
+        let verdicts = match std::fs::read_to_string(place.join("tableaux/verdicts")) {
+            Ok(verdicts) => verdicts,
+            Err(_) => continue,
+        };
         let card = read(place.join("card.bin")).unwrap();
         for line in verdicts.lines() {
-            let [file, ranking, word, verdict] = line.splitn(4, ' ').collect::<Vec<_>>()[..] else { panic!("{line}") };
+            let (file, ranking, word, verdict) = match line.splitn(4, ' ').collect::<Vec<_>>()[..] {
+                [file, ranking, word, verdict] => (file, ranking, word, verdict),
+                _ => panic!("{line}"),
+            };
             let tableau = read(place.join("tableaux").join(file)).unwrap();
             assert_eq!(say(&card, &format!("{ranking} {word}"), &tableau), verdict, "{} {file}", place.display());
             *met.entry(verdict.to_string()).or_insert(0) += 1;

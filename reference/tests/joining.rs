@@ -192,7 +192,10 @@ fn cards_by_chance() {
         let plain = random.one_of(&[low, high]);
         read.machines[plain].arcs.iter_mut().for_each(|arc| arc.marks = 0);
         read.machines[plain].endings.iter_mut().flatten().for_each(|marks| *marks = 0);
-        let Ok(new) = joining(&card(read.symbols, &read.machines), low as u8, high as u8) else { continue };
+        let new = match joining(&card(read.symbols, &read.machines), low as u8, high as u8) {
+            Ok(new) => new,
+            Err(_) => continue,
+        };
         let new = read_card(&new).expect("the new card is accepted");
         let pairs: Vec<(u8, u8)> = candidate.chunks(2).map(|pair| (pair[0], pair[1])).collect();
         let old_profile = profile(&read.machines, &pairs);

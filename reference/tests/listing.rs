@@ -50,7 +50,7 @@ fn rounds_and_listing_agree() {
         assert_eq!(found, best_by_culling(&card, &ranking, &word));
         if let Some(candidate) = found {
             answered += 1;
-            inserted_last += candidate.last().is_some_and(|pair| pair.0 == 0) as usize;
+            inserted_last += candidate.last().map_or(false, |pair| pair.0 == 0) as usize;
             longer += (candidate.len() > word.len()) as usize;
             deleted += candidate.iter().any(|pair| pair.1 == 0) as usize;
         }

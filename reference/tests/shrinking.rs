@@ -26,13 +26,19 @@ fn found_out(engine: impl Fn(&Call) -> Outcome) -> Call {
 fn choosing(choose: impl Fn(&Card, &[u8], &[u8]) -> Option<Vec<Pair>>) -> impl Fn(&Call) -> Outcome {
     move |call| {
         let right = reference(call);
-        let Call::Optimize { card, ranking, word, answer, .. } = call else { return right };
+        let (card, ranking, word, answer) = match call {
+            Call::Optimize { card, ranking, word, answer, .. } => (card, ranking, word, answer),
+            _ => return right,
+        };
         if !matches!(right.number, 0 | 10 | 12) {
             return right;
         }
         let read = read_card(card).unwrap();
         let refused = |number| Outcome { number, result: vec![0; 8], slice: answer.clone(), ..right.clone() };
-        let Some(candidate) = choose(&read, ranking, word) else { return refused(10) };
+        let candidate = match choose(&read, ranking, word) {
+            Some(candidate) => candidate,
+            None => return refused(10),
+        };
         let bytes: Vec<u8> = candidate.iter().flat_map(|&(input, output)| [input, output]).collect();
         if answer.len() < bytes.len() {
             return refused(12);
@@ -55,7 +61,10 @@ struct Sizes {
 }
 
 fn sizes(call: &Call) -> Sizes {
-    let Call::Optimize { card, word, work, answer, .. } = call else { panic!("a call of the optimizer") };
+    let (card, word, work, answer) = match call {
+        Call::Optimize { card, word, work, answer, .. } => (card, word, work, answer),
+        _ => panic!("a call of the optimizer"),
+    };
     let card = read_card(card).expect("a card that is accepted");
     assert_eq!(work.len(), 8 * (word.len() + 1) * card.states());
     Sizes {
@@ -259,7 +268,10 @@ fn work_not_kept() {
             Outcome { work_kept: !touched, ..right }
         }
     };
-    let Call::Optimize { word, work, .. } = found_out(engine(9)) else { panic!("a call of the optimizer") };
+    let (word, work) = match found_out(engine(9)) {
+        Call::Optimize { word, work, .. } => (word, work),
+        _ => panic!("a call of the optimizer"),
+    };
     assert_eq!((word.len(), work.len()), (0, 0));
     assert!(compare(&engine(10), 7, 1_000).is_ok());
 }
@@ -309,9 +321,12 @@ fn results_on_refusals() {
 fn clashes_of_no_pair() {
     let call = found_out(|call| {
         let right = reference(call);
-        let Call::ReadPart { card, .. } = call else { return right };
+        let card = match call {
+            Call::ReadPart { card, .. } => card,
+            _ => return right,
+        };
         let clash = right.number != 5
-            && read_card(card).is_ok_and(|card| {
+            && read_card(card).map_or(false, |card| {
                 card.machines.iter().any(|machine| {
                     let doubtful =
                         |state| machine.arcs.iter().filter(|arc| arc.from == state && arc.takes(0, 0)).count();
@@ -323,7 +338,10 @@ fn clashes_of_no_pair() {
         }
         right
     });
-    let Call::ReadPart { card, machine } = call else { panic!("a call that reads a part") };
+    let (card, machine) = match call {
+        Call::ReadPart { card, machine } => (card, machine),
+        _ => panic!("a call that reads a part"),
+    };
     // two arcs of one state, with 0:0 alone
     let arcs = [[0, 0, 0, 0, 1, 0, 0, 0, 0, 0, 0, 0, 1, 0, 0, 0, 0, 0, 0, 0]; 2].concat();
     assert_eq!((card, machine), ([&[1, 1, 6, 0, 43, 0, 1, 2, 0], &arcs[..]].concat(), 0));
@@ -334,7 +352,10 @@ fn clashes_of_no_pair() {
 fn the_order_of_the_checks() {
     let call = found_out(|call| {
         let right = reference(call);
-        let Call::Pack { lengths, parts, .. } = call else { return right };
+        let (lengths, parts) = match call {
+            Call::Pack { lengths, parts, .. } => (lengths, parts),
+            _ => return right,
+        };
         let mut starts = lengths.iter().scan(0, |sum, &length| {
             *sum += length as usize;
             Some(*sum - length as usize)
@@ -345,7 +366,10 @@ fn the_order_of_the_checks() {
             _ => right,
         }
     });
-    let Call::Pack { lengths, parts, target, .. } = call else { panic!("a call that packs") };
+    let (lengths, parts, target) = match call {
+        Call::Pack { lengths, parts, target, .. } => (lengths, parts, target),
+        _ => panic!("a call that packs"),
+    };
     assert!(lengths.len() <= 6 && parts.len() <= 20 && target.is_empty(), "{lengths:?} {parts:?}");
 }
 
@@ -356,20 +380,29 @@ fn packing() {
         Call::Pack { target, .. } => Outcome { slice: target.clone(), ..reference(call) },
         _ => reference(call),
     });
-    let Call::Pack { symbols, lengths, parts, target } = call else { panic!("a call that packs") };
+    let (symbols, lengths, parts, target) = match call {
+        Call::Pack { symbols, lengths, parts, target } => (symbols, lengths, parts, target),
+        _ => panic!("a call that packs"),
+    };
     assert_eq!((symbols, lengths, parts, target), (1, vec![3], vec![1, 0, 0], vec![0; 9]));
 
     // lengths added as numbers of 16 bits, which wrap
     let call = found_out(|call| {
         let right = reference(call);
-        let Call::Pack { lengths, parts, .. } = call else { return right };
+        let (lengths, parts) = match call {
+            Call::Pack { lengths, parts, .. } => (lengths, parts),
+            _ => return right,
+        };
         let sum = lengths.iter().fold(0u16, |sum, &length| sum.wrapping_add(length));
         match right.number {
             17 if sum as usize == parts.len() => Outcome { number: 3, ..right },
             _ => right,
         }
     });
-    let Call::Pack { lengths, parts, .. } = call else { panic!("a call that packs") };
+    let (lengths, parts) = match call {
+        Call::Pack { lengths, parts, .. } => (lengths, parts),
+        _ => panic!("a call that packs"),
+    };
     assert_eq!((lengths.iter().map(|&length| length as usize).sum::<usize>(), parts), (65_536, vec![]));
 }
 
@@ -384,7 +417,10 @@ fn evaluating_one_pair_more() {
             _ => right,
         }
     });
-    let Call::Evaluate { card, candidate } = call else { panic!("a call that evaluates") };
+    let (card, candidate) = match call {
+        Call::Evaluate { card, candidate } => (card, candidate),
+        _ => panic!("a call that evaluates"),
+    };
     assert_eq!((card.len(), candidate), (9, vec![0; 6_400]));
 }
 
@@ -405,7 +441,10 @@ fn comparing_and_finding() {
         }
         _ => reference(call),
     });
-    let Call::Compare { machines, ranking, first, second } = call else { panic!("a call that compares") };
+    let (machines, ranking, first, second) = match call {
+        Call::Compare { machines, ranking, first, second } => (machines, ranking, first, second),
+        _ => panic!("a call that compares"),
+    };
     assert_eq!((machines, ranking), (1, vec![0]));
     assert_eq!(first.iter().chain(&second).sum::<u16>(), 1);
 
@@ -420,7 +459,10 @@ fn comparing_and_finding() {
         }
         _ => reference(call),
     });
-    let Call::Compare { machines, ranking, .. } = call else { panic!("a call that compares") };
+    let (machines, ranking) = match call {
+        Call::Compare { machines, ranking, .. } => (machines, ranking),
+        _ => panic!("a call that compares"),
+    };
     assert_eq!((machines, ranking), (2, vec![1, 0]));
 
     // a finder that always gives 0, 1, 2
@@ -485,7 +527,10 @@ fn tableaux() {
     let wrong = |change: fn(&Tableau, &[bool]) -> Verdict| {
         move |call: &Call| {
             let right = reference(call);
-            let Call::Judge { tableau, .. } = call else { return right };
+            let tableau = match call {
+                Call::Judge { tableau, .. } => tableau,
+                _ => return right,
+            };
             if right.number != 0 {
                 return right;
             }
@@ -534,7 +579,10 @@ fn tableaux() {
     // row by row instead of check by check
     let call = found_out(|call| {
         let right = reference(call);
-        let Call::Judge { tableau, .. } = call else { return right };
+        let tableau = match call {
+            Call::Judge { tableau, .. } => tableau,
+            _ => return right,
+        };
         if right.number != 20 {
             return right;
         }
@@ -555,7 +603,10 @@ fn tableaux() {
 #[test]
 fn sets_of_symbols() {
     let call = found_out(|call| {
-        let Call::OptimizeSets { sets, .. } = call else { return reference(call) };
+        let sets = match call {
+            Call::OptimizeSets { sets, .. } => sets,
+            _ => return reference(call),
+        };
         let mut least = call.clone();
         if let Call::OptimizeSets { sets, .. } = &mut least {
             sets.iter_mut().for_each(|set| *set &= set.wrapping_neg());
@@ -567,7 +618,10 @@ fn sets_of_symbols() {
         }
         reference(&least)
     });
-    let Call::OptimizeSets { card, sets, .. } = &call else { panic!("a call with sets") };
+    let (card, sets) = match &call {
+        Call::OptimizeSets { card, sets, .. } => (card, sets),
+        _ => panic!("a call with sets"),
+    };
     let read = read_card(card).unwrap();
     assert_eq!((read.machines.len(), read.states(), sets.len()), (1, 1, 1));
     assert_eq!(sets[0].count_ones(), 2);
@@ -575,7 +629,10 @@ fn sets_of_symbols() {
 
 /// K, the row count and the records of a call on a list of rows.
 fn sizes_of_rows(call: &Call) -> (u8, usize, usize) {
-    let Call::Rows { machines, used, rows, .. } = call else { panic!("a call on a list of rows") };
+    let (machines, used, rows) = match call {
+        Call::Rows { machines, used, rows, .. } => (machines, used, rows),
+        _ => panic!("a call on a list of rows"),
+    };
     (*machines, *used, rows.len())
 }
 
@@ -584,7 +641,10 @@ fn sizes_of_rows(call: &Call) -> (u8, usize, usize) {
 fn sums_without_weights() {
     let call = found_out(|call| {
         let right = reference(call);
-        let Call::OptimizeWeights { weights, .. } = call else { return right };
+        let weights = match call {
+            Call::OptimizeWeights { weights, .. } => weights,
+            _ => return right,
+        };
         if !matches!(right.number, 0 | 12) {
             return right;
         }
@@ -600,7 +660,10 @@ fn sums_without_weights() {
         };
         Outcome { result, ..found }
     });
-    let Call::OptimizeWeights { card, weights, .. } = &call else { panic!("a call with weights") };
+    let (card, weights) = match &call {
+        Call::OptimizeWeights { card, weights, .. } => (card, weights),
+        _ => panic!("a call with weights"),
+    };
     let read = read_card(card).unwrap();
     assert!(read.machines.len() <= 2 && weights.iter().all(|&weight| weight <= 3), "{weights:?}");
 }
@@ -609,7 +672,10 @@ fn sums_without_weights() {
 fn making(make: impl Fn(&Machine, &Machine) -> Machine) -> impl Fn(&Call) -> Outcome {
     move |call| {
         let right = reference(call);
-        let Call::Join { card, first, second, target } = call else { return right };
+        let (card, first, second, target) = match call {
+            Call::Join { card, first, second, target } => (card, first, second, target),
+            _ => return right,
+        };
         if right.number != 0 {
             return right;
         }
@@ -636,7 +702,10 @@ fn arcs_by_the_second() {
         let arcs = turned.arcs.iter().map(|arc| Arc { from: place(arc.from), to: place(arc.to), ..arc.clone() });
         Machine { arcs: arcs.collect(), ..joined(lower, other) }
     }));
-    let Call::Join { card, .. } = call else { panic!("a call that joins") };
+    let card = match call {
+        Call::Join { card, .. } => card,
+        _ => panic!("a call that joins"),
+    };
     let machines = read_card(&card).unwrap().machines;
     assert!(machines.len() == 2 && machines.iter().all(|machine| machine.arcs.len() == 2), "{machines:?}");
 }
@@ -648,7 +717,10 @@ fn ending_marks_forgotten() {
         let plain = other.endings.iter().map(|ending| ending.map(|_| 0)).collect();
         joined(lower, &Machine { endings: plain, ..other.clone() })
     }));
-    let Call::Join { card, .. } = call else { panic!("a call that joins") };
+    let card = match call {
+        Call::Join { card, .. } => card,
+        _ => panic!("a call that joins"),
+    };
     let machines = read_card(&card).unwrap().machines;
     assert!(machines.len() == 2 && machines.iter().all(|machine| machine.arcs.is_empty()), "{machines:?}");
 }
@@ -666,7 +738,10 @@ fn the_limit_refused() {
         }
         _ => reference(call),
     });
-    let Call::OptimizeWeights { card, weights, .. } = &call else { panic!("a call with weights") };
+    let (card, weights) = match &call {
+        Call::OptimizeWeights { card, weights, .. } => (card, weights),
+        _ => panic!("a call with weights"),
+    };
     assert_eq!(read_card(card).unwrap().machines.len(), weights.len());
     assert!(weights.len() == 1 && weights[0] == HEAVIEST, "{weights:?}");
 }
@@ -736,7 +811,10 @@ fn live_tableaux() {
         }
         right
     });
-    let Call::Live { steps, .. } = call else { panic!("a live tableau") };
+    let steps = match call {
+        Call::Live { steps, .. } => steps,
+        _ => panic!("a live tableau"),
+    };
     assert!(steps.len() <= 3, "{steps:?}");
 }
 
@@ -745,7 +823,10 @@ fn live_tableaux() {
 fn ending_marks() {
     let call = found_out(|call| {
         let right = reference(call);
-        let Call::Evaluate { card, candidate } = call else { return right };
+        let (card, candidate) = match call {
+            Call::Evaluate { card, candidate } => (card, candidate),
+            _ => return right,
+        };
         if right.number != 0 {
             return right;
         }
@@ -770,7 +851,10 @@ fn ending_marks() {
 fn letting_through(lower: impl Fn(&mut [u8])) -> impl Fn(&Call) -> Outcome {
     move |call| {
         let right = reference(call);
-        let Some(card) = call.card().filter(|_| right.number == 4) else { return right };
+        let card = match call.card().filter(|_| right.number == 4) {
+            Some(card) => card,
+            None => return right,
+        };
         let mut lowered = card.to_vec();
         for place in card[2..2 + 4 * card[0] as usize].chunks(4) {
             let [offset, length] = [0, 2].map(|at| place[at] as usize | (place[at + 1] as usize) << 8);

@@ -61,7 +61,10 @@ fn trimmed_cards() {
             set([heard]) | if round % 2 == 0 { 0 } else { set([other]) }
         };
         let sets: Vec<u64> = (0..round % 5).map(|_| any_set()).collect();
-        let Some(answer) = answered(&bytes, &ranking, &sets) else { continue };
+        let answer = match answered(&bytes, &ranking, &sets) {
+            Some(answer) => answer,
+            None => continue,
+        };
         let mut unused = arcs(&read.machines, &answer.1, false);
         random.shuffle(&mut unused);
         for &arc in unused.iter().take(4) {

@@ -143,7 +143,10 @@ fn dominance() {
         let mut ranking: Vec<u8> = (0..read.machines.len() as u8).collect();
         random.shuffle(&mut ranking);
         let word: Vec<u8> = (0..random.below(4)).map(|_| random.between(1, read.symbols as usize) as u8).collect();
-        let Some(ranked) = best(&read, &ranking, &word) else { continue };
+        let ranked = match best(&read, &ranking, &word) {
+            Some(ranked) => ranked,
+            None => continue,
+        };
         let scale = random.between(2, 40) as u64;
         let mut weights = vec![0; read.machines.len()];
         let mut below = 0;

@@ -1,4 +1,4 @@
-// The board's program: run on card B, with the examples of document 01, refusals, and every kind of bad line.
+// The board's program. The gate runs it on card B, with the lines of its stdin; tests/run runs it on the cases of tests/board, tests/data and demo.
 fn main() {
     session::run();
 }

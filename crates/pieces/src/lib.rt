@@ -18,10 +18,11 @@ struct Printed {
     written: bool,
 }
 
-// Prints the answer to the next line: its text, which is left at the front of `out`.
+// Prints the answer to the next line: its text, which is left at the front of `out`. Where it was not written, nothing is promised
+// of the tally: so a caller that goes on after a write that failed cannot keep its own contract.
 fn print_answer(card: &[u8], line: &[u8], tally: Tally, out: &mut [u8]) -> Printed
     requires { ⌜ (25628 ≤ length (now out)) × Fits tally × (tally .past ≡ false) ⌝ }
-    ensures tally { λ r. ⌜ (r .tally ≡ lineTally (now (card .entry)) tally (now (line .entry))) × Fits (r .tally) ⌝ }
+    ensures tally { λ r. ⌜ (r .written ≡ true → r .tally ≡ lineTally (now (card .entry)) tally (now (line .entry))) × Fits (r .tally) ⌝ }
     ensures text { λ _. ⌜ now (out .exit) ≡ atFront (lineText (now (card .entry)) tally (now (line .entry))) (now (out .entry)) ⌝ }
 {
     let turn = lesson::answer_next(card, line, tally, out);

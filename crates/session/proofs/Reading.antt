@@ -1,5 +1,5 @@
 -- What is read piece by piece, and what is printed after it. Assumes nothing.
-use Rattle.basics.proofs.Words.{_≡_, refl, ap, sym, _∙_, Bool, true, false, not, Bool·not-not, List, [], _∷_, _++_, ℕ, _≤_, take, clash}
+use Rattle.basics.proofs.Words.{_≡_, refl, ap, sym, _∙_, Bool, true, false, List, [], _∷_, _++_, ℕ, _≤_, take, clash}
 use Rattle.lines.specs.Taking.{endedLines, heldAfter}
 use Rattle.lines.specs.LinesOfPieces.{ended-append}
 use Rattle.tally.specs.declared.Tally.{Tally}
@@ -36,10 +36,6 @@ reads-more {card} {held} {line} {piece = piece} {n = n} {t = t} r p a written =
         bytes = λ e q. a .bytes (written e) q ∙ ap (λ (k : List ℕ). heldAfter k piece) h ∙ sym (more .1);
       };
     }
-
--- a write that did not fail
-pub wrote : (w : Bool) → not w ≡ false → w ≡ true
-wrote w e = sym (Bool·not-not w) ∙ ap not e
 
 module _ (card : List ℕ) where
   -- a tally that is past the thousandth line is full

@@ -49,6 +49,10 @@ lessonOutput card lines = joined (printed card) (take 1000 lines) ++ pastLine (d
 abbrev pub output : List ℕ → List ℕ → List ℕ
 output card input = lessonOutput card (linesOf input)
 
+-- how many lines a tally counts
+abbrev pub countedLines : Tally → ℕ
+countedLines t = t .answered + t .refused
+
 -- what reading to the end leaves, from any tally and any bytes held. No contract can say which bytes are read, so it says that there
 -- are bytes that leave this
 pub record Reads (card held : List ℕ) (tally : Tally) (line : List ℕ) (n : ℕ) (after : Tally) (written : Bool) : Type 0 where

@@ -1,5 +1,5 @@
 -- A lesson's totals, for every list of lines; and that the output is the same however the input is cut into pieces.
-use Rattle.basics.proofs.Words.{_≡_, refl, ap, sym, _∙_, Bool, true, false, not, List, [], _∷_, _++_, map, append-assoc, append-nil, Option, some, none, ℕ, zero, suc, _+_, _<_, _≤_, arith, length, getD, take, drop, length-map, length-take, ext-getD, getD-take, add-zero, joined, those, numbersBelow, map-at, length-numbers, number-at}
+use Rattle.basics.proofs.Words.{_≡_, refl, ap, sym, _∙_, Bool, true, false, not, List, [], _∷_, _++_, map, append-assoc, append-nil, Option, some, none, ℕ, zero, suc, _+_, _<_, _≤_, arith, length, getD, take, drop, length-map, length-take, ext-getD, getD-take, add-zero, min, leb-true, leb-false, joined, those, numbersBelow, map-at, length-numbers, number-at}
 use Rattle.lines.specs.Parsing.{Request, parsedLine}
 use Rattle.writing.specs.Writing.{refusedLine, closingLines}
 use Rattle.lines.specs.Input.{linesOf, kept}
@@ -7,10 +7,10 @@ use Rattle.lines.specs.Taking.{endedLines, heldAfter, linesTaken}
 use Rattle.lines.specs.LinesOfPieces.{lines-of-pieces, kept-parsed}
 use Rattle.tally.specs.declared.Tally.{Tally}
 use Rattle.lesson.specs.Printed.{reply, printed}
-use Rattle.lesson.specs.Tally.{requestCounts, lineCounts, noLines, counted, isFull, pastText, lineTally, lineText, linesTally, linesText, shownMachines, closingText}
+use Rattle.lesson.specs.Tally.{requestCounts, lineCounts, noLines, counted, isFull, pastText, lineTally, lineText, linesTally, linesText, shownMachines, closingText, Fits}
 use Rattle.lesson.specs.TallyLaws.{added-length, added-at, counted-past, counted-lines, full-at, open-at, tally-full, tally-open, text-full, text-open, passed-tally, passed-text, tally-append, shown-few}
 use Rattle.pieces.specs.Pieces.{printedPieces}
-use Rattle.session.specs.Output.{isAnswered, answeredAmong, refusedAmong, countIn, totalOf, totals, closing, pastLine, lessonOutput, output, Reads, Finishes}
+use Rattle.session.specs.Output.{isAnswered, answeredAmong, refusedAmong, countIn, totalOf, totals, closing, pastLine, lessonOutput, output, countedLines, Reads, Finishes}
 
 -- the lines of a lesson counted one after another, with no end
 unfoldable pub tallied : List ℕ → Tally → List (List ℕ) → Tally
@@ -252,18 +252,24 @@ module _ (card : List ℕ) where
       ∙ output-of-pieces (f .read ∷ [])
       ∙ ap (output card) (append-nil (f .read))
 
-  -- whatever is read, no line is forgotten: at the end at least as many are counted as at the start
-  line-grows : (t : Tally) (l : List ℕ) → t .answered + t .refused ≤ lineTally card t l .answered + lineTally card t l .refused
-  line-grows t l = go (isFull t) refl
+  -- one line more, up to the thousandth
+  line-counted : (t : Tally) (l : List ℕ) → countedLines t ≤ 1000 → countedLines (lineTally card t l) ≡ min 1000 (countedLines t + 1)
+  unfolding isFull
+  line-counted t l few = go (isFull t) refl
     where
-      go : (b : Bool) → isFull t ≡ b → t .answered + t .refused ≤ lineTally card t l .answered + lineTally card t l .refused
-      go true f = omega (arith, ap (λ (u : Tally). u .answered + u .refused) (tally-full card t l f))
-      go false f = omega (arith, ap (λ (u : Tally). u .answered + u .refused) (tally-open card t l f), counted-lines t (lineCounts card l))
+      go : (b : Bool) → isFull t ≡ b → countedLines (lineTally card t l) ≡ min 1000 (countedLines t + 1)
+      go true f = ap countedLines (tally-full card t l f) ∙ omega (arith, leb-true 1000 (countedLines t) f)
+      go false f = ap countedLines (tally-open card t l f) ∙ counted-lines t (lineCounts card l) ∙ omega (arith, leb-false 1000 (countedLines t) f)
 
-  lines-grow : (t : Tally) (ls : List (List ℕ)) → t .answered + t .refused ≤ linesTally card t ls .answered + linesTally card t ls .refused
+  lines-counted : (t : Tally) (ls : List (List ℕ)) → countedLines t ≤ 1000 → countedLines (linesTally card t ls) ≡ min 1000 (countedLines t + length ls)
   unfolding linesTally
-  lines-grow t [] = omega arith
-  lines-grow t (l ∷ ls) = omega (arith, line-grows t l, lines-grow (lineTally card t l) ls)
+  lines-counted t [] few = omega arith
+  lines-counted t (l ∷ ls) few =
+      let one = line-counted t l few in
+      lines-counted (lineTally card t l) ls (omega (arith, one)) ∙ omega (arith, one)
 
-  pub none-forgotten : {held line : List ℕ} {n : ℕ} {t u : Tally} → Reads card held t line n u true → t .answered + t .refused ≤ u .answered + u .refused
-  none-forgotten {held} {t = t} r = omega (arith, ap (λ (v : Tally). v .answered + v .refused) (r .answers .lines-counted refl), lines-grow t (endedLines held (r .read)))
+  -- the theorem: whatever is read, no line is forgotten. In the end the lines counted are those counted at the start and those that end in
+  -- the bytes read, up to a thousand
+  pub none-forgotten : {held line : List ℕ} {n : ℕ} {t u : Tally} (r : Reads card held t line n u true) → Fits t
+      → countedLines u ≡ min 1000 (countedLines t + length (endedLines held (r .read)))
+  none-forgotten {held} {t = t} r fits = ap countedLines (r .answers .lines-counted refl) ∙ lines-counted t (endedLines held (r .read)) (fits .few)

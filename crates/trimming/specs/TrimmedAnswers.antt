@@ -24,7 +24,7 @@ module _ {card : List ℕ} {i j n pairs : ℕ} {work answer : List ℕ} (ok : ca
   work-enough = subst (λ (nodes : ℕ). 8 * nodes ≤ length work) (same-nodes (trimmed-lacks card i j ok has) n) (long .work-holds)
 
 -- a word that has an answer on a card, and an arc of the card that the answer's candidate does not travel
-module _ {card ranking word work workAfter answer answerAfter secondWork secondWorkAfter secondAnswer secondAfter : List ℕ} {r second : Evaluation} {i j : ℕ} (has : HasArc card i j) where
+module _ (ranking : List ℕ) {card word work workAfter answer answerAfter secondWork secondWorkAfter secondAnswer secondAfter : List ℕ} {r second : Evaluation} {i j : ℕ} (has : HasArc card i j) where
   pub trimmed-answer : Optimizes card ranking word work workAfter answer answerAfter r → r .number ≡ 0 → travels (machinesOf card) i j (answeredCandidate r answerAfter) ≡ false
       → Optimizes (cardWithout i j card) ranking word secondWork secondWorkAfter secondAnswer secondAfter second → LongEnough (cardWithout i j card) (length word) (r .pairs) secondWork secondAnswer
       → SameAnswer r answerAfter second secondAnswer secondAfter

@@ -7,9 +7,12 @@ use std::path::Path;
 
 fn main() -> std::io::Result<()> {
     let words: Vec<String> = std::env::args().skip(1).collect();
-    let [directory] = &words[..] else {
-        eprintln!("corpus DIRECTORY");
-        return Ok(());
+    let directory = match &words[..] {
+        [directory] => directory,
+        _ => {
+            eprintln!("corpus DIRECTORY");
+            return Ok(());
+        }
     };
     let (place, corpus) = (Path::new(directory), corpus());
     std::fs::create_dir_all(place.join("data"))?;

@@ -6,9 +6,12 @@ use reference::tableau::say;
 
 fn main() -> std::io::Result<()> {
     let words: Vec<String> = std::env::args().skip(1).collect();
-    let [ranking, word, file] = &words[..] else {
-        eprintln!("judge RANKING WORD FILE");
-        return Ok(());
+    let (ranking, word, file) = match &words[..] {
+        [ranking, word, file] => (ranking, word, file),
+        _ => {
+            eprintln!("judge RANKING WORD FILE");
+            return Ok(());
+        }
     };
     let card = std::fs::read("card.bin").unwrap_or_default();
     println!("{}", say(&card, &format!("{ranking} {word}"), &std::fs::read(file)?));

@@ -16,7 +16,7 @@ fn any_pair(random: &mut Random, card: &Card, states: &[usize]) -> Option<(u8, u
         let alone = random.percent(50).then(|| random.below(states.len()));
         let (mut inputs, mut outputs) = (u64::MAX, u64::MAX);
         for (place, (machine, &state)) in card.machines.iter().zip(states).enumerate() {
-            if alone.is_some_and(|alone| alone != place) {
+            if alone.map_or(false, |alone| alone != place) {
                 continue;
             }
             let arcs: Vec<_> = machine.arcs.iter().filter(|arc| arc.from == state).collect();
@@ -44,7 +44,10 @@ pub fn walk(random: &mut Random, card: &Card, pairs: usize) -> Vec<u8> {
     let mut states = vec![0; card.machines.len()];
     let mut candidate = Vec::new();
     for _ in 0..pairs {
-        let Some((input, output)) = any_pair(random, card, &states) else { break };
+        let (input, output) = match any_pair(random, card, &states) {
+            Some(pair) => pair,
+            None => break,
+        };
         for (machine, state) in card.machines.iter().zip(&mut states) {
             *state = machine.step(*state, input, output).expect("an arc that takes the pair").0;
         }

@@ -69,7 +69,10 @@ fn damage_a_field(random: &mut Random, symbols: u8, part: &mut [u8]) {
         }
         return;
     }
-    let Some(place) = any_arc(random, part) else { return };
+    let place = match any_arc(random, part) {
+        Some(place) => place,
+        None => return,
+    };
     let arc = &mut part[place..place + 20];
     match kind {
         1 => arc[FROM] = random.one_of(&[states, states.wrapping_add(1), 255]),
@@ -92,7 +95,10 @@ fn add_a_clash(random: &mut Random, symbols: u8, part: &mut Vec<u8>) {
     if part.len() < 2 || part[1] == 255 {
         return;
     }
-    let Some(place) = any_arc(random, part) else { return };
+    let place = match any_arc(random, part) {
+        Some(place) => place,
+        None => return,
+    };
     if random.percent(15) {
         // an arc that takes more than its kind let it
         part[place + KIND] = 0;

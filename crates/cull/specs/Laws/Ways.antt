@@ -1,27 +1,32 @@
 -- The ways of a card as paths of the graph that the engine searches: what has a cost is a way, the cost is its profile in ranked order and its pair
 -- count, and costs compared on the first k constraints are profiles compared by harmony under them.
-use Rattle.basics.proofs.Words.{_≡_, refl, sym, _∙_, ap, subst, Bool, true, false, List, [], _∷_, Option, some, none, Option·none-ne-some, _↔_, ℕ, zero, suc, _+_, _*_, _/_, _%_, _≤_, _<_, arith, length, getD, take, drop, getD-take, length-take-le, allOf, both, left, right, mod-lt, div-lt-iff-lt-mul, div-add-mod'}
+use Rattle.basics.proofs.Words.{_≡_, refl, sym, _∙_, ap, subst, Bool, true, false, _&&_, false≢true, List, [], _∷_, Option, some, none, Option·none-ne-some, _↔_, ℕ, zero, suc, _+_, _*_, _/_, _%_, _≤_, _<_, arith, length, getD, take, drop, getD-take, length-take-le, allOf, both, left, right, mod-lt, div-lt-iff-lt-mul, div-add-mod', every-at, each-below}
 use Rattle.machine.specs.declared.Pair.{Pair}
 use Rattle.machine.specs.Symbols.{isPair}
 use Rattle.card.specs.Card.{machinesOf, cardRefusal}
 use Rattle.ranking.specs.HarmonicInequality.{MoreHarmonic, better-means}
 use Rattle.candidate.specs.Candidates.{spelled, profileOf}
-use Rattle.paths.specs.Graph.{pathCost}
-use Rattle.paths.specs.Ranked.{Ranked, countAt}
+use Rattle.paths.specs.Graph.{Edge, Graph, pathCost, Run}
+use Rattle.paths.specs.Ranked.{Ranked, add, countAt, rankedCosts}
 use Rattle.paths.specs.ByRanking.{ranked, ranked-count}
 use Rattle.product.specs.Nodes.{product, codeOf, statesOf, nodeOf, stateCounts, nodeCount, positionAt, statesAt}
 use Rattle.product.specs.Sets.{fitsSets, IsCandidateOf}
-use Rattle.product.specs.ProductGraph.{cardStart}
+use Rattle.product.specs.ProductGraph.{Move, move, ending, pairs, pricedMove, pricedEnding, cardStart}
 use Rattle.product.specs.Prices.{byRanking}
 use Rattle.product.specs.Laws.Nodes.{Positive, Below, product-positive, states-below, position-of-node, states-of-node, node-below}
 use Rattle.product.specs.Laws.JointStep.{jointMarks, counts-positive, starts-below}
 use Rattle.product.specs.Laws.Candidates.{starts, complete-marks, marks-complete}
 use Rattle.product.specs.Laws.PathCost.{spells, costOf, path-cost-is}
+use Rattle.product.specs.Laws.Edges.{edge-of, ending-of}
 use Rattle.product.specs.Laws.Accepted.{accepted-machines}
 use Rattle.tables.specs.Places.{sixPlaces}
 use Rattle.tables.specs.Engine.{engineGraph}
 use Rattle.cull.specs.Laws.FirstPlaces.{LessOn}
-use Rattle.cull.specs.Ways.{WayFrom, betterOnFirst}
+use Rattle.cull.specs.Cull.{exact}
+use Rattle.cull.specs.Left.{left-edge, left-ending}
+use Rattle.cull.specs.FewestTold.{fewestIn}
+use Rattle.cull.specs.Culling.{leftBy}
+use Rattle.cull.specs.Ways.{WayFrom, betterOnFirst, isKept, isLeft}
 
 -- ---- the first k places of six are those of the ranking
 
@@ -42,7 +47,7 @@ place-of-six (a ∷ b ∷ c ∷ d ∷ e ∷ f ∷ r) (suc (suc (suc (suc (suc (s
 
 module _ (ranking : List ℕ) (few : length ranking ≤ 6) where
   -- the count at a place is that of the machine ranked there
-  count-ranked : (v : List ℕ) (n i : ℕ) → i < length ranking → countAt 6 i (ranked (sixPlaces ranking) v n) ≡ getD v (getD ranking i 0) 0
+  pub count-ranked : (v : List ℕ) (n i : ℕ) → i < length ranking → countAt 6 i (ranked (sixPlaces ranking) v n) ≡ getD v (getD ranking i 0) 0
   count-ranked v n i h = ranked-count (sixPlaces ranking) v n i (omega (arith, few)) ∙ ap (λ (m : ℕ). getD v m 0) (place-of-six ranking i (omega (arith, few)) h)
 
   module _ (k : ℕ) (within : k ≤ length ranking) (v w : List ℕ) (n m : ℕ) where
@@ -193,3 +198,61 @@ module _ (card : List ℕ) (ok : cardRefusal card ≡ 0) (sets : List ℕ) where
           is = record { word = spelled c; fits = sym fits-start ∙ h .spells; is = record { pairs = h .pairs; spells = refl; complete = m .complete } };
           profile = m .profile;
         }
+
+-- ---- what the slice tells of the ways left is what is left of the graph
+
+module _ (card ranking sets xs : List ℕ) (few : length ranking ≤ 6) (k : ℕ) (within : k ≤ length ranking) where
+  abbrev G : Graph (rankedCosts 6) pairs
+  G = engineGraph (machinesOf card) ranking sets
+
+  -- an arc or an ending is kept exactly when each stage keeps it by its cost
+  module _ (u : ℕ) (marks : List ℕ) (n : ℕ) (there : ℕ → Option ℕ) where
+    same-test : (i : ℕ) → i < k → exact (fewestIn xs i u) (countAt 6 i (ranked (sixPlaces ranking) marks n)) (there i) ≡ exact (fewestIn xs i u) (getD marks (getD ranking i 0) 0) (there i)
+    same-test i h = ap (λ (m : ℕ). exact (fewestIn xs i u) m (there i)) (count-ranked ranking few marks n i (omega (arith, within)))
+
+    kept-each : isKept ranking xs k u marks there ≡ true → (i : ℕ) → i < k → exact (fewestIn xs i u) (countAt 6 i (ranked (sixPlaces ranking) marks n)) (there i) ≡ true
+    kept-each h i l = same-test i l ∙ every-at (λ i. exact (fewestIn xs i u) (getD marks (getD ranking i 0) 0) (there i)) k h i l
+
+    each-kept : ((i : ℕ) → i < k → exact (fewestIn xs i u) (countAt 6 i (ranked (sixPlaces ranking) marks n)) (there i) ≡ true) → isKept ranking xs k u marks there ≡ true
+    each-kept h = each-below (λ i. exact (fewestIn xs i u) (getD marks (getD ranking i 0) 0) (there i)) k (λ i l. sym (same-test i l) ∙ h i l)
+
+  -- a way that is left is a run of what is left
+  pub left-run : (u : ℕ) (c : List Pair) → isLeft (machinesOf card) ranking sets xs k u c ≡ true → (x : Ranked 6) × Run (leftBy card ranking sets xs k) u c x
+  unfolding isLeft
+  left-run u [] h = go (ending sets (machinesOf card) u) refl h
+    where
+      go : (o : Option (List ℕ)) → ending sets (machinesOf card) u ≡ o → elim o [ none ↦ false | some marks ↦ isKept ranking xs k u marks (λ i. some 0) ] ≡ true → (x : Ranked 6) × Run (leftBy card ranking sets xs k) u [] x
+      go none e t = absurd (false≢true t)
+      go (some marks) e t = (
+        ranked (sixPlaces ranking) marks 0,
+        Run.halt (left-ending G (countAt 6) (fewestIn xs) k u (ranked (sixPlaces ranking) marks 0) .1 (ap (pricedEnding (byRanking (sixPlaces ranking)) sets (machinesOf card)) e, kept-each u marks 0 (λ i. some 0) t)),
+      )
+  left-run u (p ∷ c) h = go (move sets (machinesOf card) u p) refl h (λ v. left-run v c)
+    where
+      go : (o : Option Move) → move sets (machinesOf card) u p ≡ o
+          → elim o [ none ↦ false | some m ↦ isKept ranking xs k u (m .marks) (λ i. fewestIn xs i (m .target)) && isLeft (machinesOf card) ranking sets xs k (m .target) c ] ≡ true
+          → ((v : ℕ) → isLeft (machinesOf card) ranking sets xs k v c ≡ true → (x : Ranked 6) × Run (leftBy card ranking sets xs k) v c x) → (x : Ranked 6) × Run (leftBy card ranking sets xs k) u (p ∷ c) x
+      go none e t rec = absurd (false≢true t)
+      go (some m) e t rec =
+          let a = left (isKept ranking xs k u (m .marks) (λ i. fewestIn xs i (m .target))) (isLeft (machinesOf card) ranking sets xs k (m .target) c) t in
+          let b = right (isKept ranking xs k u (m .marks) (λ i. fewestIn xs i (m .target))) (isLeft (machinesOf card) ranking sets xs k (m .target) c) t in
+          let r = rec (m .target) b in
+          let d : Edge (Ranked 6) = record { target = m .target; cost = ranked (sixPlaces ranking) (m .marks) 1 } in
+          let q = left-edge G (countAt 6) (fewestIn xs) k u p d .1 (ap (pricedMove (byRanking (sixPlaces ranking)) sets (machinesOf card)) e, kept-each u (m .marks) 1 (λ i. fewestIn xs i (m .target)) a) in
+          (add 6 (d .cost) (r .0), Run.step d (r .0) q (r .1) refl)
+
+  -- and the other way
+  pub run-left : {u : ℕ} {c : List Pair} {x : Ranked 6} → Run (leftBy card ranking sets xs k) u c x → isLeft (machinesOf card) ranking sets xs k u c ≡ true
+  unfolding isLeft
+  run-left (Run.halt {u} {c = x} h) =
+      let a = left-ending G (countAt 6) (fewestIn xs) k u x .0 h in
+      let e = ending-of (byRanking (sixPlaces ranking)) sets (machinesOf card) u x (a .0) in
+      let t = each-kept u (e .marks) 0 (λ i. some 0) (λ i l. subst (λ (y : Ranked 6). exact (fewestIn xs i u) (countAt 6 i y) (some 0) ≡ true) (e .cost-is) (a .1 i l)) in
+      ap (λ (o : Option (List ℕ)). elim o [ none ↦ false | some marks ↦ isKept ranking xs k u marks (λ i. some 0) ]) (e .is) ∙ t
+  run-left (Run.step {u} {p} {ps = c} d y h r q) =
+      let a = left-edge G (countAt 6) (fewestIn xs) k u p d .0 h in
+      let e = edge-of (byRanking (sixPlaces ranking)) sets (machinesOf card) u p d (a .0) in
+      let m = e .by in
+      let t = each-kept u (m .marks) 1 (λ i. fewestIn xs i (m .target)) (λ i l. subst (λ (z : Edge (Ranked 6)). exact (fewestIn xs i u) (countAt 6 i (z .cost)) (fewestIn xs i (z .target)) ≡ true) (λ j. record { target = e .target-is j; cost = e .cost-is j }) (a .1 i l)) in
+      let s = subst (λ (v : ℕ). isLeft (machinesOf card) ranking sets xs k v c ≡ true) (e .target-is) (run-left r) in
+      ap (λ (o : Option Move). elim o [ none ↦ false | some m ↦ isKept ranking xs k u (m .marks) (λ i. fewestIn xs i (m .target)) && isLeft (machinesOf card) ranking sets xs k (m .target) c ]) (e .is) ∙ both t s

@@ -1,4 +1,4 @@
-use Rattle.basics.proofs.Words.{_≡_, refl, ap, sym, _∙_, true, false, [], _-_, _<_, _≤_, arith, take, drop, lit≤, length-take-le, take-at, needs, clash, left-fails}
+use Rattle.basics.proofs.Words.{_≡_, refl, ap, sym, _∙_, true, false, [], _-_, _<_, _≤_, arith, take, drop, lit≤, length-take-le, take-at, needs, clash, left-fails, right-fails, not-false}
 use Rattle.lines.specs.Taking.{endedLines, heldAfter}
 use Rattle.lines.proofs.Bounds.{next-bounds}
 use Rattle.tally.specs.declared.Tally.{Tally}
@@ -53,13 +53,13 @@ print-answer-requires c κs =
     let start : tie.Start Inv-loop μ-loop = search in
     let i = at-loop .loop .inv in (omega (arith, i .7, start .pre .4), i .4, i .5)
 
--- the lines from this one on give the tally
-counted-on : (c : tie.After-print-answer Inv-loop μ-loop) →
+-- the lines from this one on give the tally, where its answer was written
+counted-on : (c : tie.After-print-answer Inv-loop μ-loop) → c .print-answer .result .written ≡ true →
     let at-next = c .before .before .before .before .next in
     let entry = c .before .before .before .before .before .before .before .before .before .before .before .before .before .before .before in
     linesTally (entry .args .card .now) (c .print-answer .result .tally) (endedLines [] (drop (at-next .given .0 .1 .0) (entry .args .piece .now)))
     ≡ linesTally (entry .args .card .now) (entry .args .tally) (endedLines (take (entry .args .held) (entry .args .line .now)) (entry .args .piece .now))
-counted-on c =
+counted-on c wrote =
     let after-next : tie.After-next Inv-loop μ-loop = search in
     let k : tie.After-next-line Inv-loop μ-loop = search in
     let start : tie.Start Inv-loop μ-loop = search in
@@ -68,7 +68,7 @@ counted-on c =
     let e = sym (k .next-line .ensures .0) ∙ after-next .next .given .1 in
     let rest = endedLines [] (drop (after-next .next .given .0 .1 .0) (s .piece .now)) in
     let first = first-ended (l .line) (s .piece .now) (l .length) (l .at) (l .inv .1) _ _ e (k .next-line .ensures .1) in
-    ap (λ (u : Tally). linesTally (s .card .now) u rest) (c .print-answer .ensures .0 .0)
+    ap (λ (u : Tally). linesTally (s .card .now) u rest) (c .print-answer .ensures .0 .0 wrote)
     ∙ sym (tally-cons (s .card .now) (l .so-far) _ rest)
     ∙ ap (linesTally (s .card .now) (l .so-far)) (sym first)
     ∙ l .inv .6
@@ -100,9 +100,9 @@ returns c =
       fits = p .print-answer .ensures .0 .1;
       lines-counted = λ w.
           let rest = endedLines [] (drop (at-next .given .0 .1 .0) (entry .args .piece .now)) in
-          let e = p .print-answer .ensures .0 .0 in
+          let e = p .print-answer .ensures .0 .0 w in
           let none-more = nothing-after (entry .args .card .now) (l .so-far) _ rest (l .inv .5) (sym (ap (λ (u : Tally). u .past) e) ∙ past w) in
-          e ∙ sym none-more ∙ ap (λ (u : Tally). linesTally (entry .args .card .now) u rest) (sym e) ∙ counted-on p;
+          e ∙ sym none-more ∙ ap (λ (u : Tally). linesTally (entry .args .card .now) u rest) (sym e) ∙ counted-on p w;
       bytes = λ w q. absurd (clash (past w) q);
     }
 
@@ -125,7 +125,7 @@ loop-again c =
       held-ended (l .line) (start .args .piece .now) (l .length) (l .at) (l .inv .1) _ _ e ∙ l .inv .3,
       after-print-answer .print-answer .ensures .0 .1,
       left-fails _ _ (c .if1 .left),
-      counted-on after-print-answer,
+      counted-on after-print-answer (not-false _ (right-fails (after-print-answer .print-answer .result .tally .past) _ (c .if1 .left))),
       omega (arith, after-print-answer .print-answer .kept .1 .1 .1 .0, l .inv .7),
     )
 

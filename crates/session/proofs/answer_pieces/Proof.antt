@@ -1,6 +1,6 @@
-use Rattle.basics.proofs.Words.{_≡_, refl, true, false, not, arith, length, take, needs, left-fails, right-fails}
+use Rattle.basics.proofs.Words.{_≡_, refl, true, false, not, arith, length, take, needs, left-fails, right-fails, not-false}
 use Rattle.session.specs.Output.{Reads}
-use Rattle.session.proofs.Reading.{reads-none, reads-more, wrote}
+use Rattle.session.proofs.Reading.{reads-none, reads-more}
 use Rattle.session.proofs.answer_pieces.Statement.{statement}
 use Rattle.session.proofs.answer_pieces.Tie as tie
 
@@ -37,7 +37,7 @@ loop-again c =
     let at-loop : tie.At-loop Inv-loop μ-loop = search in
     let i = at-loop .loop .inv in
     let a = after-answer-piece .answer-piece in (
-      reads-more (i .0) (i .3) (a .ensures) (λ _. wrote (a .result .written) (right-fails (a .result .tally .past) (not (a .result .written)) (c .if2 .left))),
+      reads-more (i .0) (i .3) (a .ensures) (λ _. not-false (a .result .written) (right-fails (a .result .tally .past) (not (a .result .written)) (c .if2 .left))),
       search needs,
       search needs,
       left-fails _ _ (c .if2 .left),

@@ -1,6 +1,6 @@
-use Rattle.basics.proofs.Words.{sym, _∙_, [], zero-le, arith, length-take-le, needs}
+use Rattle.basics.proofs.Words.{sym, _∙_, [], zero-le, arith, length-take-le, needs, not-false}
 use Rattle.lesson.proofs.Replies.{front}
-use Rattle.session.proofs.Reading.{wrote, reads-full, reads-text}
+use Rattle.session.proofs.Reading.{reads-full, reads-text}
 use Rattle.session.proofs.answer_rest.Statement.{statement}
 use Rattle.session.proofs.answer_rest.Tie as tie
 
@@ -20,7 +20,7 @@ finish-requires c κs =
     let after-answer-pieces : tie.After-answer-pieces = search in
     let s : tie.Start = search in
     let k = after-answer-pieces .answer-pieces in
-    (omega (arith, k .kept .1 .1 .1 .1 .0, s .pre .4), k .ensures .answers .fits, reads-full (k .ensures) (wrote _ (c .before .before .if1 .left)) (s .pre .3))
+    (omega (arith, k .kept .1 .1 .1 .1 .0, s .pre .4), k .ensures .answers .fits, reads-full (k .ensures) (not-false _ (c .before .before .if1 .left)) (s .pre .3))
 
 returns-2 : tie.Need-returns-2
 returns-2 c =
@@ -32,7 +32,7 @@ returns-2 c =
     record {
       read = k .ensures .read;
       fits = f .fits;
-      text = λ h. front _ _ _ _ (f .size) (f .bytes) ∙ reads-text (k .ensures) (wrote _ (else1 .if1 .left)) (start .pre .3);
+      text = λ h. front _ _ _ _ (f .size) (f .bytes) ∙ reads-text (k .ensures) (not-false _ (else1 .if1 .left)) (start .pre .3);
     }
 
 pub answer-rest-spec : {M : Type 1} → statement M

@@ -1,1 +1,0 @@
-"""The desk's program: what its commands show, from what the engine answers."""
