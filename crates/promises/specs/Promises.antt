@@ -3,7 +3,7 @@
 --
 -- `f.statement M` is what Rattle makes of the contract of f in src/: for every input f returns, traps nowhere, reads and writes nothing but what it was lent,
 -- and meets its `ensures`. No public call has a `requires`. M is the logic's, and says nothing of the call.
-use Rattle.basics.specs.Words.{_≡_, true, false, List, List·Memᴰ, [], _∷_, _++_, map, some, none, _⊎_, _↔_, ℕ, suc, _+_, _*_, _-_, _<_, _≤_, max, length, getD, take, replicate, leb, ltb, allOf, pairwise, joined}
+use Rattle.basics.specs.Words.{_≡_, true, false, List, List·Memᴰ, [], _∷_, _++_, map, some, none, _⊎_, _↔_, ℕ, suc, _+_, _*_, _-_, _<_, _≤_, min, max, length, getD, take, replicate, leb, ltb, allOf, pairwise, joined}
 -- the contracts of the public calls
 use Rattle.ranking.proofs.harmony.compare.Statement as compare
 use Rattle.ranking.proofs.conditions.derive.Statement as derive
@@ -114,9 +114,9 @@ use Rattle.lines.specs.Parsing.{parsedLine}
 use Rattle.lines.specs.Input.{kept, linesOf}
 use Rattle.lines.specs.Taking.{endedLines, linesTaken}
 use Rattle.tally.specs.declared.Tally.{Tally}
-use Rattle.lesson.specs.Tally.{noLines, shownMachines, linesText}
+use Rattle.lesson.specs.Tally.{noLines, shownMachines, linesText, Fits}
 use Rattle.pieces.specs.Pieces.{printedPieces}
-use Rattle.session.specs.Output.{answeredAmong, refusedAmong, isAnswered, totals, totalOf, output, Reads, Finishes}
+use Rattle.session.specs.Output.{answeredAmong, refusedAmong, isAnswered, totals, totalOf, output, countedLines, Reads, Finishes}
 use Rattle.session.specs.Totals.{tallied, Counts}
 -- the cull
 use Rattle.product.specs.ProductGraph.{cardStart}
@@ -328,8 +328,9 @@ pub record Promises : Type 2 where
   -- a total is the sum of a machine's counts in the answered lines
   pub total-at : (card : List ℕ) (ls : List (List ℕ)) (i : ℕ) → i < shownMachines card → getD (totals card ls) i 0 ≡ totalOf card i (answeredAmong card ls)
   pub total-count : (card : List ℕ) (ls : List (List ℕ)) → length (totals card ls) ≡ shownMachines card
-  -- reading on never lowers the number of lines counted
-  pub none-forgotten : (card : List ℕ) {held line : List ℕ} {n : ℕ} {t u : Tally} → Reads card held t line n u true → t .answered + t .refused ≤ u .answered + u .refused
+  -- whatever is read, no line is forgotten: in the end the lines counted are those counted at the start and those that end in the bytes read, up to a thousand
+  pub none-forgotten : (card : List ℕ) {held line : List ℕ} {n : ℕ} {t u : Tally} (r : Reads card held t line n u true) → Fits t
+      → countedLines u ≡ min 1000 (countedLines t + length (endedLines held (r .read)))
   -- ---- S-7: Ellison's cull
 
   -- after each constraint the ways left from a node to an end are exactly those that no other way from there beats on the constraints gone down so far
@@ -337,7 +338,7 @@ pub record Promises : Type 2 where
       → LeavesUnbeaten card ranking sets ys (suc k)
   -- from the start node they are candidates
   pub candidates-left : {card ranking sets xs ys : List ℕ} {k : ℕ} (ok : cardRefusal card ≡ 0) (each : length ranking ≡ length (machinesOf card)) (h : k < length (machinesOf card)) (D : StageDone card ranking sets xs ys k)
-      (c : List Pair) → (isLeft card ranking sets ys (suc k) (cardStart card) c ≡ true) ↔ UnbeatenCandidate card ranking sets (suc k) c
+      (c : List Pair) → (isLeft (machinesOf card) ranking sets ys (suc k) (cardStart card) c ≡ true) ↔ UnbeatenCandidate card ranking sets (suc k) c
   -- for every input the two engines give the same result and the same answer slice
   pub two-engines : (card ranking : List ℕ) {word work work′ after after′ answer filled filled′ : List ℕ} {r r′ : Evaluation} (same-length : length work ≡ length work′)
       → Optimizes card ranking word work after answer filled r → Optimizes card ranking word work′ after′ answer filled′ r′ → (r ≡ r′) × (filled ≡ filled′)
