@@ -52,6 +52,7 @@ use Rattle.card.specs.OldArcs as card-arcs
 use Rattle.candidate.specs.ProfileMerge as profile-merge
 use Rattle.candidate.specs.OldCards as old-cards
 use Rattle.candidate.specs.OldArcs as old-arcs
+use Rattle.candidate.specs.BaseCards as base-cards
 use Rattle.candidate.specs.EmptyWord as empty-word
 use Rattle.product.specs.BestTheorem as best-theorem
 use Rattle.product.specs.SetsTheorem as sets-theorem
@@ -68,6 +69,7 @@ use Rattle.cull.specs.Survivors as survivors
 use Rattle.cull.specs.TwoEngines as engines
 use Rattle.trimming.specs.Acceptance as acceptance
 use Rattle.trimming.specs.Trimming as trimming
+use Rattle.trimming.specs.TrimmedAnswers as trimmed
 use Rattle.weights.specs.Demand3 as weighed
 use Rattle.weights.specs.CountsThatFit as weighed-counts
 use Rattle.weights.specs.WeightedBest as weighted-best
@@ -121,6 +123,7 @@ kept = record {
   two-calls-weights = weighed-calls.two-calls;
   profile-is-merge = profile-merge.profile-is-merge;
   not-complete-infinite = profile-merge.not-complete-infinite;
+  cost-counted = profile-merge.cost-counted;
   better-means = harmonic-inequality.better-means;
   worse-means = harmonic-inequality.worse-means;
   equal-means = harmonic-inequality.equal-means;
@@ -135,13 +138,15 @@ kept = record {
   merge-commutative = semiring.merge-commutative;
   zero-merge = semiring.zero-merge;
   merge-zero = semiring.merge-zero;
-  merge-six = semiring.merge-six;
+  zero-counted = semiring.zero-counted;
+  merge-counted = semiring.merge-counted;
   infinite-merge = semiring.infinite-merge;
   merge-infinite = semiring.merge-infinite;
   better-associative = semiring.better-associative;
   better-idempotent = semiring.better-idempotent;
   infinite-better = semiring.infinite-better;
   better-infinite = semiring.better-infinite;
+  better-counted = semiring.better-counted;
   better-commutative = semiring.better-commutative;
   distributes-left = semiring.distributes-left;
   distributes-right = semiring.distributes-right;
@@ -171,6 +176,8 @@ kept = record {
   part-with-old-arcs = machine-arcs.same-refusal;
   card-with-old-arcs = card-arcs.refused-as-before;
   takes-as-before = old-arcs.takes-as-before;
+  old-cards = base-cards.old-cards;
+  accepted-cards = base-cards.accepted-cards;
   demand-3 = demand3.demand-3;
   best-is-best-of-all = best-theorem.best-is-best-of-all;
   counts-that-fit = counts.counts-that-fit;
@@ -208,6 +215,8 @@ kept = record {
   one-symbol-each = sets-calls.one-symbol-each;
   trimmed-lacks = acceptance.trimmed-lacks;
   trimmed-accepted = acceptance.trimmed-accepted;
+  trimmed-answer = trimmed.trimmed-answer;
+  trimmed-answer-sets = trimmed.trimmed-answer-sets;
   same-answer = trimming.same-answer;
   same-answer-sets = trimming.same-answer-sets;
   travelled-changes = trimming.travelled-changes;

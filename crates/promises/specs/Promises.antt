@@ -3,7 +3,7 @@
 --
 -- `f.statement M` is what Rattle makes of the contract of f in src/: for every input f returns, traps nowhere, reads and writes nothing but what it was lent,
 -- and meets its `ensures`. No public call has a `requires`. M is the logic's, and says nothing of the call.
-use Rattle.basics.specs.Words.{_≡_, true, false, List, List·Memᴰ, [], _∷_, _++_, map, some, none, _⊎_, _↔_, ℕ, suc, _+_, _*_, _-_, _<_, _≤_, max, length, getD, take, replicate, leb, ltb, allOf, pairwise, joined}
+use Rattle.basics.specs.Words.{_≡_, true, false, List, List·Memᴰ, [], _∷_, _++_, map, some, none, _⊎_, _↔_, ℕ, suc, _+_, _*_, _-_, _<_, _≤_, min, max, length, getD, take, replicate, leb, ltb, allOf, pairwise, joined}
 -- the contracts of the public calls
 use Rattle.ranking.proofs.harmony.compare.Statement as compare
 use Rattle.ranking.proofs.conditions.derive.Statement as derive
@@ -56,11 +56,11 @@ use Rattle.ranking.specs.Harmony.{better, worse, harmony}
 use Rattle.ranking.specs.HarmonicInequality.{Agree, ExactlyOne, MoreHarmonic, opposite}
 use Rattle.ranking.specs.DecidingMachine.{DecidedMeans}
 use Rattle.ranking.specs.Conditions.{conditionOf, fits}
-use Rattle.ranking.specs.Violations.{Violations, finite, infinite, noViolations, mergeCosts, betterCost, AgreeOnFirst, OfSix}
+use Rattle.ranking.specs.Violations.{Violations, finite, infinite, OfCounts, noViolations, mergeCosts, betterCost}
 use Rattle.finder.specs.Finder.{conditionsOf, finding, smallest, soundList}
 use Rattle.finder.specs.FinderTheorems.{SmallestFitting}
 -- machines, cards, candidates
-use Rattle.refusals.specs.Refusals.{firstOf, refuse}
+use Rattle.refusals.specs.Refusals.{firstOf}
 use Rattle.machine.specs.declared.Pair.{Pair}
 use Rattle.machine.specs.declared.Arc.{Arc}
 use Rattle.machine.specs.Symbols.{isPair}
@@ -69,28 +69,30 @@ use Rattle.machine.specs.Part.{arcsOf, machineOf, partRefusal}
 use Rattle.machine.specs.Steps.{StepBounds}
 use Rattle.machine.specs.OldStates.{oldStates, oldMachineOf, oldEndingOf, oldPartRefusal}
 use Rattle.machine.specs.OldArcs.{oldArc, oldArcs, takesBySets, stepBySets, refusalBySets}
-use Rattle.layout.specs.Layout.{Bytes, laidOut}
+use Rattle.layout.specs.Layout.{Bytes}
 use Rattle.card.specs.declared.Packed.{Packed}
-use Rattle.card.specs.Layout.{counted, machineCount, symbolCount, partsOf}
-use Rattle.card.specs.Card.{machinesOf, cardRefusal, fewStates}
+use Rattle.card.specs.Layout.{machineCount, partsOf}
+use Rattle.card.specs.Card.{machinesOf, cardRefusal}
 use Rattle.card.specs.Packing.{packed, packingRefusal}
 use Rattle.card.specs.RoundTrip.{ReadsBack, PacksBack}
 use Rattle.card.specs.OldStates.{oldMachinesOf, oldCardRefusal}
+use Rattle.card.specs.OldArcs.{cardRefusalBySets}
+use Rattle.card.specs.BaseCards.{baseCardRefusal, baseCard}
 use Rattle.candidate.specs.declared.Evaluation.{Evaluation}
 use Rattle.candidate.specs.Candidates.{spelled, isComplete, profileOf, IsCandidate}
 use Rattle.candidate.specs.Evaluating.{evaluating, refused}
 use Rattle.candidate.specs.ProfileMerge.{atStart, costOfPairs}
 use Rattle.candidate.specs.OldCards.{MeansAsBefore}
 use Rattle.candidate.specs.OldArcs.{TakesAsBefore}
+use Rattle.candidate.specs.BaseCards.{AsInBase}
 use Rattle.candidate.specs.EmptyWord.{inserts, startIsFinal}
 -- the best
 use Rattle.product.specs.Nodes.{nodeCount}
 use Rattle.product.specs.Best.{Contender, harmonic, best}
-use Rattle.product.specs.Sets.{fitsSets, singletons, bestOfSets}
+use Rattle.product.specs.Sets.{are64Bits, fitsSets, singletons, bestOfSets}
 use Rattle.product.specs.BestCandidate.{IsBestCandidate, IsBestOfSets}
 use Rattle.product.specs.BestTheorem.{BestOfAll}
 use Rattle.product.specs.SetsTheorem.{BestOfAllWords}
-use Rattle.product.specs.Laws.BestOfSets.{are64Bits}
 use Rattle.product.specs.Optimizing.{inputRefusal}
 use Rattle.product.specs.OptimizingSets.{setsInputRefusal}
 use Rattle.optimizer.specs.Optimizes.{Optimizes, OptimizesSets}
@@ -112,23 +114,20 @@ use Rattle.lines.specs.Parsing.{parsedLine}
 use Rattle.lines.specs.Input.{kept, linesOf}
 use Rattle.lines.specs.Taking.{endedLines, linesTaken}
 use Rattle.tally.specs.declared.Tally.{Tally}
-use Rattle.lesson.specs.Tally.{noLines, shownMachines, linesText}
+use Rattle.lesson.specs.Tally.{noLines, shownMachines, linesText, Fits}
 use Rattle.pieces.specs.Pieces.{printedPieces}
-use Rattle.session.specs.Output.{answeredAmong, refusedAmong, isAnswered, totals, totalOf, output, Reads, Finishes}
+use Rattle.session.specs.Output.{answeredAmong, refusedAmong, isAnswered, totals, totalOf, output, countedLines, Reads, Finishes}
 use Rattle.session.specs.Totals.{tallied, Counts}
 -- the cull
-use Rattle.paths.specs.Ranked.{Ranked, countAt}
-use Rattle.paths.specs.Graph.{pathCost}
-use Rattle.product.specs.Sets.{IsCandidateOf}
 use Rattle.product.specs.ProductGraph.{cardStart}
-use Rattle.tables.specs.Engine.{engineGraph}
-use Rattle.cull.specs.Cull.{Unbeaten}
-use Rattle.cull.specs.Culling.{StageDone, leftBy}
-use Rattle.cull.specs.Survivors.{rankedProfile, UnbeatenCandidate}
+use Rattle.cull.specs.Culling.{StageDone}
+use Rattle.cull.specs.Ways.{isLeft, LeavesUnbeaten}
+use Rattle.cull.specs.Survivors.{UnbeatenCandidate}
 -- cards that lack an arc
 use Rattle.trimming.specs.Travelling.{travels}
 use Rattle.trimming.specs.Trimmed.{HasArc, LacksArc, cardWithout}
 use Rattle.trimming.specs.Answering.{answeredCandidate, SameAnswer}
+use Rattle.trimming.specs.TrimmedAnswers.{LongEnough}
 -- weights
 use Rattle.product.specs.Weights.{soundWeights, weightedSum, bySum, bestByWeights}
 use Rattle.product.specs.Dominance.{Outweighs}
@@ -207,6 +206,8 @@ pub record Promises : Type 2 where
   -- a candidate's profile is the merge of its pairs' marks and its ending's; of one that is not complete the cost is infinite
   pub profile-is-merge : (ms : List Machine) (c : List Pair) → isComplete ms c ≡ true → costOfPairs (atStart ms) c ≡ finite (profileOf ms c)
   pub not-complete-infinite : (ms : List Machine) (c : List Pair) → isComplete ms c ≡ false → costOfPairs (atStart ms) c ≡ infinite
+  -- it is in the semiring of as many counts as there are machines
+  pub cost-counted : (ms : List Machine) (c : List Pair) → OfCounts (length ms) (costOfPairs (atStart ms) c)
   -- the smaller count at the highest ranked machine where they differ
   pub better-means : (r v w : List ℕ) → (better r v w ≡ true) ↔ MoreHarmonic r v w
   pub worse-means : (r v w : List ℕ) → (worse r v w ≡ true) ↔ MoreHarmonic r w v
@@ -224,17 +225,19 @@ pub record Promises : Type 2 where
   -- the violation semiring: merging is a commutative monoid with the zero profile, and the infinite cost annihilates
   pub merge-associative : (a b c : Violations) → mergeCosts (mergeCosts a b) c ≡ mergeCosts a (mergeCosts b c)
   pub merge-commutative : (a b : Violations) → mergeCosts a b ≡ mergeCosts b a
-  pub zero-merge : (a : Violations) → OfSix a → mergeCosts noViolations a ≡ a
-  pub merge-zero : (a : Violations) → OfSix a → mergeCosts a noViolations ≡ a
-  pub merge-six : (a b : Violations) → OfSix a → OfSix b → OfSix (mergeCosts a b)
+  pub zero-merge : (K : ℕ) (few : K ≤ 6) (a : Violations) → OfCounts K a → mergeCosts (noViolations K) a ≡ a
+  pub merge-zero : (K : ℕ) (few : K ≤ 6) (a : Violations) → OfCounts K a → mergeCosts a (noViolations K) ≡ a
+  pub zero-counted : (K : ℕ) (few : K ≤ 6) → OfCounts K (noViolations K)
+  pub merge-counted : (K : ℕ) (a b : Violations) → OfCounts K a → OfCounts K b → OfCounts K (mergeCosts a b)
   pub infinite-merge : (a : Violations) → mergeCosts infinite a ≡ infinite
   pub merge-infinite : (a : Violations) → mergeCosts a infinite ≡ infinite
-  -- the better of two is an idempotent monoid with the infinite cost, commutative on the first K places
+  -- the better of two is an idempotent monoid with the infinite cost, commutative under a ranking of K machines
   pub better-associative : (r : List ℕ) (a b c : Violations) → betterCost r (betterCost r a b) c ≡ betterCost r a (betterCost r b c)
   pub better-idempotent : (r : List ℕ) (a : Violations) → betterCost r a a ≡ a
   pub infinite-better : (r : List ℕ) (a : Violations) → betterCost r infinite a ≡ a
   pub better-infinite : (r : List ℕ) (a : Violations) → betterCost r a infinite ≡ a
-  pub better-commutative : (K : ℕ) (r : List ℕ) → isRanking K r ≡ true → (a b : Violations) → AgreeOnFirst K (betterCost r a b) (betterCost r b a)
+  pub better-counted : (K : ℕ) (r : List ℕ) (a b : Violations) → OfCounts K a → OfCounts K b → OfCounts K (betterCost r a b)
+  pub better-commutative : (K : ℕ) (r : List ℕ) → isRanking K r ≡ true → (a b : Violations) → OfCounts K a → OfCounts K b → betterCost r a b ≡ betterCost r b a
   -- merging distributes over it
   pub distributes-left : (r : List ℕ) (a b c : Violations) → mergeCosts a (betterCost r b c) ≡ betterCost r (mergeCosts a b) (mergeCosts a c)
   pub distributes-right : (r : List ℕ) (a b c : Violations) → mergeCosts (betterCost r b c) a ≡ betterCost r (mergeCosts b a) (mergeCosts c a)
@@ -269,14 +272,16 @@ pub record Promises : Type 2 where
   -- S-10: kind 1 takes only pairs with in equal to out, kind 2 only those with in unlike out, so the two do not clash
   pub takes-same : (a : Arc) (p : Pair) (t : takes a p ≡ true) → a .kind ≡ 1 → (isPair p ≡ true) × (p .input ≡ p .output)
   pub takes-different : (a : Arc) (p : Pair) (t : takes a p ≡ true) → a .kind ≡ 2 → p .input ≡ p .output → ⊥
-  pub same-and-different : (a b : Arc) → a .kind ≡ 1 → b .kind ≡ 2 → clash a b ≡ false
+  pub same-and-different : (a b : Arc) → a .kind ≡ 1 → b .kind ≡ 2 → (clash a b ≡ false) × (clash b a ≡ false)
   -- cards whose arcs are all of kind 0 are refused as before and mean what they meant
   pub same-takes : (a : Arc) (p : Pair) → oldArc a ≡ true → takes a p ≡ takesBySets a p
   pub same-steps : (arcs : List Arc) → allOf oldArc arcs ≡ true → (s : ℕ) (p : Pair) → stepAmong arcs s p ≡ stepBySets arcs s p
   pub part-with-old-arcs : (S : ℕ) (part : List ℕ) → oldArcs part ≡ true → partRefusal S part ≡ refusalBySets S part
-  pub card-with-old-arcs : (card : List ℕ) → allOf oldArcs (partsOf card) ≡ true
-      → cardRefusal card ≡ firstOf (refuse 1 (counted card) ∷ refuse 2 (laidOut (machineCount card) card) ∷ firstOf (map (refusalBySets (symbolCount card)) (partsOf card)) ∷ refuse 6 (fewStates (partsOf card)) ∷ [])
+  pub card-with-old-arcs : (card : List ℕ) → allOf oldArcs (partsOf card) ≡ true → cardRefusal card ≡ cardRefusalBySets card
   pub takes-as-before : (card : List ℕ) → allOf oldArcs (partsOf card) ≡ true → (c : List Pair) → TakesAsBefore (machinesOf card) c
+  -- S-5 and S-10: a card from before both means what the base meant, by the base's own reading, and so does every card that the base accepted
+  pub old-cards : (card : List ℕ) → baseCard card → AsInBase card
+  pub accepted-cards : (card : List ℕ) → baseCardRefusal card ≡ 0 → AsInBase card
   -- ---- Demand 3: the best, or none
 
   -- of what either engine answers: its number is 0, 10 or 12; 10 exactly when no list of pairs, however long, is a candidate, otherwise there is a best;
@@ -323,16 +328,17 @@ pub record Promises : Type 2 where
   -- a total is the sum of a machine's counts in the answered lines
   pub total-at : (card : List ℕ) (ls : List (List ℕ)) (i : ℕ) → i < shownMachines card → getD (totals card ls) i 0 ≡ totalOf card i (answeredAmong card ls)
   pub total-count : (card : List ℕ) (ls : List (List ℕ)) → length (totals card ls) ≡ shownMachines card
-  -- reading on never lowers the number of lines counted
-  pub none-forgotten : (card : List ℕ) {held line : List ℕ} {n : ℕ} {t u : Tally} → Reads card held t line n u true → t .answered + t .refused ≤ u .answered + u .refused
+  -- whatever is read, no line is forgotten: in the end the lines counted are those counted at the start and those that end in the bytes read, up to a thousand
+  pub none-forgotten : (card : List ℕ) {held line : List ℕ} {n : ℕ} {t u : Tally} (r : Reads card held t line n u true) → Fits t
+      → countedLines u ≡ min 1000 (countedLines t + length (endedLines held (r .read)))
   -- ---- S-7: Ellison's cull
 
   -- after each constraint the ways left from a node to an end are exactly those that no other way from there beats on the constraints gone down so far
-  pub ways-left : {card ranking sets xs ys : List ℕ} {k : ℕ} (D : StageDone card ranking sets xs ys k) (u : ℕ) (ps : List Pair) (c : Ranked 6)
-      → (pathCost (leftBy card ranking sets ys (suc k)) u ps ≡ some c) ↔ ((pathCost (engineGraph (machinesOf card) ranking sets) u ps ≡ some c) × Unbeaten (engineGraph (machinesOf card) ranking sets) (countAt 6) (suc k) u c)
+  pub ways-left : {card ranking sets xs ys : List ℕ} {k : ℕ} (ok : cardRefusal card ≡ 0) (each : length ranking ≡ length (machinesOf card)) (h : k < length (machinesOf card)) (D : StageDone card ranking sets xs ys k)
+      → LeavesUnbeaten card ranking sets ys (suc k)
   -- from the start node they are candidates
-  pub candidates-left : {card ranking sets xs ys : List ℕ} {k : ℕ} → cardRefusal card ≡ 0 → StageDone card ranking sets xs ys k → (c : List Pair)
-      → (pathCost (leftBy card ranking sets ys (suc k)) (cardStart card) c ≡ some (rankedProfile card ranking c)) ↔ (IsCandidateOf (machinesOf card) sets c × UnbeatenCandidate card ranking sets (suc k) c)
+  pub candidates-left : {card ranking sets xs ys : List ℕ} {k : ℕ} (ok : cardRefusal card ≡ 0) (each : length ranking ≡ length (machinesOf card)) (h : k < length (machinesOf card)) (D : StageDone card ranking sets xs ys k)
+      (c : List Pair) → (isLeft (machinesOf card) ranking sets ys (suc k) (cardStart card) c ≡ true) ↔ UnbeatenCandidate card ranking sets (suc k) c
   -- for every input the two engines give the same result and the same answer slice
   pub two-engines : (card ranking : List ℕ) {word work work′ after after′ answer filled filled′ : List ℕ} {r r′ : Evaluation} (same-length : length work ≡ length work′)
       → Optimizes card ranking word work after answer filled r → Optimizes card ranking word work′ after′ answer filled′ r′ → (r ≡ r′) × (filled ≡ filled′)
@@ -365,7 +371,16 @@ pub record Promises : Type 2 where
   -- there is a card that lacks the arc, and it is accepted
   pub trimmed-lacks : (card : List ℕ) (i j : ℕ) (ok : cardRefusal card ≡ 0) (has : HasArc card i j) → LacksArc card i j (cardWithout i j card)
   pub trimmed-accepted : (card : List ℕ) (i j : ℕ) (ok : cardRefusal card ≡ 0) (has : HasArc card i j) → cardRefusal (cardWithout i j card) ≡ 0
-  -- every accepted card that lacks the arc gives the same answer, slices being long enough, where the answer's candidate does not travel the arc
+  -- it gives the word the same answer and profile, slices being long enough, where the answer's candidate does not travel the arc
+  pub trimmed-answer : {card ranking word work workAfter answer answerAfter secondWork secondWorkAfter secondAnswer secondAfter : List ℕ} {r second : Evaluation} {i j : ℕ} (has : HasArc card i j)
+      → Optimizes card ranking word work workAfter answer answerAfter r → r .number ≡ 0 → travels (machinesOf card) i j (answeredCandidate r answerAfter) ≡ false
+      → Optimizes (cardWithout i j card) ranking word secondWork secondWorkAfter secondAnswer secondAfter second → LongEnough (cardWithout i j card) (length word) (r .pairs) secondWork secondAnswer
+      → SameAnswer r answerAfter second secondAnswer secondAfter
+  pub trimmed-answer-sets : {card ranking sets work workAfter answer answerAfter secondWork secondWorkAfter secondAnswer secondAfter : List ℕ} {r second : Evaluation} {i j : ℕ} (has : HasArc card i j)
+      → OptimizesSets card ranking sets work workAfter answer answerAfter r → r .number ≡ 0 → travels (machinesOf card) i j (answeredCandidate r answerAfter) ≡ false
+      → OptimizesSets (cardWithout i j card) ranking sets secondWork secondWorkAfter secondAnswer secondAfter second → LongEnough (cardWithout i j card) (length sets) (r .pairs) secondWork secondAnswer
+      → SameAnswer r answerAfter second secondAnswer secondAfter
+  -- so does every accepted card that lacks the arc
   pub same-answer : (ranking : List ℕ) {card trimmed word work workAfter answer answerAfter secondWork secondWorkAfter secondAnswer secondAfter : List ℕ} {r second : Evaluation} {i j : ℕ} (lacks : LacksArc card i j trimmed)
       (first : Optimizes card ranking word work workAfter answer answerAfter r) (answered : r .number ≡ 0) (call : Optimizes trimmed ranking word secondWork secondWorkAfter secondAnswer secondAfter second)
       → travels (machinesOf card) i j (answeredCandidate r answerAfter) ≡ false → cardRefusal trimmed ≡ 0 → 8 * nodeCount (machinesOf card) (length word) ≤ length secondWork → 2 * r .pairs ≤ length secondAnswer
