@@ -249,7 +249,7 @@ int main(int argc, char **argv) {
   state = strtoull(argv[2], NULL, 10) * 2 + 1;
   uint64_t tries = strtoull(argv[3], NULL, 10);
   int count = 0;
-  for (size_t row = 0; row < row_count(); row++) {
+  for (size_t row = 0; row < all_row_count(); row++) {
     uint64_t most = 0;
     for (size_t i = 0; i < row_cases(row) && count < SEEDS; i++) {
       unpack(&seeds[count], row_case(row, i));

@@ -20,8 +20,14 @@ fn all() -> &'static [(CString, Row)] {
     ROWS.with(|rows| *rows)
 }
 
+/// The rows that bench/run measures: all but the last, which has ending marks, and OpenFst's side knows none.
 #[no_mangle]
 pub extern "C" fn row_count() -> usize {
+    all().len() - 1
+}
+
+#[no_mangle]
+pub extern "C" fn all_row_count() -> usize {
     all().len()
 }
 
