@@ -21,9 +21,9 @@ int main(int argc, char **argv) {
   FILE *file = argc > 1 ? fopen(argv[1], "wb") : NULL;
   size_t count = 0;
   if (!file) return 2;
-  for (size_t row = 0; row < row_count(); row++) count += row_cases(row);
+  for (size_t row = 0; row < all_row_count(); row++) count += row_cases(row);
   write_number(file, count);
-  for (size_t row = 0; row < row_count(); row++) {
+  for (size_t row = 0; row < all_row_count(); row++) {
     for (size_t i = 0; i < row_cases(row); i++) {
       struct Case asked = row_case(row, i);
       size_t length = asked.card.length + asked.ranking.length + asked.word.length;

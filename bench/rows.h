@@ -22,7 +22,8 @@ struct Case {
   struct Bytes word;
 };
 
-size_t row_count(void);
+size_t row_count(void);     // those of bench/run
+size_t all_row_count(void); // with 'slowest found', behind them
 const char *row_name(size_t row);
 size_t row_cases(size_t row);
 struct Case row_case(size_t row, size_t number);

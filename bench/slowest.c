@@ -1,5 +1,5 @@
-// Looks for the card, ranking and word for which pastaspur_optimize takes the most instructions: starts from the cards of all rows and of
-// tests/data, changes arcs, marks, endings, sets, words and rankings, and keeps what takes more. The archive that it is linked with
+// Looks for the card, ranking and word for which pastaspur_optimize takes the most instructions: starts from the cards of all rows,
+// changes arcs, marks, endings, sets, words and rankings, and keeps what takes more. The archive that it is linked with
 // counts its instructions in the register mm7 (bench/slowest). The same seed and number of tries find the same cards.
 
 #include "pastaspur.h"
@@ -30,7 +30,7 @@ typedef struct {
   uint8_t ranking[MACHINES], word[WORD];
   Machine machine[MACHINES];
   uint64_t count; // instructions of its call
-} Case_;
+} Trial;
 
 static uint64_t state;
 static uint32_t below(uint32_t limit) {
@@ -52,7 +52,7 @@ static uint64_t get64(const uint8_t *from) {
   return number;
 }
 
-static size_t pack(const Case_ *c) {
+static size_t pack(const Trial *c) {
   size_t at = 2 + 4 * (size_t)c->machines;
   bytes[0] = (uint8_t)c->machines, bytes[1] = (uint8_t)c->symbols;
   for (int m = 0; m < c->machines; m++) {
@@ -73,7 +73,7 @@ static size_t pack(const Case_ *c) {
   return at;
 }
 
-static void unpack(Case_ *c, struct Case given) {
+static void unpack(Trial *c, struct Case given) {
   const uint8_t *card = given.card.start;
   memset(c, 0, sizeof *c);
   c->machines = card[0], c->symbols = card[1], c->length = (int)given.word.length;
@@ -92,7 +92,7 @@ static void unpack(Case_ *c, struct Case given) {
 }
 
 // The instructions of a call, 0 where the card or the word is refused. A word without a candidate is accepted: the class waits for that too.
-static uint64_t measure(const Case_ *c) {
+static uint64_t measure(const Trial *c) {
   size_t length = pack(c);
   uint64_t count;
   __asm__ volatile("pxor %%mm7, %%mm7" ::: "memory");
@@ -111,14 +111,14 @@ static uint8_t one_of(uint64_t set) {
   return count ? listed[below(count)] : 0;
 }
 
-static int joint_states(const Case_ *c) {
+static int joint_states(const Trial *c) {
   int product = 1;
   for (int m = 0; m < c->machines; m++) product *= c->machine[m].states;
   return product;
 }
 
 // One change. Some make arcs clash, and the call refuses them.
-static void change(Case_ *c, const Case_ *other) {
+static void change(Trial *c, const Trial *other) {
   Machine *machine = &c->machine[below((uint32_t)c->machines)];
   uint64_t symbols = ((uint64_t)2 << c->symbols) - 1;
   Arc *arc = machine->arcs ? &machine->arc[below((uint32_t)machine->arcs)] : NULL;
@@ -200,9 +200,9 @@ static void change(Case_ *c, const Case_ *other) {
   }
 }
 
-static Case_ islands[ISLANDS][KEPT], seeds[SEEDS], tried;
+static Trial islands[ISLANDS][KEPT], seeds[SEEDS], tried;
 
-static int worst_of(const Case_ *kept) {
+static int worst_of(const Trial *kept) {
   int worst = 0;
   for (int i = 1; i < KEPT; i++) {
     if (kept[i].count < kept[worst].count) worst = i;
@@ -210,7 +210,7 @@ static int worst_of(const Case_ *kept) {
   return worst;
 }
 
-static int best_of(const Case_ *kept) {
+static int best_of(const Trial *kept) {
   int found = 0;
   for (int i = 1; i < KEPT; i++) {
     if (kept[i].count > kept[found].count) found = i;
@@ -219,7 +219,7 @@ static int best_of(const Case_ *kept) {
 }
 
 // Keeps a case in the place of the least one; no two with one count.
-static void keep(Case_ *kept, const Case_ *c) {
+static void keep(Trial *kept, const Trial *c) {
   int worst = worst_of(kept);
   for (int i = 0; i < KEPT; i++) {
     if (kept[i].count == c->count) return;
@@ -227,7 +227,7 @@ static void keep(Case_ *kept, const Case_ *c) {
   if (c->count > kept[worst].count) kept[worst] = *c;
 }
 
-static void write_case(const char *folder, int number, const Case_ *c) {
+static void write_case(const char *folder, int number, const Trial *c) {
   char name[300];
   snprintf(name, sizeof name, "%s/%d", folder, number);
   mkdir(name, 0777);
@@ -249,7 +249,7 @@ int main(int argc, char **argv) {
   state = strtoull(argv[2], NULL, 10) * 2 + 1;
   uint64_t tries = strtoull(argv[3], NULL, 10);
   int count = 0;
-  for (size_t row = 0; row < row_count(); row++) {
+  for (size_t row = 0; row < all_row_count(); row++) {
     uint64_t most = 0;
     for (size_t i = 0; i < row_cases(row) && count < SEEDS; i++) {
       unpack(&seeds[count], row_case(row, i));
@@ -263,13 +263,13 @@ int main(int argc, char **argv) {
     for (int i = island; i < count; i += ISLANDS > 3 && island >= 3 ? 1 : ISLANDS) keep(islands[island], &seeds[i]);
   }
   for (uint64_t turn = 0; turn < tries; turn++) {
-    Case_ *kept = islands[turn % ISLANDS];
+    Trial *kept = islands[turn % ISLANDS];
     if (turn % MOVING == MOVING - 1) keep(islands[below(ISLANDS)], &kept[best_of(kept)]);
-    const Case_ *parent = &kept[below(4) ? below(KEPT) : (uint32_t)best_of(kept)];
+    const Trial *parent = &kept[below(4) ? below(KEPT) : (uint32_t)best_of(kept)];
     if (parent->count == 0) continue;
     tried = *parent;
     uint32_t changes = 1 + (below(2) ? 0 : below(6));
-    const Case_ *other = below(2) ? &seeds[below((uint32_t)count)] : &islands[below(ISLANDS)][below(KEPT)];
+    const Trial *other = below(2) ? &seeds[below((uint32_t)count)] : &islands[below(ISLANDS)][below(KEPT)];
     while (changes--) change(&tried, other);
     tried.count = measure(&tried);
     if (tried.count) keep(kept, &tried);
@@ -282,7 +282,7 @@ int main(int argc, char **argv) {
     }
   }
   for (int i = 0; i < ISLANDS; i++) {
-    const Case_ *found = &islands[i][best_of(islands[i])];
+    const Trial *found = &islands[i][best_of(islands[i])];
     write_case(folder, i, found);
     printf("%s/%d: %llu\n", folder, i, (unsigned long long)found->count);
   }

@@ -4,6 +4,7 @@ import concurrent.futures
 import pathlib
 import re
 import socket
+import struct
 import subprocess
 import sys
 import tempfile
@@ -91,6 +92,19 @@ def try_pulled(name, elf):
     return [] if shown == (place / "stdout").read_bytes() else [f"{name}: with the card pulled out after the first answer it shows {shown!r}"]
 
 
+def try_call():
+    """A firmware with `pastaspur_optimize` fits into 32 KB of ROM and 128 KB of RAM, work and answer slices in it, on the Cortex-M3: else it does not
+    link. It answers the first line of demo/tag: accepted, four pairs."""
+    elf, sizes = boards.build("arm", common.LIBRARY, [ROOT / "bench" / "on_board.c"], ram=128 * boards.KB, label="calls")
+    print(f"arm, pastaspur_optimize alone: {boards.memory(sizes)}")
+    card, ranking, word = (ROOT / "demo" / "tag" / "card.bin").read_bytes(), bytes([0, 1, 2]), bytes([1, 2, 3])
+    with tempfile.NamedTemporaryFile() as slot:
+        slot.write(struct.pack("<4I", 1, len(card), len(ranking), len(word)) + card + ranking + word)
+        slot.flush()
+        status, shown = boards.run("arm", elf, None, b"", ("-device", f"loader,addr={boards.BOARDS['arm'].slot:#x},file={slot.name},force-raw=on"))
+    return [] if status == 0 and shown.startswith(b"0 4 ") and sizes.rom_bytes == 32 * boards.KB else [f"arm, pastaspur_optimize alone: status {status}, {shown!r}"]
+
+
 def main():
     for name in boards.BOARDS:
         boards.emulator(name)
@@ -98,7 +112,7 @@ def main():
     for name, (_, sizes) in built.items():
         print(f"{name}: {boards.memory(sizes)}")
     failed, slow = 0, []
-    for wrong in [*(try_small(name) for name in boards.MEASURED), *(try_pulled(name, elf) for name, (elf, _) in built.items())]:
+    for wrong in [try_call(), *(try_small(name) for name in boards.MEASURED), *(try_pulled(name, elf) for name, (elf, _) in built.items())]:
         for line in wrong:
             failed += 1
             print(line)
