@@ -1,7 +1,6 @@
 /** The words' tableaux under the ranking. */
 import { FormEvent, useState } from "react";
-import { Row } from "../analysis/tableau";
-import { MOST_STARS } from "../analysis/tableau";
+import { MOST_STARS, Row } from "../analysis/tableau";
 import { Word } from "../engine/results";
 import { keyOf, same } from "../model/card";
 import { formText, pairsText, readCandidate, readWord, wordText } from "../model/notation";
@@ -105,13 +104,13 @@ function WordTableau({ tableau: { word, rows } }: { tableau: WordRows }) {
           </tbody>
         </table>
       </div>
-      <AddCandidate word={word} />
+      <AddCandidate word={word} example={pairsText(card, rows[0]!.candidate)} />
     </section>
   );
 }
 
 /** Another candidate for a word, as pairs. */
-function AddCandidate({ word }: { word: Word }) {
+function AddCandidate({ word, example }: { word: Word; example: string }) {
   const desk = useDesk();
   const [text, setText] = useState("");
   const shown = wordText(desk.card, word);
@@ -128,7 +127,7 @@ function AddCandidate({ word }: { word: Word }) {
   };
   return (
     <form className="add" onSubmit={(event) => void add(event)}>
-      <input aria-label={`Another candidate for ${shown}`} placeholder="another candidate: t:t a:a g:0" value={text} onChange={(event) => setText(event.target.value)} />
+      <input aria-label={`Another candidate for ${shown}`} placeholder={`another: ${example}`} value={text} onChange={(event) => setText(event.target.value)} />
       <button type="submit">Add</button> <RemoveWord word={word} />
     </form>
   );
