@@ -2,13 +2,13 @@
  * What the page asks of its worker: each is a task over the engine and plain values. A new question is a line here; the page asks it
  * by `desk.ask` where it takes a blink, by `desk.askLong` where it may take longer.
  */
-import { ask, askAll, contenders } from "./analysis/asking";
+import { askAll, contenders } from "./analysis/asking";
 import { refusal, whereRefused } from "./analysis/diagnosis";
 import { hear } from "./analysis/hearing";
 import { join } from "./analysis/joining";
 import { judge } from "./analysis/judging";
 import { findRanking } from "./analysis/ranking";
-import { candidatesOf, evaluated, Evaluated, Row, rowsUnder } from "./analysis/tableau";
+import { evaluated, Evaluated, Tableau, tableauWith, withForm } from "./analysis/tableau";
 import { Task } from "./analysis/task";
 import { trim } from "./analysis/trimming";
 import { typologyOf, Typology } from "./analysis/typology";
@@ -20,12 +20,6 @@ import { Best, Candidate, Profile, Ranking, SymbolSet, Word } from "./engine/res
 import { BadInput } from "./model/badInput";
 import { Card, ClaimedRow, listedFor, machinesOf, numbered, tableauBytes } from "./model/card";
 import { Mistake, readCardText } from "./model/cardText";
-
-/** A word's rows under a ranking; none where the word has no candidate. */
-export interface WordRows {
-  readonly word: Word;
-  readonly rows: readonly Row[];
-}
 
 /** Every form that some ranking makes the best, for each word, and the typology. */
 export interface Study {
@@ -59,19 +53,17 @@ export const tasks = {
       return numbered(title, card, machinesOf(engine, card));
     }),
 
-  /** Words' rows under a ranking: the best, what is known to be best under some ranking, the author's, and those that a person typed. */
+  /** Words' tableaux under a ranking: the best, what ties with it, what is known to be best under some ranking, the author's, and those that a person typed. */
   tableaux: function* (
     engine: Engine,
     card: Card,
     ranking: Ranking,
     asked: readonly { word: Word; contenders: readonly Best[]; typed: readonly Candidate[] }[],
-  ): Task<WordRows[]> {
-    const words: WordRows[] = [];
+  ): Task<Tableau[]> {
+    const words: Tableau[] = [];
     for (const { word, contenders: known, typed } of asked) {
       yield { done: words.length, of: asked.length, what: "tableaux" };
-      const best = ask(engine, card, ranking, word);
-      const rows = best === null ? [] : candidatesOf(engine, card, known, word, [...listedFor(card, word), ...typed]);
-      words.push({ word, rows: best === null ? [] : rowsUnder(engine, card, ranking, best, rows) });
+      words.push(yield* tableauWith(engine, card, ranking, word, known, [...listedFor(card, word), ...typed]));
     }
     return words;
   },
@@ -85,6 +77,9 @@ export const tasks = {
   /** The counts of candidates for a word. */
   evaluate: (engine: Engine, card: Card, word: Word, candidates: readonly Candidate[]): Task<Evaluated[]> =>
     at(() => candidates.map((candidate) => ({ candidate, counts: evaluated(engine, card, word, candidate) as Profile }))),
+
+  /** The best candidate for a word with a form. */
+  align: (engine: Engine, card: Card, ranking: Ranking, word: Word, form: Word): Task<Evaluated> => at(() => withForm(engine, card, ranking, word, form)),
 
   findRanking,
   weigh,

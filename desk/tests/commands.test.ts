@@ -70,7 +70,7 @@ test("tableau: JSON as laid down", async () => {
     '{"ranking": "012", "word": "2", "rows": [' +
       '{"candidate": "2:0", "counts": [0, 0, 1], "winner": true, "decided": null}, ' +
       '{"candidate": "0:1 2:2", "counts": [0, 1, 0], "winner": false, "decided": 1}, ' +
-      '{"candidate": "2:2", "counts": [1, 0, 0], "winner": false, "decided": 0}]}\n',
+      '{"candidate": "2:2", "counts": [1, 0, 0], "winner": false, "decided": 0}], "ties": [], "cut": false, "endless": false}\n',
   );
 });
 
@@ -78,7 +78,7 @@ test("tableau: a tie is said; the empty word; no candidate", async () => {
   includes(await text(["tableau", demo("tag"), "012", "t a g", "t:t a:a g:0 0:."]), "g:0 0:.  (ties with the answer)");
   const { rows } = await json<{ rows: { candidate: string }[] }>(["tableau", demo("affix"), "012", ""]);
   assert.deepEqual(rows.map(({ candidate }) => candidate), ["0:1 0:2", "0:2"]);
-  assert.deepEqual(await json(["tableau", demo("alqalamu"), "ONS FILL", "l q a"], 1), { ranking: "01", word: "2,3,1", rows: [] });
+  assert.deepEqual(await json(["tableau", demo("alqalamu"), "ONS FILL", "l q a"], 1), { ranking: "01", word: "2,3,1", rows: [], ties: [], cut: false, endless: false });
   includes(await text(["tableau", demo("alqalamu"), "01", "2,3,1"], 1), "no complete candidate");
 });
 

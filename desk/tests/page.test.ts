@@ -11,6 +11,7 @@ import { setOf } from "../src/model/machine";
 import { formText, pairsText } from "../src/model/notation";
 import { Browser, wait } from "./browser";
 import { CARDS, DEMO, engine, load, PAGE, text } from "./running";
+import { YOKUTS } from "./yokuts";
 
 const ADDRESS = `file://${PAGE}`;
 const WINNER = "document.querySelector('tr.best th.row bdi').textContent";
@@ -191,6 +192,19 @@ describe("the page", () => {
     await browser.until("document.querySelectorAll('.word-tableau').length === 2 && document.querySelector('.typology')");
     await browser.evaluate("document.querySelector('[aria-label=\"Leave /tag/ out\"]').click()");
     await browser.until("document.querySelectorAll('.word-tableau').length === 1");
+    clean();
+  });
+
+  test("every form that ties has a hand, and says with what", async () => {
+    writeFileSync(join(folder, "yokuts.txt"), YOKUTS);
+    await open(`${await own(join(folder, "yokuts.txt"))}#021`);
+    await holds("[...document.querySelectorAll('tr.best bdi, tr.tie bdi')].map((each) => each.textContent)", ["VCiCCV", "V:V C:C 0:i C:C C:C V:V", "VCCiCV", "V:V C:C C:C 0:i C:C V:V", "VCiCCV"]);
+    await holds("[...document.querySelectorAll('tbody .hand')].map((each) => each.getAttribute('aria-label'))", ["best: ", "ties with the best: "]);
+    await holds("document.querySelector('tr.tie .pairs b').textContent", " ties with VCiCCV");
+    await holds("document.querySelector('.left-out')", null);
+    writeFileSync(join(folder, "loop.txt"), "symbols a b\nmachine m\n  states one\n  final one\n  arc one -> one  a : a\n  arc one -> one  0 : b\nline m / a\n");
+    await open(await own(join(folder, "loop.txt")));
+    await browser.until("document.querySelector('.left-out')?.textContent.includes('endlessly many')");
     clean();
   });
 

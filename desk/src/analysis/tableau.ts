@@ -3,11 +3,14 @@ import { Engine } from "../engine/engine";
 import { Refused, Refusal, unless } from "../engine/refusals";
 import { Best, Candidate, Profile, Ranking, Word } from "../engine/results";
 import { BadInput, quoted } from "../model/badInput";
-import { Card, countsOf, keyOf, same, spelledBy } from "../model/card";
-import { colons, commas, digits, pairsText, wordText } from "../model/notation";
+import { Card, countsOf, formOf, keyOf, same, spelledBy } from "../model/card";
+import { colons, commas, digits, pairsText, spelled, wordText } from "../model/notation";
+import { aligned, FORM } from "./aligning";
 import { ask, askAll, contenders } from "./asking";
 import { stoppedAt } from "./completeness";
+import { Product } from "./product";
 import { Task } from "./task";
+import { NO_TIES, Ties, tiesOf } from "./ties";
 
 /** A count above it is shown as a number. */
 export const MOST_STARS = 9;
@@ -18,13 +21,16 @@ export interface Row {
   readonly counts: Profile;
   readonly winner: boolean;
   readonly decided: number | null;
+  /** Whether it is another form with the answer's profile. */
+  readonly tie: boolean;
 }
 
-/** A word's rows under a ranking: the answer first, and none where the word has no candidate. */
+/** A word's rows under a ranking: the answer first, then what ties with it, and none where the word has no candidate. */
 export interface Tableau {
   readonly ranking: Ranking;
   readonly word: Word;
   readonly rows: readonly Row[];
+  readonly ties: Ties;
 }
 
 /** A candidate with its counts. */
@@ -74,25 +80,46 @@ export function checkRanking(engine: Engine, card: Card, ranking: Ranking): void
   }
 }
 
-/** The rows of some candidates under a ranking, the answer before the others. */
-export function rowsUnder(engine: Engine, card: Card, ranking: Ranking, best: Evaluated, rows: readonly Evaluated[]): Row[] {
-  const winner = (row: Evaluated) => same(row.candidate, best.candidate);
-  return [best, ...rows.filter((row) => !winner(row))].map((row) => ({
-    candidate: row.candidate,
-    counts: row.counts,
-    winner: winner(row),
-    decided: decidedBy(engine, card, ranking, row.counts, best.counts),
-  }));
+/** The rows of some candidates under a ranking: the answer, what ties with it, the others. */
+function rowsUnder(engine: Engine, card: Card, ranking: Ranking, best: Evaluated, ties: Ties, others: readonly Evaluated[]): Row[] {
+  const rows = new Map([best, ...ties.rows, ...others].map((row) => [keyOf(row.candidate), row]));
+  return [...rows.values()].map((row) => {
+    const winner = row.candidate === best.candidate || same(row.candidate, best.candidate);
+    const decided = decidedBy(engine, card, ranking, row.counts, best.counts);
+    const tie = decided === null && !same(formOf(row.candidate), formOf(best.candidate));
+    return { candidate: row.candidate, counts: row.counts, winner, decided, tie };
+  });
+}
+
+/** The tableau of a word: the answer, what ties with it, what is known to be best under some ranking, and candidates that are named. */
+export function* tableauWith(
+  engine: Engine,
+  card: Card,
+  ranking: Ranking,
+  word: Word,
+  known: readonly Best[],
+  named: readonly Candidate[],
+): Task<Tableau> {
+  const best = ask(engine, card, ranking, word);
+  if (best === null) return { ranking, word, rows: [], ties: NO_TIES };
+  const ties = yield* tiesOf(engine, card, ranking, word, best);
+  return { ranking, word, rows: rowsUnder(engine, card, ranking, best, ties, candidatesOf(engine, card, known, word, named)), ties };
 }
 
 /** The tableau of a word, with every candidate that some ranking makes the best, and those that are named. */
 export function* tableauOf(engine: Engine, card: Card, ranking: Ranking, word: Word, named: readonly Candidate[]): Task<Tableau> {
   checkRanking(engine, card, ranking);
   const asked = yield* askAll(engine, card, [word]);
-  const best = ask(engine, card, ranking, word);
-  if (best === null) return { ranking, word, rows: [] };
-  const rows = candidatesOf(engine, card, contenders(asked, 0), word, named);
-  return { ranking, word, rows: rowsUnder(engine, card, ranking, best, rows) };
+  return yield* tableauWith(engine, card, ranking, word, contenders(asked, 0), named);
+}
+
+/** The best candidate under a ranking with a form that a person typed, with its counts by the engine. */
+export function withForm(engine: Engine, card: Card, ranking: Ranking, word: Word, form: Word): Evaluated {
+  checkRanking(engine, card, ranking);
+  if (form.length > FORM) throw new BadInput(`a form of ${form.length} symbols, more than ${FORM}: give it as pairs`);
+  const candidate = aligned(new Product(card, ranking), word, form);
+  if (!candidate) throw new BadInput(`form ${spelled(card, form)}: the machines take no candidate for ${wordText(card, word)} with this form`);
+  return { candidate, counts: evaluated(engine, card, word, candidate) };
 }
 
 /** A count as stars, with ! after the first one that the best does not have, where it decides. */
@@ -101,11 +128,14 @@ export function marks(count: number, fatal: boolean, least: number): string {
   return fatal ? `${"*".repeat(least + 1)}!${"*".repeat(count - least - 1)}` : "*".repeat(count);
 }
 
-export function tableauJson(card: Card, { ranking, word, rows }: Tableau): object {
+export function tableauJson(card: Card, { ranking, word, rows, ties }: Tableau): object {
   return {
     ranking: digits(ranking),
     word: commas(word),
     rows: rows.map(({ candidate, counts, winner, decided }) => ({ candidate: colons(candidate), counts: countsOf(card, counts), winner, decided })),
+    ties: rows.filter(({ tie }) => tie).map(({ candidate }) => colons(candidate)),
+    cut: ties.cut,
+    endless: ties.endless,
   };
 }
 

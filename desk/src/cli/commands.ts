@@ -8,6 +8,7 @@ import { judge, readRows } from "../analysis/judging";
 import { findRanking, rankingJson, Wanted } from "../analysis/ranking";
 import { askAll } from "../analysis/asking";
 import { marks, Tableau, tableauJson, tableauOf } from "../analysis/tableau";
+import { tiesLeftOut } from "../analysis/ties";
 import { arcText, PROMISE, trim } from "../analysis/trimming";
 import { typologyJson, typologyOf } from "../analysis/typology";
 import { decimal, readWeights, weigh } from "../analysis/weighing";
@@ -80,7 +81,7 @@ export async function tableau(engine: Engine, card: Card, asked: Asked): Promise
   return made.rows.length ? 0 : 1;
 }
 
-function tableauInWords(card: Card, { ranking, word, rows }: Tableau): string {
+function tableauInWords(card: Card, { ranking, word, rows, ties }: Tableau): string {
   const head = `${wordText(card, word)}  ${rankingText(card, ranking)}`;
   if (!rows.length) return `${head}\n\nno complete candidate: no ranking gives this word a form`;
   const best = rows[0]!.counts;
@@ -91,11 +92,12 @@ function tableauInWords(card: Card, { ranking, word, rows }: Tableau): string {
       return fatal ? painted(text, "red") : text;
     });
     const form = formText(card, row.candidate);
-    const note = row.decided === null && !row.winner ? "  (ties with the answer)" : "";
-    const shown = row.winner ? [painted(HAND, "bold"), painted(form, "bold")] : ["", form];
+    const note = row.tie ? `  ties with ${formText(card, rows[0]!.candidate)}` : row.decided === null && !row.winner ? "  (ties with the answer)" : "";
+    const shown = row.winner || row.tie ? [painted(HAND, "bold"), painted(form, "bold")] : ["", form];
     return [...shown, ...cells, pairsText(card, row.candidate) + note];
   });
-  return `${head}\n\n${table([["", "", ...ranking.map((machine) => card.machines[machine]!.name), ""], ...lines])}`;
+  const more = tiesLeftOut(ties);
+  return `${head}\n\n${table([["", "", ...ranking.map((machine) => card.machines[machine]!.name), ""], ...lines])}${more ? `\n\nnot all ties are listed: ${more}` : ""}`;
 }
 
 /** The words that are named, the card's own where none is. */

@@ -6,7 +6,8 @@ import { Card, keyOf, wordsOf } from "../model/card";
 import { cardText } from "../model/cardText";
 import { digits, formText, wordText } from "../model/notation";
 import { workText } from "../model/work";
-import { Answered, Given, Study, TaskName, WordRows } from "../tasks";
+import { Tableau } from "../analysis/tableau";
+import { Answered, Given, Study, TaskName } from "../tasks";
 import { Lane, Stopped } from "./client";
 import { Desk, DeskProvider, Typed } from "./desk";
 import { openFile, Opened, save } from "./files";
@@ -38,7 +39,7 @@ function linked(card: Card): Ranking | null {
 
 export function App({ examples, quick, long }: { examples: readonly Example[]; quick: Lane; long: Lane }) {
   const [held, setHeld] = useState<Held | null>(null);
-  const [tableaux, setTableaux] = useState<readonly WordRows[] | null>(null);
+  const [tableaux, setTableaux] = useState<readonly Tableau[] | null>(null);
   const [studied, setStudied] = useState<{ card: Card; words: readonly Word[]; study: Study } | null>(null);
   const [progress, setProgress] = useState<Progress | null>(null);
   const [said, setSaid] = useState("");
@@ -140,7 +141,7 @@ export function App({ examples, quick, long }: { examples: readonly Example[]; q
   }, [held, tableaux, study, ask, askLong, hold]);
 
   if (!held || !desk) return <p role="status">{complaint || "The engine starts."}</p>;
-  const best = (tableaux ?? []).filter(({ rows }) => rows.length).slice(0, 3).map(({ word, rows }) => `${wordText(held.card, word)} ${formText(held.card, rows[0]!.candidate)}`);
+  const best = (tableaux ?? []).filter(({ rows }) => rows.length).slice(0, 3).map(({ word, rows }) => `${wordText(held.card, word)} ${rows.filter(({ winner, tie }) => winner || tie).map(({ candidate }) => formText(held.card, candidate)).join(" ties with ")}`);
   const saveWork = () => save(`${held.card.title}.json`, workText({ title: held.card.title, card: cardText(held.card), words: held.words, ranking: held.ranking, typed: held.typed }), "application/json");
   const drop = (event: DragEvent) => {
     event.preventDefault();

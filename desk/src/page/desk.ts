@@ -3,7 +3,8 @@ import { createContext, useContext } from "react";
 import { Progress } from "../analysis/task";
 import { Candidate, Ranking, Word } from "../engine/results";
 import { Card } from "../model/card";
-import { Answered, Given, Study, TaskName, WordRows } from "../tasks";
+import { Tableau } from "../analysis/tableau";
+import { Answered, Given, Study, TaskName } from "../tasks";
 
 /** Candidates that a person added to a word's tableau, by the word's key (`keyOf`). */
 export type Typed = Readonly<Record<string, readonly Candidate[]>>;
@@ -14,7 +15,7 @@ export interface Desk {
   readonly ranking: Ranking;
   readonly typed: Typed;
   /** The words' tableaux under the ranking; null until they are there. */
-  readonly tableaux: readonly WordRows[] | null;
+  readonly tableaux: readonly Tableau[] | null;
   /** All rankings asked; null until they are, and where it was stopped. */
   readonly study: Study | null;
   /** Asked by the quick worker, which is never kept busy. */

@@ -1,10 +1,14 @@
 /** The words' tableaux under the ranking. */
 import { FormEvent, useState } from "react";
+<<<<<<< HEAD
 import { MOST_STARS, Row } from "../analysis/tableau";
+=======
+import { MOST_STARS, Row, Tableau } from "../analysis/tableau";
+import { tiesLeftOut } from "../analysis/ties";
+>>>>>>> ties
 import { Word } from "../engine/results";
 import { keyOf, same } from "../model/card";
 import { formText, pairsText, readCandidate, readWord, wordText } from "../model/notation";
-import { WordRows } from "../tasks";
 import { useDesk } from "./desk";
 
 export function Tableaux() {
@@ -20,7 +24,7 @@ export function Tableaux() {
       </div>
       <AddWord />
       <p className="legend">
-        <span className="hand">☞</span> the best form; <span className="form">*</span> a mark; <b className="fatal">!</b> the mark that decides against a form;
+        <span className="hand">☞</span> the best form, and each form that ties with it; <span className="form">*</span> a mark; <b className="fatal">!</b> the mark that decides against a form;
         what lies behind it is shaded. The rows are every form that some ranking makes the best, and those that were listed or typed.
       </p>
     </>
@@ -47,10 +51,10 @@ function TableauRow({ row, best }: { row: Row; best: Row }) {
   const { card, ranking } = useDesk();
   const decidedAt = row.decided === null ? ranking.length : ranking.indexOf(row.decided);
   return (
-    <tr className={row.winner ? "best" : undefined}>
+    <tr className={row.winner ? "best" : row.tie ? "tie" : undefined}>
       <th className="row" scope="row">
-        {row.winner && (
-          <span className="hand" role="img" aria-label="best: ">
+        {(row.winner || row.tie) && (
+          <span className="hand" role="img" aria-label={row.winner ? "best: " : "ties with the best: "}>
             ☞
           </span>
         )}
@@ -63,13 +67,20 @@ function TableauRow({ row, best }: { row: Row; best: Row }) {
       ))}
       <td className="pairs">
         <bdi>{pairsText(card, row.candidate)}</bdi>
-        {row.decided === null && !row.winner && " (ties with the best)"}
+        {row.tie ? (
+          <b>
+            {" "}
+            ties with <bdi>{formText(card, best.candidate)}</bdi>
+          </b>
+        ) : (
+          row.decided === null && !row.winner && " (ties with the best)"
+        )}
       </td>
     </tr>
   );
 }
 
-function WordTableau({ tableau: { word, rows } }: { tableau: WordRows }) {
+function WordTableau({ tableau: { word, rows, ties } }: { tableau: Tableau }) {
   const { card, ranking } = useDesk();
   const shown = wordText(card, word);
   if (!rows.length) {
@@ -104,7 +115,12 @@ function WordTableau({ tableau: { word, rows } }: { tableau: WordRows }) {
           </tbody>
         </table>
       </div>
+<<<<<<< HEAD
       <AddCandidate word={word} example={pairsText(card, rows[0]!.candidate)} />
+=======
+      {tiesLeftOut(ties) && <p className="left-out">Not all ties are listed: {tiesLeftOut(ties)}.</p>}
+      <AddCandidate word={word} />
+>>>>>>> ties
     </section>
   );
 }
