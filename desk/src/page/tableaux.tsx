@@ -1,11 +1,7 @@
 /** The words' tableaux under the ranking. */
 import { FormEvent, useState } from "react";
-<<<<<<< HEAD
-import { MOST_STARS, Row } from "../analysis/tableau";
-=======
 import { MOST_STARS, Row, Tableau } from "../analysis/tableau";
 import { tiesLeftOut } from "../analysis/ties";
->>>>>>> ties
 import { Word } from "../engine/results";
 import { keyOf, same } from "../model/card";
 import { formText, pairsText, readCandidate, readWord, wordText } from "../model/notation";
@@ -115,12 +111,8 @@ function WordTableau({ tableau: { word, rows, ties } }: { tableau: Tableau }) {
           </tbody>
         </table>
       </div>
-<<<<<<< HEAD
-      <AddCandidate word={word} example={pairsText(card, rows[0]!.candidate)} />
-=======
       {tiesLeftOut(ties) && <p className="left-out">Not all ties are listed: {tiesLeftOut(ties)}.</p>}
-      <AddCandidate word={word} />
->>>>>>> ties
+      <AddCandidate word={word} example={pairsText(card, rows[0]!.candidate)} />
     </section>
   );
 }
