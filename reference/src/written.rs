@@ -160,7 +160,8 @@ impl Fields<'_> {
 /// The call of a line, whose answer, if there is one, is not looked at.
 pub fn read(line: &str) -> Call {
     let mut fields = Fields(line.split_whitespace());
-    let name = fields.0.next().expect("a name");
+    // where the memory lies does not matter here
+    let name = fields.0.next().expect("a name").trim_end_matches('+');
     let method = match name {
         "cull" | "cull_sets" => Method::Cull,
         _ => Method::Ranked,

@@ -44,6 +44,7 @@ static _Alignas(64) uint8_t arena[ARENA], expectations[ARENA];
 static size_t used;
 static Lent lent[MOST_LENT];
 static int lents;
+static bool close; /* target stands right behind what it is made from: no guard in between */
 static uint64_t state; /* of the numbers that fill what is lent for writing */
 
 static uint64_t any_number(void) {
@@ -60,6 +61,14 @@ static Lent *lend(const char *name, size_t bytes) {
         exit(2);
     }
     Lent *one = &lent[lents++];
+    if (close && !strcmp(name, "target")) {
+        Lent *last = one - 1;
+        *one = (Lent){name, last->start + last->bytes, bytes, last->expected + last->bytes};
+        memset(one->start + bytes, 0xa5, GUARD);
+        used = (size_t)(one->start - arena) + (bytes + GUARD + 15) / 16 * 16 + 16;
+        used -= used % 16;
+        return one;
+    }
     memset(arena + used, 0xa5, GUARD);
     *one = (Lent){name, arena + used + GUARD, bytes, expectations + used + GUARD};
     memset(one->start + bytes, 0xa5, GUARD);
@@ -133,7 +142,9 @@ const char *make_call(char *line) {
     int equals = 0;
     while (equals < fields && strcmp(field[equals].text, "=")) equals++;
     if (fields != equals + 4) return "the line is not a call with its answer";
-    const char *name = field[0].text;
+    char *name = field[0].text, *ending = strchr(name, '+');
+    close = ending;
+    if (ending) *ending = 0;
     uint64_t number = number_of(&field[equals + 1]);
     Field *results = &field[equals + 2], *front = &field[equals + 3];
     to_bytes(results);
@@ -237,7 +248,8 @@ const char *make_call(char *line) {
     }
     for (int i = 0; i < lents; i++) {
         bool kept = !lent[i].expected || !memcmp(lent[i].start, lent[i].expected, lent[i].bytes);
-        for (int k = 0; k < GUARD; k++) kept = kept && lent[i].start[-1 - k] == 0xa5 && lent[i].start[lent[i].bytes + (size_t)k] == 0xa5;
+        bool between[2] = {close && !strcmp(lent[i].name, "target"), close && i + 1 < lents && !strcmp(lent[i + 1].name, "target")};
+        for (int k = 0; k < GUARD; k++) kept = kept && (between[0] || lent[i].start[-1 - k] == 0xa5) && (between[1] || lent[i].start[lent[i].bytes + (size_t)k] == 0xa5);
         if (!kept) {
             snprintf(wrong, sizeof wrong, "%s has other bytes at exit, or those around it were written", lent[i].name);
             return wrong;

@@ -1,5 +1,6 @@
 /* Calls from lines of text, made through include/pastaspur.h and checked against the answers that the lines have. reference/src/written.rs
- * says what stands in a line. */
+ * says what stands in a line. `pack+` and `join+` have the target right behind the parts or the card: the code that copies looks how far
+ * the two are apart. */
 #ifndef CALLS_H
 #define CALLS_H
 #include <stddef.h>

@@ -3,6 +3,7 @@ import collections
 import pathlib
 import re
 import subprocess
+import tempfile
 
 ROOT = pathlib.Path(__file__).resolve().parent.parent.parent
 HERE = ROOT / "tests" / "coverage"
@@ -43,7 +44,12 @@ def jumps_of(program, archive=ARCHIVE):
 
 def key(jump, way):
     """A direction of a jump, as lists have it."""
-    return f"{jump.function} {jump.ordinal} {jump.instruction} {way} after `{jump.before}`"
+    return f"{jump.function} {jump.ordinal} {jump.instruction} {way} after ({jump.before})"
+
+
+def name(jump):
+    """A jump, as lists have it."""
+    return f"{jump.function} {jump.ordinal} {jump.instruction} after ({jump.before})"
 
 
 def build(name, archive=ARCHIVE):
@@ -53,3 +59,14 @@ def build(name, archive=ARCHIVE):
     subprocess.run(["gcc", "-std=c11", "-Wall", "-Wextra", "-Wpedantic", "-Werror", "-O2", "-no-pie", f"-I{ROOT / 'include'}", str(HERE / f"{name.split('-')[0]}.c"),
                     str(HERE / "calls.c"), str(archive), "-o", str(made)], check=True)
     return made
+
+
+def turned(flip, some, lines, milliseconds):
+    """For each of some jumps the jump, the line that notices it turned round (from 1; 0 where none does) and why, by the program `flip`."""
+    with tempfile.TemporaryDirectory() as place:
+        places, calls = pathlib.Path(place, "jumps"), pathlib.Path(place, "calls")
+        places.write_text("".join(f"{jump.address:x}\n" for jump in some))
+        calls.write_text("".join(line + "\n" for line in lines))
+        said = subprocess.run([flip, places, calls, str(milliseconds)], capture_output=True, text=True, check=True)
+    answers = [line.split(maxsplit=2) for line in said.stdout.splitlines()]
+    return [(jump, int(words[1]), words[2] if len(words) > 2 else "") for jump, words in zip(some, answers)]

@@ -14,7 +14,13 @@ fn main() -> ExitCode {
     let words: Vec<&str> = words.iter().map(String::as_str).collect();
     let mut out = BufWriter::new(io::stdout());
     let done = match words[..] {
-        ["-"] => io::stdin().lock().lines().try_for_each(|text| writeln!(out, "{}", line(&read(&text?)))),
+        ["-"] => io::stdin().lock().lines().try_for_each(|text| {
+            let text = text?;
+            let question = text.split(" =").next().expect("a part at least");
+            let answer = line(&read(question));
+            let answer = answer.split(" = ").nth(1).expect("an answer");
+            writeln!(out, "{question} = {answer}")
+        }),
         [seed, count] => match (seed.parse(), count.parse()) {
             (Ok(seed), Ok(count)) => by_chance(&mut out, seed, count),
             _ => return usage(),
