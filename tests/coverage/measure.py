@@ -3,7 +3,8 @@
 of the reason why no input takes it. A direction that is neither fails, and so does an entry that is taken or that no jump has.
 
     measure.py        the test
-    measure.py list   the directions that are not taken, as `unreachable` would have them"""
+    measure.py list   the directions that are not taken, as `unreachable` would have them
+    measure.py renew  after a change of the code: takes out of `unreachable` what is gone, and puts under `open` what is new and wants a reason"""
 import collections
 import lzma
 import re
@@ -48,6 +49,14 @@ def counted(records):
     return taken, executed
 
 
+def renew(new, gone):
+    """Writes `unreachable` anew, `open` being its last reason. Says what changed."""
+    file = jumps.HERE / "unreachable"
+    kept = [line for line in file.read_text().splitlines() if line.strip() not in gone]
+    file.write_text("\n".join(kept + [f"    {text}" for text in new]) + "\n")
+    print(f"{len(gone)} taken out, {len(new)} more are open")
+
+
 def main(words):
     play = jumps.build("play")
     calls, records = jumps.BUILT / "corpus", jumps.BUILT / "callgrind.out"
@@ -69,6 +78,9 @@ def main(words):
     reasons, listed = read_unreachable((jumps.HERE / "unreachable").read_text())
     open_ones, listed_open = [text for text, _, _ in missed if text not in listed], [text for text, name in listed.items() if name == "open"]
     stale = sorted(set(listed) - {text for text, _, _ in missed})
+    if words == ["renew"]:
+        renew(open_ones, stale)
+        return
     print(f"{number // 2} conditional jumps, {number} directions: {number - len(missed)} taken, {len(missed) - len(open_ones) - len(listed_open)} that no input takes, "
           f"{len(listed_open)} open")
     for name, times in collections.Counter(listed.values()).items():
