@@ -4,7 +4,7 @@ import { MOST_STARS, Row, Tableau } from "../analysis/tableau";
 import { tiesLeftOut } from "../analysis/ties";
 import { Word } from "../engine/results";
 import { keyOf, same } from "../model/card";
-import { formText, pairsText, readCandidate, readWord, wordText } from "../model/notation";
+import { formText, pairsText, readGiven, readWord, wordText } from "../model/notation";
 import { useDesk } from "./desk";
 
 export function Tableaux() {
@@ -117,7 +117,7 @@ function WordTableau({ tableau: { word, rows, ties } }: { tableau: Tableau }) {
   );
 }
 
-/** Another candidate for a word, as pairs. */
+/** Another candidate for a word, as pairs or by its form: then its best alignment under the ranking. */
 function AddCandidate({ word }: { word: Word }) {
   const desk = useDesk();
   const [text, setText] = useState("");
@@ -125,8 +125,9 @@ function AddCandidate({ word }: { word: Word }) {
   const add = async (event: FormEvent) => {
     event.preventDefault();
     try {
-      const candidate = readCandidate(desk.card, text);
-      await desk.ask("evaluate", desk.card, word, [candidate]);
+      const given = readGiven(desk.card, word, text);
+      const { candidate } =
+        "pairs" in given ? (await desk.ask("evaluate", desk.card, word, [given.pairs]))[0]! : await desk.ask("align", desk.card, desk.ranking, word, given.form);
       desk.setTyped(word, [...(desk.typed[keyOf(word)] ?? []), candidate]);
       setText("");
     } catch (error) {
@@ -135,7 +136,7 @@ function AddCandidate({ word }: { word: Word }) {
   };
   return (
     <form className="add" onSubmit={(event) => void add(event)}>
-      <input aria-label={`Another candidate for ${shown}`} placeholder="another candidate: t:t a:a g:0" value={text} onChange={(event) => setText(event.target.value)} />
+      <input aria-label={`Another candidate for ${shown}`} placeholder="another form, or pairs: t:t a:a g:0" value={text} onChange={(event) => setText(event.target.value)} />
       <button type="submit">Add</button> <RemoveWord word={word} />
     </form>
   );
