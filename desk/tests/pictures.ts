@@ -1,5 +1,5 @@
 #!/usr/bin/env node
-/** Makes the pictures of desk/README.md anew, from the commands that stand there: `node target/desk/tests/pictures.cjs`. Looks at them are a person's. */
+/** Makes the pictures of desk/README.md anew, from the commands that stand there: `desk/build tests; node target/desk/tests/pictures.cjs; pngquant --force --ext .png 48 desk/pictures/*.png`. */
 import { mkdtempSync, readFileSync, rmSync, writeFileSync } from "node:fs";
 import { tmpdir } from "node:os";
 import { join } from "node:path";

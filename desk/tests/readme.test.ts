@@ -30,5 +30,5 @@ test("its JSON is what comes out", async () => {
 test("its pictures are there, and small", () => {
   const named = [...TEXT.matchAll(/!\[[^\]]+\]\((pictures\/\w+\.png)\)/g)].map(([, file]) => file!);
   assert.deepEqual(named.sort(), readdirSync(join(ROOT, "desk/pictures")).map((file) => `pictures/${file}`).sort());
-  for (const file of named) assert.ok(statSync(join(ROOT, "desk", file), { throwIfNoEntry: false })!.size < 120000, file);
+  for (const file of named) assert.ok(statSync(join(ROOT, "desk", file), { throwIfNoEntry: false })!.size < 80000, file);
 });

@@ -342,6 +342,16 @@ impl Coverage {
         self.joinings[if complete { 10 } else { 11 }] += 1;
     }
 
+    /// The refusals, and acceptance, that a call did not answer once.
+    pub fn missing_numbers(&self) -> Vec<String> {
+        let mut missing = Vec::new();
+        for ((name, refusals), counts) in KINDS.iter().zip(&self.numbers) {
+            let unmet = |number: &&u32| !counts.contains_key(&(**number as i64));
+            missing.extend([0].iter().chain(*refusals).filter(unmet).map(|number| format!("{name} answers {number}")));
+        }
+        missing
+    }
+
     /// What was not met as often as a whole run has to.
     pub fn missing(&self) -> Vec<String> {
         let mut missing = Vec::new();

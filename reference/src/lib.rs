@@ -24,6 +24,7 @@ pub mod sets;
 pub mod shrinking;
 pub mod tableau;
 pub mod weights;
+pub mod written;
 
 /// The number of a refusal in the refusal table. An accepted call is an `Ok`.
 pub type Refusal = u8;

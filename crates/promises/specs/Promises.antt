@@ -372,11 +372,11 @@ pub record Promises : Type 2 where
   pub trimmed-lacks : (card : List ℕ) (i j : ℕ) (ok : cardRefusal card ≡ 0) (has : HasArc card i j) → LacksArc card i j (cardWithout i j card)
   pub trimmed-accepted : (card : List ℕ) (i j : ℕ) (ok : cardRefusal card ≡ 0) (has : HasArc card i j) → cardRefusal (cardWithout i j card) ≡ 0
   -- it gives the word the same answer and profile, slices being long enough, where the answer's candidate does not travel the arc
-  pub trimmed-answer : {card ranking word work workAfter answer answerAfter secondWork secondWorkAfter secondAnswer secondAfter : List ℕ} {r second : Evaluation} {i j : ℕ} (has : HasArc card i j)
+  pub trimmed-answer : (ranking : List ℕ) {card word work workAfter answer answerAfter secondWork secondWorkAfter secondAnswer secondAfter : List ℕ} {r second : Evaluation} {i j : ℕ} (has : HasArc card i j)
       → Optimizes card ranking word work workAfter answer answerAfter r → r .number ≡ 0 → travels (machinesOf card) i j (answeredCandidate r answerAfter) ≡ false
       → Optimizes (cardWithout i j card) ranking word secondWork secondWorkAfter secondAnswer secondAfter second → LongEnough (cardWithout i j card) (length word) (r .pairs) secondWork secondAnswer
       → SameAnswer r answerAfter second secondAnswer secondAfter
-  pub trimmed-answer-sets : {card ranking sets work workAfter answer answerAfter secondWork secondWorkAfter secondAnswer secondAfter : List ℕ} {r second : Evaluation} {i j : ℕ} (has : HasArc card i j)
+  pub trimmed-answer-sets : (ranking : List ℕ) {card sets work workAfter answer answerAfter secondWork secondWorkAfter secondAnswer secondAfter : List ℕ} {r second : Evaluation} {i j : ℕ} (has : HasArc card i j)
       → OptimizesSets card ranking sets work workAfter answer answerAfter r → r .number ≡ 0 → travels (machinesOf card) i j (answeredCandidate r answerAfter) ≡ false
       → OptimizesSets (cardWithout i j card) ranking sets secondWork secondWorkAfter secondAnswer secondAfter second → LongEnough (cardWithout i j card) (length sets) (r .pairs) secondWork secondAnswer
       → SameAnswer r answerAfter second secondAnswer secondAfter

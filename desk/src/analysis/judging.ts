@@ -1,7 +1,6 @@
 /** Whether a tableau is right for a card, a ranking and a word. */
-import { Engine } from "../engine/engine";
+import { Engine, pairsOf } from "../engine/engine";
 import { Refusal, Refused } from "../engine/refusals";
-import { pairsOf } from "../engine/engine";
 import { COUNT, ROWS } from "../engine/limits";
 import { Ranking, Word } from "../engine/results";
 import { BadInput, quoted } from "../model/badInput";

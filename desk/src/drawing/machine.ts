@@ -2,7 +2,7 @@
 import dagre from "dagre";
 import { Card, setName } from "../model/card";
 import { Arc, Machine } from "../model/machine";
-import { escaped, FONT, INK, MARKED, number, SOFT, textWidth } from "./svg";
+import { escaped, FONT, INK, MARKED, number, PAPER, SOFT, textWidth } from "./svg";
 
 /** A list of symbols longer than this is cut short. */
 const LISTED = 8;
@@ -93,10 +93,13 @@ export function machineSvg(card: Card, machine: Machine): string {
   ].join("\n");
 }
 
-function arrowText({ text, kind, stars }: Label, x: number, y: number): string {
+/** A label on paper of its own, so that the arrow does not run through it. */
+function arrowText(label: Label, x: number, y: number): string {
+  const { text, kind, stars } = label;
+  const width = labelWidth(label) - 2;
   const parts = [escaped(text), kind ? `<tspan font-style="italic">${kind}</tspan>` : "", stars].filter((part) => part).join("&#160; ");
-  const halo = 'stroke="#fdfcf9" stroke-width="4" stroke-linejoin="round" paint-order="stroke"';
-  return `<text x="${number(x)}" y="${number(y + LABEL / 3)}" text-anchor="middle" font-size="${LABEL}" ${halo} fill="${stars ? MARKED : INK}">${parts}</text>`;
+  const paper = `<rect x="${number(x - width / 2)}" y="${number(y - LINE / 2)}" width="${number(width)}" height="${LINE}" fill="${PAPER}"/>`;
+  return `${paper}<text x="${number(x)}" y="${number(y + LABEL / 3)}" text-anchor="middle" font-size="${LABEL}" fill="${stars ? MARKED : INK}">${parts}</text>`;
 }
 
 function stateText(name: string, ending: number | null, { x, y }: { x: number; y: number }, radius: number): string {

@@ -3,6 +3,7 @@
 export const INK = "#222222";
 export const MARKED = "#a3263b";
 export const SOFT = "#6b6b6b";
+export const PAPER = "#fdfcf9";
 export const FONT = "Times, 'Times New Roman', serif";
 
 export function escaped(text: string): string {

@@ -112,13 +112,13 @@ function WordTableau({ tableau: { word, rows, ties } }: { tableau: Tableau }) {
         </table>
       </div>
       {tiesLeftOut(ties) && <p className="left-out">Not all ties are listed: {tiesLeftOut(ties)}.</p>}
-      <AddCandidate word={word} />
+      <AddCandidate word={word} example={pairsText(card, rows[0]!.candidate)} />
     </section>
   );
 }
 
 /** Another candidate for a word, as pairs or by its form: then its best alignment under the ranking. */
-function AddCandidate({ word }: { word: Word }) {
+function AddCandidate({ word, example }: { word: Word; example: string }) {
   const desk = useDesk();
   const [text, setText] = useState("");
   const shown = wordText(desk.card, word);
@@ -136,7 +136,7 @@ function AddCandidate({ word }: { word: Word }) {
   };
   return (
     <form className="add" onSubmit={(event) => void add(event)}>
-      <input aria-label={`Another candidate for ${shown}`} placeholder="another form, or pairs: t:t a:a g:0" value={text} onChange={(event) => setText(event.target.value)} />
+      <input aria-label={`Another candidate for ${shown}`} placeholder={`another: ${example}`} value={text} onChange={(event) => setText(event.target.value)} />
       <button type="submit">Add</button> <RemoveWord word={word} />
     </form>
   );

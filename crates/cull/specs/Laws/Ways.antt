@@ -69,7 +69,7 @@ module _ (ranking : List ℕ) (few : length ranking ≤ 6) where
         record {
           place = b .place;
           among = l;
-          above = λ i h. count-ranked v n i (omega arith) ∙ sym (ap (λ (x : ℕ). getD v x 0) (at-first i (omega arith))) ∙ b .equal-above i h ∙ ap (λ (x : ℕ). getD w x 0) (at-first i (omega arith)) ∙ sym (count-ranked w m i (omega arith));
+          above = λ i h. count-ranked v n i (omega arith) ∙ sym (ap (λ (x : ℕ). getD v x 0) (at-first i (omega arith))) ∙ b .agree-above i h ∙ ap (λ (x : ℕ). getD w x 0) (at-first i (omega arith)) ∙ sym (count-ranked w m i (omega arith));
           fewer = omega (arith, count-ranked v n (b .place) (omega arith), count-ranked w m (b .place) (omega arith), a, c, b .smaller);
         }
 
@@ -83,7 +83,7 @@ module _ (ranking : List ℕ) (few : length ranking ≤ 6) where
           place = b .place;
           ranked = omega (arith, l, first);
           smaller = omega (arith, count-ranked v n (b .place) (omega arith), count-ranked w m (b .place) (omega arith), a, c, b .fewer);
-          equal-above = λ i h. ap (λ (x : ℕ). getD v x 0) (at-first i (omega arith)) ∙ sym (count-ranked v n i (omega arith)) ∙ b .above i h ∙ count-ranked w m i (omega arith) ∙ sym (ap (λ (x : ℕ). getD w x 0) (at-first i (omega arith)));
+          agree-above = λ i h. ap (λ (x : ℕ). getD v x 0) (at-first i (omega arith)) ∙ sym (count-ranked v n i (omega arith)) ∙ b .above i h ∙ count-ranked w m i (omega arith) ∙ sym (ap (λ (x : ℕ). getD w x 0) (at-first i (omega arith)));
         })
 
     pub better-is-less : (betterOnFirst k ranking v w ≡ true) ↔ LessOn (countAt 6) k (ranked (sixPlaces ranking) v n) (ranked (sixPlaces ranking) w m)
