@@ -2,7 +2,7 @@
  * What the page asks of its worker: each is a task over the engine and plain values. A new question is a line here; the page asks it
  * by `desk.ask` where it takes a blink, by `desk.askLong` where it may take longer.
  */
-import { askAll, contenders } from "./analysis/asking";
+import { contenders } from "./analysis/asking";
 import { refusal, whereRefused } from "./analysis/diagnosis";
 import { hear } from "./analysis/hearing";
 import { join } from "./analysis/joining";
@@ -11,7 +11,7 @@ import { findRanking } from "./analysis/ranking";
 import { evaluated, Evaluated, Tableau, tableauWith, withForm } from "./analysis/tableau";
 import { Task } from "./analysis/task";
 import { trim } from "./analysis/trimming";
-import { typologyOf, Typology } from "./analysis/typology";
+import { askEssential, typologyOf, Typology } from "./analysis/typology";
 import { weigh } from "./analysis/weighing";
 import { Engine } from "./engine/engine";
 import { FILE_BYTES } from "./engine/limits";
@@ -68,9 +68,9 @@ export const tasks = {
     return words;
   },
 
-  /** Words under all rankings. */
+  /** Words under all rankings of the machines with marks. */
   study: function* (engine: Engine, card: Card, words: readonly Word[]): Task<Study> {
-    const asked = yield* askAll(engine, card, words);
+    const asked = yield* askEssential(engine, card, words);
     return { contenders: words.map((_, word) => contenders(asked, word)), typology: typologyOf(engine, card, asked) };
   },
 

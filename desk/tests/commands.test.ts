@@ -6,15 +6,17 @@ import { test } from "node:test";
 import { askAll, ask } from "../src/analysis/asking";
 import { finish } from "../src/analysis/task";
 import { PROMISE } from "../src/analysis/trimming";
-import { typologyOf } from "../src/analysis/typology";
+import { askEssential, typologyOf } from "../src/analysis/typology";
 import { Refused } from "../src/engine/refusals";
-import { allRankings, cardBytes, same, wordsOf } from "../src/model/card";
+import { allRankings, cardBytes, essential, formOf, keyOf, same, wordsOf } from "../src/model/card";
+import { readCardText } from "../src/model/cardText";
 import { setOf, travelled } from "../src/model/machine";
 import { Kind, KINDS } from "../src/model/machine";
 import { CARDS, DEMO, desk, engine, inFolder, json, load, ROOT, text } from "./running";
 
 const demo = (name: string) => join(DEMO, name);
 const includes = (whole: string, part: string) => assert.ok(whole.includes(part), `${part} is not in\n${whole}`);
+const loadText = (said: string) => readCardText(engine, "card", said);
 const bytesOf = (path: string) => [...new Uint8Array(readFileSync(path))];
 
 test("show: a card in words", async () => {
@@ -97,22 +99,82 @@ test("typology: JSON as laid down", async () => {
   includes(await text(["typology", demo("contenders"), "A B"]), "under every ranking");
 });
 
-test("typology: exactly the rankings that fit a language's conditions give it", () => {
+test("typology: exactly the rankings that fit one of a language's ways give it", () => {
   for (const folder of CARDS) {
     const card = load(folder);
     const count = card.machines.length;
-    const { languages } = typologyOf(engine, card, finish(askAll(engine, card, wordsOf(card))));
+    const words = wordsOf(card);
+    const { languages } = typologyOf(engine, card, finish(askEssential(engine, card, words)));
     const smallest = languages.map(({ rankings }) => rankings[0]!.join(""));
     assert.deepEqual(smallest, [...smallest].sort());
-    for (const { conditions, rankings } of languages) {
-      assert.deepEqual(engine.findRanking(count, conditions), rankings[0]);
-      for (const ranking of allRankings(count)) {
-        const fits = conditions.every(({ fewer, more }) => fewer >> ranking.find((machine) => (fewer | more) >> machine & 1)! & 1);
-        assert.equal(fits, rankings.some((each) => same(each, ranking)));
-      }
-    }
+    const forms = languages.map(({ answers }) => answers.map((answer) => answer && formOf(answer.candidate)));
+    assert.equal(new Set(forms.map(keyOf)).size, languages.length);
+    const answered = finish(askAll(engine, card, words));
+    languages.forEach(({ ways, rankings }, at) => {
+      const least = ways.map((conditions) => engine.findRanking(count, conditions).join("")).sort();
+      assert.equal(least[0], rankings[0]!.join(""));
+      allRankings(count).forEach((ranking, number) => {
+        const fit = ways.some((conditions) => conditions.every(({ fewer, more }) => fewer >> ranking.find((machine) => (fewer | more) >> machine & 1)! & 1));
+        assert.equal(fit, rankings.some((each) => same(each, essential(card, ranking))));
+        assert.equal(fit, same(answered.answers[number]!.map((answer) => answer && formOf(answer.candidate)), forms[at]));
+      });
+    });
   }
 });
+
+/** Two ways to the form b: a becomes b, or a goes and b comes. Gen has no marks. */
+const ALIGNED = `symbols a b
+machine Gen
+  states one
+  final one
+  arc one -> one  a : 0,a,b
+  arc one -> one  0 : b
+machine *a
+  states one
+  final one
+  arc one -> one  0,a : a  1
+  arc one -> one  0 : b
+  arc one -> one  a : 0,b
+machine Ident
+  states one
+  final one
+  arc one -> one  a : b  1
+  arc one -> one  a : 0,a
+  arc one -> one  0 : b
+machine Max
+  states one
+  final one
+  arc one -> one  a : 0  1
+  arc one -> one  a : a,b
+  arc one -> one  0 : b
+machine HaveB
+  states none some
+  final none=1 some
+  arc none -> none  a : 0,a
+  arc none -> some  0,a : b
+  arc some -> some  0,a : a,b
+  arc some -> some  a : 0
+line Gen *a HaveB Ident Max / a
+`;
+
+test("typology: by form and not by alignment; a machine without marks takes no part", () =>
+  inFolder(async () => {
+    writeFileSync("card.txt", ALIGNED);
+    const { languages } = await json<Languages>(["typology", "card.txt", "a"]);
+    assert.equal(languages.reduce((sum, { rankings }) => sum + rankings, 0), 24);
+    const card = loadText(ALIGNED);
+    const asked = finish(askAll(engine, card, [[1]]));
+    const outputs = new Map<string, Set<string>>();
+    asked.rankings.forEach((ranking, at) => {
+      const form = keyOf(formOf(asked.answers[at]![0]!.candidate));
+      outputs.set(form, (outputs.get(form) ?? new Set()).add(essential(card, ranking).join("")));
+    });
+    const alignments = new Set(asked.answers.map(([answer]) => keyOf(answer!.candidate)));
+    assert.ok(alignments.size > outputs.size, "no form has two alignments");
+    assert.equal(languages.length, outputs.size);
+    assert.deepEqual(languages.map(({ rankings }) => rankings).sort(), [...outputs.values()].map(({ size }) => size).sort());
+    includes(await text(["typology", "card.txt", "a"]), "from 24 rankings of *a, Ident, Max, HaveB; without marks, and in no ranking: Gen");
+  }));
 
 test("rank: the smallest; a tie is the best, too; contradicting", async () => {
   assert.ok((await text(["rank", demo("tag"), "t a g=t:t a:a g:g 0:."])).startsWith("120: DEP >> PARSE >> NoCoda\n"));

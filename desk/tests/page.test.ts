@@ -180,7 +180,8 @@ describe("the page", () => {
   test("words and candidates are added and left out; what is wrong is said", async () => {
     await open(`${ADDRESS}#012`);
     const add = async (label: string, typed: string) => {
-      await browser.evaluate(`document.querySelector('[aria-label="${label}"]').focus()`);
+      // What was refused is still in the field.
+      await browser.evaluate(`(() => { const field = document.querySelector('[aria-label="${label}"]'); field.focus(); field.select(); })()`);
       await browser.type(typed);
       await browser.key("Enter");
     };
@@ -188,7 +189,11 @@ describe("the page", () => {
     await browser.until("document.body.textContent.includes('t:t a:a g:0 0:. (ties with the best)')");
     await add("Another candidate for /tag/", "t:t a:a");
     await browser.until("document.querySelector('[role=alert]')?.textContent.includes('NoCoda ends in its state nucleus')");
-    await add("Another word", "g a");
+    await add("Another candidate for /tag/", "tag -> e.");
+    await browser.until("[...document.querySelectorAll('td.pairs bdi')].some((each) => each.textContent === '0:e 0:. t:0 a:0 g:0')");
+    await add("Another candidate for /tag/", "tage.");
+    await browser.until("document.querySelector('[role=alert]')?.textContent.includes('form tage.: the machines take no candidate for /tag/')");
+    await add("Another word", "ga");
     await browser.until("document.querySelectorAll('.word-tableau').length === 2 && document.querySelector('.typology')");
     await browser.evaluate("document.querySelector('[aria-label=\"Leave /tag/ out\"]').click()");
     await browser.until("document.querySelectorAll('.word-tableau').length === 1");

@@ -10,9 +10,9 @@ const PAIR_BITS = 12n;
 
 /**
  * The best candidate for a word with a form, as the engine chooses among candidates: by the ranking, then with the fewest pairs, then the
- * smallest pairs. Null where no candidate has the form.
+ * smallest pairs. Null where no candidate has the form. `onWay` leaves out nodes that are known to be on no best way.
  */
-export function aligned(product: Product, word: Word, form: Word): Candidate | null {
+export function aligned(product: Product, word: Word, form: Word, onWay: (place: number, joint: number) => boolean = () => true): Candidate | null {
   const { size } = product;
   const place = (read: number, written: number, joint: number) => (read * (form.length + 1) + written) * size + joint;
   const least: (bigint | undefined)[] = Array.from({ length: place(word.length, form.length, size) }, () => undefined);
@@ -34,6 +34,7 @@ export function aligned(product: Product, word: Word, form: Word): Candidate | n
   for (let read = word.length; read >= 0; read--) {
     for (let written = form.length; written >= 0; written--) {
       for (let joint = 0; joint < size; joint++) {
+        if (!onWay(read, joint)) continue;
         const end = read === word.length && written === form.length ? product.ending(joint) : null;
         const costs = ways(read, written, joint).map(({ cost }) => cost);
         if (end !== null) costs.push(end << PAIR_BITS);

@@ -52,6 +52,12 @@ function withoutWhatFollows(engine: Engine, machines: number, conditions: readon
   return kept;
 }
 
+/** Whether a ranking fits a condition: the highest machine of either set is in the first. */
+export function fits(ranking: Ranking, { fewer, more }: Condition): boolean {
+  const highest = ranking.find((machine) => (fewer | more) >> machine & 1);
+  return highest === undefined || (fewer >> highest & 1) === 1;
+}
+
 /** The machines of a condition's bits. */
 export function machinesIn(card: Card, bits: number): number[] {
   return card.machines.map((_, machine) => machine).filter((machine) => bits >> machine & 1);
@@ -61,4 +67,10 @@ export function machinesIn(card: Card, bits: number): number[] {
 export function conditionText(card: Card, { fewer, more }: Condition, sign = ">>"): string {
   const names = (bits: number) => machinesIn(card, bits).map((machine) => card.machines[machine]!.name);
   return `${names(fewer).join(" or ") || "nothing"} ${sign} ${names(more).join(", ")}`;
+}
+
+/** Conditions of which one list is to be fitted whole; empty where every ranking does. */
+export function waysText(card: Card, ways: readonly (readonly Condition[])[], sign = ">>"): string {
+  const texts = ways.map((conditions) => conditions.map((condition) => conditionText(card, condition, sign)).join("; "));
+  return texts.includes("") ? "" : texts.join(", or ");
 }

@@ -59,7 +59,7 @@ export function* tiesOf(engine: Engine, card: Card, ranking: Ranking, word: Word
   const tight = yield* tightSteps(product, word, product.cost(best.counts));
   const { forms, cut } = yield* formsOf(tight, formOf(best.candidate));
   const rows = forms.map((form): Evaluated => {
-    const candidate = aligned(product, word, form)!;
+    const candidate = aligned(product, word, form, (place, joint) => tight.left[place * tight.size + joint]! < Infinity)!;
     const { counts } = engine.evaluate(card.bytes, candidate);
     if (!same(counts, best.counts)) throw new Error(`${keyOf(candidate)} has the profile ${counts.join()}, the best has ${best.counts.join()}`);
     return { candidate, counts };

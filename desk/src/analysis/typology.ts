@@ -1,16 +1,21 @@
-/** Every language that the rankings of a card make of some words. */
+/**
+ * Every language that the rankings of a card make of some words. A language is the forms of the words: two rankings whose answers spell
+ * the same outputs make one, whatever the alignments. Machines without marks take no part.
+ */
 import { Engine } from "../engine/engine";
 import { Best, Condition, Ranking, Word } from "../engine/results";
-import { Card, keyOf } from "../model/card";
+import { Card, essentialRankings, formOf, keyOf } from "../model/card";
 import { answerLine, commas, digits } from "../model/notation";
-import { Answer, Asked, contenders } from "./asking";
-import { against, few } from "./conditions";
+import { Answer, askAll, Asked, contenders } from "./asking";
+import { against, few, fits } from "./conditions";
+import { Task } from "./task";
 
-/** The words' answers, the rankings that give them, the smallest first, and the conditions that pick these rankings out. */
+/** The answers of the smallest ranking, the rankings that give their forms, the smallest first, and what picks these rankings out. */
 export interface Language {
   readonly answers: readonly Answer[];
   readonly rankings: readonly Ranking[];
-  readonly conditions: readonly Condition[];
+  /** A ranking makes the language exactly when it fits all conditions of one of these: one, but where alignments differ. */
+  readonly ways: readonly (readonly Condition[])[];
 }
 
 /** The languages of some words, in the order of their smallest rankings. */
@@ -21,7 +26,14 @@ export interface Typology {
 
 const keyOfAnswer = (answer: Answer): string => keyOf(answer && answer.candidate);
 
-/** The languages of what was asked under all rankings. */
+const keyOfForm = (answer: Answer): string => keyOf(answer && formOf(answer.candidate));
+
+/** Some words under all rankings of the machines with marks. */
+export function askEssential(engine: Engine, card: Card, words: readonly Word[]): Task<Asked> {
+  return askAll(engine, card, words, essentialRankings(card));
+}
+
+/** The languages of what was asked under all rankings, of the machines with marks or of all. */
 export function typologyOf(engine: Engine, card: Card, asked: Asked): Typology {
   const found = new Map<string, { answers: readonly Answer[]; rankings: Ranking[] }>();
   const keys = new Map<Answer, string>();
@@ -37,11 +49,38 @@ export function typologyOf(engine: Engine, card: Card, asked: Asked): Typology {
     found.set(key, language);
   });
   const ofWords = asked.words.map((_, word) => needed(engine, card, contenders(asked, word)));
-  const languages = [...found.values()].map(({ answers, rankings }) => {
-    const conditions = answers.flatMap((answer, word) => ofWords[word]!.get(keyOfAnswer(answer)) ?? []);
-    return { answers, rankings, conditions: few(engine, card.machines.length, conditions) };
+  // What is aligned alike, in the order of the smallest rankings; then by form.
+  const byForm = new Map<string, { answers: readonly Answer[]; rankings: Ranking[]; ways: Condition[][] }>();
+  for (const { answers, rankings } of found.values()) {
+    const conditions = few(engine, card.machines.length, answers.flatMap((answer, word) => ofWords[word]!.get(keyOfAnswer(answer)) ?? []));
+    const key = answers.map(keyOfForm).join();
+    const language = byForm.get(key) ?? { answers, rankings: [], ways: [] };
+    language.rankings.push(...rankings);
+    language.ways.push(conditions);
+    byForm.set(key, language);
+  }
+  const order = new Map(asked.rankings.map((ranking, at) => [ranking, at]));
+  const languages = [...byForm.values()].map(({ answers, rankings, ways }): Language => {
+    rankings.sort((one, two) => order.get(one)! - order.get(two)!);
+    return { answers, rankings, ways: ways.length > 1 ? asOne(engine, card, asked.rankings, rankings) ?? ways : ways };
   });
   return { words: asked.words, languages };
+}
+
+/** The conditions that pick exactly these rankings out of all, where there are such; else null. */
+function asOne(engine: Engine, card: Card, all: readonly Ranking[], rankings: readonly Ranking[]): Condition[][] | null {
+  const machines = card.machines.length;
+  const shared: Condition[] = [];
+  for (let more = 0; more < machines; more++) {
+    for (let fewer = 0; fewer < 1 << machines; fewer++) {
+      const condition = { fewer, more: 1 << more };
+      // A larger set before the sign says less: it follows.
+      const follows = shared.some((other) => other.more === condition.more && (other.fewer & fewer) === other.fewer);
+      if (!(fewer >> more & 1) && !follows && rankings.every((ranking) => fits(ranking, condition))) shared.push(condition);
+    }
+  }
+  if (all.filter((ranking) => shared.every((condition) => fits(ranking, condition))).length !== rankings.length) return null;
+  return [few(engine, machines, shared)];
 }
 
 /** For each answer to a word the conditions under which it is the best, against everything that some ranking makes the best. */

@@ -1,25 +1,24 @@
 /** The commands: each takes what was typed, asks, and shows the answer as text or JSON. It answers the status. */
 import { join } from "node:path";
-import { conditionText } from "../analysis/conditions";
+import { conditionText, waysText } from "../analysis/conditions";
 import { refusal, whereRefused } from "../analysis/diagnosis";
 import { hear, wordCount } from "../analysis/hearing";
 import { join as joinMachines } from "../analysis/joining";
 import { judge, readRows } from "../analysis/judging";
 import { findRanking, rankingJson, Wanted } from "../analysis/ranking";
-import { askAll } from "../analysis/asking";
-import { marks, Tableau, tableauJson, tableauOf } from "../analysis/tableau";
+import { marks, Tableau, tableauJson, tableauOf, withForm } from "../analysis/tableau";
 import { tiesLeftOut } from "../analysis/ties";
 import { arcText, PROMISE, trim } from "../analysis/trimming";
-import { typologyJson, typologyOf } from "../analysis/typology";
+import { askEssential, typologyJson, typologyOf } from "../analysis/typology";
 import { decimal, readWeights, weigh } from "../analysis/weighing";
 import { machineSvg } from "../drawing/machine";
 import { Engine } from "../engine/engine";
 import { Refused } from "../engine/refusals";
 import { Ranking, Word } from "../engine/results";
 import { BadInput, counted, quoted } from "../model/badInput";
-import { Card, countsOf, same, spelledBy, tableauBytes, wordsOf } from "../model/card";
+import { Card, countsOf, rankedMachines, same, spelledBy, tableauBytes, wordsOf } from "../model/card";
 import { KINDS, symbolsOf } from "../model/machine";
-import { answerLine, commas, digits, formText, machineNames, pairsText, rankingText, readCandidate, readMachine, readRanking, readSets, readWord, wordText } from "../model/notation";
+import { answerLine, commas, digits, formText, machineNames, pairsText, rankingText, readCandidate, readGiven, readMachine, readRanking, readSets, readWord, wordText } from "../model/notation";
 import { cardFile, load, placeOf } from "./cards";
 import { isFile, isFolder, json, painted, print, readBytes, table, writeWhole } from "./output";
 import { run } from "./running";
@@ -75,8 +74,13 @@ function cardInWords(card: Card): string {
 }
 
 export async function tableau(engine: Engine, card: Card, asked: Asked): Promise<number> {
-  const [ranking, word, ...named] = asked.words as [string, string, ...string[]];
-  const made = await run(tableauOf(engine, card, readRanking(card, ranking), readWord(card, word), named.map((text) => readCandidate(card, text))));
+  const [typedRanking, typedWord, ...named] = asked.words as [string, string, ...string[]];
+  const [ranking, word] = [readRanking(card, typedRanking), readWord(card, typedWord)];
+  const candidates = named.map((text) => {
+    const given = readGiven(card, word, text);
+    return "pairs" in given ? given.pairs : withForm(engine, card, ranking, word, given.form).candidate;
+  });
+  const made = await run(tableauOf(engine, card, ranking, word, candidates));
   print(asked.json ? json(tableauJson(card, made)) : tableauInWords(card, made));
   return made.rows.length ? 0 : 1;
 }
@@ -109,24 +113,27 @@ function wordsOr(card: Card, path: string, texts: readonly string[]): readonly W
 
 export async function typology(engine: Engine, card: Card, asked: Asked, path: string): Promise<number> {
   const words = wordsOr(card, path, asked.words);
-  const made = typologyOf(engine, card, await run(askAll(engine, card, words)));
+  const made = typologyOf(engine, card, await run(askEssential(engine, card, words)));
   if (asked.json) {
     print(json(typologyJson(card, made)));
     return 0;
   }
   const of = counted(made.languages.reduce((sum, { rankings }) => sum + rankings.length, 0), "ranking");
-  const parts = made.languages.map(({ answers, rankings, conditions }, at) => {
+  const parts = made.languages.map(({ answers, rankings, ways }, at) => {
     const smallest = rankings[0]!;
     const rows = words.map((word, number) => {
       const answer = answers[number];
       const shown = answer ? [formText(card, answer.candidate), countsOf(card, answer.counts).join(","), pairsText(card, answer.candidate)] : ["(no candidate)", "", ""];
       return [`  ${wordText(card, word)}`, "->", ...shown];
     });
-    const picked = conditions.map((condition) => conditionText(card, condition)).join("; ");
+    const picked = waysText(card, ways);
     const head = `${painted(`language ${at + 1}`, "bold")}: ${rankings.length} of ${of}, the smallest ${digits(smallest)}: ${rankingText(card, smallest)}`;
     return `${head}\n${table(rows)}\n  ${picked ? `exactly when ${picked}` : "under every ranking"}`;
   });
-  print([`${counted(made.languages.length, "language")} from ${of} of ${machineNames(card).join(", ")}`, ...parts].join("\n\n"));
+  const ranked = rankedMachines(card).map((machine) => machineNames(card)[machine]!);
+  const idle = machineNames(card).filter((name) => !ranked.includes(name));
+  const note = idle.length ? `; without marks, and in no ranking: ${idle.join(", ")}` : "";
+  print([`${counted(made.languages.length, "language")} from ${of} of ${ranked.join(", ")}${note}`, ...parts].join("\n\n"));
   return 0;
 }
 

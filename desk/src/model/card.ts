@@ -1,7 +1,7 @@
 /** A card with its names, and what its author says beside the machines. Plain data, which a worker can be sent. */
 import { Engine } from "../engine/engine";
 import { Candidate, Profile, Ranking, SymbolSet, Word } from "../engine/results";
-import { Machine, machineOf, partOf, setOf, symbolsOf } from "./machine";
+import { Machine, machineOf, marked, partOf, setOf, symbolsOf } from "./machine";
 
 export const EMPTY = "0";
 
@@ -133,6 +133,26 @@ export function allRankings(machines: number): Ranking[] {
       ? [[...taken]]
       : Array.from({ length: machines }, (_, machine) => machine).filter((machine) => !taken.includes(machine)).flatMap((machine) => grown([...taken, machine]));
   return grown([]);
+}
+
+/** The machines that have marks. The others take no part: wherever they are ranked, every answer is the same. */
+export function rankedMachines(card: Card): number[] {
+  return card.machines.flatMap((machine, number) => (marked(machine) ? [number] : []));
+}
+
+/** The smallest of the rankings that differ from one only in the places of machines without marks. */
+export function essential(card: Card, ranking: Ranking): Ranking {
+  const partaking = rankedMachines(card);
+  const idle = card.machines.map((_, machine) => machine).filter((machine) => !partaking.includes(machine));
+  const ranked = ranking.filter((machine) => partaking.includes(machine));
+  const order: number[] = [];
+  while (ranked.length || idle.length) order.push((ranked[0] ?? Infinity) < (idle[0] ?? Infinity) ? ranked.shift()! : idle.shift()!);
+  return order;
+}
+
+/** The rankings of the machines with marks, the smallest first: the others stand where they make a ranking the smallest. */
+export function essentialRankings(card: Card): Ranking[] {
+  return allRankings(card.machines.length).filter((ranking) => same(ranking, essential(card, ranking)));
 }
 
 /** The word that a candidate spells: its in symbols. */

@@ -17,7 +17,8 @@
  *     winners SYMBOL ..                  lines of stdin, the word under every ranking, and the best forms that come out:
  *       FORM MACHINE COUNT ..            the output (- where empty), and the counts that are not 0
  *
- * `#` starts a comment. A mistake is named by its line, with the reason.
+ * `#` at the start of a line or behind a space starts a comment. Inside a word it is a letter like others, `*C#`; a word that starts with
+ * it is written with a backslash, `\#V`. A mistake is named by its line, with the reason.
  */
 import { Engine } from "../engine/engine";
 import { ARCS, COUNT, LINES, MACHINES, MARKS, PRODUCT, ROWS, STATES, SYMBOLS, WORD } from "../engine/limits";
@@ -78,7 +79,7 @@ class Reader {
     if (lines[lines.length - 1] === "") lines.pop();
     for (const line of lines) {
       this.at++;
-      const words = split(line.replace(/#.*/, ""));
+      const words = split(line.replace(/(^|\s)#.*/u, "")).map((word) => word.replace(/^\\#/, "#"));
       if (words.length) this.readLine(words[0]!, words);
     }
     this.endRows();
@@ -449,7 +450,8 @@ export function cardText(card: Card): string {
     });
     parts.push([`winners ${word.map(symbol).join(" ")}`, ...rows].join("\n"));
   }
-  return `${parts.join("\n\n")}\n`;
+  // A word that starts with # is no comment.
+  return `${parts.join("\n\n")}\n`.replace(/(?<=^|\s)#/gu, "\\#");
 }
 
 /** The lines that no tableau and no winners say. */

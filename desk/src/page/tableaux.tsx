@@ -4,7 +4,7 @@ import { MOST_STARS, Row, Tableau } from "../analysis/tableau";
 import { tiesLeftOut } from "../analysis/ties";
 import { Word } from "../engine/results";
 import { keyOf, same } from "../model/card";
-import { formText, pairsText, readCandidate, readWord, wordText } from "../model/notation";
+import { formText, pairsText, readGiven, readWord, wordText } from "../model/notation";
 import { useDesk } from "./desk";
 
 export function Tableaux() {
@@ -117,7 +117,7 @@ function WordTableau({ tableau: { word, rows, ties } }: { tableau: Tableau }) {
   );
 }
 
-/** Another candidate for a word, as pairs. */
+/** Another candidate for a word, as pairs or by its form: then its best alignment under the ranking. */
 function AddCandidate({ word, example }: { word: Word; example: string }) {
   const desk = useDesk();
   const [text, setText] = useState("");
@@ -125,8 +125,9 @@ function AddCandidate({ word, example }: { word: Word; example: string }) {
   const add = async (event: FormEvent) => {
     event.preventDefault();
     try {
-      const candidate = readCandidate(desk.card, text);
-      await desk.ask("evaluate", desk.card, word, [candidate]);
+      const given = readGiven(desk.card, word, text);
+      const { candidate } =
+        "pairs" in given ? (await desk.ask("evaluate", desk.card, word, [given.pairs]))[0]! : await desk.ask("align", desk.card, desk.ranking, word, given.form);
       desk.setTyped(word, [...(desk.typed[keyOf(word)] ?? []), candidate]);
       setText("");
     } catch (error) {

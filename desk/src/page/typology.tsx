@@ -1,8 +1,8 @@
 /** The typology: a row for each language, whose button sets its smallest ranking. */
-import { conditionText } from "../analysis/conditions";
+import { waysText } from "../analysis/conditions";
 import { Language } from "../analysis/typology";
 import { counted } from "../model/badInput";
-import { keyOf, same } from "../model/card";
+import { essential, keyOf, rankedMachines, same } from "../model/card";
 import { formText, rankingText, wordText } from "../model/notation";
 import { useDesk } from "./desk";
 
@@ -12,11 +12,14 @@ export function TypologyPanel() {
   if (!study) return <p id="count">The rankings are not all asked.</p>;
   const { words, languages } = study.typology;
   const of = languages.reduce((sum, language) => sum + language.rankings.length, 0);
-  const chosen = languages.findIndex(({ rankings }) => rankings.some((each) => same(each, ranking)));
+  const chosen = languages.findIndex(({ rankings }) => rankings.some((each) => same(each, essential(card, ranking))));
+  const ranked = rankedMachines(card);
+  const idle = card.machines.filter((_, machine) => !ranked.includes(machine)).map(({ name }) => name);
   return (
     <>
       <p id="count">
         {counted(languages.length, "language")} from {counted(of, "ranking")}; this ranking makes language {chosen + 1}.
+        {idle.length > 0 && ` Without marks, and in no ranking: ${idle.join(", ")}.`}
       </p>
       <div id="typology" className="scroll" tabIndex={0} role="group" aria-label="Typology">
         <table className="typology" aria-label="Typology">
@@ -43,10 +46,10 @@ export function TypologyPanel() {
   );
 }
 
-function LanguageRow({ language: { answers, rankings, conditions }, number, chosen }: { language: Language; number: number; chosen: boolean }) {
+function LanguageRow({ language: { answers, rankings, ways }, number, chosen }: { language: Language; number: number; chosen: boolean }) {
   const { card, setRanking } = useDesk();
   const smallest = rankings[0]!;
-  const when = conditions.map((condition) => conditionText(card, condition, "≫")).join("; ") || "always";
+  const when = waysText(card, ways, "≫") || "always";
   return (
     <tr className={chosen ? "chosen" : undefined}>
       <td className="choose">
