@@ -23,8 +23,8 @@ class Unbounded(Exception):
 
 Section = collections.namedtuple("Section", "name kind flags at size link info data")
 Symbol = collections.namedtuple("Symbol", "name value size kind section")
-# Kind: call, jump, pointer call, other; lowers: the bytes by which it lowers the stack pointer.
-Instruction = collections.namedtuple("Instruction", "at size kind target lowers", defaults=(0,))
+# Kind: call, jump, pointer call, other; lowers: the bytes by which it lowers the stack pointer; below: how far below it it reaches.
+Instruction = collections.namedtuple("Instruction", "at size kind target lowers below", defaults=(0, 0))
 
 
 class Sections:
@@ -258,7 +258,8 @@ def x86_64(listing):
                 lowers = 8
             elif name.startswith("sub") and re.match(r"\$0x[0-9a-f]+,%rsp", words):
                 lowers = int(words[1:].split(",")[0], 16)
-            yield Instruction(at, size, kind, target, lowers)
+            below = max((int(far, 16) for far in re.findall(r"-0x([0-9a-f]+)\(%rsp[,)]", words)), default=0)
+            yield Instruction(at, size, kind, target, lowers, below)
 
 
 class Graph:
@@ -269,6 +270,7 @@ class Graph:
         self.machine = self.objects[0].machine
         self.named, self.frame, self.calls, self.name = {}, {}, {}, {}
         self.lowered = collections.Counter()
+        self.red_zone = collections.Counter()  # what a function uses below its frame; the compiler's size leaves it out (x86-64)
         for number, object in enumerate(self.objects):
             for place, symbols in object.functions.items():
                 key = (number, *place)
@@ -356,6 +358,7 @@ class Graph:
                         # On a Cortex-M0 `bl` is also the far jump within a function.
                         raise Unbounded(f"{object.name}: {self.name[owner]} calls an address without a name")
             self.lowered[owner] += step.lowers
+            self.red_zone[owner] = max(self.red_zone[owner], step.below)
 
     def bound(self, name, depths=None, outside=None):
         """The bytes of stack that a call of a function takes at most. `depths` has how often a function that calls itself may stand on the
@@ -381,7 +384,7 @@ class Graph:
                         raise Unbounded(f"recursion: {self.name[place]} calls itself")
                 else:
                     below = max(below, of(callee, (*way, self.name[place])))
-            known[place] = times * self.frame[place] + below
+            known[place] = times * self.frame[place] + max(below, self.red_zone[place])
             return known[place]
 
         return of(name, ())
