@@ -71,7 +71,7 @@ def stopped_and_continued():
 
 
 def failed_write(out, what):
-    """The input is a file of a thousand lines, more than one piece: it is read no further than the piece whose answer could not be written. How far is
+    """The input is a file of 900 lines, more than one piece: it is read no further than the piece whose answer could not be written. How far is
     told by the place in the file, which the program shares."""
     with tempfile.TemporaryFile() as file:
         file.write(b"012 2,1,2,1,2,1,2,1\n" * 900)
@@ -123,6 +123,15 @@ def failed_reads():
     fcntl.fcntl(from_test, fcntl.F_SETFL, os.O_NONBLOCK)
     process = start(from_test)
     must(process.stdout.read() == CLOSING and process.wait(SECONDS) == 0, "an input that does not wait and has no bytes: other closing lines")
+    os.close(to_program)
+    os.close(from_test)
+    from_test, to_program = os.pipe()
+    fcntl.fcntl(from_test, fcntl.F_SETFL, os.O_NONBLOCK)
+    os.write(to_program, LINES[0].rstrip(b"\n"))  # no line end: it is held when the next read fails
+    process = start(from_test)
+    printed = process.stdout.read()
+    must(printed.startswith(ANSWERS[0]) and printed[len(ANSWERS[0]):].startswith(b"answered 1 refused 0\n") and process.wait(SECONDS) == 0,
+         "a read that fails with a line held: it is not answered")
     os.close(to_program)
     os.close(from_test)
 

@@ -1,5 +1,5 @@
-//! A second implementation of the grammar engine, written from the requirements alone and by other methods than the
-//! verified engine's, to compare with. It is plain, and slow where that keeps it plain.
+//! A second implementation of the grammar engine, written from the requirements alone, to compare with. It is plain, and
+//! slow where that keeps it plain.
 
 pub mod call;
 pub mod candidate;

@@ -64,6 +64,7 @@ use Rattle.optimizer.specs.SetsCalls as sets-calls
 use Rattle.tableau.specs.Verdicts as verdicts
 use Rattle.live.specs.LiveTableau as live
 use Rattle.lines.specs.LinesOfPieces as pieces
+use Rattle.writing.specs.DecimalRead as decimal-read
 use Rattle.session.specs.Totals as totals
 use Rattle.cull.specs.Survivors as survivors
 use Rattle.cull.specs.TwoEngines as engines
@@ -198,6 +199,7 @@ kept = record {
   answered-and-refused = totals.answered-and-refused;
   a-thousand-at-most = totals.a-thousand-at-most;
   bad-line-refused = totals.bad-line-refused;
+  decimal-read = decimal-read.decimal-read;
   total-at = totals.total-at;
   total-count = totals.total-count;
   none-forgotten = totals.none-forgotten;

@@ -116,6 +116,7 @@ use Rattle.lines.specs.Taking.{endedLines, linesTaken}
 use Rattle.tally.specs.declared.Tally.{Tally}
 use Rattle.lesson.specs.Tally.{noLines, shownMachines, linesText, Fits}
 use Rattle.pieces.specs.Pieces.{printedPieces}
+use Rattle.writing.specs.Decimal.{isDigit, decimal, valueOf}
 use Rattle.session.specs.Output.{answeredAmong, refusedAmong, isAnswered, totals, totalOf, output, countedLines, Reads, Finishes}
 use Rattle.session.specs.Totals.{tallied, Counts}
 -- the cull
@@ -325,6 +326,8 @@ pub record Promises : Type 2 where
   pub answered-and-refused : (card : List ℕ) (ls : List (List ℕ)) → length (answeredAmong card ls) + length (refusedAmong card ls) ≡ length ls
   pub a-thousand-at-most : (card : List ℕ) (ls : List (List ℕ)) → length (answeredAmong card (take 1000 ls)) + length (refusedAmong card (take 1000 ls)) ≤ 1000
   pub bad-line-refused : (card l : List ℕ) → parsedLine l ≡ none → isAnswered card l ≡ false
+  -- the numbers printed are decimal: digits alone, and read back they are the number
+  pub decimal-read : (n : ℕ) → (allOf isDigit (decimal n) ≡ true) × (valueOf (decimal n) ≡ n)
   -- a total is the sum of a machine's counts in the answered lines
   pub total-at : (card : List ℕ) (ls : List (List ℕ)) (i : ℕ) → i < shownMachines card → getD (totals card ls) i 0 ≡ totalOf card i (answeredAmong card ls)
   pub total-count : (card : List ℕ) (ls : List (List ℕ)) → length (totals card ls) ≡ shownMachines card
