@@ -20,8 +20,8 @@
  * What is lent for writing need not be initialised. No answer depends on what work held before.
  *
  * Time, stack and interrupts
- * - No proof bounds the time of a call. In a search of 250,000 tries no card found takes more than 33.1 million instructions on x86-64, 71.0 million
- *   on a Cortex-M3, 152.3 million on a Cortex-M0, 72.6 million on rv32imac (bench/README.md, tests/data/slowest).
+ * - No proof bounds the time of a call. In a search of 250,000 tries no card found takes more than 33.1 million instructions on x86-64,
+ *   71.0 million on a Cortex-M3, 152.3 million on a Cortex-M0, 72.6 million on rv32imac (bench/README.md, tests/data/slowest).
  * - A call takes at most PASTASPUR_STACK_BYTES bytes of stack. It does not recurse. bench/README.md has what each call was measured to
  *   take.
  * - On x86-64 its code uses the red zone, the 128 bytes below the stack pointer, and the SSE registers. An interrupt handler on the same
