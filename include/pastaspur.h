@@ -2,7 +2,8 @@
  *
  * Build and link:  rt staticlib pastaspur
  *                  cc -Iinclude program.c -Ltarget/staticlib -lpastaspur
- * Of other libraries it needs memset and memcpy alone. examples/c has two programs.
+ * Of other libraries it needs memset and memcpy alone on x86-64; targets/build makes it for other processors, and docs/TARGETS.md says
+ * what it needs there. examples/c has two programs.
  *
  * Every call
  * - answers a refusal's number (enum pastaspur_refusal), 0 where it accepts its input: the first refusal met, in the order that its
@@ -20,10 +21,11 @@
  * What is lent for writing need not be initialised. No answer depends on what work held before.
  *
  * Time, stack and interrupts
- * - No proof bounds the time of a call. In a search of 250,000 tries no card found takes more than 33.1 million instructions on x86-64,
- *   71.0 million on a Cortex-M3, 152.3 million on a Cortex-M0, 72.6 million on rv32imac (bench/README.md, tests/data/slowest).
- * - A call takes at most PASTASPUR_STACK_BYTES bytes of stack. It does not recurse. bench/README.md has what each call was measured to
- *   take.
+ * - No proof bounds the time of a call. In a search of 250,000 tries no card found makes pastaspur_optimize take more than 33.1 million
+ *   instructions on x86-64, 71.0 million on a Cortex-M3, 152.3 million on a Cortex-M0, 72.6 million on rv32imac (bench/README.md). The
+ *   cull takes up to 9 times as long, and sets of 63 symbols up to 24 times.
+ * - A call takes at most PASTASPUR_STACK_BYTES bytes of stack. It does not recurse. bench/README.md has the bound of each call on
+ *   each processor.
  * - On x86-64 its code uses the red zone, the 128 bytes below the stack pointer, and the SSE registers. An interrupt handler on the same
  *   stack must leave those bytes alone, and save the SSE registers that it changes.
  *
