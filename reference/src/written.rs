@@ -1,6 +1,5 @@
 //! A call as a line of text with the answer of this implementation, as tests/coverage keeps and plays them.
-//!
-//!     NAME FIELD .. = NUMBER RESULT SLICE
+//! The line is `NAME FIELD .. = NUMBER RESULT SLICE`.
 //!
 //! The name and the fields are those of include/pastaspur.h, in its order. A slice of inputs is its bytes in hexadecimal, the
 //! lower byte of a number first, `-` where it is empty. Of a work, answer or target slice there is the length alone. The slice
