@@ -133,7 +133,8 @@ def main(program):
     plain = run(program, (block * 40 for _ in range(10)))
     expect("stopped and continued twenty times, it prints the same", status == 0 and len(said) == plain[1] and said[:len(plain[0])] == plain[0][:len(said)])
     for number in (signal.SIGTERM, signal.SIGINT, signal.SIGHUP):
-        process = start(program)
+        # Whoever runs the tests may ignore a signal, and a program inherits that.
+        process = start(program, preexec_fn=lambda: signal.signal(number, signal.SIG_DFL))
         process.stdin.write(lines)
         process.stdin.flush()
         process.stdout.read1(1)
