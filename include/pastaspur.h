@@ -23,7 +23,7 @@
  * Time, stack and interrupts
  * - No proof bounds the time of a call. In a search of 250,000 tries no card found makes pastaspur_optimize take more than 33.1 million
  *   instructions on x86-64, 71.0 million on a Cortex-M3, 152.3 million on a Cortex-M0, 72.6 million on rv32imac (bench/README.md). The
- *   cull takes up to 9 times as long, and sets of 63 symbols up to 24 times.
+ *   cull takes up to 9 times as long, and sets of 63 symbols some 25 times.
  * - A call takes at most PASTASPUR_STACK_BYTES bytes of stack. It does not recurse. bench/README.md has the bound of each call on
  *   each processor.
  * - On x86-64 its code uses the red zone, the 128 bytes below the stack pointer, and the SSE registers. An interrupt handler on the same
