@@ -1,5 +1,7 @@
 // Cells added up. A cell is a machine's step as two numbers, high and low; the cells of some machines that follow one another add up to their joint
 // step.
+#![tactic(auto)]
+
 ghost use Rattle.basics.specs.Words.{◌≡◌, ℕ, ◌^◌, ◌<◌, ◌≤◌, length, get_or};
 ghost use Rattle.adding.specs.Cells.{high_cell, low_cell};
 ghost use Rattle.adding.specs.Adding.{CellsPre, CellsAt, AddCellsPre, CellsAdded, AddStatePre, StateAdded, MachinePre, MachineAdded, MachinesPre, MachinesAdded};

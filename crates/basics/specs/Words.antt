@@ -1,7 +1,7 @@
 -- The words that most files use, of the library and of this crate, in one place: a file brings in those that it needs by one line.
 pub use Rattle.std.proofs.Common.{◌∙◌, ap, ap₂, subst, subst₂, sym, true≢false, inl, inr, ⊎_elim, zero-le, arith, drop_of_length-le, length-append, length-drop, length-set, length-take, take-append-drop, eqb→eq, lit<, lit≤, ltb→lt, lt→ltb, drop_at, drop-cons, drop-drop, drop-set-lt, ext_get_or, get_or-append-add, get_or-drop, get_or-set_other, get_or-set_same, get_or-take, length-take-le, take-add, take_all, take_at, take-suc, take-suc-set, take-take, add_assoc, add-mul, add-suc, add-zero, div-add-mod', div-le_self, div-lt_iff_lt-mul, div-one, le-div_iff_mul-le, le_of_eq, le_of_lt, le_of_suc-le-suc, le_trans, mod-eq_of_lt, mod-lt, mul-add, mul_assoc, mul_comm, mul-le-mul, mul-le-mul_left, mul-le-mul_right, mul_left_comm, mul-one, mul-pos, mul-suc, mul-zero, not-suc-le-zero, one-mul, pow-suc, suc-add, suc-mul, suc-ne-zero, zero-add, zero-mul, add-one, sub-one}
 pub use Rattle.std.specs.Prelude.{◌≡◌, refl, Bool, ◌&&◌, ◌||◌, cond, false, not, true, ◌↔◌, ◌≢◌, ◌⊎◌, ◌%◌, ◌*◌, ◌+◌, ◌-◌, ◌/◌, ◌<◌, ◌^◌, ◌≤◌, max, min, suc, zero, ℕ, drop, get_or, length, replicate, set, take, T, eqb, leb, ltb}
-pub use Rattle.std.proofs.Math.Bool.{not_not as Bool·not-not, and_assoc, and_comm, and-false, and_self, and-true, or-false, or-true}
+pub use Rattle.std.proofs.Math.Bool.{not-not as Bool·not-not, and_assoc, and_comm, and-false, and_self, and-true, or-false, or-true}
 pub use Rattle.std.proofs.lemmas.Bool.{false≢true}
 pub use mathlib.Core.List.Memᴰ.{append_cases as List·Memᴰ·append-cases}
 pub use mathlib.Core.List.Memᴰ.{cases_cons as List·Memᴰ·cases-cons}

@@ -1,4 +1,6 @@
 // Definitions that the specifications of every crate share, in specs/, and the one function that their code shares.
+#![tactic(auto)]
+
 ghost use Rattle.std.specs.Prelude.{◌≡◌, ◌<◌};
 
 // A byte as a number to index with.

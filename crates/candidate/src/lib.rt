@@ -1,4 +1,6 @@
 // Candidates: their evaluation. What a candidate is, and which is the best, stands in specs/.
+#![tactic(auto)]
+
 ghost use Rattle.basics.specs.Words.{◌≡◌, true, ◌+◌, ◌%◌, ◌<◌, ◌≤◌, length, eqb};
 ghost use Rattle.machine.specs.Symbols.{empty_symbol};
 ghost use Rattle.machine.specs.Part.{machine_of};
@@ -15,7 +17,7 @@ use refusals::{Checked, Refusal};
 
 // What evaluation answers, and the optimizer of the best candidate: the refusal's number, 0 where there is none; the profile,
 // unused places 0; the pair count; the length of the word spelled.
-#[derive(Drop)]
+#[derive(Clone, Copy)]
 pub struct Evaluation {
     pub number: u8,
     pub profile: Profile,
@@ -24,7 +26,7 @@ pub struct Evaluation {
 }
 
 // What one machine says of a candidate: its marks, or that it does not take every pair or does not end.
-#[derive(Drop)]
+#[derive(Clone, Copy)]
 pub enum Marks {
     Complete(u16),
     NotComplete,
@@ -121,7 +123,7 @@ fn spelled_length(candidate: &[u8]) -> u16
 }
 
 // Each machine's marks, in card order, or that some machine does not complete the candidate.
-#[derive(Drop)]
+#[derive(Clone, Copy)]
 pub struct Scored {
     pub checked: Checked,
     pub profile: Profile,

@@ -1,4 +1,6 @@
 // Grammar cards: the layout, the check of a card, reading a part, packing.
+#![tactic(auto)]
+
 ghost use Rattle.basics.specs.Words.{◌≡◌, ◌<◌};
 ghost use Rattle.refusals.specs.Refusals.{checked_number};
 ghost use Rattle.layout.specs.Layout.{part_of};
@@ -15,7 +17,7 @@ pub use layout::packing;
 use refusals::{Checked, Refusal, tested};
 
 // What reading a part answers: the refusal's number, 0 where there is none, and where the part lies in the card.
-#[derive(Drop)]
+#[derive(Clone, Copy)]
 pub struct PartPlace {
     pub number: u8,
     pub offset: usize,
@@ -23,7 +25,7 @@ pub struct PartPlace {
 }
 
 // What packing answers: the refusal's number, 0 where there is none, and the card's length.
-#[derive(Drop)]
+#[derive(Clone, Copy)]
 pub struct Packed {
     pub number: u8,
     pub length: usize,

@@ -1,4 +1,6 @@
 // Closing a position: its labels are written into a work slice, as ranked counts or as a sum, and become those of the next position.
+#![tactic(auto)]
+
 ghost use Rattle.basics.specs.Words.{◌≡◌, ◌^◌, ◌<◌};
 ghost use Rattle.tables.specs.Work.{HasNode};
 ghost use Rattle.cells.specs.Cells.{nowhere};

@@ -1,5 +1,7 @@
 // Ellison's cull as an engine: constraint by constraint, the fewest marks from each node to an end are found, and the arcs and the endings that
 // cost more are dropped.
+#![tactic(auto)]
+
 ghost use Rattle.basics.specs.Words.{List, ℕ, ◌<◌};
 ghost use Rattle.tables.specs.Work.{HasNodes};
 ghost use Rattle.labelling.specs.Labelling.{LabelPre, PositionsDone};

@@ -1,1 +1,2 @@
 // The worked examples of the requirements, proved from the definitions: see specs/. No code.
+#![tactic(auto)]

@@ -1,4 +1,6 @@
 // The smallest ranking that fits a list of ranking conditions, by recursive constraint demotion.
+#![tactic(auto)]
+
 ghost use Rattle.basics.specs.Words.{◌≡◌, true, [], ◌∷◌, ◌+◌, ◌<◌, ◌≤◌, ◌%◌, length, member};
 ghost use Rattle.refusals.specs.Refusals.{refuse, first_of, checked_number};
 ghost use Rattle.ranking.specs.Rankings.{is_machine_count};
@@ -9,7 +11,7 @@ use ranking::{Condition, Finding, rankings};
 use refusals::{Checked, Refusal};
 
 // The machine for the next place: refusal 16 and machine 0 where there is none.
-#[derive(Drop)]
+#[derive(Clone, Copy)]
 struct Next {
     checked: Checked,
     machine: u8,

@@ -1,10 +1,12 @@
 // The sizes of an accepted card, made once by the checks and handed on by value.
+#![tactic(auto)]
+
 ghost use Rattle.std.specs.Prelude.{◌≡◌};
 ghost use Rattle.card.specs.Card.{card_refusal};
 ghost use Rattle.grid.specs.Grids.{GridOf};
 
 // The numbers of machines and of symbols; the state counts of the machines, their sum and their product, P.
-#[derive(Drop)]
+#[derive(Clone, Copy)]
 pub struct Grid {
     pub machines: usize,
     pub symbols: u8,

@@ -1,5 +1,7 @@
 // The input that every search shares: its checks, 1 to 9 (card, ranking, word, or sets in its place, work slice), which make the card's sizes, and a
 // word as sets.
+#![tactic(auto)]
+
 ghost use Rattle.basics.specs.Words.{◌≡◌, true, [], ◌∷◌, ◌+◌, ◌*◌, ◌≤◌, length, take, leb, ltb, all_of};
 ghost use Rattle.refusals.specs.Refusals.{refuse, first_of, checked_number};
 ghost use Rattle.ranking.specs.Rankings.{is_ranking};
@@ -13,7 +15,7 @@ use grid::Grid;
 use refusals::{Checked, Refusal};
 
 // What the checks before a search answer: what they found and, where they passed, the card's sizes.
-#[derive(Drop)]
+#[derive(Clone, Copy)]
 pub struct Ready {
     pub checked: Checked,
     pub grid: Grid,

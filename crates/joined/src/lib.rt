@@ -1,4 +1,6 @@
 // What two arcs and two parts have in common, and what they are as one, by Ellison's product.
+#![tactic(auto)]
+
 ghost use Rattle.basics.specs.Words.{◌≡◌, true, ◌+◌, ◌*◌, ◌<◌, ◌≤◌, length, get_or, eqb, all_of};
 ghost use Rattle.machine.specs.Machine.{take_one_pair};
 ghost use Rattle.machine.specs.Part.{state_count, state_bytes, ending_byte, arcs_of, machine_of, shaped};

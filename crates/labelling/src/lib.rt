@@ -1,5 +1,7 @@
 // The labels of all nodes, position by position, from the last to the first. Labels are two numbers while a position is at hand; then they stand in one
 // of two work slices, the other being empty: as ranked counts, or as one number by weights.
+#![tactic(auto)]
+
 ghost use Rattle.basics.specs.Words.{◌+◌, ◌*◌, ◌≤◌, length, take};
 ghost use Rattle.cells.specs.Groups.{GroupsOf};
 ghost use Rattle.grid.specs.Grids.{GridOf};

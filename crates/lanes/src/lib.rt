@@ -1,5 +1,7 @@
 // Trying four outputs at a time, a lane each: the labels of a position are lowered to the least that their joint steps and the labels of the next
 // position give.
+#![tactic(auto)]
+
 ghost use Rattle.basics.specs.Words.{◌≡◌, false, ℕ, ◌+◌, ◌*◌, ◌<◌, ◌≤◌, length, get_or};
 ghost use Rattle.cells.specs.Cells.{nowhere};
 ghost use Rattle.lanes.specs.Trying.{lesser, way_of, LanePre, CodePre, CodeTried, TryPre, TriedIn, SkipPre};

@@ -1,5 +1,7 @@
 // The layout of parts: byte strings that start with a table of the places of their parts, one part after another to the end. A card's
 // machines lie so.
+#![tactic(auto)]
+
 ghost use Rattle.basics.specs.Words.{◌≡◌, ◌+◌, ◌*◌, ◌<◌, ◌≤◌, length};
 ghost use Rattle.layout.specs.Layout.{short_at, offset_of, length_of, laid_out, part_of};
 ghost use Rattle.layout.specs.LaidOut.{PartWithin};

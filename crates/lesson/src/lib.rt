@@ -1,4 +1,6 @@
 // One line's answer: what is printed for a line, what it adds to the lesson's tally, and what is printed after the last one.
+#![tactic(auto)]
+
 ghost use Rattle.basics.specs.Words.{◌≡◌, false, ◌≤◌, length};
 ghost use Rattle.card.specs.Layout.{machine_count};
 ghost use Rattle.lesson.specs.Printed.{best_line, printed, Prints};
@@ -66,7 +68,7 @@ fn answer_line(card: &[u8], line: &[u8], out: &mut [u8]) -> Reply
 }
 
 // What a line leads to: the length of what is printed for it, and the tally after it.
-#[derive(Drop)]
+#[derive(Clone, Copy)]
 pub struct Turn {
     pub size: usize,
     pub tally: Tally,

@@ -1,4 +1,6 @@
 // The program's lines: parsing an input line, and taking the lines out of the input.
+#![tactic(auto)]
+
 mod input;
 mod parsing;
 
@@ -7,14 +9,14 @@ pub use parsing::parse;
 
 // What parsing a line answers: that it is a bad line, or how many bytes of ranking and of word stand at the front of the
 // lent slices.
-#[derive(Drop)]
+#[derive(Clone, Copy)]
 pub enum Parsed {
     BadLine,
     Line { ranking: usize, word: usize },
 }
 
 // What looking for the end of a line in a piece of the input answers. `length` is how many bytes of the line are held.
-#[derive(Drop)]
+#[derive(Clone, Copy)]
 pub enum Next {
     // The line ends, and the next one starts at `at`.
     Line { length: usize, at: usize },

@@ -1,4 +1,6 @@
 // The live tableau: rows proposed and withdrawn in class, kept in a lent list of records in order of arrival, and the leader among them.
+#![tactic(auto)]
+
 ghost use Rattle.basics.specs.Words.{◌≡◌, true, not, ◌+◌, ◌-◌, ◌<◌, ◌≤◌, length, take};
 ghost use Rattle.refusals.specs.Refusals.{checked_number, refuse, unless_refused};
 ghost use Rattle.ranking.specs.Rankings.{is_ranking};
@@ -11,21 +13,21 @@ use refusals::Checked;
 
 // A row: its id, and the profile that was handed in.
 #[repr(C)]
-#[derive(Drop)]
+#[derive(Clone, Copy)]
 pub struct Row {
     pub id: u16,
     pub profile: Profile,
 }
 
 // What add and remove answer: the refusal's number, 0 where there is none, and the new row count, 0 on a refusal.
-#[derive(Drop)]
+#[derive(Clone, Copy)]
 pub struct Counted {
     pub number: u8,
     pub count: usize,
 }
 
 // What the leader's call answers: the refusal's number, 0 where there is none; whether there is a leader; its row, zeros where there is none.
-#[derive(Drop)]
+#[derive(Clone, Copy)]
 pub struct Lead {
     pub number: u8,
     pub any: bool,

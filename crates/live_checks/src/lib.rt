@@ -1,4 +1,6 @@
 // The checks of the live tableau's calls, and whether a row takes the lead.
+#![tactic(auto)]
+
 ghost use Rattle.basics.specs.Words.{◌≡◌, true, not, [], ◌∷◌, ◌≤◌, length, eqb};
 ghost use Rattle.refusals.specs.Refusals.{checked_number, refuse, first_of};
 ghost use Rattle.ranking.specs.Rankings.{is_machine_count, is_ranking};

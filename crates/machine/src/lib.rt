@@ -1,4 +1,6 @@
 // Constraint machines: pairs of symbols, arcs, steps and endings.
+#![tactic(auto)]
+
 ghost use Rattle.basics.specs.Words.{◌≡◌, true, ℕ, ◌<◌, ◌^◌, get_or, eqb, member};
 ghost use Rattle.machine.specs.Symbols.{empty_symbol, pair_of, is_pair, within_symbols};
 ghost use Rattle.machine.specs.Machine.{start_state, takes, step_of, stepped, ending_of, ended};
@@ -10,7 +12,7 @@ use basics::index;
 pub use symbols::sets;
 
 // A pair of symbols, in and out.
-#[derive(Drop)]
+#[derive(Clone, Copy)]
 pub struct Pair {
     pub input: u8,
     pub output: u8,
@@ -53,7 +55,7 @@ impl Pair {
 }
 
 // An arc of a machine: the states that it joins, its marks, its kind, its sets of symbols.
-#[derive(Drop)]
+#[derive(Clone, Copy)]
 pub struct Arc {
     pub from: u8,
     pub to: u8,
@@ -120,20 +122,20 @@ pub fn nth_arc(part: &[u8], states: usize, i: usize) -> Arc
 }
 
 // A place in a machine: the state that it is in.
-#[derive(Drop)]
+#[derive(Clone, Copy)]
 pub struct Position {
     pub state: u8,
 }
 
 // What taking a pair does: the new position with the marks, or nothing takes it.
-#[derive(Drop)]
+#[derive(Clone, Copy)]
 pub enum Step {
     Moved(Position, u8),
     Stuck,
 }
 
 // What ending does: it hands back its marks, or the state is not final.
-#[derive(Drop)]
+#[derive(Clone, Copy)]
 pub enum Ending {
     Marks(u8),
     NotFinal,

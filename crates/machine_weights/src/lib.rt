@@ -1,4 +1,6 @@
 // What states and marks count in the numbers of joint steps and labels.
+#![tactic(auto)]
+
 ghost use Rattle.basics.specs.Words.{◌≡◌, true, ◌*◌, ◌<◌, length, take};
 ghost use Rattle.ranking.specs.Rankings.{is_ranking};
 ghost use Rattle.tables.specs.Tables.{CountsOfSome};

@@ -1,5 +1,7 @@
 // How the static library writes evaluations and the answers of calls that have no engine behind them as numbers into the caller's array: each `give_`
 // function answers the number of its call.
+#![tactic(auto)]
+
 ghost use Rattle.std.specs.Prelude.{◌≡◌, [], ◌∷◌};
 ghost use Rattle.ranking.specs.Harmony.{compared};
 ghost use Rattle.ranking.specs.Conditions.{derived};

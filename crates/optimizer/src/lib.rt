@@ -1,4 +1,6 @@
 // The optimizer: from card, ranking and word to the best candidate.
+#![tactic(auto)]
+
 ghost use Rattle.basics.specs.Words.{◌≡◌, true, length};
 ghost use Rattle.product.specs.Best.{best};
 ghost use Rattle.product.specs.Sets.{best_of_sets};

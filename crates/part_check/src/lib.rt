@@ -1,4 +1,6 @@
 // The check of a machine part.
+#![tactic(auto)]
+
 ghost use Rattle.basics.specs.Words.{◌≡◌, true, ◌<◌};
 ghost use Rattle.refusals.specs.Refusals.{refuse, checked_number};
 ghost use Rattle.machine.specs.Part.{shaped, sound_states, sound_arcs, part_refusal};

@@ -1,4 +1,6 @@
 // The static library: the public calls as functions that C can call. include/pastaspur.h says what each is lent and answers.
+#![tactic(auto)]
+
 ghost use Rattle.std.specs.Prelude.{◌≡◌, [], ◌∷◌, length};
 ghost use Rattle.ranking.specs.Harmony.{comparing};
 ghost use Rattle.ranking.specs.Conditions.{derived_from};

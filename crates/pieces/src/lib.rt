@@ -1,5 +1,7 @@
 // What is printed for a piece of the input, and after the last one: the answers to the lines that end in it, what is held of the line that goes on, the
 // lesson's closing lines. No contract can speak of what is written to standard output.
+#![tactic(auto)]
+
 ghost use Rattle.basics.specs.Words.{◌≡◌, true, false, [], ◌≤◌, length, take};
 ghost use Rattle.writing.specs.Buffers.{at_front};
 ghost use Rattle.lesson.specs.Printed.{Prints};
@@ -14,7 +16,7 @@ use tally::Tally;
 const OUT_BYTES: usize = 25628;
 
 // What printing the answer to a line leads to: the tally after it, and whether everything was written.
-#[derive(Drop)]
+#[derive(Clone, Copy)]
 struct Printed {
     tally: Tally,
     written: bool,
@@ -36,7 +38,7 @@ fn print_answer(card: &[u8], line: &[u8], tally: Tally, out: &mut [u8]) -> Print
 
 // How far the input is answered: how many bytes are held of the line that goes on, the tally, and whether everything was written.
 // After a write that failed nothing more is read or written.
-#[derive(Drop)]
+#[derive(Clone, Copy)]
 pub struct Progress {
     pub held: usize,
     pub tally: Tally,

@@ -1,5 +1,7 @@
 // The product of a card's machines over a word, which every engine shares: its nodes, its joint step, and the theorem on the best candidate stand
 // in specs/. The code is the check of the word, and that of the sets in its place.
+#![tactic(auto)]
+
 ghost use Rattle.basics.specs.Words.{◌≡◌, ◌&&◌, ℕ, ◌^◌, ◌<◌, leb};
 ghost use Rattle.refusals.specs.Refusals.{refuse, checked_number};
 ghost use Rattle.product.specs.Optimizing.{sound_word};

@@ -1,1 +1,2 @@
 // Every promise in one record, and that they are kept: see specs/. No code.
+#![tactic(auto)]

@@ -1,4 +1,6 @@
 // Violation profiles, rankings, harmonic comparison and ranking conditions.
+#![tactic(auto)]
+
 pub mod conditions;
 pub mod harmony;
 pub mod rankings;
@@ -10,7 +12,7 @@ use refusals::Refusal;
 
 // How often a candidate breaks each constraint, in card order; unused places are 0.
 #[repr(C)]
-#[derive(Drop)]
+#[derive(Clone, Copy)]
 pub struct Profile {
     pub counts: [u16; 6],
 }
@@ -36,7 +38,7 @@ impl Profile {
 
 // How one profile stands to another under a ranking: better or worse with the machine that decided, the highest ranked one where they differ, by its
 // number in the card.
-#[derive(Drop)]
+#[derive(Clone, Copy)]
 pub enum Order {
     Better(u8),
     Equal,
@@ -45,28 +47,28 @@ pub enum Order {
 
 // What a comparison of two profiles asks of a ranking: W, the machines where the first has fewer, and L, where it has more.
 // Bit i is machine i.
-#[derive(Drop)]
+#[derive(Clone, Copy)]
 pub struct Condition {
     pub fewer: u8,
     pub more: u8,
 }
 
 // What comparing answers.
-#[derive(Drop)]
+#[derive(Clone, Copy)]
 pub enum Comparison {
     Ordered(Order),
     Refused(Refusal),
 }
 
 // What deriving a condition answers.
-#[derive(Drop)]
+#[derive(Clone, Copy)]
 pub enum Derived {
     Condition(Condition),
     Refused(Refusal),
 }
 
 // What the finder answers: the refusal's number, 0 where there is none, and the ranking, unused places 0.
-#[derive(Drop)]
+#[derive(Clone, Copy)]
 pub struct Finding {
     pub number: u8,
     pub ranking: [u8; 6],

@@ -1,9 +1,11 @@
 // The refusal table, and what a check answers.
+#![tactic(auto)]
+
 ghost use Rattle.std.specs.Prelude.{◌≡◌};
 ghost use Rattle.refusals.specs.Refusals.{number_of, checked_number, refuse};
 
 // Why a call is refused, in the order of the refusal table.
-#[derive(Drop)]
+#[derive(Clone, Copy)]
 pub enum Refusal {
     // 1: the card has no counts, or K or S is out of range.
     Counts,
@@ -99,7 +101,7 @@ impl Refusal {
 }
 
 // What a check answers.
-#[derive(Drop)]
+#[derive(Clone, Copy)]
 pub enum Checked {
     Passed,
     Refused(Refusal),

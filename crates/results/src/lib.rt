@@ -1,5 +1,7 @@
 // How the static library writes the answers of the other calls as numbers into the caller's array, and reads a caller's row: each `give_` function
 // answers the number of its call.
+#![tactic(auto)]
+
 ghost use Rattle.std.specs.Prelude.{◌≡◌, [], ◌∷◌};
 ghost use Rattle.results.specs.Results.{weighing_numbers, judged_numbers, as_row, flag_number, lead_numbers};
 

@@ -1,4 +1,6 @@
 // A tableau's rows: their layout, their candidates and their counts, and the verdict for the best candidate's profile.
+#![tactic(auto)]
+
 ghost use Rattle.basics.specs.Words.{◌≡◌, [], ◌∷◌, ℕ, ◌+◌, ◌%◌, ◌<◌, ◌≤◌, length};
 ghost use Rattle.refusals.specs.Refusals.{refuse, first_of, checked_number};
 ghost use Rattle.layout.specs.Layout.{short_at};
@@ -17,7 +19,7 @@ use ranking::Profile;
 use refusals::{Checked, Refusal};
 
 // What a tableau is said to be.
-#[derive(Drop)]
+#[derive(Clone, Copy)]
 pub enum Verdict {
     // The claimed row wins.
     Right,

@@ -2,6 +2,8 @@
 // standard output, then the lesson's totals. What a line says and how lines are taken from pieces are proved in the crate lines, how a line
 // is counted in tally, what is printed for it in lesson, for a piece and after the last one in pieces; what is kept between two pieces, here.
 // No contract can speak of what is read and written.
+#![tactic(auto)]
+
 ghost use Rattle.basics.specs.Words.{◌≡◌, false, ◌≤◌, length, take};
 ghost use Rattle.io.specs.Counts.{IsPrefixLen};
 ghost use Rattle.lesson.specs.Tally.{Fits};

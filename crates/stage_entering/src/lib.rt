@@ -1,4 +1,6 @@
 // Entering a position in a stage of the cull: trying its nodes by joint steps, four outputs at a time, and a node by its ending.
+#![tactic(auto)]
+
 ghost use Rattle.basics.specs.Words.{◌≡◌, ◌+◌, ◌*◌, ◌≤◌, ◌<◌, length};
 ghost use Rattle.tables.specs.Work.{HasNodes};
 ghost use Rattle.stage.specs.Relaxing.{NodePre};
@@ -166,7 +168,7 @@ fn try_code(
 }
 
 // A position in a stage: the machines in two groups, the first of its nodes, the stage.
-#[derive(Drop)]
+#[derive(Clone, Copy)]
 pub struct Site {
     pub groups: Groups,
     pub base: usize,

@@ -1,4 +1,6 @@
 // Symbols as bytes, and sets of symbols.
+#![tactic(auto)]
+
 pub mod sets; // sets.rt: sets of symbols
 
 // The empty symbol.

@@ -1,4 +1,6 @@
 // Tableaux from the textbooks: whether one is right for a card, a ranking and a word.
+#![tactic(auto)]
+
 ghost use Rattle.std.specs.Prelude.{◌≡◌};
 ghost use Rattle.tableau.specs.Judging.{verdict_numbers, refused_judging};
 ghost use Rattle.tableau.specs.Judges.{Judges};
@@ -8,7 +10,7 @@ use rows::Verdict;
 
 // What judging answers: the refusal's number, 0 where there is none; the verdict, 1 right, 2 another row, 3 not in the table; the
 // first row that wins, for another row. What is not there is 0.
-#[derive(Drop)]
+#[derive(Clone, Copy)]
 pub struct Judged {
     pub number: u8,
     pub verdict: u8,

@@ -4,7 +4,7 @@ ghost use Rattle.tables.specs.LabelCost.{cost_of};
 ghost use Rattle.tables.specs.Work.{HasNode, cost_at, Reached};
 
 // The cost of a path: six counts in ranked order, the highest ranked first, and the number of pairs.
-#[derive(Drop)]
+#[derive(Clone, Copy)]
 pub struct Label {
     pub first: u16,
     pub second: u16,

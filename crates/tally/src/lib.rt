@@ -1,11 +1,13 @@
 // A lesson's tally: how its lines are counted, and the sums of their counts.
+#![tactic(auto)]
+
 ghost use Rattle.std.specs.Prelude.{◌≡◌, ◌+◌, ◌<◌, ◌≤◌};
 ghost use Rattle.std.proofs.Math.Option.{some, none};
 ghost use Rattle.tally.specs.Tally.{told, no_lines, counted, is_full, passed, Fits};
 
 // What a lesson's lines come to: how many were answered, how many refused, of each machine the sum of its counts in the answered
 // lines, and whether a line past the thousandth has come.
-#[derive(Drop)]
+#[derive(Clone, Copy)]
 pub struct Tally {
     pub answered: u32,
     pub refused: u32,
@@ -14,7 +16,7 @@ pub struct Tally {
 }
 
 // What a line's answer is: the length of what is printed for it, whether it was answered, and its counts.
-#[derive(Drop)]
+#[derive(Clone, Copy)]
 pub struct Reply {
     pub size: usize,
     pub answered: bool,

@@ -19,6 +19,8 @@
 // A case of another kind, one that the file ends in and one that asks to be lent more than there is are faulty. 10 to 12, the live tableau's calls, are not
 // in the file: `test_live` makes them. Each of the functions for a kind goes from the place of the first field to the place after the last, which is nowhere
 // for a faulty case.
+#![tactic(auto)]
+
 use test_calls::calls::{
     compare, derive, evaluate, find, lend_and_join, lend_and_judge, lend_and_pack, lend_and_search,
     lend_and_search_sets, lend_and_weigh, read_part,

@@ -1,6 +1,8 @@
 // Tries the live tableau under K = 2 and the ranking 1, 0, over lists of 34 and of 3 records whose unused records are all 7s: each refusal with its neighbour that passes, the order of the checks, 32 rows
 // and a 33rd, an id that stands twice, equal profiles, removals at every place. A line for each call: what it is, the number, the row count; behind the bar the first records, each as its id, its first two counts
 // and its last one, which is kept and not looked at.
+#![tactic(auto)]
+
 ghost use Rattle.std.specs.Prelude.{◌≡◌, ◌++◌, ◌≤◌, take, drop};
 ghost use Rattle.live.specs.Calls.{adding, added_list, removing, removed_list, leading};
 
@@ -9,7 +11,7 @@ use ranking::Profile;
 use test_calls::printing::{write, write_number};
 
 // A list of 34 records, and what the last call on it answered. A call is lent the first so many of them: 34, or 3.
-#[derive(Drop)]
+#[derive(Clone, Copy)]
 pub struct Board {
     pub rows: [Row; 34],
     pub answer: Counted,

@@ -1,5 +1,7 @@
 // What the walk looks for at one node: the least pair that keeps to the labels, by joint steps at the places of the states at hand and the labels that
 // they lead to.
+#![tactic(auto)]
+
 ghost use Rattle.basics.specs.Words.{◌≡◌, true, false, ℕ, ◌*◌, ◌+◌, ◌^◌, ◌<◌, ◌≤◌, length};
 ghost use Rattle.columns.specs.Filling.{Small};
 ghost use Rattle.tables.specs.Work.{HasNode};
@@ -17,7 +19,7 @@ use tables::{NO_STEP, NO_SUM};
 const NO_LABEL: u64 = NOWHERE + 255;
 
 // An output, 64 where there is none; the code that it leads to, and the label of that code.
-#[derive(Drop)]
+#[derive(Clone, Copy)]
 pub struct Least {
     pub output: usize,
     pub code: usize,

@@ -1,5 +1,7 @@
 // The walk from the start along the labels, which writes the pairs of the best candidate and adds up their marks. Labels are two numbers, as they
 // are for every order.
+#![tactic(auto)]
+
 ghost use Rattle.basics.specs.Words.{◌≡◌, ◌||◌, ℕ, ◌*◌, ◌<◌, ◌≤◌, length, get_or, eqb, member};
 ghost use Rattle.machine.specs.Symbols.{empty_symbol};
 ghost use Rattle.paths.specs.Costs.{Labels};
@@ -13,7 +15,7 @@ use machine::{Pair, Position, sets};
 use ranking::Profile;
 
 // What is written: the number of pairs, and their profile.
-#[derive(Drop)]
+#[derive(Clone, Copy)]
 pub struct Written {
     pub pairs: usize,
     pub profile: Profile,

@@ -1,4 +1,6 @@
 // The weighted order, in which sums of weights are compared, on the same search as the ranked one.
+#![tactic(auto)]
+
 ghost use Rattle.basics.specs.Words.{◌≡◌, true, ◌*◌, ◌^◌, ◌<◌, ◌≤◌, length, take};
 ghost use Rattle.tables.specs.Tables.{CountsOfSome};
 ghost use Rattle.cells.specs.Columns.{WeightsOf};

@@ -1,4 +1,6 @@
 // Weights: from card, weights and word to the best candidate of Harmonic Grammar.
+#![tactic(auto)]
+
 ghost use Rattle.std.specs.Prelude.{◌≡◌};
 ghost use Rattle.paths.specs.Positions.{Done};
 ghost use Rattle.product.specs.Sets.{best_of_sets_in};
@@ -17,7 +19,7 @@ use refusals::Checked;
 mod checks; // checks.rt: the checks of the input and of the best candidate
 
 // What the call answers: the evaluation of the best candidate, and its sum in thousandths.
-#[derive(Drop)]
+#[derive(Clone, Copy)]
 pub struct Weighing {
     pub evaluation: Evaluation,
     pub sum: u64,

@@ -1,0 +1,16 @@
+use Rattle.basics.proofs.Words.{◌≡◌, refl, ◌∙◌, suc, ◌-◌, arith, length, mul_comm, rules}
+use Rattle.product.specs.Laws.Nodes.{product_positive}
+use Rattle.adding.specs.Cells.{high_at, low_at}
+use Rattle.adding.proofs.Filling.{Reached, SumsFrom, reached_start, machine_below, place_enough, reached_next, sums_start, sums_next, sums_end, codes_few, machine_pre}
+use Rattle.adding.proofs.add_machines.Given as goal
+
+abbrev pub invariant-loop-m : goal.invariant-loop-m
+invariant-loop-m l =
+    Reached l.counts l.end l.codes l.place l.m
+    × SumsFrom (high_at l.steps l.weights l.width) l.four l.counts l.high l.codes l.place l.m
+    × SumsFrom (low_at l.steps l.weights l.width) l.four l.counts l.low l.codes l.place l.m
+    × (length l.high ≡ length l.initial.high)
+    × (length l.low ≡ length l.initial.low)
+
+abbrev pub decreases-loop-m : goal.decreases-loop-m
+decreases-loop-m l = l.m

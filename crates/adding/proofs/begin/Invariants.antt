@@ -1,0 +1,9 @@
+use Rattle.basics.proofs.Words.{◌≡◌, refl, ◌-◌, arith, length, length-set, rules}
+use Rattle.tables.proofs.JointRows.{RowTo, row_start, row_next}
+use Rattle.adding.proofs.begin.Given as goal
+
+abbrev pub invariant-loop-j : goal.invariant-loop-j
+invariant-loop-j l = RowTo (λ k. 0) 4 l.table l.j × (length l.table ≡ length l.initial.table)
+
+abbrev pub decreases-loop-j : goal.decreases-loop-j
+decreases-loop-j l = 4 - l.j

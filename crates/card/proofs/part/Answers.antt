@@ -1,0 +1,6 @@
+use Rattle.card.specs.Accepted.{accepted}
+use borrow.Author.Rules.{rules}
+use Rattle.card.proofs.part.Goals as goal
+
+pub part-requires : goal.part-requires
+part-requires c = (accepted c.args.card.now c.requires.0).within c.args.machine c.requires.1

@@ -1,0 +1,23 @@
+use Rattle.basics.proofs.Words.{◌≡◌, refl, ◌∙◌, List, [], ◌∷◌, ℕ, ◌+◌, ◌-◌, ◌^◌, ◌≤◌, arith, length, take, drop, lit≤, rules}
+use Rattle.refusals.specs.Refusals.{refuse, first_of}
+use Rattle.machine.specs.Part.{part_refusal}
+use Rattle.machine.specs.Accepted.{accepted}
+use Rattle.refusals.proofs.Refusals.{passed_number, refused_number}
+use Rattle.card.specs.Card.{parts_refusal, few_states}
+use Rattle.card.specs.Packing.{total, split}
+use Rattle.card.specs.Laws.Parts.{total_left}
+use Rattle.card.specs.Laws.Checked.{part_shaped}
+use Rattle.card.proofs.PartSteps.{parts_left, parts_start, check_on, check_stop, check_end, product_next, product_small}
+use Rattle.card.proofs.parts.check_parts.Given as goal
+
+abbrev pub invariant-loop-i : goal.invariant-loop-i
+invariant-loop-i l =
+    (l.i-end ≡ length l.lengths)
+    × (l.i ≤ length l.lengths)
+    × (l.offset + total (drop l.i l.lengths) ≤ length l.bytes)
+    × (l.states ≤ 32 ^ l.i)
+    × (parts_left l.states l.symbols (split (drop l.i l.lengths) (drop l.offset l.bytes))
+    ≡ first_of (parts_refusal l.symbols (split l.lengths (drop l.start l.bytes)) ∷ refuse 6 (few_states (split l.lengths (drop l.start l.bytes))) ∷ []))
+
+abbrev pub decreases-loop-i : goal.decreases-loop-i
+decreases-loop-i l = l.i-end - l.i

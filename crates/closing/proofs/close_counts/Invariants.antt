@@ -1,0 +1,10 @@
+use Rattle.basics.proofs.Words.{◌≡◌, subst, ◌-◌, ◌≤◌, arith, rules}
+use Rattle.closing.specs.Closing.{CountsClosed}
+use Rattle.closing.proofs.ClosingCodes.{stored_start, has_node, stored_next}
+use Rattle.closing.proofs.close_counts.Given as goal
+
+abbrev pub invariant-loop-code : goal.invariant-loop-code
+invariant-loop-code l = (l.code ≤ l.size) × CountsClosed l.initial.work l.work l.own l.base l.code
+
+abbrev pub decreases-loop-code : goal.decreases-loop-code
+decreases-loop-code l = l.size - l.code

@@ -1,0 +1,10 @@
+use Rattle.basics.proofs.Words.{◌≡◌, subst, ◌-◌, ◌≤◌, arith, rules}
+use Rattle.closing.specs.Closing.{SumsClosed}
+use Rattle.closing.proofs.ClosingSums.{sums_start, sums_next}
+use Rattle.closing.proofs.close_sums.Given as goal
+
+abbrev pub invariant-loop-code : goal.invariant-loop-code
+invariant-loop-code l = (l.code ≤ l.size) × SumsClosed l.initial.work l.work l.own l.base l.code
+
+abbrev pub decreases-loop-code : goal.decreases-loop-code
+decreases-loop-code l = l.size - l.code

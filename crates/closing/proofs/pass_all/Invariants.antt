@@ -1,0 +1,9 @@
+use Rattle.basics.proofs.Words.{◌≡◌, subst, ◌-◌, ◌≤◌, arith, rules}
+use Rattle.closing.proofs.Passing.{PassedBelow, passed_start, pass_pre, passed_next, passed_end}
+use Rattle.closing.proofs.pass_all.Given as goal
+
+abbrev pub invariant-loop-code : goal.invariant-loop-code
+invariant-loop-code l = (l.code ≤ l.size) × PassedBelow l.initial.own l.own l.initial.next l.next l.code
+
+abbrev pub decreases-loop-code : goal.decreases-loop-code
+decreases-loop-code l = l.size - l.code

@@ -1,0 +1,45 @@
+use Rattle.basics.proofs.Words.{◌≡◌, refl, ◌∙◌, ◌-◌, arith, length, rules}
+use Rattle.card.specs.Card.{machines_of}
+use Rattle.card.specs.Laws.Machines.{machine_at_lem}
+use Rattle.machine.specs.Machine.{no_machine}
+use Rattle.tables.specs.StepTable.{machine_at}
+use Rattle.columns.specs.Filling.{MachineFilled}
+use Rattle.columns.proofs.Filling.{FilledTo, narrow, filled_start, machine_below, places_there, machine_pre, filled_next, filled_end}
+use Rattle.columns.proofs.fill.Goals as goal
+
+pub set_of-set-requires : goal.set_of-set-requires
+set_of-set-requires c =
+    c.requires.input
+
+pub loop-m-init : goal.loop-m-init
+loop-m-init c =
+    (refl, filled_start c.requires _ c.partners-taken.result c.clear.ensures refl c.partners-taken.ensures)
+
+pub part-requires : goal.part-requires
+part-requires c =
+    (c.requires.accepted, machine_below c.requires c.loop-m.invariant.1 c.loop-m-test.true)
+
+pub fill_machine-outputs-requires : goal.fill_machine-outputs-requires
+fill_machine-outputs-requires c =
+    machine_pre c.requires c.loop-m.invariant.1 c.loop-m-test.true c.part.ensures c.index-states.ensures.0
+
+pub overflow_add-first : goal.overflow_add-first
+overflow_add-first c =
+    omega (arith, c.index-states.ensures.0, places_there c.requires c.loop-m.invariant.1 c.loop-m-test.true, narrow c.requires)
+
+pub loop-m-preserved : goal.loop-m-preserved
+loop-m-preserved c =
+    let at_set_of = after_set_of.set_of_lem in
+    let t = c.loop-m-test.true in
+    let card = c.args.card.now in
+    let h : MachineFilled (machine_at (machines_of card) c.loop-m.m) c.args.input c.args.width c.loop-m.first c.loop-m.steps c.fill_machine-outputs.new.0 c.fill_machine-outputs.result =
+    rw (machine_at_lem card c.loop-m.m (machine_below c.requires c.loop-m.invariant.1 t) no_machine, ← c.part.ensures) (c.fill_machine-outputs.ensures c.args.input at_set_of.ensures) in
+    (c.fill_machine-outputs.auto.0 ∙ c.loop-m.invariant.0, filled_next c.requires c.loop-m.invariant.1 t c.index-states.result c.fill_machine-outputs.result c.index-states.ensures.0 h)
+
+pub shape_of-steps : goal.shape_of-steps
+shape_of-steps c =
+    c.loop-m.invariant.0 ∙ c.clear.kept.0
+
+pub returns : goal.returns
+returns c =
+    filled_end c.requires c.loop-m.invariant.1 c.loop-m-test.false

@@ -1,0 +1,10 @@
+use Rattle.basics.proofs.Words.{◌-◌, arith, rules}
+use Rattle.machine.specs.Accepted.{accepted, shape_facts}
+use Rattle.columns.proofs.Endings.{PartTo, part_start, part_next, part_end}
+use Rattle.columns.proofs.fill_part_endings.Given as goal
+
+abbrev pub invariant-loop-state : goal.invariant-loop-state
+invariant-loop-state l = PartTo l.initial.steps l.steps l.part l.first l.state
+
+abbrev pub decreases-loop-state : goal.decreases-loop-state
+decreases-loop-state l = l.states - l.state

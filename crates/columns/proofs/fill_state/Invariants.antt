@@ -1,0 +1,12 @@
+use Rattle.basics.proofs.Words.{◌≡◌, refl, ◌∙◌, ℕ, ◌≤◌, ◌-◌, ◌+◌, ◌^◌, arith, length, rules}
+use Rattle.machine.specs.Part.{state_count, arc_count, arcs_of}
+use Rattle.machine.specs.Accepted.{accepted}
+use Rattle.machine.specs.Laws.Arcs.{arcs_count}
+use Rattle.columns.proofs.AtHand.{arc_of, StateIn, state_none, state_next, state_all}
+use Rattle.columns.proofs.fill_state.Given as goal
+
+abbrev pub invariant-loop-left : goal.invariant-loop-left
+invariant-loop-left l = (l.left ≤ arc_count l.part) × (length l.steps ≡ length l.initial.steps) × ((x : ℕ) → l.input ≡ 2 ^ x → StateIn l.initial.steps l.steps (arcs_of l.part) l.state l.width l.place x l.left l.taken)
+
+abbrev pub decreases-loop-left : goal.decreases-loop-left
+decreases-loop-left l = l.left

@@ -1,0 +1,10 @@
+use Rattle.basics.proofs.Words.{sym, ◌∙◌, ◌-◌, ◌≤◌, arith, length-set, rules}
+use Rattle.entering.specs.Endings.{EndingsWritten}
+use Rattle.entering.proofs.LastPosition.{CodePlaces, code_places, written_start, written_next, written_end}
+use Rattle.entering.proofs.endings.write_endings.Given as goal
+
+abbrev pub invariant-loop-code : goal.invariant-loop-code
+invariant-loop-code l = (l.code ≤ l.size) × EndingsWritten l.own l.high l.low l.front l.back l.code
+
+abbrev pub decreases-loop-code : goal.decreases-loop-code
+decreases-loop-code l = l.size - l.code

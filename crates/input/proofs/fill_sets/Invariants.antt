@@ -1,0 +1,9 @@
+use Rattle.basics.proofs.Words.{◌≡◌, refl, ◌-◌, ◌≤◌, arith, length, length-set, rules}
+use Rattle.input.proofs.Words.{FilledBelow, filled_start, filled_next, filled_end, small_at}
+use Rattle.input.proofs.fill_sets.Given as goal
+
+abbrev pub invariant-loop-i : goal.invariant-loop-i
+invariant-loop-i l = FilledBelow l.word l.sets l.i × (l.i ≤ length l.word) × (length l.sets ≡ length l.initial.sets)
+
+abbrev pub decreases-loop-i : goal.decreases-loop-i
+decreases-loop-i l = length l.word - l.i

@@ -1,0 +1,9 @@
+use Rattle.basics.proofs.Words.{◌-◌, arith, rules}
+use Rattle.insertions.proofs.Adding.{AddTo, add_start, add_fits, add_next, add_end}
+use Rattle.insertions.proofs.add_up.Given as goal
+
+abbrev pub invariant-loop-i : goal.invariant-loop-i
+invariant-loop-i l = AddTo l.initial.ends l.ends l.last l.i
+
+abbrev pub decreases-loop-i : goal.decreases-loop-i
+decreases-loop-i l = l.last - l.i

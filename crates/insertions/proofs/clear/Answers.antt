@@ -1,0 +1,12 @@
+use Rattle.basics.proofs.Words.{◌≡◌, ap, ◌∙◌, ◌++◌, append-nil, ◌-◌, ◌≤◌, arith, length, set, length-set, drop, replicate, drop_of_length-le, rules}
+use borrow.Author.Fill.{fill_more}
+use Rattle.insertions.proofs.clear.Goals as goal
+
+pub loop-i-preserved : goal.loop-i-preserved
+loop-i-preserved c = let s = c.args.ends.now in
+    (search rules, ap (λ l. set l c.loop-i.i 0) c.loop-i.invariant.1 ∙ fill_more c.loop-i.i 0 s (omega (arith, c.requires)), simp length-set c.loop-i.invariant.2)
+
+pub returns : goal.returns
+returns c = let s = c.args.ends.now in
+    let e : c.loop-i.i ≡ length s = omega (arith, c.requires) in
+    c.loop-i.invariant.1 ∙ ap (λ n. replicate n 0 ++ drop n s) e ∙ ap (λ l. replicate (length s) 0 ++ l) (drop_of_length-le s {i = length s} (omega arith)) ∙ append-nil (replicate (length s) 0)

@@ -1,0 +1,12 @@
+use Rattle.basics.proofs.Words.{◌≡◌, refl, ◌∙◌, ap, [], ℕ, ◌-◌, ◌*◌, ◌≤◌, arith, rules}
+use Rattle.insertions.specs.Lanes.{bumped}
+use Rattle.insertions.specs.Tables.{four_lane, lanes_from}
+use Rattle.insertions.proofs.Lanes.{bumped_start, bumped_on, count_next}
+use Rattle.insertions.proofs.Rows.{row_last, row_next}
+use Rattle.insertions.proofs.count_four.Given as goal
+
+abbrev pub invariant-loop-a : goal.invariant-loop-a
+invariant-loop-a l = (l.a ≤ l.front) × (l.ends ≡ bumped 2 (four_lane l.high [] l.front l.back) (l.a * l.back * 4) l.initial.ends)
+
+abbrev pub decreases-loop-a : goal.decreases-loop-a
+decreases-loop-a l = l.front - l.a

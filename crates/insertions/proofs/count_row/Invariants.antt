@@ -1,0 +1,12 @@
+use Rattle.basics.proofs.Words.{◌≡◌, ◌∙◌, ap, [], ℕ, ◌+◌, ◌-◌, ◌*◌, ◌≤◌, arith, rules}
+use Rattle.insertions.specs.Lanes.{bumped}
+use Rattle.insertions.specs.Tables.{code_lane, lanes_from}
+use Rattle.insertions.proofs.Lanes.{bumped_start, bumped_on, equal_alike, count_next}
+use Rattle.insertions.proofs.Rows.{code_lanes, front_few, back_few, row_last, lanes_pre, code_next}
+use Rattle.insertions.proofs.count_row.Given as goal
+
+abbrev pub invariant-loop-b : goal.invariant-loop-b
+invariant-loop-b l = (l.b ≤ l.back) × (l.ends ≡ bumped 2 (lanes_from l.high [] l.front l.back (l.a * l.back)) (l.b * 4) l.initial.ends)
+
+abbrev pub decreases-loop-b : goal.decreases-loop-b
+decreases-loop-b l = l.back - l.b

@@ -1,0 +1,11 @@
+use Rattle.basics.proofs.Words.{◌≡◌, sym, ◌∙◌, ap, ℕ, ◌+◌, ◌-◌, ◌≤◌, arith, length, rules}
+use Rattle.insertions.specs.Lanes.{bumped, placed, bump, put}
+use Rattle.insertions.specs.Tables.{code_lane}
+use Rattle.insertions.proofs.Lanes.{bumped_none, bumped_next, placed_none, placed_next, placed_size, entry_next}
+use Rattle.insertions.proofs.list_code.Given as goal
+
+abbrev pub invariant-loop-j : goal.invariant-loop-j
+invariant-loop-j l = (l.j ≤ 4) × (l.entries ≡ placed (code_lane l.high l.low l.code l.a l.b) l.j l.initial.entries l.initial.ends) × (l.ends ≡ bumped 1 (code_lane l.high l.low l.code l.a l.b) l.j l.initial.ends)
+
+abbrev pub decreases-loop-j : goal.decreases-loop-j
+decreases-loop-j l = 4 - l.j

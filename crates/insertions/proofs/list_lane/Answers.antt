@@ -1,0 +1,47 @@
+use Rattle.basics.proofs.Words.{sym, ◌∙◌, ap, ℕ, ◌+◌, ◌<◌, arith, length, get_or, set, length-set, rules}
+use Rattle.insertions.specs.Lanes.{lane_of}
+use Rattle.insertions.proofs.Lanes.{bump_moves, bump_stays, put_moves, put_stays, lane_room}
+use Rattle.insertions.proofs.list_lane.Goals as goal
+
+-- the place behind the list is there
+place : (c : goal.After-entry_of)
+    → (get_or c.before.before.before.before.before.before.args.ends.now (c.before.before.list_of_lem.result + 1) 0 < length c.before.before.before.before.before.before.args.entries.now)
+    × (get_or c.before.before.before.before.before.before.args.ends.now (c.before.before.list_of_lem.result + 1) 0 < 65535)
+place c =
+    let at_list_of = c.before.before.list_of_lem in
+    lane_room (lane_of c.args.code c.args.step c.args.rest) c.requires (sym c.moves.ensures ∙ c.if-moves.true) at_list_of.result at_list_of.ensures.0
+
+pub entry_of-requires : goal.entry_of-requires
+entry_of-requires c =
+    c.requires.codes 0 (omega arith)
+
+pub overflow_cast-entries : goal.overflow_cast-entries
+overflow_cast-entries c = omega (arith, (place c).1)
+
+pub offset_bounds-entries-place : goal.offset_bounds-entries-place
+offset_bounds-entries-place c = omega (arith, (place c).1)
+
+pub bounds-entries-place : goal.bounds-entries-place
+bounds-entries-place c = (place c).0
+
+pub overflow_add-ends : goal.overflow_add-ends
+overflow_add-ends c = omega (arith, (place c).1)
+
+pub shape_of-entries : goal.shape_of-entries
+shape_of-entries c = simp length-set
+
+pub returns-then-moves : goal.returns-then-moves
+returns-then-moves c =
+    let x = lane_of c.args.code c.args.step c.args.rest in
+    let es = c.args.entries.now in
+    let ns = c.args.ends.now in
+    let t = sym c.moves.ensures ∙ c.if-moves.true in
+    let e = c.before.before.list_of_lem.ensures.0 in
+    let d = c.entry_of_lem.ensures in
+    ((λ i. set es (get_or ns (e i + 1) 0) (d i)) ∙ sym (put_moves x es ns t), ap (λ (n : ℕ). set ns (n + 1) (get_or ns (n + 1) 0 + 1)) e ∙ sym (bump_moves 1 x ns t))
+
+pub returns-else-moves : goal.returns-else-moves
+returns-else-moves c =
+    let x = lane_of c.args.code c.args.step c.args.rest in
+    let t = sym c.moves.ensures ∙ c.if-moves.false in
+    (sym (put_stays x c.args.entries.now c.args.ends.now t), sym (bump_stays 1 x c.args.ends.now t))

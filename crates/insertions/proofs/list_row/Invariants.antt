@@ -1,0 +1,12 @@
+use Rattle.basics.proofs.Words.{◌≡◌, ◌∙◌, ap, ℕ, ◌+◌, ◌-◌, ◌*◌, ◌≤◌, arith, length, rules}
+use Rattle.insertions.specs.Lanes.{bumped, placed}
+use Rattle.insertions.specs.Tables.{code_lane, lanes_from}
+use Rattle.insertions.proofs.Lanes.{bumped_start, placed_start, bumped_on, placed_on, placed_size, equal_alike, entry_next}
+use Rattle.insertions.proofs.Rows.{code_lanes, front_few, back_few, row_last, lanes_pre, code_next}
+use Rattle.insertions.proofs.list_row.Given as goal
+
+abbrev pub invariant-loop-b : goal.invariant-loop-b
+invariant-loop-b l = (l.b ≤ l.back) × (l.entries ≡ placed (lanes_from l.high l.low l.front l.back (l.a * l.back)) (l.b * 4) l.initial.entries l.initial.ends) × (l.ends ≡ bumped 1 (lanes_from l.high l.low l.front l.back (l.a * l.back)) (l.b * 4) l.initial.ends)
+
+abbrev pub decreases-loop-b : goal.decreases-loop-b
+decreases-loop-b l = l.back - l.b

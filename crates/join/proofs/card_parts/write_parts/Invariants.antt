@@ -1,0 +1,16 @@
+use Rattle.basics.proofs.Words.{◌≡◌, sym, ap, subst, ◌∙◌, List, [], ℕ, ◌+◌, ◌*◌, ◌-◌, ◌<◌, ◌≤◌, arith, length, get_or, length-take, length-drop, rules}
+use Rattle.card.specs.Layout.{machine_count, parts_of}
+use Rattle.join.specs.JoinedCard.{joined_parts, lower, other}
+use Rattle.join.specs.Writing.{placed, table_length, joined_bytes}
+use Rattle.joined.specs.Laws.Placed.{placed_mid}
+use Rattle.joined.proofs.Rest.{Rest, rest_start, rest_room, rest_next, rest_end}
+use Rattle.join.proofs.CardParts.{second_in, few_machines, new_count, card_length}
+use Rattle.join.proofs.card_parts.write_parts.Given as goal
+
+abbrev pub invariant-loop-i : goal.invariant-loop-i
+invariant-loop-i l =
+    (l.i ≤ l.machines)
+    × Rest (λ (part : List ℕ). part) (joined_parts l.lower l.other (parts_of l.card)) (placed (table_length l.card) (joined_bytes l.lower l.other l.card) l.initial.target) (table_length l.card + length (joined_bytes l.lower l.other l.card)) (length l.initial.target) l.i l.offset l.target
+
+abbrev pub decreases-loop-i : goal.decreases-loop-i
+decreases-loop-i l = l.machines - l.i

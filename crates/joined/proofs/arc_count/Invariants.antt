@@ -1,0 +1,15 @@
+use Rattle.basics.proofs.Words.{◌≡◌, ap, ◌+◌, ◌*◌, ◌-◌, ◌≤◌, arith, length, drop, rules}
+use Rattle.machine.specs.declared.Arc.{Arc}
+use Rattle.machine.specs.Part.{state_count, arcs_of}
+use Rattle.joined.specs.JoinedMachine.{arcs_with, joined_arcs}
+use Rattle.joined.specs.Laws.Writing.{rows_more, rows_end}
+use Rattle.joined.proofs.Parts.{no_arc, arcs_length}
+use Rattle.joined.proofs.arc_count.Given as goal
+
+abbrev pub invariant-loop-i : goal.invariant-loop-i
+invariant-loop-i l =
+    (l.i ≤ l.arcs) × (l.count ≤ 255 * l.i)
+    × (l.count + length (joined_arcs (state_count l.second) (drop l.i (arcs_of l.first)) (arcs_of l.second)) ≡ length (joined_arcs (state_count l.second) (arcs_of l.first) (arcs_of l.second)))
+
+abbrev pub decreases-loop-i : goal.decreases-loop-i
+decreases-loop-i l = l.arcs - l.i

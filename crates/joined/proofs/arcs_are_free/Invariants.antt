@@ -1,0 +1,12 @@
+use Rattle.basics.proofs.Words.{◌≡◌, refl, ap, ◌∙◌, ◌-◌, ◌≤◌, arith, drop, eqb, all_of, rules, eq-eqb, ne_eqb}
+use Rattle.machine.specs.declared.Arc.{Arc}
+use Rattle.machine.specs.Part.{arc_count, arcs_of}
+use Rattle.joined.proofs.Rest.{all_go_on, all_stop, all_end}
+use Rattle.joined.proofs.Parts.{no_arc, arcs_length}
+use Rattle.joined.proofs.arcs_are_free.Given as goal
+
+abbrev pub invariant-loop-i : goal.invariant-loop-i
+invariant-loop-i l = (l.i-end ≡ arc_count l.part) × (l.i ≤ l.i-end) × (all_of (λ a. eqb a.marks 0) (drop l.i (arcs_of l.part)) ≡ all_of (λ a. eqb a.marks 0) (arcs_of l.part))
+
+abbrev pub decreases-loop-i : goal.decreases-loop-i
+decreases-loop-i l = l.i-end - l.i

@@ -1,0 +1,14 @@
+use Rattle.basics.proofs.Words.{◌≡◌, sym, ap, ap₂, ◌∙◌, List, ℕ, ◌+◌, ◌-◌, ◌≤◌, arith, length, get_or, rules}
+use Rattle.machine.specs.declared.Arc.{Arc}
+use Rattle.machine.specs.Part.{state_count, arcs_of}
+use Rattle.joined.specs.Writing.{placed, shared_bytes, row_bytes}
+use Rattle.joined.proofs.Rest.{Rest, rest_start, rest_room, rest_next, rest_end}
+use Rattle.joined.proofs.Parts.{no_arc, arcs_length, shared_ready}
+use Rattle.joined.proofs.writing.write_row.Given as goal
+
+abbrev pub invariant-loop-i : goal.invariant-loop-i
+invariant-loop-i l =
+    (l.i ≤ l.arcs) × Rest (shared_bytes (state_count l.second) l.arc) (arcs_of l.second) (placed l.at (row_bytes l.second l.arc) l.initial.target) (l.at + length (row_bytes l.second l.arc)) (length l.initial.target) l.i l.next l.target
+
+abbrev pub decreases-loop-i : goal.decreases-loop-i
+decreases-loop-i l = l.arcs - l.i

@@ -1,0 +1,13 @@
+use Rattle.basics.proofs.Words.{◌≡◌, sym, ◌∙◌, ap, ℕ, ◌+◌, ◌-◌, ◌≤◌, arith, length-set, rules}
+use Rattle.cells.specs.declared.Cell.{Cell}
+use Rattle.cells.specs.Labels.{cell_at}
+use Rattle.cells.specs.Laws.Labels.{written_here, written_other}
+use Rattle.lanes.specs.Trying.{lesser, way_of, least_of}
+use Rattle.lanes.specs.Laws.Least.{least_none, least_next}
+use Rattle.lanes.proofs.try_code.Given as goal
+
+abbrev pub invariant-loop-j : goal.invariant-loop-j
+invariant-loop-j l = (l.j ≤ 4) × (l.label ≡ least_of (λ k. way_of l.next l.high l.low (l.a + k) (l.b + k)) l.j (cell_at l.own l.code))
+
+abbrev pub decreases-loop-j : goal.decreases-loop-j
+decreases-loop-j l = 4 - l.j

@@ -1,0 +1,10 @@
+use Rattle.basics.proofs.Words.{◌≡◌, ◌∙◌, ◌+◌, ◌*◌, ◌-◌, ◌≤◌, arith, add-mul, rules}
+use Rattle.lanes.specs.Trying.{TriedIn}
+use Rattle.lanes.proofs.Trying.{tried_none, tried_row, try_pre, skip_pre}
+use Rattle.lanes.proofs.try_four.Given as goal
+
+abbrev pub invariant-loop-a : goal.invariant-loop-a
+invariant-loop-a l = TriedIn l.initial.own l.own l.next l.high l.low l.front l.back 0 (l.a * l.back) × (l.a ≤ l.front)
+
+abbrev pub decreases-loop-a : goal.decreases-loop-a
+decreases-loop-a l = l.front - l.a

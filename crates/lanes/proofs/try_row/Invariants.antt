@@ -1,0 +1,10 @@
+use Rattle.basics.proofs.Words.{◌≡◌, ◌+◌, ◌*◌, ◌-◌, ◌≤◌, arith, rules}
+use Rattle.lanes.specs.Trying.{TriedIn}
+use Rattle.lanes.proofs.Trying.{front_few, back_few, row_last, tried_none, code_pre, tried_code}
+use Rattle.lanes.proofs.try_row.Given as goal
+
+abbrev pub invariant-loop-b : goal.invariant-loop-b
+invariant-loop-b l = TriedIn l.initial.own l.own l.next l.high l.low l.front l.back (l.a * l.back) (l.a * l.back + l.b) × (l.b ≤ l.back)
+
+abbrev pub decreases-loop-b : goal.decreases-loop-b
+decreases-loop-b l = l.back - l.b

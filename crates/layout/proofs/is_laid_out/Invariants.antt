@@ -1,0 +1,11 @@
+use Rattle.basics.proofs.Words.{◌≡◌, ap, sym, ◌∙◌, true, ◌+◌, ◌*◌, ◌-◌, ◌≤◌, arith, length, eqb, every_below, rules, eq-eqb, ne_eqb, every_next}
+use Rattle.layout.specs.Layout.{offset_of, due_offset, in_place, laid_out}
+use Rattle.layout.proofs.Checking.{due_step, no_table, out_of_place, end_decides}
+use Rattle.layout.proofs.is_laid_out.Given as goal
+
+abbrev pub invariant-loop-i : goal.invariant-loop-i
+invariant-loop-i l =
+    (l.i ≤ l.count) × (l.due ≡ due_offset l.count l.bytes l.i) × (l.due ≤ 2 + 4 * l.count + 65535 * l.i) × (every_below (in_place l.count l.bytes) l.i ≡ true)
+
+abbrev pub decreases-loop-i : goal.decreases-loop-i
+decreases-loop-i l = l.count - l.i

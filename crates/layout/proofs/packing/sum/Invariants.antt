@@ -1,0 +1,10 @@
+use Rattle.basics.proofs.Words.{◌≡◌, refl, ap, ◌∙◌, ◌*◌, ◌-◌, ◌≤◌, arith, length, take, take-length, add-one, rules}
+use Rattle.layout.specs.Laws.Parts.{total_next}
+use Rattle.layout.specs.Packing.{total}
+use Rattle.layout.proofs.packing.sum.Given as goal
+
+abbrev pub invariant-loop-i : goal.invariant-loop-i
+invariant-loop-i l = (l.i-end ≡ length l.lengths) × (l.i ≤ length l.lengths) × (l.sum ≡ total (take l.i l.lengths)) × (l.sum ≤ 65535 * l.i)
+
+abbrev pub decreases-loop-i : goal.decreases-loop-i
+decreases-loop-i l = l.i-end - l.i

@@ -1,0 +1,16 @@
+use Rattle.basics.proofs.Words.{◌≡◌, refl, ap, ◌∙◌, ◌++◌, ◌+◌, ◌*◌, ◌-◌, ◌≤◌, arith, length, get_or, take, length-take, length-drop, take-length, add-one, rules}
+use Rattle.layout.specs.Packing.{total}
+use Rattle.layout.specs.Laws.Parts.{total_next, total_within, total_parted}
+use Rattle.layout.proofs.Writing.{written, parts_none, parts_next, parts_all, parts_length}
+use Rattle.layout.proofs.packing.write_parts.Given as goal
+
+abbrev pub invariant-loop-i : goal.invariant-loop-i
+invariant-loop-i l =
+    (l.i-end ≡ length l.lengths)
+    × (l.i ≤ length l.lengths)
+    × (l.from ≡ total (take l.i l.lengths))
+    × (l.offset ≡ 2 + 4 * length l.lengths + l.from)
+    × (l.target ≡ written (take (2 + 4 * length l.lengths) l.initial.target ++ l.parts) l.offset l.initial.target)
+
+abbrev pub decreases-loop-i : goal.decreases-loop-i
+decreases-loop-i l = l.i-end - l.i

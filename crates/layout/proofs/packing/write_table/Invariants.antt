@@ -1,0 +1,16 @@
+use Rattle.basics.proofs.Words.{◌≡◌, refl, ap, ◌∙◌, [], ◌+◌, ◌*◌, ◌-◌, ◌≤◌, arith, length, set, take, length-set, add-one, rules}
+use Rattle.layout.specs.Packing.{total, packed}
+use Rattle.layout.proofs.Writing.{written, written_length, written_two, places_next, table_written}
+use Rattle.layout.specs.Laws.Parts.{total_next, total_parted}
+use Rattle.layout.specs.Laws.Packed.{packed_length}
+use Rattle.layout.proofs.packing.write_table.Given as goal
+
+abbrev pub invariant-loop-i : goal.invariant-loop-i
+invariant-loop-i l =
+    (l.i-end ≡ length l.lengths)
+    × (l.i ≤ length l.lengths)
+    × (l.start ≡ 2 + 4 * length l.lengths + total (take l.i l.lengths))
+    × (l.target ≡ written (packed l.symbols l.lengths []) (2 + 4 * l.i) l.initial.target)
+
+abbrev pub decreases-loop-i : goal.decreases-loop-i
+decreases-loop-i l = l.i-end - l.i

@@ -1,0 +1,11 @@
+use Rattle.basics.proofs.Words.{◌≡◌, refl, ap, ◌∙◌, true, map, ◌-◌, ◌≤◌, arith, length, drop, length-set, length-map, drop_of_length-le, sets, all_of, rules}
+use Rattle.writing.specs.Decimal.{is_digit, digit_value}
+use Rattle.writing.proofs.Lists.{rest_cons, all_first, all_rest, sets_next, sets_end, sets_front}
+use Rattle.writing.proofs.Decimals.{digit_facts}
+use Rattle.lines.proofs.parsing.write_ranking.Given as goal
+
+abbrev pub invariant-loop-at : goal.invariant-loop-at
+invariant-loop-at l = (l.at ≤ length l.digits) × (length l.ranking ≡ length l.initial.ranking) × (all_of is_digit (drop l.at l.digits) ≡ true) × (sets l.ranking l.at (map digit_value (drop l.at l.digits)) ≡ sets l.initial.ranking 0 (map digit_value l.digits))
+
+abbrev pub decreases-loop-at : goal.decreases-loop-at
+decreases-loop-at l = length l.digits - l.at

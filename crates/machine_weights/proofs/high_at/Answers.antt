@@ -1,0 +1,5 @@
+use Rattle.basics.proofs.Words.{sym, List·getD-eq-default, rules}
+use Rattle.machine_weights.proofs.high_at.Goals as goal
+
+pub returns : goal.returns
+returns c = sym (List·getD-eq-default c.args.weights.now 0 c.if-at-weights.false)

@@ -1,0 +1,6 @@
+use borrow.Author.Rules.{rules}
+use Rattle.machine_weights.proofs.six_highs.Goals as goal
+
+-- src/lib.rt:58:1
+pub returns : goal.returns
+returns c = cc

@@ -1,0 +1,20 @@
+use Rattle.basics.proofs.Words.{⊎_elim, ◌-◌, arith, rules}
+use Rattle.machine_weights.proofs.Weighing.{SumTo, sum_start, sum_taken, sum_passed, sum_end}
+use Rattle.machine_weights.proofs.weight.Goals as goal
+
+pub loop-i-init : goal.loop-i-init
+loop-i-init c = sum_start
+
+pub overflow_add-sum : goal.overflow_add-sum
+overflow_add-sum c = omega (arith, c.loop-i.invariant.few, c.requires.2.most c.loop-i.i, c.loop-i-test.true)
+
+pub loop-i-smaller : goal.loop-i-smaller
+loop-i-smaller c = omega (arith, c.loop-i-test.true)
+
+pub loop-i-preserved : goal.loop-i-preserved
+loop-i-preserved c =
+    let h = c.loop-i-test.true in
+    (elim c.if-places-i.branch [ then-places-i w ↦ rw w.2 (sum_taken c.loop-i.invariant h c.requires.0 c.requires.1 c.requires.2 w.0.taken) | else-places-i w ↦ rw w.1 (sum_passed c.loop-i.invariant h c.requires.0 c.requires.1 w.0.left) ])
+
+pub returns : goal.returns
+returns c = sum_end c.loop-i.invariant c.loop-i-test.false c.requires.0

@@ -1,0 +1,9 @@
+use Rattle.basics.proofs.Words.{⊎_elim, ◌-◌, arith, rules}
+use Rattle.machine_weights.proofs.Weighing.{SumTo, sum_start, sum_taken, sum_passed, sum_end}
+use Rattle.machine_weights.proofs.weight.Given as goal
+
+abbrev pub invariant-loop-i : goal.invariant-loop-i
+invariant-loop-i l = SumTo l.places l.weights l.machine l.i l.sum
+
+abbrev pub decreases-loop-i : goal.decreases-loop-i
+decreases-loop-i l = 6 - l.i

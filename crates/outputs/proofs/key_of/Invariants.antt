@@ -1,0 +1,9 @@
+use Rattle.basics.proofs.Words.{ℕ, ◌+◌, ◌*◌, ◌<◌, ◌≤◌, ◌-◌, arith, get_or, mul-le-mul, mod-lt, rules}
+use Rattle.adding.specs.Laws.Numbers.{column_few, column_in}
+use Rattle.outputs.proofs.key_of.Given as goal
+
+abbrev pub invariant-loop-place : goal.invariant-loop-place
+invariant-loop-place l = l.sum ≤ l.place * 5177265
+
+abbrev pub decreases-loop-place : goal.decreases-loop-place
+decreases-loop-place l = l.width - l.place

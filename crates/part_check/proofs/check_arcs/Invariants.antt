@@ -1,0 +1,13 @@
+use Rattle.basics.proofs.Words.{◌≡◌, ap, sym, ◌∙◌, ◌≤◌, ◌+◌, ◌*◌, arith, length, all_of, rules, not-true, not-false}
+use Rattle.refusals.specs.Refusals.{refuse}
+use Rattle.machine.specs.Part.{arcs_at, sound_arc, sound_arcs}
+use Rattle.machine.specs.Accepted.{shape_facts}
+use Rattle.machine.specs.Laws.Arcs.{all_go_on, all_stop, all_end}
+use Rattle.part_check.proofs.check_arcs.Given as goal
+
+abbrev pub invariant-loop-left : goal.invariant-loop-left
+invariant-loop-left l =
+    (l.at + 20 * l.left ≤ length l.part) × (all_of (sound_arc l.symbols l.states) (arcs_at l.part l.at l.left) ≡ sound_arcs l.symbols l.part)
+
+abbrev pub decreases-loop-left : goal.decreases-loop-left
+decreases-loop-left l = l.left

@@ -1,0 +1,9 @@
+use Rattle.basics.proofs.Words.{sym, ◌∙◌, ◌-◌, arith, length, rules}
+use Rattle.passing.proofs.Placing.{column_few, column_in, PassedTo, passed_start, mark_fits, in_states, in_marks, step_few, passed_next, passed_states, passed_marks}
+use Rattle.passing.proofs.pass.Given as goal
+
+abbrev pub invariant-loop-m : goal.invariant-loop-m
+invariant-loop-m l = PassedTo l.steps l.places l.initial.marks l.width l.output l.states l.marks l.m
+
+abbrev pub decreases-loop-m : goal.decreases-loop-m
+decreases-loop-m l = length l.places - l.m

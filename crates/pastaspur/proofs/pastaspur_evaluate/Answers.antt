@@ -1,0 +1,11 @@
+use mathlib.Core.Path.{ap, ◌∙◌}
+use Rattle.candidate.specs.declared.Evaluation.{Evaluation}
+use Rattle.results.specs.Results.{evaluation_numbers}
+use borrow.Author.Rules.{rules}
+use Rattle.pastaspur.proofs.pastaspur_evaluate.Goals as goal
+
+pub returns : goal.returns
+returns c =
+    let e = c.evaluate.ensures in
+    let g = c.give_evaluation.ensures in
+    (g.0 ∙ ap (λ (r : Evaluation). r.number) e, g.1 ∙ ap evaluation_numbers e)

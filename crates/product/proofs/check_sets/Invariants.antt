@@ -1,0 +1,11 @@
+use Rattle.basics.proofs.Words.{◌≡◌, refl, sym, ◌∙◌, ap, true, false, ℕ, ◌≤◌, ◌-◌, ◌^◌, arith, length, get_or, drop, all_of, rules, not-true, not-false}
+use Rattle.refusals.specs.Refusals.{refuse}
+use Rattle.product.specs.OptimizingSets.{symbol_set, sets_refusal}
+use Rattle.product.proofs.Sets.{too_many, few, next_set, wrong_set, no_set_left}
+use Rattle.product.proofs.check_sets.Given as goal
+
+abbrev pub invariant-loop-at : goal.invariant-loop-at
+invariant-loop-at l = (l.at-end ≡ length l.sets) × (l.at ≤ l.at-end) × (l.last ≡ 2 ^ l.symbols) × (refuse 25 (all_of (symbol_set l.symbols) (drop l.at l.sets)) ≡ sets_refusal l.symbols l.sets)
+
+abbrev pub decreases-loop-at : goal.decreases-loop-at
+decreases-loop-at l = l.at-end - l.at

@@ -1,0 +1,11 @@
+use Rattle.basics.proofs.Words.{◌≡◌, refl, sym, ◌∙◌, ap, true, false, ℕ, ◌≤◌, ◌-◌, arith, length, get_or, drop, all_of, rules, not-true, not-false}
+use Rattle.refusals.proofs.Refusals.{passes_with, refuses_with}
+use Rattle.product.specs.Optimizing.{sound_word}
+use Rattle.product.proofs.Words.{symbol, wrong_length, right_length, next_symbol, wrong_symbol, no_symbol_left}
+use Rattle.product.proofs.check_word.Given as goal
+
+abbrev pub invariant-loop-at : goal.invariant-loop-at
+invariant-loop-at l = (l.at-end ≡ length l.word) × (l.at ≤ l.at-end) × (all_of (symbol l.symbols) (drop l.at l.word) ≡ sound_word l.symbols l.word)
+
+abbrev pub decreases-loop-at : goal.decreases-loop-at
+decreases-loop-at l = l.at-end - l.at

@@ -1,0 +1,29 @@
+use Rattle.basics.proofs.Words.{◌≡◌, sym, ⊎_elim, ◌≤◌, ◌+◌, ◌-◌, ◌*◌, ◌^◌, arith, pow-suc, add-one, rules}
+use lib.Pow.{pow_mono}
+use Rattle.ranking.specs.Conditions.{fewer_in}
+use Rattle.ranking.specs.Lemmas.Conditions.{fewer_none, fewer_bound, fewer_grows, fewer_stays}
+use Rattle.ranking.proofs.conditions.fewer_in.Goals as goal
+
+pub loop-machine-init : goal.loop-machine-init
+loop-machine-init c = (omega arith, omega arith, sym (fewer_none c.args.first.counts c.args.second.counts))
+
+pub overflow_add-set : goal.overflow_add-set
+overflow_add-set c =
+    omega (arith, pow_mono {i = c.loop-machine.machine} {j = 5} (omega arith), fewer_bound c.args.first.counts c.args.second.counts c.loop-machine.machine)
+
+pub overflow_mul-bit : goal.overflow_mul-bit
+overflow_mul-bit c =
+    omega (arith, pow_mono {i = c.loop-machine.machine} {j = 5} (omega arith))
+
+pub loop-machine-preserved : goal.loop-machine-preserved
+loop-machine-preserved c =
+    let m = c.loop-machine.machine in
+    let p : 2 ^ (m + 1) ≡ 2 ^ m * 2 = rw add-one (pow-suc 2 m) in
+    let one = c.count.ensures in
+    let other = c.count-in-loop-machine.ensures in
+    (elim c.if-count.branch [ then-count w ↦ (omega arith, omega arith, omega (arith, fewer_grows c.args.first.counts c.args.second.counts m (omega arith))) | else-count w ↦ (omega arith, omega arith, omega (arith, fewer_stays c.args.first.counts c.args.second.counts m (omega arith))) ])
+
+pub returns : goal.returns
+returns c =
+    let e : c.loop-machine.machine ≡ c.args.machines = omega arith in
+    rw e at c.loop-machine.invariant.2

@@ -1,0 +1,27 @@
+use mathlib.Core.Path.{◌≡◌, refl}
+use mathlib.Core.List.{[], ◌∷◌}
+use Prim.Native.Nat.{ℕ}
+use lib.ListN.{length}
+use borrow.Author.Rules.{rules, length_unmapped}
+use Rattle.numbers.proofs.Numbers.{six_counts}
+use Rattle.results.proofs.give_weighing.Goals as goal
+
+-- a profile has six counts
+six : (c : goal.Start) → length c.args.weighing.evaluation.profile.counts ≡ 6
+six c = length_unmapped ℕ c.args.weighing.evaluation.profile.counts 6 (search rules)
+
+pub returns : goal.returns
+returns c =
+    let w = c.args.weighing in
+    let e = w.evaluation in (
+      refl,
+      rw (
+        c.count.ensures,
+        c.count-2.ensures,
+        c.count-3.ensures,
+        c.count-4.ensures,
+        c.count-5.ensures,
+        c.count-6.ensures,
+      )
+          (six_counts e.profile.counts (e.pairs ∷ e.word_length ∷ w.sum ∷ []) (six c.before.before.before.before.before.before.before.before.before.before.before.before)),
+    )

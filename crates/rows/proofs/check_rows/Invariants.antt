@@ -1,0 +1,11 @@
+use Rattle.basics.proofs.Words.{◌≡◌, sym, ap, ◌∙◌, true, ◌≤◌, ◌-◌, arith, every_below, rules, not-true, not-false, every_start, every_next, one_below_fails}
+use Rattle.refusals.proofs.Refusals.{passes_with, refuses_with}
+use Rattle.layout.specs.LaidOut.{part_within}
+use Rattle.rows.specs.Tableau.{row_count, row_of, sound_row}
+use Rattle.rows.proofs.check_rows.Given as goal
+
+abbrev pub invariant-loop-i : goal.invariant-loop-i
+invariant-loop-i l = (l.i ≤ l.rows) × (every_below (λ j. sound_row l.machines (row_of l.tableau j)) l.i ≡ true)
+
+abbrev pub decreases-loop-i : goal.decreases-loop-i
+decreases-loop-i l = l.rows - l.i

@@ -1,0 +1,10 @@
+use Rattle.basics.proofs.Words.{◌≡◌, refl, sym, ap, ◌∙◌, List, ℕ, ◌≤◌, ◌-◌, arith, get_or, rules}
+use Rattle.rows.specs.Tableau.{counts_of}
+use Rattle.rows.proofs.Rows.{zeros_from, row_short, row_long, zero_next, not_zero, zero_end}
+use Rattle.rows.proofs.is_sound_row.Given as goal
+
+abbrev pub invariant-loop-machine : goal.invariant-loop-machine
+invariant-loop-machine l = (l.machine ≤ 6) × (zeros_from l.row l.machine ≡ zeros_from l.row l.machines)
+
+abbrev pub decreases-loop-machine : goal.decreases-loop-machine
+decreases-loop-machine l = 6 - l.machine

@@ -1,0 +1,10 @@
+use Rattle.basics.proofs.Words.{◌≡◌, sym, ap, ◌∙◌, ⊎_elim, ◌≤◌, ◌+◌, ◌-◌, ◌%◌, arith, length, rules}
+use Rattle.rows.proofs.Spelling.{rest_same, same_inserted, same_symbol, other_symbol, too_long, same_end}
+use Rattle.rows.proofs.spells.Given as goal
+
+abbrev pub invariant-loop-at : goal.invariant-loop-at
+invariant-loop-at l =
+    (l.at % 2 ≡ 0) × (l.at ≤ length l.candidate) × (l.place ≤ length l.word) × (rest_same l.candidate l.word l.at l.place ≡ rest_same l.candidate l.word 0 0)
+
+abbrev pub decreases-loop-at : goal.decreases-loop-at
+decreases-loop-at l = length l.candidate - l.at

@@ -1,0 +1,15 @@
+use Rattle.basics.proofs.Words.{◌≡◌, sym, ap, ◌∙◌, Bool, false, List, none, ℕ, ◌≤◌, ◌-◌, arith, rules}
+use Rattle.rows.specs.Tableau.{row_count, claimed_row, row_of, counts_of}
+use Rattle.rows.specs.Judging.{same_counts}
+use Rattle.rows.proofs.Verdicts.{first_before, none_start, none_next, claim_wins, later_wins, no_row_wins}
+use Rattle.rows.proofs.verdict_of.Given as goal
+
+-- a row that has the counts wins
+abbrev pub wins : List ℕ → List ℕ → Bool
+wins counts row = same_counts (counts_of row) counts
+
+abbrev pub invariant-loop-row : goal.invariant-loop-row
+invariant-loop-row l = (l.row ≤ l.rows) × (first_before (wins l.best.counts) l.tableau l.row ≡ none)
+
+abbrev pub decreases-loop-row : goal.decreases-loop-row
+decreases-loop-row l = l.rows - l.row

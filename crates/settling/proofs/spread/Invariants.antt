@@ -1,0 +1,11 @@
+use Rattle.basics.proofs.Words.{◌*◌, ◌-◌, ◌≤◌, arith, get_or, rules}
+use Rattle.settling.specs.Insertions.{lists_of}
+use Rattle.settling.proofs.Spreading.{Spreading, spreading_start, spreading_step, spreading_end, its_label, no_label, try_ready, end_listed, beyond_useless}
+use Rattle.settling.proofs.spread.Given as goal
+
+abbrev pub invariant-loop-at : goal.invariant-loop-at
+invariant-loop-at l =
+    (get_or l.ends (4 * l.to) 0 ≤ l.at) × Spreading (lists_of l.entries l.ends l.highs l.ranked) l.initial.own l.own l.initial.opened l.opened l.to l.at (l.high, l.low)
+
+abbrev pub decreases-loop-at : goal.decreases-loop-at
+decreases-loop-at l = l.end - l.at

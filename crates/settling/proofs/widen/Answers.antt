@@ -1,0 +1,6 @@
+use Rattle.settling.proofs.Prices.{widened}
+use borrow.Author.Rules.{rules}
+use Rattle.settling.proofs.widen.Goals as goal
+
+pub returns : goal.returns
+returns c = widened _ c.requires

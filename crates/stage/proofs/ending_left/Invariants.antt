@@ -1,0 +1,10 @@
+use Rattle.basics.proofs.Words.{◌-◌, ◌≤◌, arith, rules}
+use Rattle.stage.specs.Relaxing.{no_counts}
+use Rattle.stage.proofs.StageWork.{KeptBelow, left_start, left_next, left_told, left_broken}
+use Rattle.stage.proofs.ending_left.Given as goal
+
+abbrev pub invariant-loop-i : goal.invariant-loop-i
+invariant-loop-i l = (l.i ≤ l.stage) × KeptBelow l.work l.node l.marks no_counts l.i
+
+abbrev pub decreases-loop-i : goal.decreases-loop-i
+decreases-loop-i l = l.stage - l.i

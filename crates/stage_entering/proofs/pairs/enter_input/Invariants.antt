@@ -1,0 +1,14 @@
+use Rattle.basics.proofs.Words.{◌≡◌, sym, ◌∙◌, inr, ◌^◌, ◌<◌, arith, length, rules}
+use Rattle.cells.specs.Laws.Fours.{without_less}
+use Rattle.entering.proofs.Fours.{four_few, four_or_after}
+use Rattle.stage_entering.specs.Entering.{codes_at}
+use Rattle.stage_entering.proofs.Front.{ahead_kept}
+use Rattle.stage_entering.proofs.Fours.{FoursTried, fours_start, fours_next, fours_end, add_ready, four_ready, nodes_kept, codes_are}
+use Rattle.stage_entering.proofs.pairs.enter_input.Given as goal
+
+abbrev pub invariant-loop-outputs : goal.invariant-loop-outputs
+invariant-loop-outputs l =
+    FoursTried l.card l.weights l.initial.work l.work l.input l.at.base (codes_at l.at) l.at.stage l.initial.outputs l.outputs × (l.outputs < 2 ^ 64) × (length l.high ≡ 264) × (length l.low ≡ 264)
+
+abbrev pub decreases-loop-outputs : goal.decreases-loop-outputs
+decreases-loop-outputs l = l.outputs

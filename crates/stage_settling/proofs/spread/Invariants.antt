@@ -1,0 +1,10 @@
+use Rattle.basics.proofs.Words.{◌∙◌, ◌*◌, ◌-◌, ◌≤◌, arith, get_or, rules}
+use Rattle.settling.proofs.Insertions.{listed}
+use Rattle.stage_settling.proofs.Spreading.{Spreading, spreading_start, spreading_step, spreading_end, settle_kept, entry_ready}
+use Rattle.stage_settling.proofs.spread.Given as goal
+
+abbrev pub invariant-loop-at : goal.invariant-loop-at
+invariant-loop-at l = (get_or l.ends (4 * l.to) 0 ≤ l.at) × Spreading l.initial.work l.work l.initial.opened l.opened l.entries l.ends l.stage l.base l.to l.at
+
+abbrev pub decreases-loop-at : goal.decreases-loop-at
+decreases-loop-at l = l.end - l.at
