@@ -123,7 +123,7 @@ module _ {A B : Type 0} where
       ⊎_elim (λ (e : y ≡ h x). (x, List·Memᴰ·head refl, e)) (λ (w : List-as-Memᴰ y (map h xs)). let r = mem_map h xs w in (r.0, List·Memᴰ·tail r.1, r.2))
       (List·Memᴰ·cases-cons m)
 
-  pub map_mem : (h : A → B) {xs : List A} {x : A} → List-as-Memᴰ x xs → List-as-Memᴰ (h x) (map h xs)
+  pub map_mem : (h : A → B) {x : A} {xs : List A} → List-as-Memᴰ x xs → List-as-Memᴰ (h x) (map h xs)
   map_mem h (List·Memᴰ·head e) = List·Memᴰ·head (ap h e)
   map_mem h (List·Memᴰ·tail m) = List·Memᴰ·tail (map_mem h m)
 
