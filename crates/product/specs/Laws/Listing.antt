@@ -183,7 +183,7 @@ module _ {costs : Costs} {price : Price costs} {better : ProfileOrder} (agrees :
   not_preferred : (a b : Contender) → preferred better a b ≡ false → Upto (Before costs pairs) (key_of price b) (key_of price a)
   not_preferred a b t = not_less_upto (before_total costs pairs) (key_of price b) (key_of price a) (λ h. clash (beats_preferred a b (earlier_beats agrees a b h)) t)
 
-  pub least_upto : {fs : List Contender} {a : Contender} → List-as-Memᴰ a fs → LeastUpto price better fs a
+  pub least_upto : {a : Contender} {fs : List Contender} → List-as-Memᴰ a fs → LeastUpto price better fs a
   least_upto {a = a} (List·Memᴰ·head {x = b} {xs = rest} e) = go (least_of better rest) refl
     where
       two : (d : Contender) → least_of better rest ≡ some d → (t : Bool) → preferred better d b ≡ t → LeastUpto price better (b ∷ rest) a
