@@ -1,5 +1,6 @@
 -- Laws of the searches over a list: in parts of it, along a function, one search in another. Assumes nothing.
-use Rattle.basics.proofs.Words.{◌≡◌, refl, sym, ◌∙◌, ap, ap₂, Bool, true, false, not, ◌&&◌, ◌||◌, and-false, List, [], ◌∷◌, ◌++◌, map, List-as-Memᴰ, List·Memᴰ·head, List·Memᴰ·tail, List·Memᴰ·not-nil, List·Memᴰ·cases-cons, some, none, Option·map, ⊎_elim, ℕ, zero, suc, ◌+◌, ◌<◌, arith, eqb, add-one, all_of, those, first_that, numbers_below, both, first_found, first_next, first_misses}
+use Rattle.std.specs.Prelude.{◌≡◌, ◌&&◌, ◌||◌, ◌∷◌, ◌++◌, ◌+◌, ◌<◌}
+use Rattle.basics.proofs.Words.{refl, sym, ◌∙◌, ap, ap₂, Bool, true, false, not, and-false, List, [], map, List-as-Memᴰ, List·Memᴰ·head, List·Memᴰ·tail, List·Memᴰ·not-nil, List·Memᴰ·cases-cons, some, none, Option·map, ⊎_elim, ℕ, zero, suc, arith, eqb, add-one, all_of, those, first_that, numbers_below, both, first_found, first_next, first_misses}
 use Rattle.std.proofs.Common.{eqb-true}
 use Rattle.std.proofs.lemmas.Bool.{eqb-false}
 

@@ -1,4 +1,5 @@
-use Rattle.basics.proofs.Words.{◌≡◌, sym, ◌+◌, ◌*◌, ◌^◌, arith, pow-suc, add-one}
+use Rattle.std.specs.Prelude.{◌≡◌, ◌+◌, ◌*◌, ◌^◌}
+use Rattle.basics.proofs.Words.{sym, arith, pow-suc, add-one}
 use lib.Pow.{pow_mono}
 use Rattle.ranking.specs.Lemmas.Conditions.{fewer_none, fewer_bound, fewer_grows, fewer_stays}
 use Rattle.ranking.proofs.conditions.fewer_in.Goals as goal

@@ -1,4 +1,4 @@
-use Rattle.basics.proofs.Words.{◌≡◌, ◌≤◌, ◌^◌}
+use Rattle.std.specs.Prelude.{◌≡◌, ◌≤◌, ◌^◌}
 use Rattle.ranking.specs.Conditions.{fewer_in}
 use Rattle.ranking.proofs.conditions.fewer_in.Given as goal
 

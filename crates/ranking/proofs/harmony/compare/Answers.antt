@@ -1,4 +1,5 @@
-use Rattle.basics.proofs.Words.{◌≡◌, sym, ◌∙◌, ap, [], ◌∷◌, lit<}
+use Rattle.std.specs.Prelude.{◌≡◌, ◌∷◌}
+use Rattle.basics.proofs.Words.{sym, ◌∙◌, ap, [], lit<}
 use Rattle.refusals.specs.Refusals.{refuse, first_of, checked_number}
 use Rattle.refusals.proofs.Refusals.{passed, none_first}
 use Rattle.ranking.specs.Rankings.{is_machine_count, is_ranking}

@@ -1,4 +1,5 @@
-use Rattle.basics.proofs.Words.{◌≡◌, sym, ◌∙◌, ap, List, ℕ, arith, length, get_or, left_next, left_none}
+use Rattle.std.specs.Prelude.{◌≡◌}
+use Rattle.basics.proofs.Words.{sym, ◌∙◌, ap, List, ℕ, arith, length, get_or, left_next, left_none}
 use Rattle.ranking.specs.declared.Order.{Order}
 use Rattle.ranking.specs.declared.Order.TheVariants.{Better, Worse}
 use Rattle.ranking.specs.Lemmas.Rankings.{ranking_facts}

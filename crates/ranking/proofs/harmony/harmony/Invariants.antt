@@ -1,4 +1,5 @@
-use Rattle.basics.proofs.Words.{◌≡◌, ◌≤◌, length, drop}
+use Rattle.std.specs.Prelude.{◌≡◌, ◌≤◌}
+use Rattle.basics.proofs.Words.{length, drop}
 use Rattle.ranking.specs.Harmony.{harmony}
 use Rattle.ranking.proofs.harmony.harmony.Given as goal
 

@@ -1,4 +1,5 @@
-use Rattle.basics.proofs.Words.{◌≡◌, sym, ◌∙◌, arith, eqb, occurrences, eqb-false, every_start, every_next}
+use Rattle.std.specs.Prelude.{◌≡◌}
+use Rattle.basics.proofs.Words.{sym, ◌∙◌, arith, eqb, occurrences, eqb-false, every_start, every_next}
 use Rattle.refusals.proofs.Refusals.{passes_with, refuses_with}
 use Rattle.ranking.specs.Lemmas.Rankings.{wrong_length, not_once, each_once}
 use Rattle.ranking.proofs.rankings.check_ranking.Goals as goal

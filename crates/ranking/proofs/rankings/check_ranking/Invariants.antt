@@ -1,4 +1,5 @@
-use Rattle.basics.proofs.Words.{◌≡◌, true, ◌≤◌, length, eqb, occurrences, every_below}
+use Rattle.std.specs.Prelude.{◌≡◌, ◌≤◌}
+use Rattle.basics.proofs.Words.{true, length, eqb, occurrences, every_below}
 use Rattle.ranking.proofs.rankings.check_ranking.Given as goal
 
 -- each machine passed stands in the list once

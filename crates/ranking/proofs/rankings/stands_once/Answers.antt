@@ -1,4 +1,5 @@
-use Rattle.basics.proofs.Words.{◌≡◌, sym, ap, ℕ, arith, eqb, occurrences, ne_eqb, left_next, left_none, occurs_none, occurs_here, occurs_later}
+use Rattle.std.specs.Prelude.{◌≡◌}
+use Rattle.basics.proofs.Words.{sym, ap, ℕ, arith, eqb, occurrences, ne_eqb, left_next, left_none, occurs_none, occurs_here, occurs_later}
 use Rattle.ranking.proofs.rankings.stands_once.Goals as goal
 use Rattle.ranking.proofs.rankings.stands_once.Goals.{then-list-at+else-count-eq1, else-list-at}
 

@@ -1,4 +1,5 @@
-use Rattle.basics.proofs.Words.{◌≡◌, ◌≤◌, ◌+◌, length, drop, occurrences}
+use Rattle.std.specs.Prelude.{◌≡◌, ◌≤◌, ◌+◌}
+use Rattle.basics.proofs.Words.{length, drop, occurrences}
 use Rattle.ranking.proofs.rankings.stands_once.Given as goal
 
 -- what was counted, at most one, with the occurrences in what is left of the list
