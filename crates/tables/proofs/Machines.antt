@@ -22,6 +22,8 @@ counts_length ms = length-map ms state_count_of
 
 pub below_at : (qs ss : List ℕ) → Below qs ss → (m : ℕ) → m < length qs → get_or ss m 0 < get_or qs m 0
 below_at [] [] b m h = absurd (omega arith)
+below_at [] (s ∷ ss) b m h = elim b [ ]
+below_at (q ∷ qs) [] b m h = elim b [ ]
 below_at (q ∷ qs) (s ∷ ss) b zero h = b.0
 below_at (q ∷ qs) (s ∷ ss) b (suc m) h = below_at qs ss b.1 m (omega arith)
 
