@@ -35,7 +35,7 @@ pub struct Lead {
 }
 
 // What a freed record is set to.
-fn zero_row_lem() -> Row
+fn zero_row() -> Row
     ensures { result ≡ zero_row }
 {
     Row {
@@ -107,7 +107,7 @@ fn no_leader(answer: Checked) -> Lead
     Lead {
         number: answer.number(),
         any: false,
-        row: zero_row_lem(),
+        row: zero_row(),
     }
 }
 
@@ -150,7 +150,7 @@ fn close_gap(rows: &mut [Row], at: usize, last: usize)
         rows[i] = row;
         i = next;
     }
-    let row = zero_row_lem();
+    let row = zero_row();
     rows[i] = row;
 }
 

@@ -27,6 +27,6 @@ pub loop-at-preserved : goal.loop-at-preserved
 loop-at-preserved c =
     (omega (arith, c.loop-at.invariant.0), spreading_step c.loop-at.invariant.1 (end_listed c.requires c.if-high-ge-NOWHERE.false _ c.last_list-last.ensures _ c.loop-at.invariant.0 (omega (arith, c.loop-at-test.true, c.place-end.ensures.0))) c.try_entry.ensures)
 
-pub returns-then-high-ge-NOWHERE : goal.returns
-returns-then-high-ge-NOWHERE c =
+pub returns : goal.returns
+returns c =
     spreading_end c.loop-at.invariant.1 (beyond_useless c.requires c.if-high-ge-NOWHERE.false _ c.last_list-last.ensures _ c.loop-at.invariant.1.fell (omega (arith, c.loop-at-test.false, c.place-end.ensures.0)))

@@ -14,5 +14,5 @@ pub loop-i-preserved : goal.loop-i-preserved
 loop-i-preserved c =
     (omega arith, left_next c.loop-i.invariant.1 c.marks_at.ensures (omega (arith, c.if-work-node.false)))
 
-pub returns-then-work-node : goal.returns
-returns-then-work-node c = left_told c.loop-i.invariant.1 (omega arith)
+pub returns : goal.returns
+returns c = left_told c.loop-i.invariant.1 (omega arith)

@@ -17,6 +17,6 @@ returns-then-place-eq3 c = fourth_marks _ c.if-place-eq3.true
 pub returns-then-place-eq4 : goal.returns-then-place-eq4
 returns-then-place-eq4 c = fifth_marks _ c.if-place-eq4.true
 
-pub returns-then-place-eq0 : goal.returns
-returns-then-place-eq0 c =
+pub returns : goal.returns
+returns c =
     sixth_marks _ (let q : c.args.place ≡ 5 = omega arith in q)

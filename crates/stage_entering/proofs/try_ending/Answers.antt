@@ -12,7 +12,7 @@ ending_left-requires c =
 
 pub returns-then-not-ending_left : goal.returns-then-not-ending_left
 returns-then-not-ending_left c =
-    dropped_ending after_marks_of.marks_of_lem.result (ending_some _ _ (omega (arith, c.if-ending-ge-NOWHERE.false)) ∙ ap some (sym after_marks_of.marks_of_lem.ensures)) _ c.ending_left.ensures (not-true _ c.if-not-ending_left.true) refl
+    dropped_ending after_marks_of.marks_of_lem.result (ending_some _ _ (omega (arith, c.if-ending-ge-NOWHERE.false)) ∙ ap some (sym after_marks_of.marks_of_lem.ensures)) _ c.ending_left.ensures c.if-not-ending_left.true refl
 
 pub marks_at-requires : goal.marks_at-requires
 marks_at-requires c =
@@ -22,7 +22,7 @@ pub lower-requires : goal.lower-requires
 lower-requires c =
     c.requires.0
 
-pub returns-then-ending-ge-NOWHERE : goal.returns
-returns-then-ending-ge-NOWHERE c =
+pub returns : goal.returns
+returns c =
     let at_marks_of = after_marks_of.marks_of_lem in
-    lowered_ending at_marks_of.result (ending_some _ _ (omega (arith, c.if-ending-ge-NOWHERE.false)) ∙ ap some (sym at_marks_of.ensures)) _ c.ending_left.ensures (not-false _ c.if-not-ending_left.false) _ c.marks_at.ensures _ c.lower.ensures
+    lowered_ending at_marks_of.result (ending_some _ _ (omega (arith, c.if-ending-ge-NOWHERE.false)) ∙ ap some (sym at_marks_of.ensures)) _ c.ending_left.ensures c.if-not-ending_left.false _ c.marks_at.ensures _ c.lower.ensures

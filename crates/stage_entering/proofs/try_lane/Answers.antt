@@ -22,6 +22,6 @@ pub try_arc-requires : goal.try_arc-requires
 try_arc-requires c =
     lane_arc c.requires (subst (λ (m : ℕ). m < 16777216) (sym c.marks_of_lem.ensures) (marks_small _ _))
 
-pub returns-then-step-ge-NOWHERE : goal.returns
-returns-then-step-ge-NOWHERE c =
+pub returns : goal.returns
+returns c =
     lane_tried (omega (arith, c.if-step-ge-NOWHERE.false)) after_marks_of.marks_of_lem.ensures c.try_arc.ensures
