@@ -1,5 +1,6 @@
 -- Machines by their numbers: their counts, their states, their steps. Assumes nothing.
-use Rattle.basics.specs.Words.{◌≡◌, List, [], ◌∷◌, ℕ, zero, suc, ◌<◌, arith, length, get_or, length-map, List·getD-map}
+use Rattle.std.specs.Prelude.{◌≡◌, ◌∷◌, ◌<◌}
+use Rattle.basics.specs.Words.{List, [], ℕ, zero, suc, arith, length, get_or, length-map, List·getD-map}
 use Rattle.machine.specs.declared.Pair.{Pair}
 use Rattle.machine.specs.Machine.{Machine, no_machine, step_of}
 use Rattle.product.specs.Nodes.{state_count_of, state_counts, product, states_of}

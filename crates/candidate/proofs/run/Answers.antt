@@ -1,4 +1,5 @@
-use Rattle.basics.proofs.Words.{◌≡◌, sym, ap, ◌∙◌, true, Option, some, none, ℕ, ◌≤◌, ◌<◌, ◌-◌, ◌+◌, ◌*◌, ◌%◌, arith, length, drop, all_of, rules}
+use Rattle.std.specs.Prelude.{◌≡◌, ◌≤◌, ◌<◌, ◌-◌, ◌+◌, ◌*◌, ◌%◌}
+use Rattle.basics.proofs.Words.{sym, ap, ◌∙◌, true, Option, some, none, ℕ, arith, length, drop, all_of, rules}
 use Rattle.machine.specs.declared.Pair.{Pair}
 use Rattle.machine.specs.Machine.{step_of, stepped, ending_of, ended}
 use Rattle.machine.specs.Part.{machine_of}

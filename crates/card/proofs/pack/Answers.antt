@@ -1,4 +1,5 @@
-use Rattle.basics.proofs.Words.{◌≡◌, sym, ◌∙◌, ◌+◌, ◌*◌, ◌<◌, ◌≤◌, arith, length, rules}
+use Rattle.std.specs.Prelude.{◌≡◌, ◌+◌, ◌*◌, ◌<◌, ◌≤◌}
+use Rattle.basics.proofs.Words.{sym, ◌∙◌, arith, length, rules}
 use Rattle.layout.specs.Layout.{Bytes}
 use Rattle.card.specs.Packing.{packing_refusal}
 use Rattle.card.specs.Laws.Layout.{Counted, counts_told}

@@ -1,4 +1,5 @@
-use Rattle.basics.proofs.Words.{◌≡◌, ap, sym, ◌∙◌, List, ℕ, [], ◌∷◌, map, ◌+◌, ◌*◌, ◌<◌, ◌≤◌, arith, length, get_or, take, drop, length-take-le, get_or-take, rules}
+use Rattle.std.specs.Prelude.{◌≡◌, ◌∷◌, ◌+◌, ◌*◌, ◌<◌, ◌≤◌}
+use Rattle.basics.proofs.Words.{ap, sym, ◌∙◌, List, ℕ, [], map, arith, length, get_or, take, drop, length-take-le, get_or-take, rules}
 use Rattle.refusals.specs.Refusals.{refuse, first_of}
 use Rattle.layout.specs.Layout.{length_of}
 use Rattle.card.specs.Layout.{machine_count, symbol_count, parts_of}

@@ -1,4 +1,5 @@
-use Rattle.basics.proofs.Words.{◌≡◌, refl, ◌∙◌, List, [], ◌∷◌, ℕ, ◌+◌, ◌-◌, ◌^◌, ◌≤◌, arith, length, take, drop, lit≤, rules}
+use Rattle.std.specs.Prelude.{◌≡◌, ◌∷◌, ◌+◌, ◌-◌, ◌^◌, ◌≤◌}
+use Rattle.basics.proofs.Words.{refl, ◌∙◌, List, [], ℕ, arith, length, take, drop, lit≤, rules}
 use Rattle.machine.specs.Accepted.{accepted}
 use Rattle.refusals.proofs.Refusals.{passed_number, refused_number}
 use Rattle.card.specs.Packing.{total, split}

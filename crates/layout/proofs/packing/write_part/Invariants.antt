@@ -1,4 +1,5 @@
-use Rattle.basics.proofs.Words.{◌≡◌, refl, ap, ◌∙◌, ◌-◌, ◌≤◌, arith, length, get_or, set, rules}
+use Rattle.std.specs.Prelude.{◌≡◌, ◌-◌, ◌≤◌}
+use Rattle.basics.proofs.Words.{refl, ap, ◌∙◌, arith, length, get_or, set, rules}
 use Rattle.layout.proofs.Writing.{written, written_length, written_next, written_whole}
 use Rattle.layout.proofs.packing.write_part.Given as goal
 

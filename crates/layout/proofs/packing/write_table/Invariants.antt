@@ -1,4 +1,5 @@
-use Rattle.basics.proofs.Words.{◌≡◌, refl, ap, ◌∙◌, [], ◌+◌, ◌*◌, ◌-◌, ◌≤◌, arith, length, set, take, length-set, add-one, rules}
+use Rattle.std.specs.Prelude.{◌≡◌, ◌+◌, ◌*◌, ◌-◌, ◌≤◌}
+use Rattle.basics.proofs.Words.{refl, ap, ◌∙◌, [], arith, length, set, take, length-set, add-one, rules}
 use Rattle.layout.specs.Packing.{total, packed}
 use Rattle.layout.proofs.Writing.{written, written_length, written_two, places_next, table_written}
 use Rattle.layout.specs.Laws.Parts.{total_next, total_parted}
