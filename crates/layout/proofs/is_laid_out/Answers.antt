@@ -1,4 +1,5 @@
-use Rattle.basics.proofs.Words.{◌≡◌, ap, sym, ◌∙◌, true, ◌+◌, ◌*◌, ◌-◌, ◌≤◌, arith, length, eqb, every_below, rules, eq-eqb, ne_eqb, every_next}
+use Rattle.std.specs.Prelude.{◌≡◌}
+use Rattle.basics.proofs.Words.{ap, sym, ◌∙◌, arith, length, eqb, every_below, rules, eq-eqb, ne_eqb, every_next}
 use Rattle.layout.specs.Layout.{offset_of, due_offset, in_place, laid_out}
 use Rattle.layout.proofs.Checking.{due_step, no_table, out_of_place, end_decides}
 use Rattle.layout.proofs.is_laid_out.Goals as goal

@@ -1,4 +1,5 @@
-use Rattle.basics.proofs.Words.{◌≡◌, not, ◌&&◌, member, rules}
+use Rattle.std.specs.Prelude.{◌≡◌, ◌&&◌}
+use Rattle.basics.proofs.Words.{not, member, rules}
 use Rattle.machine.specs.Symbols.{empty_symbol}
 use Rattle.machine.specs.Part.{sound_set}
 use Rattle.product.proofs.is_symbol_set.Goals as goal

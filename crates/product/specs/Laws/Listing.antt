@@ -1,6 +1,7 @@
 -- What the definition of the best lists: the lists of fewer than n pairs over the symbols, those of them that are complete candidates for the
 -- word, and the least of these.
-use Rattle.basics.proofs.Words.{◌≡◌, refl, sym, ◌∙◌, ap, Bool, true, false, ◌&&◌, List, [], ◌∷◌, map, List-as-Memᴰ, List·Memᴰ·head, List·Memᴰ·tail, List·Memᴰ·not-nil, List·Memᴰ·cases-cons, Memᴰ·cast, Option, some, none, Option·none-ne-some, ◌⊎◌, inl, inr, ℕ, zero, suc, ◌+◌, ◌<◌, ◌≤◌, arith, length, leb, all_of, joined, numbers_below, both, left, right, clash, those_member, member_those, joined_member, member_joined, member_numbers}
+use Rattle.std.specs.Prelude.{◌≡◌, ◌&&◌, ◌∷◌, ◌⊎◌, ◌+◌, ◌<◌, ◌≤◌}
+use Rattle.basics.proofs.Words.{refl, sym, ◌∙◌, ap, Bool, true, false, List, [], map, List-as-Memᴰ, List·Memᴰ·head, List·Memᴰ·tail, List·Memᴰ·not-nil, List·Memᴰ·cases-cons, Memᴰ·cast, Option, some, none, Option·none-ne-some, inl, inr, ℕ, zero, suc, arith, length, leb, all_of, joined, numbers_below, both, left, right, clash, those_member, member_those, joined_member, member_joined, member_numbers}
 use Rattle.std.proofs.Common.{leb-true}
 use Rattle.machine.specs.declared.Pair.{Pair}
 use Rattle.machine.specs.Symbols.{is_pair, within_symbols}

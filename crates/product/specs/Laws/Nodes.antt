@@ -1,5 +1,6 @@
 -- Laws of nodes as numbers: numbering and reading back.
-use Rattle.basics.specs.Words.{◌≡◌, refl, ◌∙◌, ap, List, [], ◌∷◌, ℕ, suc, ◌+◌, ◌*◌, ◌/◌, ◌%◌, ◌<◌, ◌≤◌, arith, mul-le-mul_right, mul-add-div_right, mul-add-mod_self_right, div-eq_of_lt, mod-eq_of_lt, mod-lt, div-lt_iff_lt-mul, suc-mul, mul-pos}
+use Rattle.std.specs.Prelude.{◌≡◌, ◌∷◌, ◌+◌, ◌*◌, ◌/◌, ◌%◌, ◌<◌, ◌≤◌}
+use Rattle.basics.specs.Words.{refl, ◌∙◌, ap, List, [], ℕ, suc, arith, mul-le-mul_right, mul-add-div_right, mul-add-mod_self_right, div-eq_of_lt, mod-eq_of_lt, mod-lt, div-lt_iff_lt-mul, suc-mul, mul-pos}
 use Rattle.product.specs.Nodes.{product, code_of, states_of, node_of, position_at, states_at}
 
 -- one state for each count, below it

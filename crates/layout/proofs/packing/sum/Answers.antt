@@ -1,4 +1,4 @@
-use Rattle.basics.proofs.Words.{◌≡◌, refl, ap, ◌∙◌, ◌*◌, ◌-◌, ◌≤◌, arith, length, take, take-length, add-one, rules}
+use Rattle.basics.proofs.Words.{refl, arith, add-one, rules}
 use Rattle.layout.specs.Laws.Parts.{total_next}
 use Rattle.layout.specs.Packing.{total}
 use Rattle.layout.proofs.packing.sum.Goals as goal

@@ -1,7 +1,8 @@
-use Rattle.basics.proofs.Words.{◌≡◌, refl, ap, ◌∙◌, ◌++◌, ◌+◌, ◌*◌, ◌-◌, ◌≤◌, arith, length, get_or, take, length-take, length-drop, take-length, add-one, rules}
+use Rattle.std.specs.Prelude.{◌+◌, ◌*◌}
+use Rattle.basics.proofs.Words.{refl, arith, length, add-one}
 use Rattle.layout.specs.Packing.{total}
-use Rattle.layout.specs.Laws.Parts.{total_next, total_within, total_parted}
-use Rattle.layout.proofs.Writing.{written, parts_none, parts_next, parts_all, parts_length}
+use Rattle.layout.specs.Laws.Parts.{total_next, total_within}
+use Rattle.layout.proofs.Writing.{parts_none, parts_next}
 use Rattle.layout.proofs.packing.write_parts.Goals as goal
 
 pub loop-i-init : goal.loop-i-init

@@ -1,8 +1,8 @@
-use Rattle.basics.proofs.Words.{◌≡◌, refl, ap, ◌∙◌, [], ℕ, ◌+◌, ◌*◌, ◌-◌, ◌≤◌, arith, length, set, take, length-set, add-one, rules}
+use Rattle.std.specs.Prelude.{◌≡◌, ◌+◌, ◌*◌}
+use Rattle.basics.proofs.Words.{refl, ap, ◌∙◌, [], ℕ, arith, length, set, length-set, add-one}
 use Rattle.layout.specs.Packing.{total, packed}
-use Rattle.layout.proofs.Writing.{written, written_length, written_two, places_next, table_written}
+use Rattle.layout.proofs.Writing.{written, written_two, places_next, table_written}
 use Rattle.layout.specs.Laws.Parts.{total_next, total_parted}
-use Rattle.layout.specs.Laws.Packed.{packed_length}
 use Rattle.layout.proofs.packing.write_table.Goals as goal
 
 pub loop-i-init : goal.loop-i-init
