@@ -43,5 +43,5 @@ pub loop-place-preserved : goal.loop-place-preserved
 loop-place-preserved c =
     (omega (arith, c.loop-place-test.true), below_more _ _ c.loop-place.invariant.1 c.if-steps-a.false)
 
-pub returns-then-steps-a : goal.returns
-returns-then-steps-a c = λ e r h. c.loop-place.invariant.1 r (omega (arith, c.loop-place-test.false))
+pub returns : goal.returns
+returns c = λ e r h. c.loop-place.invariant.1 r (omega (arith, c.loop-place-test.false))
