@@ -32,7 +32,7 @@ pub loop-next-preserved : goal.loop-next-preserved
 loop-next-preserved c =
     λ xs s.
     let t = c.loop-next.invariant xs s in
-    (elim c.if-is_open.branch [ then-is_open w ↦ settling_same (settling_step t (c.requires.from _) w.take_one.ensures _ (λ w a n. a)) w.work-is w.opened-is | else-is_open w ↦ settling_same t w.work-is w.opened-is ])
+    (elim c.if-is_open.branch [ then-is_open w ↦ settling_same (settling_step t (c.requires.from _) w.take_one-then-is_open.ensures _ (λ w a n. a)) w.work-is w.opened-is | else-is_open w ↦ settling_same t w.work-is w.opened-is ])
 
 pub choose-code-requires : goal.choose-code-requires
 choose-code-requires c =
