@@ -1,4 +1,5 @@
-use Rattle.basics.proofs.Words.{◌-◌, length}
+use Rattle.std.specs.Prelude.{◌-◌}
+use Rattle.basics.proofs.Words.{length}
 use Rattle.finder.specs.Finder.{sound_condition}
 use Rattle.finder.proofs.Pairs.{Reached}
 use Rattle.finder.proofs.check_conditions.Given as goal

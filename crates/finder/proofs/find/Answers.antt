@@ -1,4 +1,5 @@
-use Rattle.basics.proofs.Words.{sym, ◌∙◌, ap, [], ◌∷◌}
+use Rattle.std.specs.Prelude.{◌∷◌}
+use Rattle.basics.proofs.Words.{sym, ◌∙◌, ap, []}
 use Rattle.refusals.specs.Refusals.{refuse, first_of}
 use Rattle.refusals.proofs.Refusals.{accepts, not_accepted, refused_number}
 use Rattle.ranking.specs.Rankings.{is_machine_count}

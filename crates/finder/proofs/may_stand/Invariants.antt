@@ -1,4 +1,5 @@
-use Rattle.basics.proofs.Words.{not, ◌-◌, length}
+use Rattle.std.specs.Prelude.{◌-◌}
+use Rattle.basics.proofs.Words.{not, length}
 use Rattle.finder.specs.Steps.{blocks}
 use Rattle.finder.proofs.Pairs.{Reached}
 use Rattle.finder.proofs.may_stand.Given as goal

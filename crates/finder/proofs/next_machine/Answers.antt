@@ -1,4 +1,5 @@
-use Rattle.basics.proofs.Words.{ap, ap₂, sym, ◌∙◌, Bool, not, ◌&&◌, rules}
+use Rattle.std.specs.Prelude.{◌&&◌}
+use Rattle.basics.proofs.Words.{ap, ap₂, sym, ◌∙◌, Bool, not, rules}
 use Rattle.finder.specs.Finder.{conditions_of}
 use Rattle.finder.specs.Steps.{next_of}
 use Rattle.finder.proofs.Steps.{next_start, next_on, next_found}

@@ -1,4 +1,5 @@
-use Rattle.basics.proofs.Words.{◌≡◌, none, ◌≤◌}
+use Rattle.std.specs.Prelude.{◌≡◌, ◌≤◌}
+use Rattle.basics.proofs.Words.{none}
 use Rattle.finder.specs.Finder.{conditions_of}
 use Rattle.finder.specs.Steps.{next_machine}
 use Rattle.finder.proofs.next_machine.Given as goal

@@ -1,4 +1,5 @@
-use Rattle.basics.specs.Words.{sym, ap, ◌∙◌, ℕ, ◌+◌, ◌*◌, arith}
+use Rattle.std.specs.Prelude.{◌+◌, ◌*◌}
+use Rattle.basics.specs.Words.{sym, ap, ◌∙◌, ℕ, arith}
 use Rattle.machine.specs.Part.{state_count, arc_count, arc_at}
 use Rattle.machine.specs.Accepted.{shape_facts}
 use Rattle.machine.specs.Laws.Arcs.{arc_at_lem}

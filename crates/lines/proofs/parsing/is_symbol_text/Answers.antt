@@ -1,4 +1,5 @@
-use Rattle.basics.proofs.Words.{ap, sym, ◌∙◌, Bool, ◌&&◌, ℕ, length, leb}
+use Rattle.std.specs.Prelude.{◌&&◌}
+use Rattle.basics.proofs.Words.{ap, sym, ◌∙◌, Bool, ℕ, length, leb}
 use Rattle.lines.proofs.Forms.{symbol_passes, symbol_fails}
 use Rattle.lines.proofs.parsing.is_symbol_text.Goals as goal
 

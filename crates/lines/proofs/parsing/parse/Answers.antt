@@ -1,4 +1,5 @@
-use Rattle.basics.proofs.Words.{sym, ◌∙◌, ◌≡◌, true, List, some, ℕ, ◌+◌, ◌-◌, ◌≤◌, arith, length, take, drop, length-take, length-drop, length-take-le, le_trans}
+use Rattle.std.specs.Prelude.{◌≡◌, ◌+◌, ◌-◌, ◌≤◌}
+use Rattle.basics.proofs.Words.{sym, ◌∙◌, true, List, some, ℕ, arith, length, take, drop, length-take, length-drop, length-take-le, le_trans}
 use Rattle.lines.specs.Parsing.{is_word_text, parsed_parts, parsed_line}
 use Rattle.lines.proofs.Forms.{line_long, line_unspaced, line_spaced, parts_unranked, parts_unworded, parts_formed, ranking_digits, word_symbols, parsed, unparsed}
 use Rattle.lines.proofs.parsing.parse.Goals as goal

@@ -1,4 +1,5 @@
-use Rattle.basics.proofs.Words.{◌≡◌, true, map, ◌-◌, ◌≤◌, length, drop, sets, all_of}
+use Rattle.std.specs.Prelude.{◌≡◌, ◌-◌, ◌≤◌}
+use Rattle.basics.proofs.Words.{true, map, length, drop, sets, all_of}
 use Rattle.writing.specs.Decimal.{is_digit, digit_value}
 use Rattle.lines.proofs.parsing.write_ranking.Given as goal
 

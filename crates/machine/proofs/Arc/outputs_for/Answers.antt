@@ -1,4 +1,5 @@
-use Rattle.basics.proofs.Words.{◌≡◌, sym, ◌∙◌, ap, true, false, ℕ, member, no_member}
+use Rattle.std.specs.Prelude.{◌≡◌}
+use Rattle.basics.proofs.Words.{sym, ◌∙◌, ap, true, false, ℕ, member, no_member}
 use Rattle.machine.specs.Machine.{takes}
 use Rattle.machine.specs.Laws.Partners.{out_partners}
 use Rattle.machine.proofs.Arc.outputs_for.Goals as goal

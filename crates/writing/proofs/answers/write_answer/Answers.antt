@@ -1,4 +1,5 @@
-use Rattle.basics.proofs.Words.{ap, ◌∙◌, ◌≡◌, ℕ, ◌*◌, length, take, refl, rules}
+use Rattle.std.specs.Prelude.{◌≡◌, ◌*◌}
+use Rattle.basics.proofs.Words.{ap, ◌∙◌, ℕ, length, take, refl, rules}
 use Rattle.writing.proofs.Lists.{take_least}
 use Rattle.writing.proofs.Texts.{line_refused, line_accepted}
 use Rattle.writing.proofs.answers.write_answer.Goals as goal

@@ -1,4 +1,5 @@
-use Rattle.basics.proofs.Words.{◌-◌, ◌≤◌, length, drop, joined}
+use Rattle.std.specs.Prelude.{◌-◌, ◌≤◌}
+use Rattle.basics.proofs.Words.{length, drop, joined}
 use Rattle.writing.specs.Writing.{next_count}
 use Rattle.writing.proofs.Writes.{Ahead}
 use Rattle.writing.proofs.answers.write_next_counts.Given as goal

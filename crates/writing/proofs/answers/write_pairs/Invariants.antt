@@ -1,4 +1,5 @@
-use Rattle.basics.proofs.Words.{◌-◌, ◌≤◌, length, drop}
+use Rattle.std.specs.Prelude.{◌-◌, ◌≤◌}
+use Rattle.basics.proofs.Words.{length, drop}
 use Rattle.writing.specs.Writing.{pairs_text}
 use Rattle.writing.proofs.Writes.{Ahead}
 use Rattle.writing.proofs.answers.write_pairs.Given as goal

@@ -1,4 +1,5 @@
-use Rattle.basics.proofs.Words.{◌≡◌, ◌-◌, ◌≤◌, length, drop, all_of}
+use Rattle.std.specs.Prelude.{◌≡◌, ◌-◌, ◌≤◌}
+use Rattle.basics.proofs.Words.{length, drop, all_of}
 use Rattle.writing.specs.Decimal.{is_digit}
 use Rattle.writing.proofs.decimal.are_digits.Given as goal
 

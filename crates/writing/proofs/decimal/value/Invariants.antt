@@ -1,4 +1,5 @@
-use Rattle.basics.proofs.Words.{◌≡◌, true, ◌-◌, ◌^◌, ◌<◌, ◌≤◌, length, drop, all_of}
+use Rattle.std.specs.Prelude.{◌≡◌, ◌-◌, ◌^◌, ◌<◌, ◌≤◌}
+use Rattle.basics.proofs.Words.{true, length, drop, all_of}
 use Rattle.writing.specs.Decimal.{is_digit, value_from, value_of}
 use Rattle.writing.proofs.decimal.value.Given as goal
 

@@ -1,4 +1,5 @@
-use Rattle.basics.proofs.Words.{◌≡◌, ◌+◌, ◌-◌, ◌≤◌, length, drop, sets}
+use Rattle.std.specs.Prelude.{◌≡◌, ◌+◌, ◌-◌, ◌≤◌}
+use Rattle.basics.proofs.Words.{length, drop, sets}
 use Rattle.writing.proofs.text.write_text.Given as goal
 
 abbrev pub invariant-loop-i : goal.invariant-loop-i
