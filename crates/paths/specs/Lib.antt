@@ -12,6 +12,7 @@ pub mod Costs
 pub mod Ranked
 pub mod ByRanking
 pub mod Graph
+pub mod Costly
 pub mod Pigeonhole
 pub mod Labels
 pub mod Improvement
@@ -23,4 +24,3 @@ pub mod Walk
 pub mod Settling
 pub mod Positions
 pub mod Numbering
-mod Example
