@@ -1,4 +1,5 @@
-use Rattle.basics.proofs.Words.{◌≡◌, List, ⊎_elim, ℕ, ◌+◌, ◌*◌, ◌-◌, ◌<◌, ◌≤◌, arith, get_or, ℕ_discrete, rules}
+use Rattle.std.specs.Prelude.{◌≡◌, ◌+◌, ◌*◌, ◌-◌, ◌<◌, ◌≤◌}
+use Rattle.basics.proofs.Words.{List, ⊎_elim, ℕ, arith, get_or, ℕ_discrete, rules}
 use Rattle.settling.proofs.worst.Goals as goal
 use Rattle.settling.proofs.worst.Goals.{else-high-most, then-high-most}
 
