@@ -1,5 +1,6 @@
 -- The lanes in their places are the insertions in their lists.
-use Rattle.basics.proofs.Words.{◌≡◌, sym, ◌∙◌, ap, subst, true, List, some, ◌≢◌, ℕ, ◌+◌, ◌*◌, ◌/◌, ◌%◌, ◌^◌, ◌<◌, ◌≤◌, min, arith, length, get_or, mod-lt, suc-mul, mul-le-mul_right, dec_lt, member, clash}
+use Rattle.std.specs.Prelude.{◌≡◌, ◌≢◌, ◌+◌, ◌*◌, ◌/◌, ◌%◌, ◌^◌, ◌<◌, ◌≤◌}
+use Rattle.basics.proofs.Words.{sym, ◌∙◌, ap, subst, true, List, some, ℕ, min, arith, length, get_or, mod-lt, suc-mul, mul-le-mul_right, dec_lt, member, clash}
 use Rattle.machine.specs.Machine.{Machine}
 use Rattle.machine.specs.Symbols.{empty_symbol}
 use Rattle.product.specs.Nodes.{state_counts, product}

@@ -1,5 +1,6 @@
 -- What the checks of a part promise: its shape, the verdict of each, the fields of its arcs. Assumes nothing.
-use Rattle.basics.proofs.Words.{◌≡◌, refl, ◌∙◌, Bool, true, false, not, ◌&&◌, List, [], ◌∷◌, ℕ, ◌+◌, ◌*◌, ◌^◌, ◌<◌, ◌≤◌, arith, length, length-map, eqb, ltb, leb, length-slice, member, clash as never, left, right, member_beyond}
+use Rattle.std.specs.Prelude.{◌≡◌, ◌&&◌, ◌∷◌, ◌+◌, ◌*◌, ◌^◌, ◌<◌, ◌≤◌}
+use Rattle.basics.proofs.Words.{refl, ◌∙◌, Bool, true, false, not, List, [], ℕ, arith, length, length-map, eqb, ltb, leb, length-slice, member, clash as never, left, right, member_beyond}
 use Rattle.std.proofs.Common.{ltb-true, leb-true, leb-false, eqb-true}
 use Rattle.refusals.specs.Refusals.{refuse, first_of}
 use Rattle.machine.specs.declared.Arc.{Arc}

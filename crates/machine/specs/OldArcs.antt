@@ -1,5 +1,6 @@
 -- Arcs from before kinds, with 0 in the place of the kind, mean what they meant. Assumes nothing.
-use Rattle.basics.proofs.Words.{◌≡◌, refl, ◌∙◌, ap, ap₂, Bool, true, false, not, ◌&&◌, and-true, List, [], ◌∷◌, Option, some, none, ℕ, zero, suc, arith, eqb, ltb, leb, all_of, pairwise, some_below, member, left, right}
+use Rattle.std.specs.Prelude.{◌≡◌, ◌&&◌, ◌∷◌}
+use Rattle.basics.proofs.Words.{refl, ◌∙◌, ap, ap₂, Bool, true, false, not, and-true, List, [], Option, some, none, ℕ, zero, suc, arith, eqb, ltb, leb, all_of, pairwise, some_below, member, left, right}
 use Rattle.std.proofs.Common.{eqb-true}
 use Rattle.refusals.specs.Refusals.{refuse, first_of}
 use Rattle.machine.specs.declared.Arc.{Arc}

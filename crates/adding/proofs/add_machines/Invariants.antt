@@ -1,4 +1,5 @@
-use Rattle.basics.proofs.Words.{◌≡◌, refl, ◌∙◌, suc, ◌-◌, arith, length, mul_comm, rules}
+use Rattle.std.specs.Prelude.{◌≡◌, ◌-◌}
+use Rattle.basics.proofs.Words.{refl, ◌∙◌, suc, arith, length, mul_comm, rules}
 use Rattle.product.specs.Laws.Nodes.{product_positive}
 use Rattle.adding.specs.Cells.{high_at, low_at}
 use Rattle.adding.proofs.Filling.{Reached, SumsFrom, reached_start, machine_below, place_enough, reached_next, sums_start, sums_next, sums_end, codes_few, machine_pre}

@@ -1,4 +1,5 @@
-use Rattle.basics.proofs.Words.{◌≡◌, refl, ◌-◌, arith, length, length-set, rules}
+use Rattle.std.specs.Prelude.{◌≡◌, ◌-◌}
+use Rattle.basics.proofs.Words.{refl, arith, length, length-set, rules}
 use Rattle.tables.proofs.JointRows.{RowTo, row_start, row_next}
 use Rattle.adding.proofs.begin.Goals as goal
 

@@ -1,4 +1,5 @@
-use Rattle.basics.proofs.Words.{◌≡◌, sym, ◌∙◌, ◌≤◌, ◌-◌, ◌%◌, arith, length, drop, all_of, rules, not-true, not-false, all_none, all_next, all_fails}
+use Rattle.std.specs.Prelude.{◌≡◌, ◌≤◌, ◌-◌, ◌%◌}
+use Rattle.basics.proofs.Words.{sym, ◌∙◌, arith, length, drop, all_of, rules, not-true, not-false, all_none, all_next, all_fails}
 use Rattle.refusals.proofs.Refusals.{passes_with, refuses_with}
 use Rattle.candidate.specs.Candidates.{pairs_of}
 use Rattle.candidate.specs.Evaluating.{sound_pair}

@@ -1,4 +1,5 @@
-use Rattle.basics.proofs.Words.{◌≡◌, sym, ap, ◌∙◌, true, Option, some, none, ℕ, ◌≤◌, ◌<◌, ◌-◌, ◌+◌, ◌*◌, ◌%◌, arith, length, drop, all_of, rules}
+use Rattle.std.specs.Prelude.{◌≡◌, ◌≤◌, ◌<◌, ◌-◌, ◌+◌, ◌*◌, ◌%◌}
+use Rattle.basics.proofs.Words.{sym, ap, ◌∙◌, true, Option, some, none, ℕ, arith, length, drop, all_of, rules}
 use mir.Syntax.{w16, w64}
 use mir.Val.{Fits}
 use Rattle.machine.specs.declared.Pair.{Pair}

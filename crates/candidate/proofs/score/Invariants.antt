@@ -1,4 +1,5 @@
-use Rattle.basics.proofs.Words.{◌≡◌, sym, ap, ◌∙◌, List, ℕ, ◌≤◌, ◌<◌, ◌-◌, arith, rules, clash}
+use Rattle.std.specs.Prelude.{◌≡◌, ◌≤◌, ◌<◌, ◌-◌}
+use Rattle.basics.proofs.Words.{sym, ap, ◌∙◌, List, ℕ, arith, rules, clash}
 use Rattle.machine.specs.Part.{machine_of}
 use Rattle.card.specs.Layout.{machine_count, symbol_count}
 use Rattle.card.specs.Accepted.{accepted}

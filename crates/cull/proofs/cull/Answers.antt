@@ -59,7 +59,7 @@ search-requires c =
     let a = accepts c.before.before.before.before in
     (record { accepted = a.accepted; ranks = a.ranks; sound = a.sound; states = (sizes c.before.before).size; room = front_room _ _ (fits c.before.before) }, sizes c.before.before)
 
-pub returns-in_default : goal.returns
-returns-in_default c =
+pub returns : goal.returns
+returns c =
     let s = c.search.ensures in
     call_searched (word_best_small _ _ _ _) (passed c.before.before.before.before.before.before.before.before.before) (same_room _ c.args.work.now c.search.last.1.1.1.1.0 (fits c.before.before.before.before.before.before.before) s.work_length) s

@@ -51,7 +51,7 @@ pub search_sets-requires : goal.search_sets-requires
 search_sets-requires c =
     (sets_given _ _ _ _ (passed c.before.before.before.before) c.check_sets_input-ready.result.grid.size (sizes c.before.before).size (front_room _ _ (fits c.before.before)), sizes c.before.before)
 
-pub returns-in_default : goal.returns
-returns-in_default c =
+pub returns : goal.returns
+returns c =
     let s = c.search_sets.ensures in
     call_searched (sets_best_small _ _ _ _) (passed c.before.before.before.before.before.before.before.before.before) (same_room _ c.args.work.now c.search_sets.last.1.1.1.1.0 (fits c.before.before.before.before.before.before.before) s.work_length) s

@@ -1,5 +1,6 @@
 -- Marks times the weights of machines in ranked order: place by place.
-use Rattle.basics.specs.Words.{◌≡◌, refl, ◌∙◌, true, false, cond, List, [], ◌∷◌, ℕ, zero, suc, ◌+◌, ◌*◌, ◌<◌, ◌≤◌, arith, length, get_or, eqb, mul-add}
+use Rattle.std.specs.Prelude.{◌≡◌, ◌∷◌, ◌+◌, ◌*◌, ◌<◌, ◌≤◌}
+use Rattle.basics.specs.Words.{refl, ◌∙◌, true, false, cond, List, [], ℕ, zero, suc, arith, length, get_or, eqb, mul-add}
 use Rattle.std.proofs.Common.{eq-eqb, ne_eqb, subst}
 use Rattle.cells.specs.Cells.{high_of, low_of}
 use Rattle.cells.specs.Columns.{weighed}

@@ -1,4 +1,5 @@
-use Rattle.basics.proofs.Words.{◌≡◌, refl, ◌∙◌, List, [], ◌∷◌, ℕ, ◌+◌, ◌-◌, ◌^◌, ◌≤◌, arith, length, take, drop, lit≤, rules}
+use Rattle.std.specs.Prelude.{◌≡◌, ◌∷◌, ◌+◌, ◌-◌, ◌^◌, ◌≤◌}
+use Rattle.basics.proofs.Words.{refl, ◌∙◌, List, [], ℕ, arith, length, take, drop, lit≤, rules}
 use Rattle.refusals.specs.Refusals.{refuse, first_of}
 use Rattle.machine.specs.Part.{part_refusal}
 use Rattle.machine.specs.Accepted.{accepted}

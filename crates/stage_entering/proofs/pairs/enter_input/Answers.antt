@@ -14,7 +14,7 @@ prepare-outputs-requires c =
 
 pub loop-outputs-init : goal.loop-outputs-init
 loop-outputs-init c =
-    (fours_start, omega (arith, c.prepare-outputs.type-inv), c.requires.0.high_size, c.requires.0.low_size)
+    (fours_start, omega (arith, c.prepare-outputs.type_inv), c.requires.0.high_size, c.requires.0.low_size)
 
 pub add_four-requires : goal.add_four-requires
 add_four-requires c =
@@ -37,7 +37,7 @@ loop-outputs-preserved c =
     let eh = j.kept.1.1.1.1.1.1.0 ∙ c.loop-outputs.invariant.2 in
     let el = j.kept.1.1.1.1.1.1.1.0 ∙ c.loop-outputs.invariant.3 in (
       fours_next c.requires.0.tables c.prepare-outputs.ensures (four_few c.loop-outputs.outputs f) eh el j.ensures (four_or_after c.loop-outputs.outputs c.loop-outputs.invariant.1 f c.without_four-outputs.ensures) c.loop-outputs.invariant.0 c.try_four.ensures,
-      omega (arith, c.without_four-outputs.type-inv),
+      omega (arith, c.without_four-outputs.type_inv),
       eh,
       el,
     )
