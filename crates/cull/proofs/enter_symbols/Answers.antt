@@ -34,8 +34,7 @@ loop-left-smaller c = c.without_least-left.ensures.0
 pub loop-left-preserved : goal.loop-left-preserved
 loop-left-preserved c =
     let v = c.loop-left.invariant in
-    let least = c.least-symbol.ensures in
-    (
+    let least = c.least-symbol.ensures in (
       symbols_next v.0 least.2 (λ n. c.without_least-left.ensures.1 n ∙ ap (λ (x : ℕ). member c.loop-left.left n && not (eqb n x)) (sym least.0)) c.enter_input.ensures,
       c.enter_input.auto.steps ∙ v.1,
       c.enter_input.auto.high ∙ v.2,
