@@ -1,5 +1,4 @@
-use Rattle.std.specs.Prelude.{◌≡◌, ◌&&◌, ◌≢◌, ◌+◌, ◌*◌, ◌<◌, ◌≤◌}
-use Rattle.basics.specs.Words.{refl, sym, ◌∙◌, ap, subst, true, not, List, ⊎_elim, ℕ, arith, length, length-set, eqb, member}
+use Rattle.basics.specs.Words.{◌≡◌, refl, sym, ◌∙◌, ap, subst, true, ◌&&◌, not, List, ⊎_elim, ◌≢◌, ℕ, ◌+◌, ◌*◌, ◌%◌, ◌<◌, ◌≤◌, arith, length, length-set, eqb, member}
 use Rattle.machine.specs.Symbols.{empty_symbol}
 use Rattle.paths.specs.Costs.{Labels}
 use Rattle.paths.specs.Ranked.{ranked_costs}
@@ -32,7 +31,8 @@ places_of-requires c =
 
 pub least-init : goal.least-init
 least-init c =
-    (λ L G code before R. ways_start G R c.if-low-eq0.false _ c.inputs_at-left.ensures, refl, λ code. refl, c.loop-low.invariant.1)
+    let some : c.loop-low.low % 65536 ≢ 0 = omega arith in
+    (λ L G code before R. ways_start G R some _ c.inputs_at-left.ensures, refl, λ code. refl, c.loop-low.invariant.1)
 
 pub least-input-requires : goal.least-input-requires
 least-input-requires c =
@@ -226,4 +226,5 @@ returns c =
     λ L K.
     let G = ground c.requires.0 K in
     let R = c.loop-low.invariant.0 L G in
-    walked_end G R c.if-low-eq0.true _ refl _ (states_are G R (machines_are c.requires.0)) c.with_ending-profile.ensures
+    let none : c.loop-low.low % 65536 ≡ 0 = omega arith in
+    walked_end G R none _ refl _ (states_are G R (machines_are c.requires.0)) c.with_ending-profile.ensures
