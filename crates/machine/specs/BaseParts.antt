@@ -1,6 +1,7 @@
 -- Parts from before ending marks and kinds, as the base read them: a state byte is 1, final, or 0, not; an arc takes by its sets alone, and its fourth
 -- byte is a zero. Assumes nothing.
-use Rattle.basics.proofs.Words.{◌≡◌, refl, sym, ◌∙◌, ap, ap₂, Bool, true, ◌&&◌, List, [], ◌∷◌, ℕ, ltb, leb, all_of, pairwise, both, left, right}
+use Rattle.std.specs.Prelude.{◌≡◌, ◌&&◌, ◌∷◌}
+use Rattle.basics.proofs.Words.{refl, sym, ◌∙◌, ap, ap₂, Bool, true, List, [], ℕ, ltb, leb, all_of, pairwise, both, left, right}
 use Rattle.refusals.specs.Refusals.{refuse, first_of}
 use Rattle.machine.specs.declared.Arc.{Arc}
 use Rattle.machine.specs.Part.{state_count, arcs_of, shaped, sound_set, sound_states, part_refusal}
