@@ -1,7 +1,8 @@
 // Entering a position in a stage of the cull: trying its nodes by joint steps, four outputs at a time, and a node by its ending.
 #![tactic(auto)]
 
-ghost use Rattle.basics.specs.Words.{◌≡◌, ◌+◌, ◌*◌, ◌≤◌, ◌<◌, length};
+ghost use Rattle.std.specs.Prelude.{◌≡◌, ◌+◌, ◌*◌, ◌≤◌, ◌<◌};
+ghost use Rattle.basics.specs.Words.{length};
 ghost use Rattle.tables.specs.Work.{HasNodes};
 ghost use Rattle.stage.specs.Relaxing.{NodePre};
 ghost use Rattle.stage.specs.StageLabels.{count_of, stage_label};

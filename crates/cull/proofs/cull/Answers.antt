@@ -1,4 +1,5 @@
-use Rattle.basics.proofs.Words.{◌≡◌, sym, ◌∙◌, ap, ◌≤◌, ◌<◌, ◌+◌, ◌*◌, arith, length, rules}
+use Rattle.std.specs.Prelude.{◌≡◌, ◌≤◌, ◌<◌, ◌+◌, ◌*◌}
+use Rattle.basics.proofs.Words.{sym, ◌∙◌, ap, arith, length, rules}
 use Rattle.product.specs.Optimizing.{input_refusal}
 use Rattle.refusals.specs.Refusals.{checked_number}
 use Rattle.grid.specs.Grids.{GridOf}

@@ -1,4 +1,5 @@
-use Rattle.basics.proofs.Words.{◌≡◌, sym, ◌∙◌, ap, ◌≤◌, ◌<◌, ◌+◌, ◌*◌, arith, length, rules}
+use Rattle.std.specs.Prelude.{◌≡◌, ◌≤◌, ◌<◌, ◌+◌, ◌*◌}
+use Rattle.basics.proofs.Words.{sym, ◌∙◌, ap, arith, length, rules}
 use Rattle.product.specs.OptimizingSets.{sets_input_refusal}
 use Rattle.refusals.specs.Refusals.{checked_number}
 use Rattle.refusals.proofs.Refusals.{refused_number}

@@ -1,4 +1,5 @@
-use Rattle.basics.proofs.Words.{sym, ◌∙◌, ap, subst, ℕ, ◌+◌, ◌*◌, arith, length, take, rules}
+use Rattle.std.specs.Prelude.{◌+◌, ◌*◌}
+use Rattle.basics.proofs.Words.{sym, ◌∙◌, ap, subst, ℕ, arith, length, take, rules}
 use Rattle.product.specs.Setting.{Setting}
 use Rattle.tables.specs.Places.{six_places}
 use Rattle.cells.specs.Columns.{WeightsOf}

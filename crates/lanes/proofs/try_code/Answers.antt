@@ -1,4 +1,5 @@
-use Rattle.basics.proofs.Words.{◌≡◌, sym, ◌∙◌, ap, ℕ, ◌+◌, ◌-◌, ◌≤◌, arith, length-set, rules}
+use Rattle.std.specs.Prelude.{◌≡◌, ◌+◌, ◌-◌, ◌≤◌}
+use Rattle.basics.proofs.Words.{sym, ◌∙◌, ap, ℕ, arith, length-set, rules}
 use Rattle.cells.specs.declared.Cell.{Cell}
 use Rattle.cells.specs.Labels.{cell_at}
 use Rattle.cells.specs.Laws.Labels.{written_here, written_other}

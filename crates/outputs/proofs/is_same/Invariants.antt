@@ -1,4 +1,5 @@
-use Rattle.basics.proofs.Words.{◌≡◌, refl, ℕ, ◌<◌, ◌≤◌, ◌-◌, arith, rules, clash}
+use Rattle.std.specs.Prelude.{◌≡◌, ◌<◌, ◌≤◌, ◌-◌}
+use Rattle.basics.proofs.Words.{refl, ℕ, arith, rules, clash}
 use borrow.Author.Count.{below_more}
 use Rattle.adding.specs.Cells.{step_at}
 use Rattle.adding.specs.Laws.Numbers.{column_few, column_in}

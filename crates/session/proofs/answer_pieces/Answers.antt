@@ -17,8 +17,7 @@ returns-then-after-progress c =
 
 pub loop-turns-preserved : goal.loop-turns-preserved
 loop-turns-preserved c =
-    let i = c.loop-turns.invariant in
-    (
+    let i = c.loop-turns.invariant in (
       reads_more i.0 i.3 c.answer_piece-progress.ensures (λ _. not-false c.answer_piece-progress.result.written (right_fails c.answer_piece-progress.result.tally.past (not c.answer_piece-progress.result.written) c.if-after-progress.false)),
       search rules,
       search rules,
