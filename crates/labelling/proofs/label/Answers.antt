@@ -1,4 +1,5 @@
-use Rattle.basics.proofs.Words.{◌*◌, arith, take, rules}
+use Rattle.std.specs.Prelude.{◌*◌}
+use Rattle.basics.proofs.Words.{arith, take, rules}
 use Rattle.card.specs.Card.{machines_of}
 use Rattle.product.specs.Nodes.{state_counts}
 use Rattle.tables.specs.Places.{six_places}
