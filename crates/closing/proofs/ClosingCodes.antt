@@ -1,5 +1,6 @@
 -- What closing a position does: labels taken apart into counts and written, code by code.
-use Rattle.basics.specs.Words.{◌≡◌, refl, sym, ◌∙◌, ap, subst, List, Option, some, none, Option·none-ne-some, ℕ, ◌+◌, ◌*◌, ◌/◌, ◌%◌, ◌^◌, ◌<◌, ◌≤◌, arith, length, set, length-set, get_or-set_same, get_or-set_other}
+use Rattle.std.specs.Prelude.{◌≡◌, ◌+◌, ◌*◌, ◌/◌, ◌%◌, ◌^◌, ◌<◌, ◌≤◌}
+use Rattle.basics.specs.Words.{refl, sym, ◌∙◌, ap, subst, List, Option, some, none, Option·none-ne-some, ℕ, arith, length, set, length-set, get_or-set_same, get_or-set_other}
 use Rattle.paths.specs.Ranked.{Ranked}
 use Rattle.tables.specs.Work.{label_of, AlikeAt, Stored}
 use Rattle.tables.specs.LabelCost.{AllShort}

@@ -1,5 +1,6 @@
 -- Laws of the search for an id, of the removal and of the search for the best row, for the loops. Assumes nothing.
-use Rattle.basics.proofs.Words.{◌≡◌, refl, sym, ap, ◌∙◌, Bool, true, false, not, List, [], ◌∷◌, ◌++◌, ℕ, zero, suc, ◌+◌, ◌-◌, ◌<◌, ◌≤◌, arith, get_or, length, set, take, drop, length-set, length-take, eqb, lit<, drop-cons, zero-add, sub-zero, add-one, eqb-true, eqb-false, not-true, not-false}
+use Rattle.std.specs.Prelude.{◌≡◌, ◌∷◌, ◌++◌, ◌+◌, ◌-◌, ◌<◌, ◌≤◌}
+use Rattle.basics.proofs.Words.{refl, sym, ap, ◌∙◌, Bool, true, false, not, List, [], ℕ, zero, suc, arith, get_or, length, set, take, drop, length-set, length-take, eqb, lit<, drop-cons, zero-add, sub-zero, add-one, eqb-true, eqb-false, not-true, not-false}
 use Rattle.std.proofs.lemmas.List.{get_or_default}
 use Rattle.refusals.specs.declared.Refusal.{Refusal}
 use Rattle.refusals.specs.declared.Checked.{Checked}

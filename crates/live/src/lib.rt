@@ -1,7 +1,8 @@
 // The live tableau: rows proposed and withdrawn in class, kept in a lent list of records in order of arrival, and the leader among them.
 #![tactic(auto)]
 
-ghost use Rattle.basics.specs.Words.{◌≡◌, true, not, ◌+◌, ◌-◌, ◌<◌, ◌≤◌, length, take};
+ghost use Rattle.std.specs.Prelude.{◌≡◌, ◌+◌, ◌-◌, ◌<◌, ◌≤◌};
+ghost use Rattle.basics.specs.Words.{true, not, length, take};
 ghost use Rattle.refusals.specs.Refusals.{checked_number, refuse, unless_refused};
 ghost use Rattle.ranking.specs.Rankings.{is_ranking};
 ghost use Rattle.live.specs.Rows.{zero_row, has_id, present, counted, refused_count, unled, led};

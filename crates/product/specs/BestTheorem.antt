@@ -1,6 +1,7 @@
 -- The theorem on the best candidate, over the definitions alone: the definition looks at lists of fewer pairs than there are nodes, and what it
 -- finds is the best of the lists of any length. It holds for every accepted card, every ranking and every word, the empty one too.
-use Rattle.basics.specs.Words.{◌≡◌, refl, sym, ◌∙◌, ap, true, List, Option, some, none, Option·none-ne-some, ℕ}
+use Rattle.std.specs.Prelude.{◌≡◌}
+use Rattle.basics.specs.Words.{refl, sym, ◌∙◌, ap, true, List, Option, some, none, Option·none-ne-some, ℕ}
 use Rattle.machine.specs.declared.Pair.{Pair}
 use Rattle.machine.specs.Machine.{Machine}
 use Rattle.ranking.specs.Rankings.{is_ranking}

@@ -1,6 +1,7 @@
 -- Counts that fit, over the definitions alone: a candidate that none beats by profile or pair count passes no node twice, so its pairs are few and its
 -- counts small. It holds for every accepted card, every order on profiles with a price that agrees with it, and at most 24 symbols or sets of symbols.
-use Rattle.basics.specs.Words.{◌≡◌, subst, true, List, some, ℕ, suc, ◌+◌, ◌*◌, ◌<◌, ◌≤◌, arith, length, leb, mul-le-mul, all_of}
+use Rattle.std.specs.Prelude.{◌≡◌, ◌+◌, ◌*◌, ◌<◌, ◌≤◌}
+use Rattle.basics.specs.Words.{subst, true, List, some, ℕ, suc, arith, length, leb, mul-le-mul, all_of}
 use Rattle.machine.specs.declared.Pair.{Pair}
 use Rattle.machine.specs.Machine.{Machine}
 use Rattle.card.specs.Layout.{symbol_count}

@@ -1,6 +1,7 @@
 -- Dominance: where each weight is more than c times the sum of those ranked below it and no count is above c, the sums compare as the profiles do
 -- under the ranking.
-use Rattle.basics.proofs.Words.{◌≡◌, refl, sym, ◌∙◌, ap, true, List, [], ◌∷◌, ℕ, zero, suc, ◌+◌, ◌*◌, ◌<◌, ◌≤◌, arith, length, get_or, leb, ltb, mul-add, mul-suc, mul_comm, mul-le-mul_left, all_of, left, right}
+use Rattle.std.specs.Prelude.{◌≡◌, ◌∷◌, ◌+◌, ◌*◌, ◌<◌, ◌≤◌}
+use Rattle.basics.proofs.Words.{refl, sym, ◌∙◌, ap, true, List, [], ℕ, zero, suc, arith, length, get_or, leb, ltb, mul-add, mul-suc, mul_comm, mul-le-mul_left, all_of, left, right}
 use Rattle.std.proofs.Common.{leb-true, lt-ltb, le-ltb}
 use Rattle.ranking.specs.Rankings.{is_ranking}
 use Rattle.ranking.specs.Harmony.{is_better}

@@ -1,6 +1,7 @@
 -- What labels say of the best, for an order on profiles and a price that agrees with it: closed labels with none at the start say that there is no
 -- candidate, and closed and attained ones have there the price of the best.
-use Rattle.basics.specs.Words.{◌≡◌, refl, sym, ◌∙◌, ap, true, List, Option, some, none, ◌⊎◌, inl, inr, ◌≢◌, ℕ, length}
+use Rattle.std.specs.Prelude.{◌≡◌, ◌⊎◌, ◌≢◌}
+use Rattle.basics.specs.Words.{refl, sym, ◌∙◌, ap, true, List, Option, some, none, inl, inr, ℕ, length}
 use Rattle.machine.specs.declared.Pair.{Pair}
 use Rattle.card.specs.Card.{machines_of, card_refusal}
 use Rattle.candidate.specs.Candidates.{profile_of}

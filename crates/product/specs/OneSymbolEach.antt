@@ -1,7 +1,8 @@
 -- Theorem, over the definitions alone: sets of one symbol each give the answer for the word, result and answer slice. It holds for every card, ranking,
 -- word and pair of slices, but for one case: where a symbol is out of range and the checks before the symbol test pass, the call for sets is refused by
 -- 25 and the one for the word by 8.
-use Rattle.basics.proofs.Words.{◌≡◌, refl, sym, ◌∙◌, Bool, true, false, not, ◌&&◌, false≢true, List, [], ◌∷◌, Option, some, none, ℕ, zero, suc, ◌*◌, arith, length, leb, eqb, all_of, clash}
+use Rattle.std.specs.Prelude.{◌≡◌, ◌&&◌, ◌∷◌, ◌*◌}
+use Rattle.basics.proofs.Words.{refl, sym, ◌∙◌, Bool, true, false, not, false≢true, List, [], Option, some, none, ℕ, zero, suc, arith, length, leb, eqb, all_of, clash}
 use Rattle.std.proofs.Common.{ne_eqb}
 use Rattle.refusals.specs.Refusals.{refuse, first_of}
 use Rattle.ranking.specs.Rankings.{is_ranking}

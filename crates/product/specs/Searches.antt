@@ -1,5 +1,6 @@
 -- What can be asked for, a word or the words of sets: which lists of pairs are meant, and the best of them, in every order on profiles.
-use Rattle.basics.specs.Words.{◌≡◌, true, List, Option, ℕ}
+use Rattle.std.specs.Prelude.{◌≡◌}
+use Rattle.basics.specs.Words.{true, List, Option, ℕ}
 use Rattle.machine.specs.declared.Pair.{Pair}
 use Rattle.machine.specs.Machine.{Machine}
 use Rattle.card.specs.Card.{machines_of, card_refusal}

@@ -1,7 +1,8 @@
 -- The theorem on the best over sets: what the definition finds is the best of the candidates, however long, for all words with one symbol from
 -- each set. It holds for every accepted card, every order on profiles with a price that agrees with it, and every list of 64-bit numbers as sets,
 -- the empty one too.
-use Rattle.basics.specs.Words.{◌≡◌, refl, sym, ◌∙◌, ap, true, List, Option, some, none, Option·none-ne-some, inl, inr, ◌≢◌, ℕ, ltb, all_of}
+use Rattle.std.specs.Prelude.{◌≡◌, ◌≢◌}
+use Rattle.basics.specs.Words.{refl, sym, ◌∙◌, ap, true, List, Option, some, none, Option·none-ne-some, inl, inr, ℕ, ltb, all_of}
 use Rattle.machine.specs.declared.Pair.{Pair}
 use Rattle.machine.specs.Machine.{Machine}
 use Rattle.ranking.specs.Rankings.{is_ranking}

@@ -1,4 +1,5 @@
-use Rattle.basics.proofs.Words.{◌≡◌, refl, ◌∙◌, ◌-◌, arith, length, get_or, rules}
+use Rattle.std.specs.Prelude.{◌≡◌, ◌-◌}
+use Rattle.basics.proofs.Words.{refl, ◌∙◌, arith, length, get_or, rules}
 use Rattle.card.specs.Card.{machines_of}
 use Rattle.card.specs.Laws.Machines.{machine_at_lem}
 use Rattle.machine.specs.Machine.{no_machine}

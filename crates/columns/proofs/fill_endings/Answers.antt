@@ -1,4 +1,5 @@
-use Rattle.basics.proofs.Words.{◌-◌, arith, length, rules}
+use Rattle.std.specs.Prelude.{◌-◌}
+use Rattle.basics.proofs.Words.{arith, length, rules}
 use Rattle.card.specs.Card.{machines_of}
 use Rattle.card.specs.Laws.Machines.{machine_at_lem}
 use Rattle.machine.specs.Machine.{no_machine}
@@ -27,7 +28,7 @@ pub loop-m-preserved : goal.loop-m-preserved
 loop-m-preserved c =
     let t = c.loop-m-test.true in
     let card = c.args.card.now in
-    let h : PartEndings (machine_at (machines_of card) c.loop-m.m) c.loop-m.first c.loop-m.steps c.fill_part_endings.new.0 =
+    let h : PartEndings (machine_at (machines_of card) c.loop-m.m) c.loop-m.first c.loop-m.steps c.fill_part_endings.new.steps =
     rw (machine_at_lem card c.loop-m.m (machine_below c.requires c.loop-m.invariant t) no_machine, ← c.part.ensures) c.fill_part_endings.ensures in
     endings_next c.requires c.loop-m.invariant t c.index-states.result c.index-states.ensures.0 h
 

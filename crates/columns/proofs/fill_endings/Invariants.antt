@@ -1,4 +1,5 @@
-use Rattle.basics.proofs.Words.{◌-◌, arith, length, rules}
+use Rattle.std.specs.Prelude.{◌-◌}
+use Rattle.basics.proofs.Words.{arith, length, rules}
 use Rattle.card.specs.Card.{machines_of}
 use Rattle.card.specs.Laws.Machines.{machine_at_lem}
 use Rattle.machine.specs.Machine.{no_machine}

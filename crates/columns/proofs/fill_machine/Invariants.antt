@@ -1,4 +1,5 @@
-use Rattle.basics.proofs.Words.{◌≡◌, refl, ◌∙◌, ℕ, ◌≤◌, ◌-◌, ◌+◌, ◌^◌, arith, length, rules}
+use Rattle.std.specs.Prelude.{◌≡◌, ◌≤◌, ◌-◌, ◌+◌, ◌^◌}
+use Rattle.basics.proofs.Words.{refl, ◌∙◌, ℕ, arith, length, rules}
 use Rattle.machine.specs.Part.{state_count, arc_count, arcs_of}
 use Rattle.machine.specs.Accepted.{accepted}
 use Rattle.machine.specs.Laws.Arcs.{arcs_count}

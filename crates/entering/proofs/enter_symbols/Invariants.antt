@@ -1,4 +1,5 @@
-use Rattle.basics.proofs.Words.{◌≡◌, refl, sym, ◌∙◌, ap, not, ◌&&◌, ℕ, arith, length, eqb, member, rules}
+use Rattle.std.specs.Prelude.{◌≡◌, ◌&&◌}
+use Rattle.basics.proofs.Words.{refl, sym, ◌∙◌, ap, not, ℕ, arith, length, eqb, member, rules}
 use Rattle.entering.proofs.Symbols.{blank_position, still_ready, blank_codes, SymbolsTried, symbols_start, symbols_next, symbols_end}
 use Rattle.entering.proofs.enter_symbols.Given as goal
 

@@ -1,4 +1,5 @@
-use Rattle.basics.proofs.Words.{◌≡◌, refl, ◌-◌, ◌≤◌, arith, length, length-set, rules}
+use Rattle.std.specs.Prelude.{◌≡◌, ◌-◌, ◌≤◌}
+use Rattle.basics.proofs.Words.{refl, arith, length, length-set, rules}
 use Rattle.input.proofs.Words.{FilledBelow, filled_start, filled_next, filled_end, small_at}
 use Rattle.input.proofs.fill_sets.Goals as goal
 
@@ -18,7 +19,7 @@ loop-i-smaller c = omega (arith, c.loop-i-test.true)
 
 pub loop-i-preserved : goal.loop-i-preserved
 loop-i-preserved c =
-    let v = c.loop-i.invariant in (filled_next v.0 c.loop-i-test.true c.set_of_lem.ensures, omega (arith, c.loop-i-test.true), simp length-set v.2)
+    let v = c.loop-i.invariant in (filled_next v.0 c.loop-i-test.true c.set_of.ensures, omega (arith, c.loop-i-test.true), simp length-set v.2)
 
 pub shape_of-sets : goal.shape_of-sets
 shape_of-sets c = c.loop-i.invariant.2

@@ -1,4 +1,5 @@
-use Rattle.basics.proofs.Words.{◌≡◌, refl, ◌∙◌, ap, ◌^◌, ◌<◌, arith, length, rules}
+use Rattle.std.specs.Prelude.{◌≡◌, ◌^◌, ◌<◌}
+use Rattle.basics.proofs.Words.{refl, ◌∙◌, ap, arith, length, rules}
 use Rattle.cells.specs.Fours.{next_four}
 use Rattle.cells.specs.Laws.Fours.{without_less}
 use Rattle.insertions.proofs.Fours.{fours_small}

@@ -1,4 +1,5 @@
-use Rattle.basics.proofs.Words.{ap₂, ◌∙◌, Bool, ◌&&◌}
+use Rattle.std.specs.Prelude.{◌&&◌}
+use Rattle.basics.proofs.Words.{ap₂, ◌∙◌, Bool}
 use Rattle.joined.proofs.Parts.{no_marks}
 use Rattle.joined.proofs.has_no_marks.Goals as goal
 

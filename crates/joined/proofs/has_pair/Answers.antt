@@ -1,4 +1,5 @@
-use Rattle.basics.proofs.Words.{◌≡◌, refl, sym, subst, false, not, ◌||◌, ℕ, ◌^◌, ◌<◌, arith, eqb, eqb-false, left_fails, right_fails}
+use Rattle.std.specs.Prelude.{◌≡◌, ◌||◌, ◌^◌, ◌<◌}
+use Rattle.basics.proofs.Words.{refl, sym, subst, false, not, ℕ, arith, eqb, eqb-false, left_fails, right_fails}
 use lib.Bits.{bit_or, and_le_r, or_lt, or_add_and}
 use lib.Count.{count_trailing_zeros}
 use Rattle.machine.specs.Laws.SymbolSets.{least_at}

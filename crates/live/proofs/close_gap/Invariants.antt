@@ -1,4 +1,4 @@
-use Rattle.basics.specs.Words.{◌-◌}
+use Rattle.std.specs.Prelude.{◌-◌}
 use Rattle.live.proofs.Places.{Closed}
 use Rattle.live.proofs.close_gap.Given as goal
 

@@ -1,4 +1,4 @@
-use Rattle.basics.specs.Words.{◌-◌}
+use Rattle.std.specs.Prelude.{◌-◌}
 use Rattle.live.proofs.Places.{Sought}
 use Rattle.live.proofs.find.Given as goal
 

@@ -1,4 +1,4 @@
-use Rattle.basics.specs.Words.{◌-◌}
+use Rattle.std.specs.Prelude.{◌-◌}
 use Rattle.live.proofs.Places.{Led}
 use Rattle.live.proofs.foremost.Given as goal
 

@@ -1,4 +1,5 @@
-use Rattle.basics.specs.Words.{sym, ap, ◌∙◌, ◌<◌, arith, length}
+use Rattle.std.specs.Prelude.{◌<◌}
+use Rattle.basics.specs.Words.{sym, ap, ◌∙◌, arith, length}
 use Rattle.refusals.specs.Refusals.{checked_number}
 use Rattle.live.specs.Rows.{fits, unled}
 use Rattle.live_checks.proofs.Checks.{all_passed, ranking_sound, fits_within}

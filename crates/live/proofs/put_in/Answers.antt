@@ -1,4 +1,5 @@
-use Rattle.basics.specs.Words.{◌≤◌, arith, length}
+use Rattle.std.specs.Prelude.{◌≤◌}
+use Rattle.basics.specs.Words.{arith, length}
 use Rattle.live.proofs.Places.{not_put, put, absent_refused, absent_passed}
 use Rattle.live.proofs.put_in.Goals as goal
 

@@ -1,4 +1,5 @@
-use Rattle.basics.specs.Words.{ap, ◌∙◌, ℕ, ◌-◌, ◌<◌, arith}
+use Rattle.std.specs.Prelude.{◌-◌, ◌<◌}
+use Rattle.basics.specs.Words.{ap, ◌∙◌, ℕ, arith}
 use Rattle.live.specs.Steps.{closing}
 use Rattle.live.proofs.Places.{found, not_taken, taken, present_refused, present_passed}
 use Rattle.live.proofs.take_out.Goals as goal

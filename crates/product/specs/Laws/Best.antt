@@ -1,5 +1,6 @@
 -- The best of the definition is the best path of the product from the start node, for a price that agrees with the order on profiles.
-use Rattle.basics.proofs.Words.{◌≡◌, refl, sym, ◌∙◌, ap, true, false≢true, List, [], ◌∷◌, List-as-Memᴰ, Option, some, none, Option·none-ne-some, inl, inr, ◌≢◌, ℕ, ◌<◌, ◌≤◌, arith, length, all_of, both, left, right}
+use Rattle.std.specs.Prelude.{◌≡◌, ◌∷◌, ◌≢◌, ◌<◌, ◌≤◌}
+use Rattle.basics.proofs.Words.{refl, sym, ◌∙◌, ap, true, false≢true, List, [], List-as-Memᴰ, Option, some, none, Option·none-ne-some, inl, inr, ℕ, arith, length, all_of, both, left, right}
 use Rattle.machine.specs.declared.Pair.{Pair}
 use Rattle.machine.specs.Symbols.{is_pair}
 use Rattle.machine.specs.Machine.{Machine, start_state, step_of}

@@ -1,5 +1,6 @@
 -- What the definition of the best over sets lists: the words with one symbol from each set, and their best candidates.
-use Rattle.basics.proofs.Words.{◌≡◌, refl, sym, ◌∙◌, ap, true, false≢true, List, [], ◌∷◌, map, List-as-Memᴰ, List·Memᴰ·head, List·Memᴰ·not-nil, List·Memᴰ·eq-of-singleton, Option, some, none, ℕ, ◌^◌, ◌<◌, arith, length, ltb, dec_lt, all_of, those, joined, numbers_below, member, both, left, right, clash, those_member, member_those, joined_member, member_joined, member_numbers, member_beyond}
+use Rattle.std.specs.Prelude.{◌≡◌, ◌∷◌, ◌^◌, ◌<◌}
+use Rattle.basics.proofs.Words.{refl, sym, ◌∙◌, ap, true, false≢true, List, [], map, List-as-Memᴰ, List·Memᴰ·head, List·Memᴰ·not-nil, List·Memᴰ·eq-of-singleton, Option, some, none, ℕ, arith, length, ltb, dec_lt, all_of, those, joined, numbers_below, member, both, left, right, clash, those_member, member_those, joined_member, member_joined, member_numbers, member_beyond}
 use Rattle.std.proofs.Math.Pow.{pow-lt}
 use Rattle.std.proofs.Common.{ltb-true, lt-ltb}
 use Rattle.machine.specs.declared.Pair.{Pair}

@@ -1,6 +1,7 @@
 -- What the definition of the best lists: the lists of fewer than n pairs over the symbols, those of them that are complete candidates for the
 -- word, and the least of these.
-use Rattle.basics.proofs.Words.{◌≡◌, refl, sym, ◌∙◌, ap, Bool, true, false, ◌&&◌, List, [], ◌∷◌, map, List-as-Memᴰ, List·Memᴰ·head, List·Memᴰ·tail, List·Memᴰ·not-nil, List·Memᴰ·cases-cons, Memᴰ·cast, Option, some, none, Option·none-ne-some, ◌⊎◌, inl, inr, ℕ, zero, suc, ◌+◌, ◌<◌, ◌≤◌, arith, length, leb, all_of, joined, numbers_below, both, left, right, clash, those_member, member_those, joined_member, member_joined, member_numbers}
+use Rattle.std.specs.Prelude.{◌≡◌, ◌&&◌, ◌∷◌, ◌⊎◌, ◌+◌, ◌<◌, ◌≤◌}
+use Rattle.basics.proofs.Words.{refl, sym, ◌∙◌, ap, Bool, true, false, List, [], map, List-as-Memᴰ, List·Memᴰ·head, List·Memᴰ·tail, List·Memᴰ·not-nil, List·Memᴰ·cases-cons, Memᴰ·cast, Option, some, none, Option·none-ne-some, inl, inr, ℕ, zero, suc, arith, length, leb, all_of, joined, numbers_below, both, left, right, clash, those_member, member_those, joined_member, member_joined, member_numbers}
 use Rattle.std.proofs.Common.{leb-true}
 use Rattle.machine.specs.declared.Pair.{Pair}
 use Rattle.machine.specs.Symbols.{is_pair, within_symbols}
@@ -183,7 +184,7 @@ module _ {costs : Costs} {price : Price costs} {better : ProfileOrder} (agrees :
   not_preferred : (a b : Contender) → preferred better a b ≡ false → Upto (Before costs pairs) (key_of price b) (key_of price a)
   not_preferred a b t = not_less_upto (before_total costs pairs) (key_of price b) (key_of price a) (λ h. clash (beats_preferred a b (earlier_beats agrees a b h)) t)
 
-  pub least_upto : {fs : List Contender} {a : Contender} → List-as-Memᴰ a fs → LeastUpto price better fs a
+  pub least_upto : {a : Contender} {fs : List Contender} → List-as-Memᴰ a fs → LeastUpto price better fs a
   least_upto {a = a} (List·Memᴰ·head {x = b} {xs = rest} e) = go (least_of better rest) refl
     where
       two : (d : Contender) → least_of better rest ≡ some d → (t : Bool) → preferred better d b ≡ t → LeastUpto price better (b ∷ rest) a

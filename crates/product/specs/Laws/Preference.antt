@@ -1,6 +1,7 @@
 -- The order of preference on candidates is the order of the product's paths, for a price that agrees with the order on profiles: the cost, then
 -- the letters.
-use Rattle.basics.proofs.Words.{◌≡◌, refl, ◌∙◌, ap, Bool, true, false, not, ◌&&◌, ◌||◌, false≢true, or-true, List, [], ◌∷◌, ◌⊎◌, inl, inr, ℕ, zero, suc, ◌+◌, ◌*◌, ◌<◌, arith, length, eqb, ltb, clash, both, left, right, either}
+use Rattle.std.specs.Prelude.{◌≡◌, ◌&&◌, ◌||◌, ◌∷◌, ◌⊎◌, ◌+◌, ◌*◌, ◌<◌}
+use Rattle.basics.proofs.Words.{refl, ◌∙◌, ap, Bool, true, false, not, false≢true, or-true, List, [], inl, inr, ℕ, zero, suc, arith, length, eqb, ltb, clash, both, left, right, either}
 use Rattle.std.proofs.Common.{eqb-true, ltb-true, eq-eqb, lt-ltb}
 use Rattle.machine.specs.declared.Pair.{Pair}
 use Rattle.ranking.specs.Profiles.{merge}

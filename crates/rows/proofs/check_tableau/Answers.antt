@@ -1,4 +1,5 @@
-use Rattle.basics.proofs.Words.{◌≡◌, ap, ◌∙◌, true, List, ℕ, arith, lit<, every_at}
+use Rattle.std.specs.Prelude.{◌≡◌}
+use Rattle.basics.proofs.Words.{ap, ◌∙◌, true, List, ℕ, arith, lit<, every_at}
 use Rattle.refusals.specs.Refusals.{refuse, checked_number}
 use Rattle.refusals.specs.declared.Checked.{Checked}
 use Rattle.refusals.specs.declared.Checked.TheVariants.{Passed}

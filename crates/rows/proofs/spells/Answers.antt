@@ -1,4 +1,5 @@
-use Rattle.basics.proofs.Words.{sym, ap, ◌∙◌, ◌≤◌, ◌+◌, arith, length}
+use Rattle.std.specs.Prelude.{◌≤◌, ◌+◌}
+use Rattle.basics.proofs.Words.{sym, ap, ◌∙◌, arith, length}
 use Rattle.rows.proofs.Spelling.{rest_same, same_inserted, same_symbol, other_symbol, too_long, same_end}
 use Rattle.rows.proofs.spells.Goals as goal
 use Rattle.rows.proofs.spells.Goals.{then-symbol-ne-EMPTY+else-word-place+else-symbol-word, else-symbol-ne-EMPTY}

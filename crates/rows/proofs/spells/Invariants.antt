@@ -1,4 +1,5 @@
-use Rattle.basics.proofs.Words.{◌≡◌, ◌≤◌, ◌-◌, ◌%◌, length}
+use Rattle.std.specs.Prelude.{◌≡◌, ◌≤◌, ◌-◌, ◌%◌}
+use Rattle.basics.proofs.Words.{length}
 use Rattle.rows.proofs.Spelling.{rest_same}
 use Rattle.rows.proofs.spells.Given as goal
 

@@ -1,4 +1,5 @@
-use Rattle.basics.proofs.Words.{◌-◌, ◌≤◌, arith, rules}
+use Rattle.std.specs.Prelude.{◌-◌, ◌≤◌}
+use Rattle.basics.proofs.Words.{arith, rules}
 use Rattle.stage.specs.Relaxing.{no_counts}
 use Rattle.stage.proofs.StageWork.{KeptBelow, left_start, left_next, left_told, left_broken}
 use Rattle.stage.proofs.ending_left.Given as goal

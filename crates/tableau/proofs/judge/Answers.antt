@@ -1,4 +1,5 @@
-use Rattle.basics.proofs.Words.{◌≡◌, refl, sym, ap, ◌∙◌, ◌<◌, ℕ, List, length}
+use Rattle.std.specs.Prelude.{◌≡◌, ◌<◌}
+use Rattle.basics.proofs.Words.{refl, sym, ap, ◌∙◌, ℕ, List, length}
 use Rattle.refusals.specs.Refusals.{checked_number}
 use Rattle.refusals.specs.declared.Checked.{Checked}
 use Rattle.refusals.specs.declared.Checked.TheVariants.{Passed}

@@ -5,5 +5,5 @@ use Rattle.entering.proofs.endings.ending_label.Goals as goal
 pub returns-then-ending-lt-NOWHERE : goal.returns-then-ending-lt-NOWHERE
 returns-then-ending-lt-NOWHERE c = sym (ending_there _ _ c.if-ending-lt-NOWHERE.true)
 
-pub returns-then-ending-lt-NOWHERE : goal.returns
-returns-then-ending-lt-NOWHERE c = sym (ending_none _ _ (omega (arith, c.if-ending-lt-NOWHERE.false)))
+pub returns : goal.returns
+returns c = sym (ending_none _ _ (omega (arith, c.if-ending-lt-NOWHERE.false)))

@@ -1,4 +1,5 @@
-use Rattle.basics.proofs.Words.{◌≡◌, sym, ap, subst, ◌∙◌, true, List, [], ◌∷◌, ℕ, ◌+◌, arith, length, get_or, set, length-map, joined}
+use Rattle.std.specs.Prelude.{◌≡◌, ◌∷◌, ◌+◌}
+use Rattle.basics.proofs.Words.{sym, ap, subst, ◌∙◌, true, List, [], ℕ, arith, length, get_or, set, length-map, joined}
 use Rattle.machine.specs.Part.{state_count, state_bytes, shaped}
 use Rattle.joined.specs.Writing.{placed, joined_byte}
 use Rattle.joined.specs.Laws.Placed.{placed_one}

@@ -1,4 +1,5 @@
-use Rattle.basics.proofs.Words.{◌≡◌, ap, ◌∙◌, List, map, ℕ, ◌+◌, ◌<◌, ◌≤◌, arith, length, get_or, length-map}
+use Rattle.std.specs.Prelude.{◌≡◌, ◌+◌, ◌<◌, ◌≤◌}
+use Rattle.basics.proofs.Words.{ap, ◌∙◌, List, map, ℕ, arith, length, get_or, length-map}
 use Rattle.machine.specs.Part.{state_count, state_bytes}
 use Rattle.joined.specs.Writing.{placed, joined_byte, PartsJoin}
 use Rattle.joined.proofs.Rest.{Rest, rest_start, rest_room, rest_next, rest_end}

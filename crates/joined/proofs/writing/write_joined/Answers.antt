@@ -1,4 +1,5 @@
-use Rattle.basics.specs.Words.{◌≡◌, sym, ap, ap₂, ◌∙◌, List, ◌∷◌, ◌++◌, ℕ, ◌+◌, ◌*◌, ◌≤◌, arith, length, length-set}
+use Rattle.std.specs.Prelude.{◌≡◌, ◌∷◌, ◌++◌, ◌+◌, ◌*◌, ◌≤◌}
+use Rattle.basics.specs.Words.{sym, ap, ap₂, ◌∙◌, List, ℕ, arith, length, length-set}
 use Rattle.machine.specs.Part.{state_count, state_bytes}
 use Rattle.joined.specs.JoinedMachine.{crossed}
 use Rattle.joined.specs.MachineBytes.{joined_part}

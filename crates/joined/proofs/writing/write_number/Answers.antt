@@ -1,4 +1,5 @@
-use Rattle.basics.proofs.Words.{◌≡◌, sym, ap, ◌∙◌, ℕ, ◌+◌, ◌-◌, arith, length-set}
+use Rattle.std.specs.Prelude.{◌≡◌, ◌+◌, ◌-◌}
+use Rattle.basics.proofs.Words.{sym, ap, ◌∙◌, ℕ, arith, length-set}
 use Rattle.joined.specs.MachineBytes.{little_endian}
 use Rattle.joined.specs.Writing.{placed}
 use Rattle.joined.specs.Laws.Placed.{placed_none}

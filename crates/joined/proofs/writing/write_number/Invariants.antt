@@ -1,4 +1,5 @@
-use Rattle.basics.proofs.Words.{◌≡◌, ◌+◌, ◌-◌, ◌≤◌, length}
+use Rattle.std.specs.Prelude.{◌≡◌, ◌+◌, ◌-◌, ◌≤◌}
+use Rattle.basics.proofs.Words.{length}
 use Rattle.joined.specs.MachineBytes.{little_endian}
 use Rattle.joined.specs.Writing.{placed}
 use Rattle.joined.proofs.writing.write_number.Given as goal

@@ -1,4 +1,5 @@
-use Rattle.basics.proofs.Words.{◌≡◌, sym, ap, ◌∙◌, List, ℕ, ◌+◌, arith, length, get_or}
+use Rattle.std.specs.Prelude.{◌≡◌, ◌+◌}
+use Rattle.basics.proofs.Words.{sym, ap, ◌∙◌, List, ℕ, arith, length, get_or}
 use Rattle.machine.specs.Part.{arcs_of}
 use Rattle.joined.specs.Writing.{placed, row_bytes}
 use Rattle.joined.proofs.Rest.{rest_room, rest_next, rest_end}

@@ -1,4 +1,5 @@
-use Rattle.basics.proofs.Words.{◌≡◌, sym, ap, ◌∙◌, List, ℕ, arith, length}
+use Rattle.std.specs.Prelude.{◌≡◌}
+use Rattle.basics.proofs.Words.{sym, ap, ◌∙◌, List, ℕ, arith, length}
 use Rattle.joined.specs.MachineBytes.{arc_bytes}
 use Rattle.joined.specs.Writing.{placed, shared_bytes}
 use Rattle.joined.specs.Laws.Placed.{placed_none}
