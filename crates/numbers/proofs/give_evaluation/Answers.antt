@@ -7,14 +7,10 @@ use Rattle.numbers.proofs.Numbers.{six_counts}
 use borrow.Author.Rules.{rules}
 use Rattle.numbers.proofs.give_evaluation.Goals as goal
 
--- a profile has six counts
-six : (c : goal.Start) → length c.args.evaluation.profile.counts ≡ 6
-six c = length_unmapped ℕ c.args.evaluation.profile.counts 6 (search rules)
-
 pub returns : goal.returns
 returns c =
     let e = c.args.evaluation in
-    (
+    let six : length e.profile.counts ≡ 6 = length_unmapped ℕ e.profile.counts 6 (search rules) in (
       refl,
       rw (
         c.count.ensures,
@@ -24,5 +20,5 @@ returns c =
         c.count-5.ensures,
         c.count-6.ensures,
       )
-          (six_counts e.profile.counts (e.pairs ∷ e.word_length ∷ []) (six c.before.before.before.before.before.before.before.before.before)),
+          (six_counts e.profile.counts (e.pairs ∷ e.word_length ∷ []) six),
     )
