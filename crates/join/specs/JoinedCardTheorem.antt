@@ -21,7 +21,7 @@ use Rattle.candidate.specs.Candidates.{is_complete, profile_of}
 use Rattle.candidate.specs.Evaluating.{evaluating}
 use Rattle.product.specs.Best.{best}
 use Rattle.product.specs.Sets.{are64_bits, best_of_sets}
-use Rattle.product.specs.Searches.{of_word, of_sets}
+use Rattle.product.proofs.Searches.{of_word, of_sets}
 use Rattle.product.specs.Nodes.{state_count_of, state_counts, product}
 use Rattle.product.specs.Laws.Accepted.{part_states}
 use Rattle.join.specs.Merged.{merged_counts}

@@ -16,7 +16,8 @@ use Rattle.product.specs.Answering.{before_search}
 use Rattle.product.specs.Optimizing.{sound_word, input_refusal}
 use Rattle.product.specs.OptimizingSets.{sets_refusal, sets_input_refusal}
 use Rattle.product.specs.BestCandidate.{IsBestBy, Beats, IsBestCandidate, IsBestOfSets}
-use Rattle.product.specs.Searches.{Searches, of_word, of_sets}
+use Rattle.product.specs.Searches.{Searches}
+use Rattle.product.proofs.Searches.{of_word, of_sets}
 use Rattle.product.specs.Laws.Accepted.{accepted_machines}
 use Rattle.input.specs.AcceptedInput.{Passes, passes, passes_all, accepted_input, accepted_sets_input, accepted_bits}
 use Rattle.optimizer.specs.Optimizes.{Optimizes, OptimizesSets}

@@ -9,7 +9,8 @@ use Rattle.product.specs.Prices.{ranking_agrees}
 use Rattle.product.specs.Answering.{answered, answered_slice}
 use Rattle.product.specs.Optimizing.{input_refusal}
 use Rattle.product.specs.OptimizingSets.{sets_input_refusal}
-use Rattle.product.specs.CountsFit.{SmallBest, best_in_is_small, best_of_sets_is_small}
+use Rattle.product.specs.CountsFit.{SmallBest}
+use Rattle.product.proofs.CountsFit.{best_in_is_small, best_of_sets_is_small}
 use Rattle.input.specs.AcceptedInput.{accepted_input, short_word, accepted_sets_input}
 use Rattle.optimizer.specs.SmallAnswers.{small_answer}
 use Rattle.optimizer.specs.Optimizes.{Answers}

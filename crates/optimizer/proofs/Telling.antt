@@ -8,7 +8,7 @@ use Rattle.card.specs.Accepted.{accepted}
 use Rattle.candidate.specs.Candidates.{is_some}
 use Rattle.product.specs.Best.{best}
 use Rattle.product.specs.Sets.{singletons, best_of_sets}
-use Rattle.product.specs.SetsTheorem.{best_of_one_word}
+use Rattle.product.proofs.SetsTheorem.{best_of_one_word}
 use Rattle.paths.specs.Ranked.{Ranked}
 use Rattle.paths.specs.Labels.{Closed, Attained}
 use Rattle.tables.specs.Work.{label_of, cost_at}

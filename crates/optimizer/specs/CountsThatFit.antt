@@ -13,7 +13,8 @@ use Rattle.product.specs.Prices.{Price, Agrees, ranking_agrees}
 use Rattle.product.specs.Optimizing.{input_refusal}
 use Rattle.product.specs.OptimizingSets.{sets_input_refusal}
 use Rattle.product.specs.BestCandidate.{IsBestBy, BeatsOn, IsUnbeatenIn, IsBestCandidate, IsBestOfSets}
-use Rattle.product.specs.CountsFit.{CountsFit, unbeaten_fit, unbeaten_of_sets_fit}
+use Rattle.product.specs.CountsFit.{CountsFit}
+use Rattle.product.proofs.CountsFit.{unbeaten_fit, unbeaten_of_sets_fit}
 use Rattle.product.specs.Laws.BestCandidate.{beats_harmonic, best_by, best_unbeaten}
 use Rattle.input.specs.AcceptedInput.{accepted_input, short_word, accepted_sets_input}
 use Rattle.optimizer.specs.SmallAnswers.{SmallAnswer}

@@ -9,8 +9,8 @@ use Rattle.product.specs.Sets.{fits_sets, IsCandidateOf}
 use Rattle.product.specs.Optimizing.{input_refusal}
 use Rattle.product.specs.OptimizingSets.{sets_input_refusal}
 use Rattle.product.specs.BestCandidate.{IsBestCandidate, IsBestOfSets}
-use Rattle.product.specs.BestTheorem.{best_is_best_of_all}
-use Rattle.product.specs.SetsTheorem.{best_is_best_of_all_words}
+use Rattle.product.proofs.BestTheorem.{best_is_best_of_all}
+use Rattle.product.proofs.SetsTheorem.{best_is_best_of_all_words}
 use Rattle.input.specs.AcceptedInput.{accepted_input, accepted_sets_input, accepted_bits}
 use Rattle.optimizer.specs.Optimizes.{Optimizes, OptimizesSets}
 use Rattle.optimizer.specs.Demands.{Demands, demanded}

@@ -8,9 +8,7 @@ use Rattle.candidate.specs.Candidates.{profile_of}
 use Rattle.paths.specs.Pigeonhole.{Distinct}
 use Rattle.product.specs.Nodes.{node_count}
 use Rattle.product.specs.Best.{Contender}
-use Rattle.product.specs.ProductGraph.{pairs}
 use Rattle.product.specs.PassedNodes.{nodes_of}
-use Rattle.product.specs.Laws.PassedNodes.{passes_each}
 
 -- a candidate for n symbols passes no node twice, so it has fewer pairs than there are nodes, at most 3,199, and no count above 48,000, which is 15 a pair
 -- and 15 for ending

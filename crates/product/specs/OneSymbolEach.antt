@@ -8,7 +8,7 @@ use Rattle.card.specs.Layout.{machine_count, symbol_count}
 use Rattle.card.specs.Card.{card_refusal}
 use Rattle.product.specs.Best.{Contender}
 use Rattle.product.specs.Sets.{singletons}
-use Rattle.product.specs.Answering.{evaluation_of, answered}
+use Rattle.product.specs.Answering.{evaluation_of}
 use Rattle.product.specs.Laws.Sets.{as_many}
 
 -- a symbol is 0 or over S, and the checks before the symbol test pass: those of the card and the ranking, and the length limit

@@ -17,8 +17,8 @@ use Rattle.product.specs.Best.{Contender, harmonic}
 use Rattle.product.specs.Sets.{are64_bits, best_of_sets_in, best_of_sets}
 use Rattle.product.specs.Prices.{ranking_agrees}
 use Rattle.product.specs.ProductGraph.{card_start}
-use Rattle.product.specs.SetsTheorem.{same_order}
-use Rattle.product.specs.LabelTheorem.{no_label_no_best, label_best}
+use Rattle.product.proofs.SetsTheorem.{same_order}
+use Rattle.product.proofs.LabelTheorem.{no_label_no_best, label_best}
 use Rattle.product.specs.Laws.Accepted.{accepted_machines}
 use Rattle.product.specs.Laws.BestCandidate.{profile_length}
 use Rattle.tables.specs.Engine.{engine_graph}

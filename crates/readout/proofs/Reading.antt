@@ -16,7 +16,7 @@ use Rattle.paths.specs.Labels.{Closed, Attained}
 use Rattle.tables.specs.Work.{HasNode, label_of, cost_at}
 use Rattle.product.specs.ProductGraph.{card_start}
 use Rattle.product.specs.Prices.{ranking_agrees}
-use Rattle.product.specs.CountsFit.{best_of_sets_is_small}
+use Rattle.product.proofs.CountsFit.{best_of_sets_is_small}
 use Rattle.product.specs.Laws.CardGraph.{start_within}
 use Rattle.tables.specs.Engine.{engine_graph}
 use Rattle.tables.specs.Places.{six_places}

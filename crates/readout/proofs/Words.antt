@@ -7,7 +7,7 @@ use Rattle.candidate.specs.Evaluating.{refused}
 use Rattle.product.specs.Best.{Contender, best}
 use Rattle.product.specs.Sets.{singletons, best_of_sets}
 use Rattle.product.specs.Answering.{call_refusal, answered}
-use Rattle.product.specs.SetsTheorem.{best_of_one_word}
+use Rattle.product.proofs.SetsTheorem.{best_of_one_word}
 use Rattle.product.specs.OneSymbolEach.{evaluated_alike}
 use Rattle.product.specs.Laws.Words.{accepted_word}
 use Rattle.product.specs.Laws.Sets.{as_many}

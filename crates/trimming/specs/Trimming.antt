@@ -16,7 +16,8 @@ use Rattle.product.specs.Prices.{Price, Agrees, ranking_agrees}
 use Rattle.product.specs.Answering.{before_search}
 use Rattle.product.specs.Optimizing.{sound_word, input_refusal}
 use Rattle.product.specs.OptimizingSets.{sets_refusal, sets_input_refusal}
-use Rattle.product.specs.Searches.{Searches, of_word, of_sets}
+use Rattle.product.specs.Searches.{Searches}
+use Rattle.product.proofs.Searches.{of_word, of_sets}
 use Rattle.input.specs.AcceptedInput.{Passes, passes, passes_all, accepted_input, AcceptedSetsInput, accepted_sets_input, accepted_bits}
 use Rattle.optimizer.specs.Optimizes.{Answers, Optimizes, OptimizesSets}
 use Rattle.optimizer.specs.Demands.{answered_accepts}

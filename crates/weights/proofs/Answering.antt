@@ -4,7 +4,7 @@ use Rattle.card.specs.Layout.{symbol_count}
 use Rattle.product.specs.Best.{Contender}
 use Rattle.product.specs.Sets.{singletons, best_of_sets_in}
 use Rattle.product.specs.CountsFit.{SmallBest}
-use Rattle.product.specs.SetsTheorem.{best_in_of_one_word}
+use Rattle.product.proofs.SetsTheorem.{best_in_of_one_word}
 use Rattle.product.specs.Laws.Words.{accepted_word}
 use Rattle.product.specs.Laws.Sets.{as_many}
 use Rattle.product.specs.Laws.BestOfSets.{singletons_64}

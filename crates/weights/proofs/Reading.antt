@@ -17,8 +17,9 @@ use Rattle.product.specs.Sets.{best_of_sets_in}
 use Rattle.product.specs.Setting.{position_of, Setting}
 use Rattle.product.specs.Answering.{call_refusal, evaluation_of}
 use Rattle.product.specs.ProductGraph.{card_start}
-use Rattle.product.specs.LabelTheorem.{BestAt, no_label_no_best, label_best}
-use Rattle.product.specs.SetsTheorem.{best_path_is_best_of_sets}
+use Rattle.product.specs.LabelTheorem.{BestAt}
+use Rattle.product.proofs.LabelTheorem.{no_label_no_best, label_best}
+use Rattle.product.proofs.SetsTheorem.{best_path_is_best_of_sets}
 use Rattle.product.specs.Laws.Accepted.{accepted_machines}
 use Rattle.product.specs.Laws.BestCandidate.{path_best_of_sets}
 use Rattle.product.specs.Laws.Candidates.{fitting_cost}

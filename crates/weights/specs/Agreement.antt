@@ -7,7 +7,7 @@ use Rattle.card.specs.Layout.{machine_count}
 use Rattle.card.specs.Card.{card_refusal}
 use Rattle.product.specs.Best.{Contender, best}
 use Rattle.product.specs.Prices.{ranking_agrees}
-use Rattle.product.specs.BestTheorem.{same_best}
+use Rattle.product.proofs.BestTheorem.{same_best}
 use Rattle.product.specs.Weights.{best_by_weights}
 use Rattle.product.specs.Dominance.{Outweighs}
 use Rattle.product.specs.DominanceTheorem.{dominance}

@@ -10,7 +10,7 @@ use Rattle.candidate.specs.declared.Evaluation.{Evaluation}
 use Rattle.candidate.specs.Candidates.{bytes_of, profile_of}
 use Rattle.candidate.specs.Evaluating.{profile_with}
 use Rattle.product.specs.Best.{Contender, contender_of, best}
-use Rattle.product.specs.BestTheorem.{best_is_best_of_all}
+use Rattle.product.proofs.BestTheorem.{best_is_best_of_all}
 use Rattle.product.specs.BestCandidate.{IsBestCandidate}
 use Rattle.product.specs.Laws.Preference.{length_bytes}
 use Rattle.input.specs.AcceptedInput.{AcceptedInput, accepted_input}

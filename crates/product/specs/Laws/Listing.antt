@@ -6,7 +6,6 @@ use Rattle.std.proofs.Common.{leb-true}
 use Rattle.machine.specs.declared.Pair.{Pair}
 use Rattle.machine.specs.Symbols.{is_pair, within_symbols}
 use Rattle.product.specs.Best.{pairs_over, lists_below}
-use Rattle.product.specs.ProductGraph.{pairs}
 
 -- the elements of a mapped list
 module _ {A B : Type 0} (f : A → B) where
