@@ -1,5 +1,6 @@
 -- What the verdict means, in the words of the request: for every card, ranking, word, work slice and tableau of which nothing is refused. Assumes nothing.
-use Rattle.basics.proofs.Words.{◌≡◌, refl, sym, ◌∙◌, ap, subst, Bool, true, false, List, [], ◌∷◌, Option, some, none, ◌⊎◌, inl, inr, ◌↔◌, ◌≢◌, ℕ, zero, suc, ◌<◌, arith, length, clash, every_at}
+use Rattle.std.specs.Prelude.{◌≡◌, ◌∷◌, ◌⊎◌, ◌↔◌, ◌≢◌, ◌<◌}
+use Rattle.basics.proofs.Words.{refl, sym, ◌∙◌, ap, subst, Bool, true, false, List, [], Option, some, none, inl, inr, ℕ, zero, suc, arith, length, clash, every_at}
 use Rattle.refusals.specs.Refusals.{refuse, first_of, unless_refused}
 use Rattle.refusals.proofs.Refusals.{accepted}
 use Rattle.card.specs.Layout.{machine_count}

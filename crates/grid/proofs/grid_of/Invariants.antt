@@ -1,4 +1,5 @@
-use Rattle.basics.proofs.Words.{◌≡◌, refl, sym, ap, ◌∙◌, List, ℕ, ◌+◌, ◌*◌, ◌-◌, ◌≤◌, ◌<◌, arith, length, get_or, take, drop, length-set, take_all, mul-le-mul, add-one}
+use Rattle.std.specs.Prelude.{◌≡◌, ◌+◌, ◌*◌, ◌-◌, ◌≤◌, ◌<◌}
+use Rattle.basics.proofs.Words.{refl, sym, ap, ◌∙◌, List, ℕ, arith, length, get_or, take, drop, length-set, take_all, mul-le-mul, add-one}
 use Rattle.machine.specs.Part.{state_count}
 use Rattle.machine.specs.Accepted.{accepted as part_accepted}
 use Rattle.card.specs.Layout.{machine_count, symbol_count, part_of}

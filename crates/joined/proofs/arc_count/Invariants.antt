@@ -1,4 +1,5 @@
-use Rattle.basics.proofs.Words.{◌≡◌, ap, ◌+◌, ◌*◌, ◌-◌, ◌≤◌, arith, length, drop, rules}
+use Rattle.std.specs.Prelude.{◌≡◌, ◌+◌, ◌*◌, ◌-◌, ◌≤◌}
+use Rattle.basics.proofs.Words.{ap, arith, length, drop, rules}
 use Rattle.machine.specs.declared.Arc.{Arc}
 use Rattle.machine.specs.Part.{state_count, arcs_of}
 use Rattle.joined.specs.JoinedMachine.{arcs_with, joined_arcs}

@@ -1,4 +1,5 @@
-use Rattle.basics.proofs.Words.{◌≡◌, refl, ap, ◌∙◌, ◌-◌, ◌≤◌, arith, drop, eqb, all_of, rules, eq-eqb, ne_eqb}
+use Rattle.std.specs.Prelude.{◌≡◌, ◌-◌, ◌≤◌}
+use Rattle.basics.proofs.Words.{refl, ap, ◌∙◌, arith, drop, eqb, all_of, rules, eq-eqb, ne_eqb}
 use Rattle.machine.specs.declared.Arc.{Arc}
 use Rattle.machine.specs.Part.{arc_count, arcs_of}
 use Rattle.joined.proofs.Rest.{all_go_on, all_stop, all_end}

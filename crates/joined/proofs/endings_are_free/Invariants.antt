@@ -1,4 +1,5 @@
-use Rattle.basics.proofs.Words.{◌≡◌, refl, sym, ap, ◌∙◌, ℕ, ◌-◌, ◌≤◌, arith, drop, all_of, rules}
+use Rattle.std.specs.Prelude.{◌≡◌, ◌-◌, ◌≤◌}
+use Rattle.basics.proofs.Words.{refl, sym, ap, ◌∙◌, ℕ, arith, drop, all_of, rules}
 use Rattle.machine.specs.Part.{state_count, state_bytes, ending_byte}
 use Rattle.joined.specs.JoinedMachine.{ends_free}
 use Rattle.joined.proofs.Rest.{all_go_on, all_stop, all_end}

@@ -1,4 +1,5 @@
-use Rattle.basics.proofs.Words.{◌≡◌, sym, ap, ◌∙◌, ⊎_elim, ◌+◌, ◌-◌, ◌≤◌, arith, length, drop, rules}
+use Rattle.std.specs.Prelude.{◌≡◌, ◌+◌, ◌-◌, ◌≤◌}
+use Rattle.basics.proofs.Words.{sym, ap, ◌∙◌, ⊎_elim, arith, length, drop, rules}
 use Rattle.machine.specs.Machine.{take_one_pair}
 use Rattle.machine.specs.Part.{state_count, arcs_of}
 use Rattle.joined.specs.JoinedMachine.{arcs_with}

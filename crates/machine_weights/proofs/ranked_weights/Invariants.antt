@@ -1,4 +1,5 @@
-use Rattle.basics.proofs.Words.{◌≡◌, refl, ◌∙◌, ap, List, ℕ, ◌*◌, ◌-◌, ◌≤◌, arith, length, rules}
+use Rattle.std.specs.Prelude.{◌≡◌, ◌*◌, ◌-◌, ◌≤◌}
+use Rattle.basics.proofs.Words.{refl, ◌∙◌, ap, List, ℕ, arith, length, rules}
 use Rattle.tables.specs.Places.{six_places}
 use Rattle.settling.specs.Prices.{ranked_highs, ranked_lows}
 use Rattle.insertions.specs.RankedWeights.{weight_by}

@@ -1,4 +1,5 @@
-use Rattle.basics.proofs.Words.{⊎_elim, ◌-◌, arith, rules}
+use Rattle.std.specs.Prelude.{◌-◌}
+use Rattle.basics.proofs.Words.{arith, rules}
 use Rattle.machine_weights.proofs.Weighing.{SumTo, sum_start, sum_taken, sum_passed, sum_end}
 use Rattle.machine_weights.proofs.weight.Given as goal
 

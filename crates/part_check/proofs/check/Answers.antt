@@ -1,4 +1,5 @@
-use Rattle.basics.proofs.Words.{◌≡◌, ◌∙◌, sym, List, [], ◌∷◌, ℕ, lit<}
+use Rattle.std.specs.Prelude.{◌≡◌, ◌∷◌}
+use Rattle.basics.proofs.Words.{◌∙◌, sym, List, [], ℕ, lit<}
 use Rattle.refusals.specs.declared.Checked.{Checked}
 use Rattle.refusals.specs.declared.Checked.TheVariants.{Passed}
 use Rattle.refusals.specs.Refusals.{refuse, first_of, checked_number}

@@ -1,4 +1,5 @@
-use Rattle.basics.proofs.Words.{◌≡◌, ◌≤◌, ◌+◌, ◌*◌, length, all_of}
+use Rattle.std.specs.Prelude.{◌≡◌, ◌≤◌, ◌+◌, ◌*◌}
+use Rattle.basics.proofs.Words.{length, all_of}
 use Rattle.machine.specs.Part.{arcs_at, sound_arc, sound_arcs}
 use Rattle.part_check.proofs.check_arcs.Given as goal
 

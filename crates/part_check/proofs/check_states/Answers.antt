@@ -1,4 +1,5 @@
-use Rattle.basics.proofs.Words.{◌≡◌, ap, sym, ◌∙◌, [], ◌+◌, arith, leb, slice, slice_empty, rules, lt-leb, le-leb, all_next, all_fails, all_none}
+use Rattle.std.specs.Prelude.{◌≡◌, ◌+◌}
+use Rattle.basics.proofs.Words.{ap, sym, ◌∙◌, [], arith, leb, slice, slice_empty, rules, lt-leb, le-leb, all_next, all_fails, all_none}
 use Rattle.refusals.specs.Refusals.{refuse}
 use Rattle.machine.specs.Accepted.{shape_facts}
 use Rattle.machine.specs.Laws.States.{bytes_cons}

@@ -1,4 +1,5 @@
-use Rattle.basics.proofs.Words.{◌≡◌, ◌≤◌, length, leb, slice, all_of}
+use Rattle.std.specs.Prelude.{◌≡◌, ◌≤◌}
+use Rattle.basics.proofs.Words.{length, leb, slice, all_of}
 use Rattle.machine.specs.Part.{sound_states}
 use Rattle.part_check.proofs.check_states.Given as goal
 

@@ -1,4 +1,5 @@
-use Rattle.basics.specs.Words.{refl, sym, ◌∙◌, ap, List, ℕ, ◌-◌, ◌<◌, arith, length, get_or}
+use Rattle.std.specs.Prelude.{◌-◌, ◌<◌}
+use Rattle.basics.specs.Words.{refl, sym, ◌∙◌, ap, List, ℕ, arith, length, get_or}
 use Rattle.machine.specs.Machine.{Machine, no_machine, ending_of}
 use Rattle.machine.specs.Part.{machine_of}
 use Rattle.machine.specs.Accepted.{accepted as part_accepted}

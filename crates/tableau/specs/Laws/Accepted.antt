@@ -1,5 +1,6 @@
 -- What input and tableau promise where nothing is refused. Assumes nothing.
-use Rattle.basics.proofs.Words.{◌≡◌, refl, ◌∙◌, true, ◌&&◌, List, [], ◌∷◌, Option, some, none, ◌↔◌, ℕ, ◌*◌, ◌%◌, ◌<◌, arith, length, eqb, leb, lit<, all_of, left, right, every_at}
+use Rattle.std.specs.Prelude.{◌≡◌, ◌&&◌, ◌∷◌, ◌↔◌, ◌*◌, ◌%◌, ◌<◌}
+use Rattle.basics.proofs.Words.{refl, ◌∙◌, true, List, [], Option, some, none, ℕ, arith, length, eqb, leb, lit<, all_of, left, right, every_at}
 use Rattle.refusals.specs.Refusals.{refuse}
 use Rattle.refusals.proofs.Refusals.{passed, none_first}
 use Rattle.machine.specs.declared.Pair.{Pair}

@@ -1,4 +1,5 @@
-use Rattle.basics.proofs.Words.{◌≡◌, sym, ap, subst, ◌∙◌, List, [], ◌∷◌, ℕ, ◌+◌, ◌-◌, ◌≤◌, arith, length, get_or, set, length-map, joined, rules}
+use Rattle.std.specs.Prelude.{◌≡◌, ◌∷◌, ◌+◌, ◌-◌, ◌≤◌}
+use Rattle.basics.proofs.Words.{sym, ap, subst, ◌∙◌, List, [], ℕ, arith, length, get_or, set, length-map, joined, rules}
 use Rattle.machine.specs.Part.{state_count, state_bytes}
 use Rattle.joined.specs.Writing.{placed, joined_byte}
 use Rattle.joined.specs.Laws.Placed.{placed_one}

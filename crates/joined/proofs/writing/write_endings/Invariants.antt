@@ -1,4 +1,5 @@
-use Rattle.basics.proofs.Words.{◌≡◌, ap, ◌∙◌, List, map, ℕ, ◌+◌, ◌-◌, ◌≤◌, arith, length, get_or, length-map, rules}
+use Rattle.std.specs.Prelude.{◌≡◌, ◌+◌, ◌-◌, ◌≤◌}
+use Rattle.basics.proofs.Words.{ap, ◌∙◌, List, map, ℕ, arith, length, get_or, length-map, rules}
 use Rattle.machine.specs.Part.{state_count, state_bytes}
 use Rattle.joined.specs.JoinedMachine.{crossed}
 use Rattle.joined.specs.Writing.{placed, joined_byte}

@@ -1,4 +1,5 @@
-use Rattle.basics.proofs.Words.{◌≡◌, sym, ap, ◌∙◌, List, ℕ, ◌+◌, ◌-◌, ◌≤◌, arith, length, get_or, rules}
+use Rattle.std.specs.Prelude.{◌≡◌, ◌+◌, ◌-◌, ◌≤◌}
+use Rattle.basics.proofs.Words.{sym, ap, ◌∙◌, List, ℕ, arith, length, get_or, rules}
 use Rattle.machine.specs.Part.{arcs_of}
 use Rattle.joined.specs.Writing.{placed, row_bytes, rows_bytes}
 use Rattle.joined.proofs.Rest.{Rest, rest_start, rest_room, rest_next, rest_end}

@@ -1,4 +1,5 @@
-use Rattle.basics.proofs.Words.{◌≡◌, true, ◌≤◌, ◌-◌, pairwise, every_below}
+use Rattle.std.specs.Prelude.{◌≡◌, ◌≤◌, ◌-◌}
+use Rattle.basics.proofs.Words.{true, pairwise, every_below}
 use Rattle.machine.specs.Part.{arcs_of}
 use Rattle.part_check.specs.Clashes.{clash_free_from}
 use Rattle.part_check.proofs.clashes.check_clashes.Given as goal

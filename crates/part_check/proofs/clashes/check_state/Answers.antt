@@ -1,4 +1,5 @@
-use Rattle.basics.proofs.Words.{ap, sym, ◌+◌, ◌*◌, ◌-◌, arith}
+use Rattle.std.specs.Prelude.{◌+◌, ◌*◌, ◌-◌}
+use Rattle.basics.proofs.Words.{ap, sym, arith}
 use Rattle.refusals.specs.Refusals.{refuse}
 use Rattle.machine.specs.Accepted.{shape_facts}
 use Rattle.part_check.proofs.Clashing.{state_start, state_next, state_stop}

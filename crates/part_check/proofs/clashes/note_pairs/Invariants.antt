@@ -1,4 +1,5 @@
-use Rattle.basics.proofs.Words.{◌≡◌, length}
+use Rattle.std.specs.Prelude.{◌≡◌}
+use Rattle.basics.proofs.Words.{length}
 use Rattle.part_check.proofs.Clashing.{PairsPassed}
 use Rattle.part_check.proofs.clashes.note_pairs.Given as goal
 
