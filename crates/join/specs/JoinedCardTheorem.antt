@@ -1,6 +1,7 @@
 -- The card with two of its machines joined is accepted; its machines are the old ones with the two joined; and so candidates, profiles and the
 -- best candidate are what the change promises. Assumes nothing.
-use Rattle.basics.proofs.Words.{◌≡◌, refl, sym, ap, ap₂, subst, ◌∙◌, true, List, [], ◌∷◌, ◌++◌, map, ◌⊎◌, inl, inr, ℕ, zero, suc, ◌<◌, ◌≤◌, arith, length, get_or, take, drop, length-map, leb, lit<, take_at, all_of, both, left, right, all_at, map_at}
+use Rattle.std.specs.Prelude.{◌≡◌, ◌∷◌, ◌++◌, ◌⊎◌, ◌<◌, ◌≤◌}
+use Rattle.basics.proofs.Words.{refl, sym, ap, ap₂, subst, ◌∙◌, true, List, [], map, inl, inr, ℕ, zero, suc, arith, length, get_or, take, drop, length-map, leb, lit<, take_at, all_of, both, left, right, all_at, map_at}
 use Rattle.std.proofs.Common.{eqb-true, leb-true, eq-eqb}
 use Rattle.refusals.specs.Refusals.{refuse, first_of}
 use Rattle.refusals.proofs.Refusals.{passed, none_first, last_one}

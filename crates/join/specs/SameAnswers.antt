@@ -1,6 +1,7 @@
 -- Both engines answer alike on a card and on the one with two of its machines joined, one of them without marks. It is said of the calls' contracts,
 -- `Optimizes` for a word and `OptimizesSets` for sets, which both engines have: either call may be either engine's. Assumes nothing.
-use Rattle.basics.specs.Words.{◌≡◌, sym, ap, subst, ◌∙◌, true, List, Option, some, ◌↔◌, ℕ, ◌*◌, arith, length, lit<, ℕ_discrete}
+use Rattle.std.specs.Prelude.{◌≡◌, ◌↔◌, ◌*◌}
+use Rattle.basics.specs.Words.{sym, ap, subst, ◌∙◌, true, List, Option, some, ℕ, arith, length, lit<, ℕ_discrete}
 use Rattle.refusals.specs.Refusals.{refuse}
 use Rattle.refusals.proofs.Refusals.{passed, passes_with}
 use Rattle.machine.specs.declared.Pair.{Pair}

@@ -1,5 +1,6 @@
 -- What the calls answer, by the checks that the input passes and by the best candidate: for every order, a word or sets. Assumes nothing.
-use Rattle.basics.specs.Words.{◌≡◌, refl, ◌∙◌, ap, List, [], ◌∷◌, ◌++◌, Option, some, ◌≢◌, ℕ, zero, suc, ◌<◌, ◌≤◌, arith, length, take, drop, length-append, length-drop}
+use Rattle.std.specs.Prelude.{◌≡◌, ◌∷◌, ◌++◌, ◌≢◌, ◌<◌, ◌≤◌}
+use Rattle.basics.specs.Words.{refl, ◌∙◌, ap, List, [], Option, some, ℕ, zero, suc, arith, length, take, drop, length-append, length-drop}
 use Rattle.card.specs.Layout.{symbol_count}
 use Rattle.candidate.specs.declared.Evaluation.{Evaluation}
 use Rattle.candidate.specs.Evaluating.{refused}

@@ -1,5 +1,6 @@
 -- What the label of the start tells of the best candidate's profile. Assumes nothing.
-use Rattle.basics.specs.Words.{◌≡◌, refl, sym, ◌∙◌, ap, true, false≢true, List, Option, some, none, ℕ, arith, length}
+use Rattle.std.specs.Prelude.{◌≡◌}
+use Rattle.basics.specs.Words.{refl, sym, ◌∙◌, ap, true, false≢true, List, Option, some, none, ℕ, arith, length}
 use Rattle.ranking.specs.declared.Profile.{Profile}
 use Rattle.ranking.specs.Lemmas.Rankings.{ranking_facts}
 use Rattle.card.specs.Layout.{machine_count}

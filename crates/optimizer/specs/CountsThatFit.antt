@@ -1,5 +1,6 @@
 -- S-8, of what the calls under a ranking answer: how far the counts go. It is said of the same contract as demand 3, for the same input.
-use Rattle.basics.specs.Words.{◌≡◌, List, Option, ℕ, length}
+use Rattle.std.specs.Prelude.{◌≡◌}
+use Rattle.basics.specs.Words.{List, Option, ℕ, length}
 use Rattle.machine.specs.declared.Pair.{Pair}
 use Rattle.machine.specs.Machine.{Machine}
 use Rattle.card.specs.Layout.{symbol_count}

@@ -1,6 +1,7 @@
 -- Demand 3, of what the calls under a ranking answer: for every card, ranking, word or list of sets, and work slice that the checks before the search
 -- accept, and every answer slice. With sets the rivals are all lists of pairs, however long, that spell one of the words with one symbol from each set.
-use Rattle.basics.specs.Words.{◌≡◌, true, List, ◌↔◌, ℕ, length}
+use Rattle.std.specs.Prelude.{◌≡◌, ◌↔◌}
+use Rattle.basics.specs.Words.{true, List, ℕ, length}
 use Rattle.machine.specs.declared.Pair.{Pair}
 use Rattle.card.specs.Card.{machines_of}
 use Rattle.candidate.specs.declared.Evaluation.{Evaluation}

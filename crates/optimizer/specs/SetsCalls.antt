@@ -1,5 +1,6 @@
 -- Theorem on the calls for words heard only in part, of their contract, which every engine has.
-use Rattle.basics.specs.Words.{◌≡◌, sym, ◌∙◌, ap, true, false, List, ℕ, length}
+use Rattle.std.specs.Prelude.{◌≡◌}
+use Rattle.basics.specs.Words.{sym, ◌∙◌, ap, true, false, List, ℕ, length}
 use Rattle.candidate.specs.declared.Evaluation.{Evaluation}
 use Rattle.candidate.specs.Evaluating.{refused}
 use Rattle.product.specs.Sets.{singletons}

@@ -1,5 +1,6 @@
 -- What a label of the start says of the best candidate. Assumes nothing.
-use Rattle.basics.specs.Words.{◌≡◌, sym, ◌∙◌, ap, true, List, some, none, ℕ, ◌≤◌, arith, length}
+use Rattle.std.specs.Prelude.{◌≡◌, ◌≤◌}
+use Rattle.basics.specs.Words.{sym, ◌∙◌, ap, true, List, some, none, ℕ, arith, length}
 use Rattle.machine.specs.declared.Pair.{Pair}
 use Rattle.ranking.specs.Rankings.{is_ranking}
 use Rattle.ranking.specs.Lemmas.Rankings.{ranking_facts}

@@ -1,5 +1,6 @@
 -- The search: what the labels say, and what is answered. Assumes nothing.
-use Rattle.basics.specs.Words.{◌≡◌, refl, sym, ◌∙◌, ap, List, ◌++◌, Option, some, none, ℕ, ◌+◌, ◌*◌, ◌<◌, ◌≤◌, arith, length, drop, leb}
+use Rattle.std.specs.Prelude.{◌≡◌, ◌++◌, ◌+◌, ◌*◌, ◌<◌, ◌≤◌}
+use Rattle.basics.specs.Words.{refl, sym, ◌∙◌, ap, List, Option, some, none, ℕ, arith, length, drop, leb}
 use Rattle.refusals.specs.Refusals.{refuse}
 use Rattle.refusals.proofs.Refusals.{last_one}
 use Rattle.machine.specs.declared.Pair.{Pair}

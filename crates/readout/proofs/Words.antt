@@ -1,5 +1,6 @@
 -- What the search for a word's sets of one symbol each says of the word. Assumes nothing.
-use Rattle.basics.specs.Words.{◌≡◌, ◌∙◌, ap, true, List, Option, ℕ, ◌≤◌, arith, length, ltb, all_of}
+use Rattle.std.specs.Prelude.{◌≡◌, ◌≤◌}
+use Rattle.basics.specs.Words.{◌∙◌, ap, true, List, Option, ℕ, arith, length, ltb, all_of}
 use Rattle.refusals.specs.Refusals.{unless_refused}
 use Rattle.card.specs.Layout.{symbol_count}
 use Rattle.candidate.specs.declared.Evaluation.{Evaluation}

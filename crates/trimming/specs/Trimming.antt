@@ -1,6 +1,7 @@
 -- Arcs that the answer does not use, over the calls as they are: both engines have the contracts `Optimizes` and `OptimizesSets`, so each of the two
 -- calls may be either engine's.
-use Rattle.basics.specs.Words.{◌≡◌, sym, ◌∙◌, ap, subst, true, false, List, Option, ℕ, ◌*◌, ◌≤◌, length}
+use Rattle.std.specs.Prelude.{◌≡◌, ◌*◌, ◌≤◌}
+use Rattle.basics.specs.Words.{sym, ◌∙◌, ap, subst, true, false, List, Option, ℕ, length}
 use Rattle.refusals.specs.Refusals.{refuse}
 use Rattle.machine.specs.declared.Pair.{Pair}
 use Rattle.machine.specs.Machine.{Machine}

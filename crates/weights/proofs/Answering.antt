@@ -1,5 +1,6 @@
 -- The search for a word by its sets, and what the call answers. Assumes nothing.
-use Rattle.basics.specs.Words.{◌≡◌, ◌∙◌, ap, true, List, some, ℕ, zero, suc, ◌<◌, ◌≤◌, arith, length, ltb, all_of}
+use Rattle.std.specs.Prelude.{◌≡◌, ◌<◌, ◌≤◌}
+use Rattle.basics.specs.Words.{◌∙◌, ap, true, List, some, ℕ, zero, suc, arith, length, ltb, all_of}
 use Rattle.card.specs.Layout.{symbol_count}
 use Rattle.product.specs.Best.{Contender}
 use Rattle.product.specs.Sets.{singletons, best_of_sets_in}

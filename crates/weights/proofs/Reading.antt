@@ -1,5 +1,6 @@
 -- Reading the answer off the labels. Assumes nothing.
-use Rattle.basics.proofs.Words.{◌≡◌, refl, sym, ◌∙◌, ap, subst, Bool, List, [], ◌∷◌, Option, some, ℕ, ◌+◌, ◌*◌, ◌/◌, ◌%◌, ◌<◌, ◌≤◌, arith, length, get_or, leb, ltb, dec_lt, lt-ltb, le-ltb, leb-true, ltb-true}
+use Rattle.std.specs.Prelude.{◌≡◌, ◌∷◌, ◌+◌, ◌*◌, ◌/◌, ◌%◌, ◌<◌, ◌≤◌}
+use Rattle.basics.proofs.Words.{refl, sym, ◌∙◌, ap, subst, Bool, List, [], Option, some, ℕ, arith, length, get_or, leb, ltb, dec_lt, lt-ltb, le-ltb, leb-true, ltb-true}
 use Rattle.refusals.specs.Refusals.{refuse, first_of, unless_refused}
 use Rattle.refusals.proofs.Refusals.{accepted as taken, not_accepted, passed, none_first}
 use Rattle.machine.specs.declared.Pair.{Pair}

@@ -1,5 +1,6 @@
 -- S-8, of what the call with weights answers, for the same input as demand 3.
-use Rattle.basics.specs.Words.{◌≡◌, List, ℕ, length}
+use Rattle.std.specs.Prelude.{◌≡◌}
+use Rattle.basics.specs.Words.{List, ℕ, length}
 use Rattle.card.specs.Layout.{symbol_count}
 use Rattle.card.specs.Card.{machines_of}
 use Rattle.candidate.specs.Candidates.{IsCandidate}

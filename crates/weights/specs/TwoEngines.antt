@@ -1,7 +1,8 @@
 -- The two engines, of what their calls answer: where both answer for one card and word, all weights are above zero and each is more than c times the
 -- sum of those ranked below it, c being the largest count in the two profiles, they give the same candidate and profile. (That all weights are above
 -- zero follows from the rest.)
-use Rattle.basics.specs.Words.{◌≡◌, refl, sym, ◌∙◌, ap, ap₂, List, [], ◌∷◌, ◌++◌, some, ℕ, zero, suc, ◌*◌, ◌-◌, max, length, take, drop, replicate, take_at}
+use Rattle.std.specs.Prelude.{◌≡◌, ◌∷◌, ◌++◌, ◌*◌, ◌-◌}
+use Rattle.basics.specs.Words.{refl, sym, ◌∙◌, ap, ap₂, List, [], some, ℕ, zero, suc, max, length, take, drop, replicate, take_at}
 use Rattle.machine.specs.declared.Pair.{Pair}
 use Rattle.ranking.specs.declared.Profile.{Profile}
 use Rattle.card.specs.Layout.{machine_count}

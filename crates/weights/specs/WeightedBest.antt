@@ -1,6 +1,7 @@
 -- The theorem on the best candidate, for weights: what the definition finds among the lists of fewer pairs than there are nodes is the best of the
 -- lists of any length. It holds for every accepted card, all weights, zero too, and every word.
-use Rattle.basics.specs.Words.{◌≡◌, true, List, some, ℕ, ◌<◌, ◌≤◌, arith, length}
+use Rattle.std.specs.Prelude.{◌≡◌, ◌<◌, ◌≤◌}
+use Rattle.basics.specs.Words.{true, List, some, ℕ, arith, length}
 use Rattle.std.proofs.Common.{ltb-true, ltb-false, lt-ltb, le-ltb}
 use Rattle.machine.specs.declared.Pair.{Pair}
 use Rattle.machine.specs.Machine.{Machine}
