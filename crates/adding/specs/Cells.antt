@@ -1,5 +1,6 @@
 -- Cells: a machine's step as two numbers that add up, over the machines, to the numbers of the joint step.
-use Rattle.basics.specs.Words.{cond, List, [], ◌∷◌, ℕ, suc, ◌+◌, ◌*◌, ◌/◌, ◌%◌, get_or, eqb, product}
+use Rattle.std.specs.Prelude.{◌∷◌, ◌+◌, ◌*◌, ◌/◌, ◌%◌}
+use Rattle.basics.specs.Words.{cond, List, [], ℕ, suc, get_or, eqb, product}
 
 -- a high number from here on stands for nothing: 2 ^ 60
 abbrev pub nowhere : ℕ

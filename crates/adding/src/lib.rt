@@ -2,7 +2,8 @@
 // step.
 #![tactic(auto)]
 
-ghost use Rattle.basics.specs.Words.{◌≡◌, ℕ, ◌^◌, ◌<◌, ◌≤◌, length, get_or};
+ghost use Rattle.std.specs.Prelude.{◌≡◌, ◌^◌, ◌<◌, ◌≤◌};
+ghost use Rattle.basics.specs.Words.{ℕ, length, get_or};
 ghost use Rattle.adding.specs.Cells.{high_cell, low_cell};
 ghost use Rattle.adding.specs.Adding.{CellsPre, CellsAt, AddCellsPre, CellsAdded, AddStatePre, StateAdded, MachinePre, MachineAdded, MachinesPre, MachinesAdded};
 

@@ -1,5 +1,6 @@
 -- What evaluation answers, by the checks that it passes. Assumes nothing.
-use Rattle.basics.specs.Words.{◌≡◌, true, false, List, ℕ, zero, suc, ◌<◌, arith, length}
+use Rattle.std.specs.Prelude.{◌≡◌, ◌<◌}
+use Rattle.basics.specs.Words.{true, false, List, ℕ, zero, suc, arith, length}
 use Rattle.card.specs.Layout.{symbol_count}
 use Rattle.card.specs.Card.{card_refusal, machines_of}
 use Rattle.candidate.specs.Candidates.{pairs_of, spelled, is_complete, profile_of}

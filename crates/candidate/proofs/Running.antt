@@ -1,5 +1,6 @@
 -- How a machine goes on through a candidate. Assumes nothing.
-use Rattle.basics.specs.Words.{◌≡◌, refl, sym, ap, List, [], ◌∷◌, Option, some, none, ℕ, ◌+◌, add_assoc, zero-add}
+use Rattle.std.specs.Prelude.{◌≡◌, ◌∷◌, ◌+◌}
+use Rattle.basics.specs.Words.{refl, sym, ap, List, [], Option, some, none, ℕ, add_assoc, zero-add}
 use Rattle.machine.specs.declared.Pair.{Pair}
 use Rattle.machine.specs.Machine.{Machine, step_of, ending_of}
 use Rattle.candidate.specs.Candidates.{add_marks, marks_from}

@@ -1,5 +1,6 @@
 -- The machines of an accepted card by their numbers, and a profile by its places. Assumes nothing.
-use Rattle.basics.proofs.Words.{◌≡◌, refl, sym, ap, ◌∙◌, Bool, true, false, List, [], ◌++◌, Option, some, none, ℕ, ◌+◌, ◌-◌, ◌<◌, ◌≤◌, arith, length, get_or, set, replicate, length-set, length-append, length-replicate, length-map, get_or-replicate, List·getD-append, List·getD-eq-default, ext_get_or, get_or-append-add, get_or-set_same, get_or-set_other, dec_lt, ℕ_discrete, all_of, clash, fails, all_at, each_at, map_at}
+use Rattle.std.specs.Prelude.{◌≡◌, ◌++◌, ◌+◌, ◌-◌, ◌<◌, ◌≤◌}
+use Rattle.basics.proofs.Words.{refl, sym, ap, ◌∙◌, Bool, true, false, List, [], Option, some, none, ℕ, arith, length, get_or, set, replicate, length-set, length-append, length-replicate, length-map, get_or-replicate, List·getD-append, List·getD-eq-default, ext_get_or, get_or-append-add, get_or-set_same, get_or-set_other, dec_lt, ℕ_discrete, all_of, clash, fails, all_at, each_at, map_at}
 use Rattle.machine.specs.declared.Pair.{Pair}
 use Rattle.machine.specs.Machine.{Machine}
 use Rattle.machine.specs.Part.{machine_of}

@@ -1,5 +1,6 @@
 -- Cards from before ending marks and kinds mean what they meant in the base. Assumes nothing.
-use Rattle.basics.proofs.Words.{◌≡◌, refl, ap, ap₂, ◌∙◌, Bool, true, ◌&&◌, List, [], ◌∷◌, map, Option, some, none, ℕ, all_of, left, right}
+use Rattle.std.specs.Prelude.{◌≡◌, ◌&&◌, ◌∷◌}
+use Rattle.basics.proofs.Words.{refl, ap, ap₂, ◌∙◌, Bool, true, List, [], map, Option, some, none, ℕ, all_of, left, right}
 use Rattle.machine.specs.declared.Pair.{Pair}
 use Rattle.machine.specs.Machine.{start_state}
 use Rattle.machine.specs.Part.{machine_of}

@@ -1,5 +1,6 @@
 -- Candidates: lists of pairs, what they spell, when they are complete, their profiles.
-use Rattle.basics.specs.Words.{◌≡◌, Bool, true, false, List, [], ◌∷◌, map, Option, some, none, ℕ, ◌+◌, get_or, eqb, all_of}
+use Rattle.std.specs.Prelude.{◌≡◌, ◌∷◌, ◌+◌}
+use Rattle.basics.specs.Words.{Bool, true, false, List, [], map, Option, some, none, ℕ, get_or, eqb, all_of}
 use Rattle.machine.specs.declared.Pair.{Pair}
 use Rattle.machine.specs.Symbols.{empty_symbol, is_pair}
 use Rattle.machine.specs.Machine.{Machine, start_state, step_of, ending_of}

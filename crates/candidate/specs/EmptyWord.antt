@@ -1,6 +1,7 @@
 -- The candidates for the empty word have only insertions, and the candidate of no pairs is one of them exactly if every start state is final.
 -- Assumes nothing.
-use Rattle.basics.proofs.Words.{◌≡◌, refl, sym, ap, ◌∙◌, Bool, true, false, List, [], ◌∷◌, ◌↔◌, ℕ, arith, eqb, all_of, both, left, right, clash}
+use Rattle.std.specs.Prelude.{◌≡◌, ◌∷◌, ◌↔◌}
+use Rattle.basics.proofs.Words.{refl, sym, ap, ◌∙◌, Bool, true, false, List, [], ℕ, arith, eqb, all_of, both, left, right, clash}
 use Rattle.machine.specs.declared.Pair.{Pair}
 use Rattle.machine.specs.Symbols.{empty_symbol}
 use Rattle.machine.specs.Machine.{Machine, start_state, ending_of}

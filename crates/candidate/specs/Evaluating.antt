@@ -1,5 +1,6 @@
 -- Evaluation of a candidate, given as bytes, on a card.
-use Rattle.basics.specs.Words.{Bool, ◌&&◌, List, [], ◌∷◌, ◌++◌, Option, some, none, ℕ, ◌-◌, ◌*◌, ◌%◌, length, replicate, eqb, leb, all_of}
+use Rattle.std.specs.Prelude.{◌&&◌, ◌∷◌, ◌++◌, ◌-◌, ◌*◌, ◌%◌}
+use Rattle.basics.specs.Words.{Bool, List, [], Option, some, none, ℕ, length, replicate, eqb, leb, all_of}
 use Rattle.refusals.specs.Refusals.{refuse, first_of, unless_refused}
 use Rattle.machine.specs.declared.Pair.{Pair}
 use Rattle.machine.specs.Symbols.{is_pair, within_symbols}

@@ -1,5 +1,6 @@
 -- Cards from before kinds, whose arcs have 0 in the place of the kind, mean what they meant. Assumes nothing.
-use Rattle.basics.proofs.Words.{◌≡◌, refl, ap, ap₂, ◌∙◌, Bool, true, ◌&&◌, List, [], ◌∷◌, map, Option, some, none, ℕ, all_of, left, right}
+use Rattle.std.specs.Prelude.{◌≡◌, ◌&&◌, ◌∷◌}
+use Rattle.basics.proofs.Words.{refl, ap, ap₂, ◌∙◌, Bool, true, List, [], map, Option, some, none, ℕ, all_of, left, right}
 use Rattle.machine.specs.declared.Pair.{Pair}
 use Rattle.machine.specs.Machine.{Machine, start_state, ending_of}
 use Rattle.machine.specs.Part.{machine_of}

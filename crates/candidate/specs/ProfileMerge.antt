@@ -1,6 +1,7 @@
 -- A candidate's profile is the merge of its pairs' marks: what its pairs cost in the violation semiring, one after another, and its ending, is
 -- the profile of a complete candidate, and infinite of any other. Assumes nothing.
-use Rattle.basics.proofs.Words.{◌≡◌, refl, sym, ◌∙◌, ap, subst, true, false, ◌&&◌, List, [], ◌∷◌, map, Option, some, none, ℕ, suc, length, all_of, clash}
+use Rattle.std.specs.Prelude.{◌≡◌, ◌&&◌, ◌∷◌}
+use Rattle.basics.proofs.Words.{refl, sym, ◌∙◌, ap, subst, true, false, List, [], map, Option, some, none, ℕ, suc, length, all_of, clash}
 use Rattle.machine.specs.declared.Pair.{Pair}
 use Rattle.machine.specs.Machine.{Machine, start_state, step_of, ending_of}
 use Rattle.ranking.specs.Profiles.{merge}

@@ -1,5 +1,6 @@
 -- Scoring a candidate: what it asks of a machine and of the pairs, whether the candidate is complete, and its profile where it is.
-use Rattle.basics.specs.Words.{◌≡◌, true, List, ℕ, ◌%◌, ◌<◌, ◌≤◌, length, all_of}
+use Rattle.std.specs.Prelude.{◌≡◌, ◌%◌, ◌<◌, ◌≤◌}
+use Rattle.basics.specs.Words.{true, List, ℕ, length, all_of}
 use Rattle.refusals.specs.Refusals.{refuse, checked_number}
 use Rattle.machine.specs.declared.Pair.{Pair}
 use Rattle.machine.specs.Machine.{Machine}

@@ -1,7 +1,8 @@
 // Candidates: their evaluation. What a candidate is, and which is the best, stands in specs/.
 #![tactic(auto)]
 
-ghost use Rattle.basics.specs.Words.{◌≡◌, true, ◌+◌, ◌%◌, ◌<◌, ◌≤◌, length, eqb};
+ghost use Rattle.std.specs.Prelude.{◌≡◌, ◌+◌, ◌%◌, ◌<◌, ◌≤◌};
+ghost use Rattle.basics.specs.Words.{true, length, eqb};
 ghost use Rattle.machine.specs.Symbols.{empty_symbol};
 ghost use Rattle.machine.specs.Part.{machine_of};
 ghost use Rattle.refusals.specs.Refusals.{refuse, checked_number};

@@ -1,5 +1,6 @@
 -- The answers of reading and packing by the number of their refusal. Assumes nothing.
-use Rattle.basics.specs.Words.{◌≡◌, ap, ap₂, sym, ◌∙◌, List, ◌++◌, ℕ, zero, suc, ◌+◌, ◌*◌, ◌<◌, arith, length, take, drop, take_at, drop_at, drop-drop}
+use Rattle.std.specs.Prelude.{◌≡◌, ◌++◌, ◌+◌, ◌*◌, ◌<◌}
+use Rattle.basics.specs.Words.{ap, ap₂, sym, ◌∙◌, List, ℕ, zero, suc, arith, length, take, drop, take_at, drop_at, drop-drop}
 use Rattle.layout.specs.Layout.{offset_of, length_of}
 use Rattle.card.specs.declared.PartPlace.{PartPlace}
 use Rattle.card.specs.Reading.{reading_refusal, reading}

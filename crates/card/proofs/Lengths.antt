@@ -1,5 +1,6 @@
 -- Six lengths that are read one by one. Assumes nothing.
-use Rattle.basics.specs.Words.{◌≡◌, [], ◌∷◌, ℕ, zero, suc, ◌<◌, ◌≤◌, arith, get_or}
+use Rattle.std.specs.Prelude.{◌≡◌, ◌∷◌, ◌<◌, ◌≤◌}
+use Rattle.basics.specs.Words.{[], ℕ, zero, suc, arith, get_or}
 
 pub six_lengths : (L : ℕ → ℕ) {K : ℕ} (a b c d e f : ℕ) → K ≤ 6 → (0 < K → a ≡ L 0) → (1 < K → b ≡ L 1) → (2 < K → c ≡ L 2) → (3 < K → d ≡ L 3) → (4 < K → e ≡ L 4) → (5 < K → f ≡ L 5)
     → (i : ℕ) → i < K → get_or (a ∷ b ∷ c ∷ d ∷ e ∷ f ∷ []) i 0 ≡ L i

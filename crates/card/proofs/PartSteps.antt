@@ -1,5 +1,6 @@
 -- How the check of parts in turn goes on and ends. Assumes nothing.
-use Rattle.basics.specs.Words.{◌≡◌, refl, ap, sym, ◌∙◌, List, [], ◌∷◌, map, ℕ, zero, suc, ◌+◌, ◌*◌, ◌-◌, ◌^◌, ◌<◌, ◌≤◌, arith, length, get_or, take, drop, drop_of_length-le, leb, lit<, drop-cons, drop-drop, one-mul, mul-one, mul_assoc, mul-le-mul, pow-suc, pow-le-pow_right, add-one, product}
+use Rattle.std.specs.Prelude.{◌≡◌, ◌∷◌, ◌+◌, ◌*◌, ◌-◌, ◌^◌, ◌<◌, ◌≤◌}
+use Rattle.basics.specs.Words.{refl, ap, sym, ◌∙◌, List, [], map, ℕ, zero, suc, arith, length, get_or, take, drop, drop_of_length-le, leb, lit<, drop-cons, drop-drop, one-mul, mul-one, mul_assoc, mul-le-mul, pow-suc, pow-le-pow_right, add-one, product}
 use Rattle.refusals.specs.Refusals.{refuse, first_of}
 use Rattle.refusals.proofs.Refusals.{last_one}
 use Rattle.machine.specs.Part.{state_count, part_refusal}

@@ -1,5 +1,6 @@
 -- What an accepted card promises. Assumes nothing.
-use Rattle.basics.specs.Words.{◌≡◌, refl, List, [], ◌∷◌, map, ℕ, ◌+◌, ◌*◌, ◌<◌, ◌≤◌, arith, length, drop, length-map, length-drop, lit<, product}
+use Rattle.std.specs.Prelude.{◌≡◌, ◌∷◌, ◌+◌, ◌*◌, ◌<◌, ◌≤◌}
+use Rattle.basics.specs.Words.{refl, List, [], map, ℕ, arith, length, drop, length-map, length-drop, lit<, product}
 use Rattle.std.proofs.Common.{leb-true}
 use Rattle.refusals.specs.Refusals.{refuse}
 use Rattle.refusals.proofs.Refusals.{passed}

@@ -1,5 +1,6 @@
 -- Cards from before ending marks and kinds have the refusal that the base gave them. Assumes nothing.
-use Rattle.basics.proofs.Words.{◌≡◌, refl, true, List, [], ◌∷◌, map, ℕ, all_of, both}
+use Rattle.std.specs.Prelude.{◌≡◌, ◌∷◌}
+use Rattle.basics.proofs.Words.{refl, true, List, [], map, ℕ, all_of, both}
 use Rattle.refusals.specs.Refusals.{refuse, first_of}
 use Rattle.machine.specs.BaseParts.{base_refusal, base_part, refused_as_in_base, accepted_in_base}
 use Rattle.layout.specs.Layout.{laid_out}

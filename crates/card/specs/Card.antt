@@ -1,5 +1,6 @@
 -- A card's machines, and its refusal.
-use Rattle.basics.specs.Words.{Bool, List, [], ◌∷◌, map, ℕ, leb, product}
+use Rattle.std.specs.Prelude.{◌∷◌}
+use Rattle.basics.specs.Words.{Bool, List, [], map, ℕ, leb, product}
 use Rattle.refusals.specs.Refusals.{refuse, first_of}
 use Rattle.machine.specs.Machine.{Machine}
 use Rattle.machine.specs.Part.{machine_of, state_count, part_refusal}

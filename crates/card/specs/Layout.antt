@@ -1,5 +1,6 @@
 -- The layout of a card: machine count, symbol count, the machine parts.
-use Rattle.basics.specs.Words.{Bool, ◌&&◌, List, ℕ, length, get_or, leb}
+use Rattle.std.specs.Prelude.{◌&&◌}
+use Rattle.basics.specs.Words.{Bool, List, ℕ, length, get_or, leb}
 use Rattle.layout.specs.Layout.{parts_in}
 pub use Rattle.layout.specs.Layout.{part_of}
 

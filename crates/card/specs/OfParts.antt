@@ -1,5 +1,6 @@
 -- A card made of parts: where they pass it is accepted, and they are its parts. Assumes nothing.
-use Rattle.basics.specs.Words.{◌≡◌, ◌∙◌, ap, List, [], ◌∷◌, map, ℕ, suc, ◌<◌, arith, length, get_or, length-map, joined}
+use Rattle.std.specs.Prelude.{◌≡◌, ◌∷◌, ◌<◌}
+use Rattle.basics.specs.Words.{◌∙◌, ap, List, [], map, ℕ, suc, arith, length, get_or, length-map, joined}
 use Rattle.machine.specs.Part.{machine_of}
 use Rattle.layout.specs.Layout.{Bytes}
 use Rattle.card.specs.Layout.{machine_count, symbol_count, parts_of}

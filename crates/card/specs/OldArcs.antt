@@ -1,5 +1,6 @@
 -- Cards from before kinds have the refusal that they had. Assumes nothing.
-use Rattle.basics.specs.Words.{◌≡◌, true, List, ℕ, all_of}
+use Rattle.std.specs.Prelude.{◌≡◌}
+use Rattle.basics.specs.Words.{true, List, ℕ, all_of}
 use Rattle.machine.specs.OldArcs.{refusal_by_sets, old_arcs, same_refusal}
 use Rattle.card.specs.Layout.{parts_of}
 use Rattle.card.specs.Card.{card_refusal}

@@ -1,5 +1,6 @@
 -- A card's refusal, by the refusal that its parts had before a request. Assumes nothing.
-use Rattle.basics.proofs.Words.{◌≡◌, refl, ap, ap₂, ◌∙◌, Bool, true, List, [], ◌∷◌, map, ℕ, zero, suc, all_of, left, right}
+use Rattle.std.specs.Prelude.{◌≡◌, ◌∷◌}
+use Rattle.basics.proofs.Words.{refl, ap, ap₂, ◌∙◌, Bool, true, List, [], map, ℕ, zero, suc, all_of, left, right}
 use Rattle.refusals.specs.Refusals.{refuse, first_of}
 use Rattle.machine.specs.Part.{part_refusal}
 use Rattle.layout.specs.Layout.{laid_out}

@@ -1,5 +1,6 @@
 -- Cards from before ending marks, whose state bytes are 0 and 1, have the refusal that they had. Assumes nothing.
-use Rattle.basics.specs.Words.{◌≡◌, true, List, map, ℕ, all_of}
+use Rattle.std.specs.Prelude.{◌≡◌}
+use Rattle.basics.specs.Words.{true, List, map, ℕ, all_of}
 use Rattle.machine.specs.OldStates.{OldMachine, old_machine_of, old_states, old_part_refusal}
 use Rattle.machine.specs.OldStates as by_part
 use Rattle.card.specs.Layout.{parts_of}

@@ -1,5 +1,6 @@
 -- Packing machine parts into a card.
-use Rattle.basics.specs.Words.{List, [], ◌∷◌, ◌++◌, ℕ, length, drop, eqb, leb}
+use Rattle.std.specs.Prelude.{◌∷◌, ◌++◌}
+use Rattle.basics.specs.Words.{List, [], ℕ, length, drop, eqb, leb}
 use Rattle.refusals.specs.Refusals.{refuse, first_of, unless_refused}
 use Rattle.card.specs.declared.Packed.{Packed}
 use Rattle.card.specs.Layout.{sound_counts}

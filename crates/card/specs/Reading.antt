@@ -1,5 +1,6 @@
 -- Reading a part: its offset and length in the card.
-use Rattle.basics.specs.Words.{List, [], ◌∷◌, ℕ, ltb}
+use Rattle.std.specs.Prelude.{◌∷◌}
+use Rattle.basics.specs.Words.{List, [], ℕ, ltb}
 use Rattle.refusals.specs.Refusals.{refuse, first_of, unless_refused}
 use Rattle.card.specs.declared.PartPlace.{PartPlace}
 use Rattle.layout.specs.Layout.{offset_of, length_of}

@@ -1,5 +1,6 @@
 -- Packing and reading undo one another. Assumes nothing.
-use Rattle.basics.specs.Words.{◌≡◌, refl, ap, sym, ◌∙◌, List, [], ◌∷◌, ◌++◌, map, ℕ, ◌+◌, ◌*◌, ◌<◌, ◌≤◌, arith, length, get_or, take, drop, take_at, drop_at, joined}
+use Rattle.std.specs.Prelude.{◌≡◌, ◌∷◌, ◌++◌, ◌+◌, ◌*◌, ◌<◌, ◌≤◌}
+use Rattle.basics.specs.Words.{refl, ap, sym, ◌∙◌, List, [], map, ℕ, arith, length, get_or, take, drop, take_at, drop_at, joined}
 use Rattle.std.proofs.Common.{lt-ltb, le-leb}
 use Rattle.machine.specs.Part.{machine_of}
 use Rattle.layout.specs.Layout.{Bytes, offset_of, length_of}

@@ -1,5 +1,6 @@
 // The front of a card: K, S and the lengths of the parts.
-ghost use Rattle.basics.specs.Words.{◌≡◌, true, ℕ, ◌+◌, ◌*◌, ◌<◌, ◌≤◌, length, get_or};
+ghost use Rattle.std.specs.Prelude.{◌≡◌, ◌+◌, ◌*◌, ◌<◌, ◌≤◌};
+ghost use Rattle.basics.specs.Words.{true, ℕ, length, get_or};
 ghost use Rattle.refusals.specs.Refusals.{refuse, checked_number};
 ghost use Rattle.layout.specs.Layout.{length_of, laid_out};
 ghost use Rattle.card.specs.Layout.{machine_count, sound_counts, counted};

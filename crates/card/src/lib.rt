@@ -1,7 +1,7 @@
 // Grammar cards: the layout, the check of a card, reading a part, packing.
 #![tactic(auto)]
 
-ghost use Rattle.basics.specs.Words.{◌≡◌, ◌<◌};
+ghost use Rattle.std.specs.Prelude.{◌≡◌, ◌<◌};
 ghost use Rattle.refusals.specs.Refusals.{checked_number};
 ghost use Rattle.layout.specs.Layout.{part_of};
 ghost use Rattle.card.specs.Layout.{machine_count, symbol_count};

@@ -1,5 +1,6 @@
 // The check of machine parts that lie one after another in a card, or joined.
-ghost use Rattle.basics.specs.Words.{◌≡◌, true, ◌+◌, ◌<◌, ◌≤◌, length, drop};
+ghost use Rattle.std.specs.Prelude.{◌≡◌, ◌+◌, ◌<◌, ◌≤◌};
+ghost use Rattle.basics.specs.Words.{true, length, drop};
 ghost use Rattle.refusals.specs.Refusals.{checked_number};
 ghost use Rattle.layout.specs.Layout.{laid_out};
 ghost use Rattle.card.specs.Layout.{machine_count, symbol_count, counted, parts_of};

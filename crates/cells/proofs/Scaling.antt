@@ -1,5 +1,6 @@
 -- Writing the scales, from the last machine to the first. Assumes nothing.
-use Rattle.basics.specs.Words.{◌≡◌, refl, sym, ◌∙◌, List, ℕ, suc, ◌*◌, ◌<◌, ◌≤◌, arith, length, get_or, set, drop, length-set, get_or-set_same, get_or-set_other, mul_comm, ℕ_discrete, product}
+use Rattle.std.specs.Prelude.{◌≡◌, ◌*◌, ◌<◌, ◌≤◌}
+use Rattle.basics.specs.Words.{refl, sym, ◌∙◌, List, ℕ, suc, arith, length, get_or, set, drop, length-set, get_or-set_same, get_or-set_other, mul_comm, ℕ_discrete, product}
 use Rattle.tables.specs.Tables.{CountsOfSome}
 use Rattle.tables.proofs.Counts.{product_next, product_last, all_positive, few_states_lem}
 use Rattle.cells.specs.Cells.{scale_of}

@@ -1,5 +1,6 @@
 -- A set of outputs four by four, the least first.
-use Rattle.basics.specs.Words.{List, [], ◌∷◌, ℕ, ◌-◌}
+use Rattle.std.specs.Prelude.{◌∷◌, ◌-◌}
+use Rattle.basics.specs.Words.{List, [], ℕ}
 use Rattle.std.specs.Int.Bits.{bit_and}
 use Rattle.machine.specs.SymbolSets.{least_symbol}
 

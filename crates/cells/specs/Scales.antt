@@ -1,5 +1,6 @@
 -- The scales of machines: what a state counts in a code.
-use Rattle.basics.specs.Words.{◌≡◌, List, ◌≢◌, ℕ, suc, ◌%◌, ◌<◌, ◌≤◌, length, get_or, drop, product}
+use Rattle.std.specs.Prelude.{◌≡◌, ◌≢◌, ◌%◌, ◌<◌, ◌≤◌}
+use Rattle.basics.specs.Words.{List, ℕ, suc, length, get_or, drop, product}
 use Rattle.cells.specs.Cells.{scale_of}
 
 -- ys is xs with the scales of the machines from m on

@@ -1,5 +1,6 @@
 // What a state of each machine counts in a code.
-ghost use Rattle.basics.specs.Words.{◌*◌, ◌≤◌, length};
+ghost use Rattle.std.specs.Prelude.{◌*◌, ◌≤◌};
+ghost use Rattle.basics.specs.Words.{length};
 ghost use Rattle.tables.specs.Tables.{CountsOfSome};
 ghost use Rattle.cells.specs.Scales.{ScalesWritten};
 

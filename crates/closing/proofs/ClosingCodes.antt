@@ -1,5 +1,6 @@
 -- What closing a position does: labels taken apart into counts and written, code by code.
-use Rattle.basics.specs.Words.{◌≡◌, refl, sym, ◌∙◌, ap, subst, List, Option, some, none, Option·none-ne-some, ℕ, ◌+◌, ◌*◌, ◌/◌, ◌%◌, ◌^◌, ◌<◌, ◌≤◌, arith, length, set, length-set, get_or-set_same, get_or-set_other}
+use Rattle.std.specs.Prelude.{◌≡◌, ◌+◌, ◌*◌, ◌/◌, ◌%◌, ◌^◌, ◌<◌, ◌≤◌}
+use Rattle.basics.specs.Words.{refl, sym, ◌∙◌, ap, subst, List, Option, some, none, Option·none-ne-some, ℕ, arith, length, set, length-set, get_or-set_same, get_or-set_other}
 use Rattle.paths.specs.Ranked.{Ranked}
 use Rattle.tables.specs.Work.{label_of, AlikeAt, Stored}
 use Rattle.tables.specs.LabelCost.{AllShort}
@@ -8,7 +9,6 @@ use Rattle.settling.specs.Packing.{packed_path}
 use Rattle.cells.specs.declared.Cell.{Cell}
 use Rattle.cells.specs.Cells.{nowhere}
 use Rattle.cells.specs.Labels.{cell_at}
-use Rattle.cells.specs.Laws.Labels.{written}
 use Rattle.cells.specs.Laws.Trying.{label_there, label_none}
 use Rattle.closing.specs.CountsPacking.{first_counts, last_counts, counts_packing}
 use Rattle.closing.specs.Closing.{CountsHeld, CountsStored, CountsPre, CountsClosed}

@@ -1,5 +1,6 @@
 -- What closing a position asks can be met: two codes, one of them with a label. Assumes nothing.
-use Rattle.basics.specs.Words.{◌≡◌, refl, List, [], ◌∷◌, ℕ, zero, suc, ◌+◌, ◌%◌, ◌^◌, ◌<◌, ◌≤◌, arith, replicate, length-replicate}
+use Rattle.std.specs.Prelude.{◌≡◌, ◌∷◌, ◌+◌, ◌%◌, ◌^◌, ◌<◌, ◌≤◌}
+use Rattle.basics.specs.Words.{refl, List, [], ℕ, zero, suc, arith, replicate, length-replicate}
 use Rattle.cells.specs.Cells.{nowhere}
 use Rattle.cells.specs.Labels.{cell_at}
 use Rattle.closing.specs.Closing.{ClosePre}

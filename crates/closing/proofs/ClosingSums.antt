@@ -1,5 +1,6 @@
 -- Writing labels as sums, code by code. Assumes nothing.
-use Rattle.basics.proofs.Words.{◌≡◌, refl, sym, ◌∙◌, ap, List, some, ℕ, ◌+◌, ◌*◌, ◌/◌, ◌%◌, ◌^◌, ◌<◌, ◌≤◌, arith, set, length-set, get_or-set_same, get_or-set_other, dec_lt, le-ltb, lt-ltb}
+use Rattle.std.specs.Prelude.{◌≡◌, ◌+◌, ◌*◌, ◌/◌, ◌%◌, ◌^◌, ◌<◌, ◌≤◌}
+use Rattle.basics.proofs.Words.{refl, sym, ◌∙◌, ap, List, some, ℕ, arith, set, length-set, get_or-set_same, get_or-set_other, dec_lt, le-ltb, lt-ltb}
 use Rattle.paths.specs.Ranked.{Ranked}
 use Rattle.cells.specs.declared.Cell.{Cell}
 use Rattle.cells.specs.Cells.{nowhere}

@@ -1,5 +1,6 @@
 -- Labels passed on to the next position: a label or none, one code, and the loop over the codes. Assumes nothing.
-use Rattle.basics.proofs.Words.{◌≡◌, refl, sym, ◌∙◌, ap, subst, List, ℕ, ◌+◌, ◌-◌, ◌*◌, ◌%◌, ◌^◌, ◌<◌, ◌≤◌, arith, length, get_or, length-set, dec_lt, ℕ_discrete, le-ltb, lt-ltb}
+use Rattle.std.specs.Prelude.{◌≡◌, ◌+◌, ◌-◌, ◌*◌, ◌%◌, ◌^◌, ◌<◌, ◌≤◌}
+use Rattle.basics.proofs.Words.{refl, sym, ◌∙◌, ap, subst, List, ℕ, arith, length, get_or, length-set, dec_lt, ℕ_discrete, le-ltb, lt-ltb}
 use Rattle.cells.specs.declared.Cell.{Cell}
 use Rattle.cells.specs.Cells.{nowhere}
 use Rattle.cells.specs.Labels.{no_label, cell_at, OwnCell, next_cell, NextFits}

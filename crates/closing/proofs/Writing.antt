@@ -1,5 +1,6 @@
 -- Labels written code by code, whatever tells the labels of nodes. Assumes nothing.
-use Rattle.basics.specs.Words.{◌≡◌, sym, subst, List, Option, ◌⊎◌, inl, inr, ◌≢◌, ℕ, ◌+◌, ◌<◌, ◌≤◌, arith, ℕ_discrete}
+use Rattle.std.specs.Prelude.{◌≡◌, ◌⊎◌, ◌≢◌, ◌+◌, ◌<◌, ◌≤◌}
+use Rattle.basics.specs.Words.{sym, subst, List, Option, inl, inr, ℕ, arith, ℕ_discrete}
 use Rattle.paths.specs.Ranked.{Ranked}
 use Rattle.cells.specs.Labels.{cell_at}
 use Rattle.cells.specs.Trying.{label_from}

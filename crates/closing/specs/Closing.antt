@@ -1,5 +1,6 @@
 -- Closing a position: its labels are written into a work slice, and become those of the next position; then no code has a label.
-use Rattle.basics.specs.Words.{◌≡◌, cond, List, Option, some, ◌⊎◌, ◌≢◌, ℕ, ◌+◌, ◌*◌, ◌/◌, ◌%◌, ◌^◌, ◌<◌, ◌≤◌, length, ltb}
+use Rattle.std.specs.Prelude.{◌≡◌, ◌⊎◌, ◌≢◌, ◌+◌, ◌*◌, ◌/◌, ◌%◌, ◌^◌, ◌<◌, ◌≤◌}
+use Rattle.basics.specs.Words.{cond, List, Option, some, ℕ, length, ltb}
 use Rattle.paths.specs.Ranked.{Ranked}
 use Rattle.tables.specs.Work.{HasNodes, label_of}
 use Rattle.tables.specs.LabelCost.{AllShort}

@@ -1,5 +1,6 @@
 -- Ranked costs as two numbers: the three highest counts in the first, 16 bits each, and the other three and the pairs in the second.
-use Rattle.basics.specs.Words.{◌≡◌, inl, inr, ℕ, zero, suc, ◌+◌, ◌*◌, arith}
+use Rattle.std.specs.Prelude.{◌≡◌, ◌+◌, ◌*◌}
+use Rattle.basics.specs.Words.{inl, inr, ℕ, zero, suc, arith}
 use Rattle.paths.specs.Ranked.{Ranked, add, Less, ranked_costs}
 use Rattle.tables.specs.LabelCost.{AllShort}
 use Rattle.settling.specs.Packing.{Packing}

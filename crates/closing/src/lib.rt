@@ -1,7 +1,7 @@
 // Closing a position: its labels are written into a work slice, as ranked counts or as a sum, and become those of the next position.
 #![tactic(auto)]
 
-ghost use Rattle.basics.specs.Words.{◌≡◌, ◌^◌, ◌<◌};
+ghost use Rattle.std.specs.Prelude.{◌≡◌, ◌^◌, ◌<◌};
 ghost use Rattle.tables.specs.Work.{HasNode};
 ghost use Rattle.cells.specs.Cells.{nowhere};
 ghost use Rattle.closing.specs.Closing.{or_none, sum_of, CountsPre, CountsClosed, SumsPre, SumsClosed, CountsStored, PassPre, Passed, PassAllPre, AllPassed};

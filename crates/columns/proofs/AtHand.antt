@@ -1,5 +1,6 @@
 -- Filling the columns of the states at hand: one arc more, and machine by machine. Assumes nothing.
-use Rattle.basics.proofs.Words.{◌≡◌, refl, sym, ◌∙◌, ap, Bool, true, false, cond, ◌&&◌, List, ◌∷◌, some, none, ◌⊎◌, inl, inr, ℕ, suc, ◌+◌, ◌*◌, ◌<◌, ◌≤◌, arith, length, get_or, drop, replicate, get_or-replicate, length-replicate, drop-cons, drop-length, ℕ_discrete, member, eq-eqb, ne_eqb, left_fails, right_fails, no_member, member_or, member_and}
+use Rattle.std.specs.Prelude.{◌≡◌, ◌&&◌, ◌∷◌, ◌⊎◌, ◌+◌, ◌*◌, ◌<◌, ◌≤◌}
+use Rattle.basics.proofs.Words.{refl, sym, ◌∙◌, ap, Bool, true, false, cond, List, some, none, inl, inr, ℕ, suc, arith, length, get_or, drop, replicate, get_or-replicate, length-replicate, drop-cons, drop-length, ℕ_discrete, member, eq-eqb, ne_eqb, left_fails, right_fails, no_member, member_or, member_and}
 use lib.Bits.{bit_and, bit_or}
 use Rattle.machine.specs.declared.Arc.{Arc}
 use Rattle.machine.specs.Symbols.{empty_symbol}

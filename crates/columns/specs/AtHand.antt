@@ -1,5 +1,6 @@
 -- The steps of an input from one state of each machine, the states at hand: columns with a place for each machine.
-use Rattle.basics.specs.Words.{◌≡◌, false, cond, List, some, none, ◌⊎◌, ℕ, ◌*◌, ◌<◌, ◌≤◌, length, get_or, member}
+use Rattle.std.specs.Prelude.{◌≡◌, ◌⊎◌, ◌*◌, ◌<◌, ◌≤◌}
+use Rattle.basics.specs.Words.{false, cond, List, some, none, ℕ, length, get_or, member}
 use Rattle.machine.specs.declared.Arc.{Arc}
 use Rattle.machine.specs.Symbols.{empty_symbol}
 use Rattle.machine.specs.Machine.{Machine, state_count_of, takes_from, step_of}

@@ -1,7 +1,8 @@
 // The columns of an input: the steps of all states of all machines with one output, a number each; the outputs worth trying; the endings.
 #![tactic(auto)]
 
-ghost use Rattle.basics.specs.Words.{◌≡◌, ℕ, ◌+◌, ◌*◌, ◌^◌, ◌<◌, ◌≤◌, length, replicate};
+ghost use Rattle.std.specs.Prelude.{◌≡◌, ◌+◌, ◌*◌, ◌^◌, ◌<◌, ◌≤◌};
+ghost use Rattle.basics.specs.Words.{ℕ, length, replicate};
 ghost use Rattle.machine.specs.Part.{machine_of, state_count};
 ghost use Rattle.card.specs.Card.{machines_of};
 ghost use Rattle.product.specs.Nodes.{state_counts};

@@ -1,5 +1,6 @@
 -- Trying the pairs of one input, four kept outputs after the other.
-use Rattle.basics.proofs.Words.{◌≡◌, refl, sym, ◌∙◌, ap, subst, Bool, true, false, List, [], ◌∷◌, Option, some, Option·none-ne-some, ◌⊎◌, inl, inr, ℕ, ◌+◌, ◌-◌, ◌*◌, ◌^◌, ◌<◌, ◌≤◌, arith, length, get_or, member, eq-eqb, clash, no_member, member_one}
+use Rattle.std.specs.Prelude.{◌≡◌, ◌∷◌, ◌⊎◌, ◌+◌, ◌-◌, ◌*◌, ◌^◌, ◌<◌, ◌≤◌}
+use Rattle.basics.proofs.Words.{refl, sym, ◌∙◌, ap, subst, Bool, true, false, List, [], Option, some, Option·none-ne-some, inl, inr, ℕ, arith, length, get_or, member, eq-eqb, clash, no_member, member_one}
 use Rattle.machine.specs.declared.Pair.{Pair}
 use Rattle.machine.specs.Symbols.{empty_symbol}
 use Rattle.card.specs.Layout.{symbol_count}

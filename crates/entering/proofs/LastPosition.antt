@@ -1,5 +1,6 @@
 -- Entering the last position: its labels are its endings. Assumes nothing.
-use Rattle.basics.proofs.Words.{◌≡◌, refl, sym, ◌∙◌, ap, subst, List, [], ◌∷◌, Option, some, none, Option·none-ne-some, ◌≢◌, ℕ, zero, suc, ◌+◌, ◌-◌, ◌*◌, ◌/◌, ◌%◌, ◌^◌, ◌<◌, ◌≤◌, arith, length, get_or, length-set, mod-lt, div-lt_iff_lt-mul, div-add-mod', mul_comm, mul-le-mul_right, dec_lt, ℕ_discrete, lt-ltb, le-ltb}
+use Rattle.std.specs.Prelude.{◌≡◌, ◌∷◌, ◌≢◌, ◌+◌, ◌-◌, ◌*◌, ◌/◌, ◌%◌, ◌^◌, ◌<◌, ◌≤◌}
+use Rattle.basics.proofs.Words.{refl, sym, ◌∙◌, ap, subst, List, [], Option, some, none, Option·none-ne-some, ℕ, zero, suc, arith, length, get_or, length-set, mod-lt, div-lt_iff_lt-mul, div-add-mod', mul_comm, mul-le-mul_right, dec_lt, ℕ_discrete, lt-ltb, le-ltb}
 use Rattle.machine.specs.Machine.{Machine}
 use Rattle.card.specs.Layout.{symbol_count}
 use Rattle.card.specs.Card.{machines_of}

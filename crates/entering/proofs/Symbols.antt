@@ -1,5 +1,6 @@
 -- Entering a position, a symbol of its set after the other.
-use Rattle.basics.proofs.Words.{◌≡◌, refl, sym, ◌∙◌, ap, subst, true, not, ◌&&◌, List, none, ℕ, suc, ◌+◌, ◌-◌, ◌*◌, ◌<◌, ◌≤◌, arith, length, get_or, eqb, dec_lt, member, left as left-passes}
+use Rattle.std.specs.Prelude.{◌≡◌, ◌&&◌, ◌+◌, ◌-◌, ◌*◌, ◌<◌, ◌≤◌}
+use Rattle.basics.proofs.Words.{refl, sym, ◌∙◌, ap, subst, true, not, List, none, ℕ, suc, arith, length, get_or, eqb, dec_lt, member, left as left-passes}
 use Rattle.card.specs.Card.{card_refusal}
 use Rattle.paths.specs.Costs.{Labels}
 use Rattle.paths.specs.Ranked.{ranked_costs}

@@ -1,5 +1,6 @@
 -- Entering a position: by the symbols of its set, or, at the last one, by the endings.
-use Rattle.basics.specs.Words.{◌≡◌, List, none, ℕ, suc, ◌+◌, ◌*◌, ◌<◌, ◌≤◌, length, get_or, replicate}
+use Rattle.std.specs.Prelude.{◌≡◌, ◌+◌, ◌*◌, ◌<◌, ◌≤◌}
+use Rattle.basics.specs.Words.{List, none, ℕ, suc, length, get_or, replicate}
 use Rattle.card.specs.Card.{machines_of, card_refusal}
 use Rattle.paths.specs.Costs.{Labels}
 use Rattle.paths.specs.Ranked.{ranked_costs}

@@ -1,5 +1,6 @@
 -- Entering a position by the symbols of its set: what trying the pairs of one symbol does to its labels.
-use Rattle.basics.specs.Words.{◌≡◌, true, List, ℕ, ◌+◌, ◌*◌, ◌<◌, length, get_or, member}
+use Rattle.std.specs.Prelude.{◌≡◌, ◌+◌, ◌*◌, ◌<◌}
+use Rattle.basics.specs.Words.{true, List, ℕ, length, get_or, member}
 use Rattle.machine.specs.declared.Pair.{Pair}
 use Rattle.card.specs.Card.{machines_of}
 use Rattle.paths.specs.Costs.{Labels}

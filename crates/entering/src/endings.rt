@@ -1,5 +1,6 @@
 // The labels of the last position: the endings, added up as a column of their own.
-ghost use Rattle.basics.specs.Words.{◌≡◌, ◌+◌, ◌*◌, ◌≤◌, length};
+ghost use Rattle.std.specs.Prelude.{◌≡◌, ◌+◌, ◌*◌, ◌≤◌};
+ghost use Rattle.basics.specs.Words.{length};
 ghost use Rattle.columns.specs.Filling.{Small};
 ghost use Rattle.entering.specs.Entering.{Ready, EndingsEntered};
 ghost use Rattle.entering.specs.Endings.{ending_cell, WritePre, EndingsWritten};

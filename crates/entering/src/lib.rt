@@ -1,7 +1,8 @@
 // Entering a position: by the symbols of its set, or, at the last one, by the endings.
 #![tactic(auto)]
 
-ghost use Rattle.basics.specs.Words.{◌≡◌, true, ℕ, ◌+◌, ◌*◌, ◌≤◌, length, member, product};
+ghost use Rattle.std.specs.Prelude.{◌≡◌, ◌+◌, ◌*◌, ◌≤◌};
+ghost use Rattle.basics.specs.Words.{true, ℕ, length, member, product};
 ghost use Rattle.card.specs.Layout.{symbol_count};
 ghost use Rattle.cells.specs.Cells.{places};
 ghost use Rattle.entering.specs.Entering.{Ready, Blank, NextRoom, Position, SymbolsEntered};

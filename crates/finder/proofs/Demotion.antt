@@ -1,6 +1,7 @@
 -- Recursive constraint demotion gives the smallest ranking that fits: at each place the smallest machine that is left and that no open condition has in its L.
 -- Assumes nothing.
-use Rattle.basics.proofs.Words.{◌≡◌, refl, sym, ◌∙◌, ap, Bool, true, false, not, ◌&&◌, ◌||◌, List, [], ◌∷◌, List-as-Memᴰ, Option, some, none, Option·map, ℕ, zero, suc, ◌^◌, ◌<◌, arith, length, eqb, all_of, those, first_that, joined, numbers_below, occurrences, member, eqb-true, eqb-false, not-true, clash, all_member, each_member, first_passes, first_member, first_misses, those_member, joined_member, length_numbers, member_occurs, no_member, its_member}
+use Rattle.std.specs.Prelude.{◌≡◌, ◌&&◌, ◌||◌, ◌∷◌, ◌^◌, ◌<◌}
+use Rattle.basics.proofs.Words.{refl, sym, ◌∙◌, ap, Bool, true, false, not, List, [], List-as-Memᴰ, Option, some, none, Option·map, ℕ, zero, suc, arith, length, eqb, all_of, those, first_that, joined, numbers_below, occurrences, member, eqb-true, eqb-false, not-true, clash, all_member, each_member, first_passes, first_member, first_misses, those_member, joined_member, length_numbers, member_occurs, no_member, its_member}
 use Rattle.ranking.specs.declared.Condition.{Condition}
 use Rattle.ranking.specs.Rankings.{arrangements, rankings}
 use Rattle.ranking.specs.Conditions.{highest, in_fewer, fits}

@@ -1,5 +1,6 @@
 -- How the conditions of a list of byte pairs begin at a place. Assumes nothing.
-use Rattle.basics.proofs.Words.{◌≡◌, refl, sym, ap, ◌∙◌, Bool, true, false, ◌&&◌, List, [], ◌∷◌, List-as-Memᴰ, ℕ, suc, ◌+◌, ◌%◌, ◌^◌, ◌<◌, ◌≤◌, arith, length, get_or, drop, drop_of_length-le, eqb, leb, ltb, drop-cons, add-one, add-two, all_of, numbers_below, member, eqb-true, eq-eqb, ne_eqb, le-leb, lt-leb, ltb-true, ltb-false, left, right, all_next, all_fails, all_none, all_member, member_beyond}
+use Rattle.std.specs.Prelude.{◌≡◌, ◌&&◌, ◌∷◌, ◌+◌, ◌%◌, ◌^◌, ◌<◌, ◌≤◌}
+use Rattle.basics.proofs.Words.{refl, sym, ap, ◌∙◌, Bool, true, false, List, [], List-as-Memᴰ, ℕ, suc, arith, length, get_or, drop, drop_of_length-le, eqb, leb, ltb, drop-cons, add-one, add-two, all_of, numbers_below, member, eqb-true, eq-eqb, ne_eqb, le-leb, lt-leb, ltb-true, ltb-false, left, right, all_next, all_fails, all_none, all_member, member_beyond}
 use Rattle.ranking.specs.declared.Condition.{Condition}
 use Rattle.finder.specs.Steps.{condition_at}
 use Rattle.finder.specs.Finder.{disjoint, conditions_of, sound_condition, sound_list, smallest}

@@ -1,5 +1,6 @@
 -- Sets of machines in a byte, as the code tests and grows them. Assumes nothing.
-use Rattle.basics.proofs.Words.{◌≡◌, sym, ◌∙◌, ap, Bool, true, false, not, ◌&&◌, ◌||◌, ℕ, ◌*◌, ◌/◌, ◌%◌, ◌^◌, ◌<◌, arith, eqb, ltb, div-lt_iff_lt-mul, div-eq_of_lt, one-mul, every_below, member, eqb-true, eqb-false, eq-eqb, ltb-true, lt-ltb, not-true, same, clash, every_at, each_below, no_member, its_member, member_one, member_and, member_or}
+use Rattle.std.specs.Prelude.{◌≡◌, ◌&&◌, ◌||◌, ◌*◌, ◌/◌, ◌%◌, ◌^◌, ◌<◌}
+use Rattle.basics.proofs.Words.{sym, ◌∙◌, ap, Bool, true, false, not, ℕ, arith, eqb, ltb, div-lt_iff_lt-mul, div-eq_of_lt, one-mul, every_below, member, eqb-true, eqb-false, eq-eqb, ltb-true, lt-ltb, not-true, same, clash, every_at, each_below, no_member, its_member, member_one, member_and, member_or}
 use lib.Bits.{bit_and, bit_or, and_lt}
 use lib.Pow.{pow_pos, shl_exact}
 use Rattle.finder.specs.Finder.{disjoint}

@@ -1,5 +1,6 @@
 -- How the finder goes on from place to place. Assumes nothing.
-use Rattle.basics.proofs.Words.{◌≡◌, refl, sym, ◌∙◌, ap, ap₂, Bool, true, false, not, ◌&&◌, ◌||◌, List, [], ◌∷◌, ◌++◌, append-nil, Option, some, none, Option·map, ℕ, suc, ◌+◌, ◌-◌, ◌<◌, ◌≤◌, arith, length, take, drop, set, replicate, length-set, take-append-drop, eqb, lit<, append_snoc, take-suc-set, drop-set-lt, drop-drop, add-one, those, first_that, numbers_below, member, eq-eqb, ne_eqb, not-true, clash, fails, both, left, right, neither, left_fails, right_fails, same, first_member, numbers_member, no_member}
+use Rattle.std.specs.Prelude.{◌≡◌, ◌&&◌, ◌||◌, ◌∷◌, ◌++◌, ◌+◌, ◌-◌, ◌<◌, ◌≤◌}
+use Rattle.basics.proofs.Words.{refl, sym, ◌∙◌, ap, ap₂, Bool, true, false, not, List, [], append-nil, Option, some, none, Option·map, ℕ, suc, arith, length, take, drop, set, replicate, length-set, take-append-drop, eqb, lit<, append_snoc, take-suc-set, drop-set-lt, drop-drop, add-one, those, first_that, numbers_below, member, eq-eqb, ne_eqb, not-true, clash, fails, both, left, right, neither, left_fails, right_fails, same, first_member, numbers_member, no_member}
 use Rattle.refusals.specs.Refusals.{number_of, checked_number, refuse, first_of}
 use Rattle.refusals.specs.declared.Refusal.{Refusal}
 use Rattle.refusals.specs.declared.Checked.TheVariants.{Passed, Refused}

@@ -1,5 +1,6 @@
 -- The smallest ranking that fits a list of conditions.
-use Rattle.basics.specs.Words.{Bool, ◌&&◌, not, List, [], ◌∷◌, ◌++◌, Option, some, none, ℕ, ◌-◌, ◌^◌, ◌%◌, length, replicate, eqb, ltb, leb, all_of, every_below, first_that, member}
+use Rattle.std.specs.Prelude.{◌&&◌, ◌∷◌, ◌++◌, ◌-◌, ◌^◌, ◌%◌}
+use Rattle.basics.specs.Words.{Bool, not, List, [], Option, some, none, ℕ, length, replicate, eqb, ltb, leb, all_of, every_below, first_that, member}
 use Rattle.refusals.specs.Refusals.{refuse, first_of, unless_refused}
 use Rattle.ranking.specs.declared.Condition.{Condition}
 use Rattle.ranking.specs.declared.Finding.{Finding}

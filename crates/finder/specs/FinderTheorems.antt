@@ -1,6 +1,7 @@
 -- What the finder's definition means: the rankings that it goes through are all there are, and the one that it gives is the smallest that fits.
 -- Assumes nothing.
-use Rattle.basics.proofs.Words.{◌≡◌, refl, sym, ◌∙◌, ap, Bool, true, false, List, [], ◌∷◌, ◌++◌, List-as-Memᴰ, Option, some, none, ◌↔◌, ℕ, ◌-◌, arith, replicate, all_of, pairwise, first_passes, first_member, first_misses, length_numbers}
+use Rattle.std.specs.Prelude.{◌≡◌, ◌∷◌, ◌++◌, ◌↔◌, ◌-◌}
+use Rattle.basics.proofs.Words.{refl, sym, ◌∙◌, ap, Bool, true, false, List, [], List-as-Memᴰ, Option, some, none, ℕ, arith, replicate, all_of, pairwise, first_passes, first_member, first_misses, length_numbers}
 use Rattle.ranking.specs.declared.Condition.{Condition}
 use Rattle.ranking.specs.declared.Finding.{Finding}
 use Rattle.ranking.specs.Rankings.{is_ranking, rankings, is_machine_count}

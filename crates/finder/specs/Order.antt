@@ -1,5 +1,6 @@
 -- The order of the rankings listed, and what is first in it. Assumes nothing.
-use Rattle.basics.proofs.Words.{◌≡◌, refl, sym, ◌∙◌, ap, Bool, true, false, not, false≢true, List, [], ◌∷◌, ◌++◌, map, List-as-Memᴰ, List·Memᴰ·head, List·Memᴰ·tail, List·Memᴰ·not-nil, List·Memᴰ·cases-cons, List·Memᴰ·append-cases, List·Memᴰ·eq-of-singleton, some, ⊎_elim, ℕ, zero, suc, ◌<◌, arith, eqb, ltb, all_of, pairwise, those, first_that, joined, numbers_below, both, left, right, clash, all_member, each_member, those_member, joined_member, numbers_member}
+use Rattle.std.specs.Prelude.{◌≡◌, ◌∷◌, ◌++◌, ◌<◌}
+use Rattle.basics.proofs.Words.{refl, sym, ◌∙◌, ap, Bool, true, false, not, false≢true, List, [], map, List-as-Memᴰ, List·Memᴰ·head, List·Memᴰ·tail, List·Memᴰ·not-nil, List·Memᴰ·cases-cons, List·Memᴰ·append-cases, List·Memᴰ·eq-of-singleton, some, ⊎_elim, ℕ, zero, suc, arith, eqb, ltb, all_of, pairwise, those, first_that, joined, numbers_below, both, left, right, clash, all_member, each_member, those_member, joined_member, numbers_member}
 use borrow.Author.Tests.{ltb-true, ltb-false, lt-ltb, le-ltb, eq-eqb, ne_eqb}
 use Rattle.ranking.specs.Rankings.{arrangements, rankings}
 use Rattle.ranking.specs.ByteStrings.{smaller}

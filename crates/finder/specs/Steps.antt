@@ -1,5 +1,6 @@
 -- What the finder's inner functions answer. The finder's own contract rests on none of it.
-use Rattle.basics.specs.Words.{Bool, ◌&&◌, not, List, Option, some, none, ℕ, ◌+◌, get_or, all_of, first_that, numbers_below, member}
+use Rattle.std.specs.Prelude.{◌&&◌, ◌+◌}
+use Rattle.basics.specs.Words.{Bool, not, List, Option, some, none, ℕ, get_or, all_of, first_that, numbers_below, member}
 use Rattle.ranking.specs.declared.Condition.{Condition}
 use Rattle.finder.specs.declared.Next.{Next}
 use Rattle.refusals.specs.declared.Checked.TheVariants.{Passed, Refused}

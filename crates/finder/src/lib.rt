@@ -1,7 +1,8 @@
 // The smallest ranking that fits a list of ranking conditions, by recursive constraint demotion.
 #![tactic(auto)]
 
-ghost use Rattle.basics.specs.Words.{◌≡◌, true, [], ◌∷◌, ◌+◌, ◌<◌, ◌≤◌, ◌%◌, length, member};
+ghost use Rattle.std.specs.Prelude.{◌≡◌, ◌∷◌, ◌+◌, ◌<◌, ◌≤◌, ◌%◌};
+ghost use Rattle.basics.specs.Words.{true, [], length, member};
 ghost use Rattle.refusals.specs.Refusals.{refuse, first_of, checked_number};
 ghost use Rattle.ranking.specs.Rankings.{is_machine_count};
 ghost use Rattle.finder.specs.Finder.{disjoint, sound_condition, sound_list, conditions_of, smallest, refused_finding, finding_of, finding};

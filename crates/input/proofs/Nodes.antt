@@ -1,5 +1,6 @@
 -- The room for the nodes, and the sizes of an accepted card. Assumes nothing.
-use Rattle.basics.specs.Words.{◌≡◌, ap, true, List, ℕ, ◌+◌, ◌*◌, ◌≤◌, arith, length, mul-le-mul}
+use Rattle.std.specs.Prelude.{◌≡◌, ◌+◌, ◌*◌, ◌≤◌}
+use Rattle.basics.specs.Words.{ap, true, List, ℕ, arith, length, mul-le-mul}
 use Rattle.card.specs.Layout.{symbol_count}
 use Rattle.card.specs.Card.{card_refusal, machines_of}
 use Rattle.card.specs.Accepted.{accepted}

@@ -1,5 +1,6 @@
 -- A word as sets of one symbol each: filling them, and what an accepted word's are. Assumes nothing.
-use Rattle.basics.proofs.Words.{◌≡◌, refl, true, ◌&&◌, List, [], ◌∷◌, ℕ, suc, ◌+◌, ◌^◌, ◌<◌, ◌≤◌, arith, length, get_or, take, set, length-set, leb, ltb, get_or-set_same, get_or-set_other, ℕ_discrete, all_of, member, leb-true, ltb-true, left, right, all_at}
+use Rattle.std.specs.Prelude.{◌≡◌, ◌&&◌, ◌∷◌, ◌+◌, ◌^◌, ◌<◌, ◌≤◌}
+use Rattle.basics.proofs.Words.{refl, true, List, [], ℕ, suc, arith, length, get_or, take, set, length-set, leb, ltb, get_or-set_same, get_or-set_other, ℕ_discrete, all_of, member, leb-true, ltb-true, left, right, all_at}
 use Rattle.card.specs.Layout.{symbol_count}
 use Rattle.card.specs.Card.{card_refusal}
 use Rattle.card.specs.Accepted.{accepted}

@@ -1,5 +1,6 @@
 -- What input promises that the checks before a search accept, with a word or with sets.
-use Rattle.basics.specs.Words.{◌≡◌, true, List, [], ◌∷◌, ℕ, ◌*◌, ◌≤◌, length, leb, lit<}
+use Rattle.std.specs.Prelude.{◌≡◌, ◌∷◌, ◌*◌, ◌≤◌}
+use Rattle.basics.specs.Words.{true, List, [], ℕ, length, leb, lit<}
 use Rattle.std.proofs.Common.{leb-true, le-leb}
 use Rattle.refusals.specs.Refusals.{refuse}
 use Rattle.refusals.proofs.Refusals.{passed, none_first}

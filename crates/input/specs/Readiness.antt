@@ -1,5 +1,6 @@
 -- What the checks before a search answer: what they found and, where they passed, the card's sizes.
-use Rattle.basics.specs.Words.{◌≡◌, List, ℕ, ◌<◌, ◌≤◌}
+use Rattle.std.specs.Prelude.{◌≡◌, ◌<◌, ◌≤◌}
+use Rattle.basics.specs.Words.{List, ℕ}
 use Rattle.refusals.specs.Refusals.{checked_number}
 use Rattle.grid.specs.declared.Grid.{Grid}
 use Rattle.grid.specs.Grids.{GridOf}

@@ -2,7 +2,8 @@
 // word as sets.
 #![tactic(auto)]
 
-ghost use Rattle.basics.specs.Words.{◌≡◌, true, [], ◌∷◌, ◌+◌, ◌*◌, ◌≤◌, length, take, leb, ltb, all_of};
+ghost use Rattle.std.specs.Prelude.{◌≡◌, ◌∷◌, ◌+◌, ◌*◌, ◌≤◌};
+ghost use Rattle.basics.specs.Words.{true, [], length, take, leb, ltb, all_of};
 ghost use Rattle.refusals.specs.Refusals.{refuse, first_of, checked_number};
 ghost use Rattle.ranking.specs.Rankings.{is_ranking};
 ghost use Rattle.product.specs.Sets.{singletons};

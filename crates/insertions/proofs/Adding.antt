@@ -1,5 +1,6 @@
 -- Adding up the counts.
-use Rattle.basics.specs.Words.{◌≡◌, refl, sym, ◌∙◌, ap, List, ℕ, zero, suc, ◌+◌, ◌-◌, ◌<◌, ◌≤◌, arith, length, get_or, set, length-set, get_or-set_same, get_or-set_other, ℕ_discrete, dec_lt, add-one}
+use Rattle.std.specs.Prelude.{◌≡◌, ◌+◌, ◌-◌, ◌<◌, ◌≤◌}
+use Rattle.basics.specs.Words.{refl, sym, ◌∙◌, ap, List, ℕ, zero, suc, arith, length, get_or, set, length-set, get_or-set_same, get_or-set_other, ℕ_discrete, dec_lt, add-one}
 use Rattle.insertions.specs.Listing.{sum_to, AddPre, AddedUp, FilledOn}
 
 pub sum_none : (xs : List ℕ) → sum_to xs 0 ≡ 0

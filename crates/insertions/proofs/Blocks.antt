@@ -1,5 +1,6 @@
 -- Four outputs at a time: what their tables ask and give.
-use Rattle.basics.specs.Words.{◌≡◌, sym, ◌∙◌, ap, subst, List, ℕ, zero, suc, ◌+◌, ◌*◌, ◌/◌, ◌%◌, ◌^◌, ◌<◌, ◌≤◌, arith, length, get_or, mul_comm, mod-lt, div-lt_iff_lt-mul, div-add-mod', product}
+use Rattle.std.specs.Prelude.{◌≡◌, ◌+◌, ◌*◌, ◌/◌, ◌%◌, ◌^◌, ◌<◌, ◌≤◌}
+use Rattle.basics.specs.Words.{sym, ◌∙◌, ap, subst, List, ℕ, zero, suc, arith, length, get_or, mul_comm, mod-lt, div-lt_iff_lt-mul, div-add-mod', product}
 use Rattle.product.specs.Nodes.{state_counts}
 use Rattle.product.specs.Laws.Nodes.{product_positive}
 use Rattle.product.specs.Laws.JointStep.{counts_positive}

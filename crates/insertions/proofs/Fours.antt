@@ -1,5 +1,6 @@
 -- The kept outputs four by four: which are there, and how many.
-use Rattle.basics.proofs.Words.{◌≡◌, refl, sym, ◌∙◌, ap, true, false, cond, ◌⊎◌, inl, inr, ◌≢◌, ℕ, zero, suc, ◌+◌, ◌^◌, ◌<◌, ◌≤◌, arith, get_or, eqb, ℕ_discrete, dec_lt, add-one, member, ne_eqb, clash, no_member, has_member}
+use Rattle.std.specs.Prelude.{◌≡◌, ◌⊎◌, ◌≢◌, ◌+◌, ◌^◌, ◌<◌, ◌≤◌}
+use Rattle.basics.proofs.Words.{refl, sym, ◌∙◌, ap, true, false, cond, inl, inr, ℕ, zero, suc, arith, get_or, eqb, ℕ_discrete, dec_lt, add-one, member, ne_eqb, clash, no_member, has_member}
 use Rattle.machine.specs.SymbolSets.{least_symbol}
 use Rattle.machine.specs.Laws.SymbolSets.{least_at}
 use Rattle.cells.specs.Fours.{after_least, next_four, without_four}

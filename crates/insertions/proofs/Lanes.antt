@@ -1,5 +1,6 @@
 -- Laws of lanes: what the first n of them do to the ends of the lists and to the entries.
-use Rattle.basics.proofs.Words.{◌≡◌, refl, sym, ◌∙◌, ap, subst, Bool, true, false, cond, ◌&&◌, List, ℕ, zero, suc, ◌+◌, ◌-◌, ◌<◌, ◌≤◌, arith, length, get_or, set, length-set, eqb, get_or-set_same, get_or-set_other, ℕ_discrete, add-one, eq-eqb, ne_eqb}
+use Rattle.std.specs.Prelude.{◌≡◌, ◌&&◌, ◌+◌, ◌-◌, ◌<◌, ◌≤◌}
+use Rattle.basics.proofs.Words.{refl, sym, ◌∙◌, ap, subst, Bool, true, false, cond, List, ℕ, zero, suc, arith, length, get_or, set, length-set, eqb, get_or-set_same, get_or-set_other, ℕ_discrete, add-one, eq-eqb, ne_eqb}
 use Rattle.insertions.specs.Lanes.{Lane, is_move, list_of, entry_of, bump, put, bumped, placed, hit, count_to}
 use Rattle.insertions.specs.Tables.{CountRoom, EntryRoom}
 

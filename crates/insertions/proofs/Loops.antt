@@ -1,5 +1,6 @@
 -- The loops over the kept outputs, four at a time: the fours so far are counted, or written.
-use Rattle.basics.specs.Words.{◌≡◌, sym, ◌∙◌, ap, subst, List, [], ℕ, zero, suc, ◌+◌, ◌-◌, ◌*◌, ◌/◌, ◌^◌, ◌<◌, ◌≤◌, arith, length, get_or, replicate, length-replicate, get_or-replicate, List·getD-eq-default, mod-lt, suc-mul, mul-le-mul_right, ℕ_discrete, dec_lt, add-one, product}
+use Rattle.std.specs.Prelude.{◌≡◌, ◌+◌, ◌-◌, ◌*◌, ◌/◌, ◌^◌, ◌<◌, ◌≤◌}
+use Rattle.basics.specs.Words.{sym, ◌∙◌, ap, subst, List, [], ℕ, zero, suc, arith, length, get_or, replicate, length-replicate, get_or-replicate, List·getD-eq-default, mod-lt, suc-mul, mul-le-mul_right, ℕ_discrete, dec_lt, add-one, product}
 use Rattle.cells.specs.declared.Groups.{Groups}
 use Rattle.cells.specs.Groups.{FourAdded}
 use Rattle.cells.specs.Fours.{next_four, without_four}

@@ -1,5 +1,6 @@
 -- The lanes of a front code, and of one code.
-use Rattle.basics.specs.Words.{◌≡◌, ◌∙◌, ap, List, ℕ, suc, ◌+◌, ◌*◌, ◌/◌, ◌%◌, ◌<◌, ◌≤◌, arith, add-mul, suc-mul, mul-le-mul_left, mul-le-mul_right, mul-add-mod_self_right, mod-eq_of_lt}
+use Rattle.std.specs.Prelude.{◌≡◌, ◌+◌, ◌*◌, ◌/◌, ◌%◌, ◌<◌, ◌≤◌}
+use Rattle.basics.specs.Words.{◌∙◌, ap, List, ℕ, suc, arith, add-mul, suc-mul, mul-le-mul_left, mul-le-mul_right, mul-add-mod_self_right, mod-eq_of_lt}
 use Rattle.paths.specs.Numbering.{position_is}
 use Rattle.insertions.specs.Tables.{code_lane, lanes_from, LanesPre, TablePre}
 

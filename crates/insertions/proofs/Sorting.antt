@@ -1,5 +1,6 @@
 -- The lists in their places: each starts where those before it end, and a lane that is listed stands behind those of its list that come before it.
-use Rattle.basics.proofs.Words.{◌≡◌, refl, sym, ◌∙◌, ap, Bool, true, false, List, ◌≢◌, ℕ, zero, suc, ◌+◌, ◌-◌, ◌*◌, ◌<◌, ◌≤◌, arith, length, get_or, set, List·getD-eq-default, leb, ltb, get_or-set_same, get_or-set_other, ℕ_discrete, dec_lt, add-one, leb-true, ltb-true, le-leb, lt-ltb, clash, both, left as left-of, right as right_of}
+use Rattle.std.specs.Prelude.{◌≡◌, ◌≢◌, ◌+◌, ◌-◌, ◌*◌, ◌<◌, ◌≤◌}
+use Rattle.basics.proofs.Words.{refl, sym, ◌∙◌, ap, Bool, true, false, List, ℕ, zero, suc, arith, length, get_or, set, List·getD-eq-default, leb, ltb, get_or-set_same, get_or-set_other, ℕ_discrete, dec_lt, add-one, leb-true, ltb-true, le-leb, lt-ltb, clash, both, left as left-of, right as right_of}
 use Rattle.settling.specs.Insertions.{is_listed}
 use Rattle.insertions.specs.Lanes.{Lane, is_move, list_of, entry_of, put, bumped, placed, hit, count_to, start_of}
 use Rattle.insertions.proofs.Lanes.{put_moves, put_stays, hit_here, hit_other, hit_stays, list_few, bumped_size, bumped_at, bumped_before, placed_size, count_mono}

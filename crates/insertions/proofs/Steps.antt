@@ -1,5 +1,6 @@
 -- The lanes of the columns are the insertions: their lists, their entries.
-use Rattle.basics.proofs.Words.{◌≡◌, refl, sym, ◌∙◌, ap, Bool, true, false, not, List, [], ◌∷◌, Option, some, none, Option·none-ne-some, ◌≢◌, ℕ, suc, ◌+◌, ◌*◌, ◌/◌, ◌%◌, ◌<◌, ◌≤◌, min, arith, length, get_or, eqb, leb, ltb, leb-true, ltb-true, lt-ltb, eqb-false, ne_eqb, not-true, both, left as left-of, right as right_of}
+use Rattle.std.specs.Prelude.{◌≡◌, ◌∷◌, ◌≢◌, ◌+◌, ◌*◌, ◌/◌, ◌%◌, ◌<◌, ◌≤◌}
+use Rattle.basics.proofs.Words.{refl, sym, ◌∙◌, ap, Bool, true, false, not, List, [], Option, some, none, Option·none-ne-some, ℕ, suc, min, arith, length, get_or, eqb, leb, ltb, leb-true, ltb-true, lt-ltb, eqb-false, ne_eqb, not-true, both, left as left-of, right as right_of}
 use Rattle.machine.specs.declared.Pair.{Pair}
 use Rattle.machine.specs.Symbols.{empty_symbol}
 use Rattle.machine.specs.Machine.{Machine, step_of}

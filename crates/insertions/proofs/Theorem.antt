@@ -1,5 +1,6 @@
 -- The lanes in their places are the insertions in their lists.
-use Rattle.basics.proofs.Words.{◌≡◌, sym, ◌∙◌, ap, subst, true, List, some, ◌≢◌, ℕ, ◌+◌, ◌*◌, ◌/◌, ◌%◌, ◌^◌, ◌<◌, ◌≤◌, min, arith, length, get_or, mod-lt, suc-mul, mul-le-mul_right, dec_lt, member, clash}
+use Rattle.std.specs.Prelude.{◌≡◌, ◌≢◌, ◌+◌, ◌*◌, ◌/◌, ◌%◌, ◌^◌, ◌<◌, ◌≤◌}
+use Rattle.basics.proofs.Words.{sym, ◌∙◌, ap, subst, true, List, some, ℕ, min, arith, length, get_or, mod-lt, suc-mul, mul-le-mul_right, dec_lt, member, clash}
 use Rattle.machine.specs.Machine.{Machine}
 use Rattle.machine.specs.Symbols.{empty_symbol}
 use Rattle.product.specs.Nodes.{state_counts, product}
@@ -73,7 +74,7 @@ module _ {S : ℕ} {ms : List Machine} {W kept : ℕ} {steps ws places es ns : L
       let i = B.at in
       let X = lane_insertion B.at B.moves_there in
       let e : get_or (placed f N es ns) p 0 ≡ (f B.at).code * 16777216 + X.marks =
-      ap (λ (k : ℕ). get_or (placed f N es ns) k 0) (lane_place T p (4 * v) 4 I) ∙ entry_at T N (omega arith) B.at B.within B.moves_there ∙ X.entry_of in
+      ap (λ (k : ℕ). get_or (placed f N es ns) k 0) (lane_place T p (4 * v) 4 I) ∙ entry_at T N (omega arith) B.at B.within B.moves_there ∙ X.entry_of_lem in
       let l : I.list ≡ 4 * X.move.target + min X.first 3 = sym B.list_is ∙ X.list_of_lem in
       let t : X.move.target ≡ v = omega (arith, l, I.first, I.last) in
       record {
@@ -109,7 +110,7 @@ module _ {S : ℕ} {ms : List Machine} {W kept : ℕ} {steps ws places es ns : L
       let X = insertion M H Z six R j y h few t in
       let z : X.move ≡ w = cc (X.is, e) in
       let l : list_at f n ≡ 4 * w.target + min X.first 3 = ap (λ (x : Lane). list_of x.high) is ∙ X.list_of_lem ∙ ap (λ (k : Move). 4 * k.target + min X.first 3) z in
-      let d : get_or (placed f N es ns) (place_of f N n) 0 ≡ j * 16777216 + X.marks = entry_at T N (omega arith) n within u ∙ ap (λ (x : Lane). entry_of x.code x.high x.low) is ∙ X.entry_of in
+      let d : get_or (placed f N es ns) (place_of f N n) 0 ≡ j * 16777216 + X.marks = entry_at T N (omega arith) n within u ∙ ap (λ (x : Lane). entry_of x.code x.high x.low) is ∙ X.entry_of_lem in
       record {
         at = place_of f N n;
         listed = listed_at T n w.target (min X.first 3) within u l (omega arith) (omega (arith, ap (λ (k : Move). k.target) z, X.target_few, M.joint_states));

@@ -1,5 +1,6 @@
 -- How many lanes are listed, in all.
-use Rattle.basics.specs.Words.{◌≡◌, refl, ◌∙◌, ap, Bool, true, false, cond, List, ℕ, zero, suc, ◌+◌, ◌*◌, ◌/◌, ◌%◌, ◌^◌, ◌<◌, ◌≤◌, arith, length, get_or, suc-mul, mul-add, mul-le-mul_left, mul-add-mod_self_right, mod-eq_of_lt, ℕ_discrete, member}
+use Rattle.std.specs.Prelude.{◌≡◌, ◌+◌, ◌*◌, ◌/◌, ◌%◌, ◌^◌, ◌<◌, ◌≤◌}
+use Rattle.basics.specs.Words.{refl, ◌∙◌, ap, Bool, true, false, cond, List, ℕ, zero, suc, arith, length, get_or, suc-mul, mul-add, mul-le-mul_left, mul-add-mod_self_right, mod-eq_of_lt, ℕ_discrete, member}
 use Rattle.machine.specs.SymbolSets.{least_symbol}
 use Rattle.machine.specs.Machine.{Machine}
 use Rattle.machine.specs.Symbols.{empty_symbol}

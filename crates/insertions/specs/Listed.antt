@@ -1,5 +1,6 @@
 -- Insertions in lists by the code that they lead to.
-use Rattle.basics.specs.Words.{◌≡◌, true, List, Option, some, ◌≢◌, ℕ, ◌+◌, ◌*◌, ◌<◌, ◌≤◌, length, get_or, member}
+use Rattle.std.specs.Prelude.{◌≡◌, ◌≢◌, ◌+◌, ◌*◌, ◌<◌, ◌≤◌}
+use Rattle.basics.specs.Words.{true, List, Option, some, ℕ, length, get_or, member}
 use Rattle.machine.specs.Symbols.{empty_symbol}
 use Rattle.machine.specs.Machine.{Machine}
 use Rattle.product.specs.Nodes.{state_counts, product}

@@ -1,5 +1,6 @@
 -- Counting the insertions by their lists, and writing them.
-use Rattle.basics.specs.Words.{◌≡◌, false, List, ℕ, zero, suc, ◌+◌, ◌-◌, ◌*◌, ◌<◌, ◌≤◌, length, get_or, member, product}
+use Rattle.std.specs.Prelude.{◌≡◌, ◌+◌, ◌-◌, ◌*◌, ◌<◌, ◌≤◌}
+use Rattle.basics.specs.Words.{false, List, ℕ, zero, suc, length, get_or, member, product}
 use Rattle.machine.specs.Symbols.{empty_symbol}
 use Rattle.machine.specs.Machine.{Machine}
 use Rattle.product.specs.Nodes.{state_counts}

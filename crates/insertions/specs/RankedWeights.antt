@@ -1,5 +1,6 @@
 -- The weights of machines in ranked order.
-use Rattle.basics.specs.Words.{◌≡◌, cond, List, [], ◌∷◌, ℕ, ◌+◌, ◌<◌, eqb}
+use Rattle.std.specs.Prelude.{◌≡◌, ◌∷◌, ◌+◌, ◌<◌}
+use Rattle.basics.specs.Words.{cond, List, [], ℕ, eqb}
 use Rattle.cells.specs.Cells.{high_of, low_of}
 use Rattle.settling.specs.Prices.{ranked_highs, ranked_lows}
 

@@ -1,5 +1,6 @@
 -- The lanes of tables of joint steps, four outputs at a time, and of all the kept outputs.
-use Rattle.basics.specs.Words.{◌≡◌, List, ℕ, zero, suc, ◌+◌, ◌*◌, ◌/◌, ◌%◌, ◌^◌, ◌<◌, ◌≤◌, length, get_or, product}
+use Rattle.std.specs.Prelude.{◌≡◌, ◌+◌, ◌*◌, ◌/◌, ◌%◌, ◌^◌, ◌<◌, ◌≤◌}
+use Rattle.basics.specs.Words.{List, ℕ, zero, suc, length, get_or, product}
 use Rattle.cells.specs.Cells.{high_at, low_at, cell_sum}
 use Rattle.cells.specs.Groups.{sum_at}
 use Rattle.cells.specs.Fours.{next_four, without_four}

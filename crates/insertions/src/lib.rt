@@ -1,7 +1,8 @@
 // The insertions of the outputs worth trying, in lists by the code that they lead to: counted first, then written, both times in the same order.
 #![tactic(auto)]
 
-ghost use Rattle.basics.specs.Words.{◌≡◌, [], ◌+◌, ◌*◌, ◌^◌, ◌<◌, ◌≤◌, length, get_or, replicate};
+ghost use Rattle.std.specs.Prelude.{◌≡◌, ◌+◌, ◌*◌, ◌^◌, ◌<◌, ◌≤◌};
+ghost use Rattle.basics.specs.Words.{[], length, get_or, replicate};
 ghost use Rattle.insertions.specs.Lanes.{lane_of, is_move, list_of, narrowed, entry_of, bump, put, bumped, placed};
 ghost use Rattle.insertions.specs.Tables.{code_lane, four_lane, lanes_from, CountRoom, EntryRoom, LanesPre, TablePre};
 ghost use Rattle.insertions.specs.Listing.{AddPre, AddedUp, FilledOn, ListPre, Counted, ListedBy};

@@ -1,5 +1,6 @@
 -- Trying a step with the label that it leads to: of a code, of the codes of a front code, of all codes of a position.
-use Rattle.basics.specs.Words.{◌≡◌, Bool, cond, ◌||◌, ◌&&◌, List, ◌⊎◌, ◌≢◌, ℕ, zero, suc, ◌+◌, ◌*◌, ◌/◌, ◌%◌, ◌^◌, ◌<◌, ◌≤◌, length, get_or, eqb, ltb}
+use Rattle.std.specs.Prelude.{◌≡◌, ◌||◌, ◌&&◌, ◌⊎◌, ◌≢◌, ◌+◌, ◌*◌, ◌/◌, ◌%◌, ◌^◌, ◌<◌, ◌≤◌}
+use Rattle.basics.specs.Words.{Bool, cond, List, ℕ, zero, suc, length, get_or, eqb, ltb}
 use Rattle.cells.specs.declared.Cell.{Cell}
 use Rattle.cells.specs.Cells.{nowhere}
 use Rattle.cells.specs.Groups.{sum_at}

@@ -2,7 +2,8 @@
 // position give.
 #![tactic(auto)]
 
-ghost use Rattle.basics.specs.Words.{◌≡◌, false, ℕ, ◌+◌, ◌*◌, ◌<◌, ◌≤◌, length, get_or};
+ghost use Rattle.std.specs.Prelude.{◌≡◌, ◌+◌, ◌*◌, ◌<◌, ◌≤◌};
+ghost use Rattle.basics.specs.Words.{false, ℕ, length, get_or};
 ghost use Rattle.cells.specs.Cells.{nowhere};
 ghost use Rattle.lanes.specs.Trying.{lesser, way_of, LanePre, CodePre, CodeTried, TryPre, TriedIn, SkipPre};
 

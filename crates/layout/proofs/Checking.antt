@@ -1,5 +1,6 @@
 -- How the check of a layout goes on and ends. Assumes nothing.
-use Rattle.basics.proofs.Words.{◌≡◌, refl, Bool, true, false, ◌&&◌, List, ℕ, ◌+◌, ◌*◌, ◌<◌, ◌≤◌, length, eqb, leb, add-one, every_below, le-leb, lt-leb, one_below_fails}
+use Rattle.std.specs.Prelude.{◌≡◌, ◌&&◌, ◌+◌, ◌*◌, ◌<◌, ◌≤◌}
+use Rattle.basics.proofs.Words.{refl, Bool, true, false, List, ℕ, length, eqb, leb, add-one, every_below, le-leb, lt-leb, one_below_fails}
 use Rattle.layout.specs.Layout.{offset_of, length_of, due_offset, in_place, laid_out}
 
 -- the next part has to start where part i ends

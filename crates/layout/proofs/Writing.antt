@@ -1,5 +1,6 @@
 -- Laws of a target whose front has been written. Assumes nothing.
-use Rattle.basics.specs.Words.{◌≡◌, refl, ap, sym, ◌∙◌, List, [], ◌∷◌, ◌++◌, append-nil, append_assoc, ℕ, suc, ◌+◌, ◌*◌, ◌-◌, ◌/◌, ◌%◌, ◌<◌, ◌≤◌, arith, length, get_or, take, drop, set, length-append, length-drop, take-append-drop, drop_of_length-le, take-suc, drop-cons, set_at, append_snoc, length-take-le, take_at, drop_at, take-add, drop-drop, take_all, take-length, drop-set-lt, drop-append-add, add-one}
+use Rattle.std.specs.Prelude.{◌≡◌, ◌∷◌, ◌++◌, ◌+◌, ◌*◌, ◌-◌, ◌/◌, ◌%◌, ◌<◌, ◌≤◌}
+use Rattle.basics.specs.Words.{refl, ap, sym, ◌∙◌, List, [], append-nil, append_assoc, ℕ, suc, arith, length, get_or, take, drop, set, length-append, length-drop, take-append-drop, drop_of_length-le, take-suc, drop-cons, set_at, append_snoc, length-take-le, take_at, drop_at, take-add, drop-drop, take_all, take-length, drop-set-lt, drop-append-add, add-one}
 use borrow.Rule.Slice.PartMut.{put_mid}
 use Rattle.layout.specs.Packing.{total, table, packed}
 use Rattle.layout.specs.Laws.Places.{PlaceAt}

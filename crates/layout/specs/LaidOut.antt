@@ -1,5 +1,6 @@
 -- What a layout promises: each part lies within the bytes, behind the one before it. Assumes nothing.
-use Rattle.basics.proofs.Words.{◌≡◌, ap, ◌∙◌, true, ◌&&◌, List, ℕ, zero, suc, ◌+◌, ◌*◌, ◌-◌, ◌<◌, ◌≤◌, arith, length, get_or, drop, length-drop, length-map, eqb, leb, length-take-le, every_below, numbers_below, left, right, both, map_at, every_at, each_below, length_numbers, number_at}
+use Rattle.std.specs.Prelude.{◌≡◌, ◌&&◌, ◌+◌, ◌*◌, ◌-◌, ◌<◌, ◌≤◌}
+use Rattle.basics.proofs.Words.{ap, ◌∙◌, true, List, ℕ, zero, suc, arith, length, get_or, drop, length-drop, length-map, eqb, leb, length-take-le, every_below, numbers_below, left, right, both, map_at, every_at, each_below, length_numbers, number_at}
 use Rattle.std.proofs.Common.{leb-true, eqb-true, le-leb, eq-eqb}
 use Rattle.layout.specs.Layout.{offset_of, length_of, due_offset, in_place, laid_out, part_of, parts_in}
 

@@ -1,6 +1,7 @@
 -- The layout of parts in a byte string: from byte 2 on, a table with the place of each part, its 16-bit offset and its 16-bit length; then
 -- the parts, one after another. How many there are is handed in.
-use Rattle.basics.specs.Words.{Bool, ◌&&◌, List, map, ℕ, zero, suc, ◌+◌, ◌*◌, ◌<◌, length, get_or, take, drop, eqb, leb, every_below, numbers_below}
+use Rattle.std.specs.Prelude.{◌&&◌, ◌+◌, ◌*◌, ◌<◌}
+use Rattle.basics.specs.Words.{Bool, List, map, ℕ, zero, suc, length, get_or, take, drop, eqb, leb, every_below, numbers_below}
 
 -- every element is a byte
 abbrev pub Bytes : List ℕ → Type 0

@@ -1,5 +1,6 @@
 -- The bytes of a card: its table and its parts, joined.
-use Rattle.basics.specs.Words.{List, [], ◌∷◌, ◌++◌, ℕ, ◌+◌, ◌*◌, ◌/◌, ◌%◌, length, take, drop}
+use Rattle.std.specs.Prelude.{◌∷◌, ◌++◌, ◌+◌, ◌*◌, ◌/◌, ◌%◌}
+use Rattle.basics.specs.Words.{List, [], ℕ, length, take, drop}
 
 -- the sum of the lengths, without wrapping
 unfoldable pub total : List ℕ → ℕ

@@ -2,7 +2,8 @@
 // machines lie so.
 #![tactic(auto)]
 
-ghost use Rattle.basics.specs.Words.{◌≡◌, ◌+◌, ◌*◌, ◌<◌, ◌≤◌, length};
+ghost use Rattle.std.specs.Prelude.{◌≡◌, ◌+◌, ◌*◌, ◌<◌, ◌≤◌};
+ghost use Rattle.basics.specs.Words.{length};
 ghost use Rattle.layout.specs.Layout.{short_at, offset_of, length_of, laid_out, part_of};
 ghost use Rattle.layout.specs.LaidOut.{PartWithin};
 

@@ -1,5 +1,6 @@
 // Packing: the sum of the lengths, and the writing of a card.
-ghost use Rattle.basics.specs.Words.{◌≡◌, ◌++◌, ◌+◌, ◌*◌, ◌/◌, ◌%◌, ◌<◌, ◌≤◌, length, take, drop, set};
+ghost use Rattle.std.specs.Prelude.{◌≡◌, ◌++◌, ◌+◌, ◌*◌, ◌/◌, ◌%◌, ◌<◌, ◌≤◌};
+ghost use Rattle.basics.specs.Words.{length, take, drop, set};
 ghost use Rattle.layout.specs.Packing.{total, table};
 
 // A part's length as a number to index with.

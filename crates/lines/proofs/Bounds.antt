@@ -1,5 +1,6 @@
 -- The bounds of what parsing and the next line answer, for whoever calls them. Assumes nothing.
-use Rattle.basics.proofs.Words.{◌≡◌, refl, Bool, true, false, List, ◌++◌, Option, some, none, ℕ, ◌+◌, ◌<◌, ◌≤◌, arith, length, drop, length-map, length-take, length-drop, leb, leb-true, leb-false}
+use Rattle.std.specs.Prelude.{◌≡◌, ◌++◌, ◌+◌, ◌<◌, ◌≤◌}
+use Rattle.basics.proofs.Words.{refl, Bool, true, false, List, Option, some, none, ℕ, arith, length, drop, length-map, length-take, length-drop, leb, leb-true, leb-false}
 use Rattle.lines.specs.declared.Parsed.{Parsed}
 use Rattle.lines.specs.declared.Next.{Next}
 use Rattle.writing.specs.Text.{space, line_end, before, after}

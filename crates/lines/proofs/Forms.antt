@@ -1,5 +1,6 @@
 -- Laws of the forms of a line's parts. Assumes nothing.
-use Rattle.basics.proofs.Words.{◌≡◌, refl, ap, sym, ◌∙◌, Bool, true, false, ◌&&◌, and-false, List, [], ◌∷◌, map, some, none, ℕ, ◌+◌, ◌-◌, ◌*◌, ◌<◌, ◌≤◌, zero-le, arith, length, length-map, take, drop, leb, suc-ne-zero, all_of, leb-true, le-leb, lt-leb, left, right}
+use Rattle.std.specs.Prelude.{◌≡◌, ◌&&◌, ◌∷◌, ◌+◌, ◌-◌, ◌*◌, ◌<◌, ◌≤◌}
+use Rattle.basics.proofs.Words.{refl, ap, sym, ◌∙◌, Bool, true, false, and-false, List, [], map, some, none, ℕ, zero-le, arith, length, length-map, take, drop, leb, suc-ne-zero, all_of, leb-true, le-leb, lt-leb, left, right}
 use Rattle.lines.specs.declared.Parsed.TheVariants.{BadLine, Line}
 use Rattle.lines.specs.declared.Parsed.{Parsed}
 use Rattle.writing.specs.Text.{space, comma, before, after, segments}

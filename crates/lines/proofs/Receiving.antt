@@ -1,5 +1,6 @@
 -- Laws of the bytes that are kept of a line, and of the next line. Assumes nothing.
-use Rattle.basics.proofs.Words.{◌≡◌, refl, ap, sym, ◌∙◌, Bool, true, false, List, ◌++◌, ℕ, ◌+◌, ◌-◌, ◌≤◌, min, arith, length, take, length-take, length-append, leb, take_all, take-take, take-append-add, length-take-le, sets-eq, leb-true, leb-false}
+use Rattle.std.specs.Prelude.{◌≡◌, ◌++◌, ◌+◌, ◌-◌, ◌≤◌}
+use Rattle.basics.proofs.Words.{refl, ap, sym, ◌∙◌, Bool, true, false, List, ℕ, min, arith, length, take, length-take, length-append, leb, take_all, take-take, take-append-add, length-take-le, sets-eq, leb-true, leb-false}
 use Rattle.lines.specs.declared.Next.TheVariants.{Line, Open}
 use Rattle.writing.specs.Text.{line_end, before}
 use Rattle.writing.specs.Buffers.{Written, at_front}

@@ -1,5 +1,6 @@
 -- The fourth example of the ten, as the program reads and prints it, and lines of the empty word.
-use Rattle.basics.specs.Words.{◌≡◌, refl, [], ◌∷◌, some, none, joined, all_of}
+use Rattle.std.specs.Prelude.{◌≡◌, ◌∷◌}
+use Rattle.basics.specs.Words.{refl, [], some, none, joined, all_of}
 use Rattle.candidate.specs.Candidates.{pairs_of}
 use Rattle.writing.specs.Text.{before, after, segments, text_of}
 use Rattle.writing.specs.Decimal.{digits_within, decimal, value_from}

@@ -1,5 +1,6 @@
 -- The lines of an input, and what is taken of them from its segments.
-use Rattle.basics.specs.Words.{true, false, List, [], ◌∷◌, ◌++◌, some, none, ℕ, ◌+◌, length, take, eqb}
+use Rattle.std.specs.Prelude.{◌∷◌, ◌++◌, ◌+◌}
+use Rattle.basics.specs.Words.{true, false, List, [], some, none, ℕ, length, take, eqb}
 use Rattle.lines.specs.declared.Next.{Next}
 use Rattle.lines.specs.declared.Next.TheVariants.{Line, Open}
 use Rattle.writing.specs.Text.{line_end, to_first, before, after}

@@ -1,5 +1,6 @@
 -- However the input is cut into pieces, the lines taken are its lines; and each call for the next line takes them in turn.
-use Rattle.basics.specs.Words.{◌≡◌, refl, ap, sym, ◌∙◌, Bool, true, false, List, [], ◌∷◌, ◌++◌, map, append-nil, some, none, ℕ, zero, suc, ◌≤◌, arith, length, take, length-take, eqb, leb, take_all, append_snoc, joined}
+use Rattle.std.specs.Prelude.{◌≡◌, ◌∷◌, ◌++◌, ◌≤◌}
+use Rattle.basics.specs.Words.{refl, ap, sym, ◌∙◌, Bool, true, false, List, [], map, append-nil, some, none, ℕ, zero, suc, arith, length, take, length-take, eqb, leb, take_all, append_snoc, joined}
 use Rattle.std.proofs.Common.{leb-true, leb-false}
 use Rattle.std.proofs.lemmas.Bool.{lt-leb}
 use Rattle.writing.specs.Text.{line_end, to_first, before, after}

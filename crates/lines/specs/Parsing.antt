@@ -1,5 +1,6 @@
 -- An input line: ranking digits, a space, symbols in decimal with commas, or none.
-use Rattle.basics.specs.Words.{Bool, true, false, ◌&&◌, List, [], ◌∷◌, map, Option, some, none, ℕ, length, leb, all_of}
+use Rattle.std.specs.Prelude.{◌&&◌, ◌∷◌}
+use Rattle.basics.specs.Words.{Bool, true, false, List, [], map, Option, some, none, ℕ, length, leb, all_of}
 use Rattle.lines.specs.declared.Parsed.{Parsed}
 use Rattle.lines.specs.declared.Parsed.TheVariants.{BadLine, Line}
 use Rattle.writing.specs.Text.{space, comma, before, after, segments}

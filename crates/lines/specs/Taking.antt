@@ -1,5 +1,6 @@
 -- What is taken of an input that comes in pieces, byte by byte.
-use Rattle.basics.specs.Words.{true, false, List, [], ◌∷◌, ◌++◌, ℕ, eqb}
+use Rattle.std.specs.Prelude.{◌∷◌, ◌++◌}
+use Rattle.basics.specs.Words.{true, false, List, [], ℕ, eqb}
 use Rattle.writing.specs.Text.{line_end}
 use Rattle.lines.specs.Input.{kept}
 

@@ -1,5 +1,6 @@
 // Taking the lines out of the input, which comes in pieces.
-ghost use Rattle.basics.specs.Words.{◌≡◌, ◌++◌, ◌≤◌, length, take, drop};
+ghost use Rattle.std.specs.Prelude.{◌≡◌, ◌++◌, ◌≤◌};
+ghost use Rattle.basics.specs.Words.{length, take, drop};
 ghost use Rattle.writing.specs.Text.{line_end, before};
 ghost use Rattle.writing.specs.Buffers.{at_front};
 ghost use Rattle.lines.specs.Input.{kept, next_of};

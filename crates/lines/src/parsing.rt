@@ -1,5 +1,6 @@
 // Parsing an input line.
-ghost use Rattle.basics.specs.Words.{◌≡◌, true, map, ◌≤◌, length, all_of};
+ghost use Rattle.std.specs.Prelude.{◌≡◌, ◌≤◌};
+ghost use Rattle.basics.specs.Words.{true, map, length, all_of};
 ghost use Rattle.writing.specs.Decimal.{is_digit, digit_value, value_of};
 ghost use Rattle.lines.specs.Parsing.{is_ranking_text, is_symbol_text, symbols_in, is_word_text, parsed_line, parsed_answer, ranking_of, word_of};
 ghost use Rattle.writing.specs.Buffers.{at_front};

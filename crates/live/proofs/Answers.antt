@@ -1,5 +1,6 @@
 -- From the numbers of the checks and from what is done to the rows to the answers of the calls. Assumes nothing.
-use Rattle.basics.specs.Words.{◌≡◌, refl, sym, ap, ◌∙◌, Bool, true, false, not, List, ℕ, ◌+◌, ◌-◌, ◌<◌, arith, length, take, lit<}
+use Rattle.std.specs.Prelude.{◌≡◌, ◌+◌, ◌-◌, ◌<◌}
+use Rattle.basics.specs.Words.{refl, sym, ap, ◌∙◌, Bool, true, false, not, List, ℕ, arith, length, take, lit<}
 use Rattle.refusals.specs.Refusals.{refuse, unless_refused}
 use Rattle.refusals.proofs.Refusals.{passed, accepted, not_accepted}
 use Rattle.ranking.specs.Rankings.{is_machine_count, is_ranking}

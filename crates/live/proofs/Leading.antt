@@ -1,5 +1,6 @@
 -- Going down the rows with the better of two finds the first row that none beats. Assumes nothing.
-use Rattle.basics.proofs.Words.{◌≡◌, refl, sym, ap, ◌∙◌, Bool, true, false, not, List, [], ◌∷◌, Option, some, ℕ, all_of, first_that, not-true, same, both, left, right, clash, fails}
+use Rattle.std.specs.Prelude.{◌≡◌, ◌∷◌}
+use Rattle.basics.proofs.Words.{refl, sym, ap, ◌∙◌, Bool, true, false, not, List, [], Option, some, ℕ, all_of, first_that, not-true, same, both, left, right, clash, fails}
 use Rattle.ranking.specs.Harmony.{better, is_better}
 use Rattle.ranking.specs.HarmonicInequality.{itself, transitive, not_better}
 use Rattle.live.specs.declared.Row.{Row}

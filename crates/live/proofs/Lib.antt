@@ -1,7 +1,3 @@
-pub mod RowKind
-pub mod CheckedKind
-pub mod Shared
-pub mod Tests
 pub mod Places
 pub mod Leading
 pub mod Answers

@@ -1,5 +1,7 @@
 -- Laws of the search for an id, of the removal and of the search for the best row, for the loops. Assumes nothing.
-use Rattle.basics.proofs.Words.{◌≡◌, refl, sym, ap, ◌∙◌, Bool, true, false, not, List, [], ◌∷◌, ◌++◌, ℕ, zero, suc, ◌+◌, ◌-◌, ◌<◌, ◌≤◌, arith, length, set, take, drop, length-set, length-take, eqb, lit<, drop-cons, zero-add, sub-zero, add-one, eqb-true, eqb-false, not-true, not-false}
+use Rattle.std.specs.Prelude.{◌≡◌, ◌∷◌, ◌++◌, ◌+◌, ◌-◌, ◌<◌, ◌≤◌}
+use Rattle.basics.proofs.Words.{refl, sym, ap, ◌∙◌, Bool, true, false, not, List, [], ℕ, zero, suc, arith, get_or, length, set, take, drop, length-set, length-take, eqb, lit<, drop-cons, zero-add, sub-zero, add-one, eqb-true, eqb-false, not-true, not-false}
+use Rattle.std.proofs.lemmas.List.{get_or_default}
 use Rattle.refusals.specs.declared.Refusal.{Refusal}
 use Rattle.refusals.specs.declared.Checked.{Checked}
 use Rattle.refusals.specs.declared.Checked.TheVariants.{Passed, Refused}
@@ -14,11 +16,11 @@ use Rattle.live.specs.Steps.{row_at, place, closing_by, putting_in, taking_out, 
 abbrev pub rest : ℕ → List Row → ℕ → List Row
 rest count l i = take (count - i) (drop i l)
 
-rest_next : (count : ℕ) (l : List Row) (i : ℕ) → i < count → i < length l → rest count l i ≡ row_at l i ∷ rest count l (i + 1)
-rest_next count l i h k =
+rest_next : (count : ℕ) (l : List Row) (i : ℕ) (d : Row) → i < count → i < length l → rest count l i ≡ get_or l i d ∷ rest count l (i + 1)
+rest_next count l i d h k =
     let e : count - i ≡ suc (count - (i + 1)) = omega arith in
-    let d : drop i l ≡ row_at l i ∷ drop (i + 1) l = rw add-one (drop-cons l i zero_row k) in
-    rw (e, d)
+    let f : drop i l ≡ get_or l i d ∷ drop (i + 1) l = rw add-one (drop-cons l i d k) in
+    rw (e, f)
 
 place_none : (id : ℕ) {l : List Row} {r : Row} {t : List Row} → l ≡ r ∷ t → has_id id r ≡ false → place id l ≡ suc (place id t)
 unfolding place
@@ -36,14 +38,14 @@ pub record Sought (id count : ℕ) (l : List Row) (i : ℕ) : Type 0 where
 pub sought_start : (id count : ℕ) (l : List Row) → Sought id count l 0
 sought_start id count l = record { within = omega arith; same = zero-add _ ∙ ap (λ (n : ℕ). place id (take n l)) (sub-zero count) }
 
-pub sought_next : {id count : ℕ} {l : List Row} {i : ℕ} → Sought id count l i → i < count → count ≤ length l → has_id id (row_at l i) ≡ false → Sought id count l (i + 1)
-sought_next {id} {count} {l} {i} s h k f =
-    let p = place_none id (rest_next count l i h (omega (arith, h, k))) f in
+pub sought_next : {id count : ℕ} {l : List Row} {i : ℕ} (d : Row) → Sought id count l i → i < count → count ≤ length l → has_id id (get_or l i d) ≡ false → Sought id count l (i + 1)
+sought_next {id} {count} {l} {i} d s h k f =
+    let p = place_none id (rest_next count l i d h (omega (arith, h, k))) f in
     record { within = omega arith; same = omega (arith, p, s.same) }
 
-pub sought_here : {id count : ℕ} {l : List Row} {i : ℕ} → Sought id count l i → i < count → count ≤ length l → has_id id (row_at l i) ≡ true → i ≡ place id (take count l)
-sought_here {id} {count} {l} {i} s h k f =
-    let p = place_here id (rest_next count l i h (omega (arith, h, k))) f in
+pub sought_here : {id count : ℕ} {l : List Row} {i : ℕ} (d : Row) → Sought id count l i → i < count → count ≤ length l → has_id id (get_or l i d) ≡ true → i ≡ place id (take count l)
+sought_here {id} {count} {l} {i} d s h k f =
+    let p = place_here id (rest_next count l i d h (omega (arith, h, k))) f in
     omega (arith, p, s.same)
 
 pub sought_end : {id count : ℕ} {l : List Row} {i : ℕ} → Sought id count l i → count ≤ i → i ≡ place id (take count l)
@@ -67,13 +69,15 @@ closing_next : (n i : ℕ) (m : List Row) {k : ℕ} → k ≡ suc n → closing_
 unfolding closing_by
 closing_next n i m e = rw e
 
-pub closed_next : {at last : ℕ} {l m : List Row} {i : ℕ} → Closed at last l m i → i < last → Closed at last l (set m i (row_at m (i + 1))) (i + 1)
-closed_next {at} {last} {l} {m} {i} c h = record {
-  from = omega (arith, c);
-  within = omega arith;
-  long = length-set m i (row_at m (i + 1)) ∙ c.long;
-  same = closing_next (last - (i + 1)) i m (omega arith) ∙ c.same;
-}
+pub closed_next : {at last : ℕ} {l m : List Row} {i : ℕ} (d : Row) → Closed at last l m i → i < last → last < length l → Closed at last l (set m i (get_or m (i + 1) d)) (i + 1)
+closed_next {at} {last} {l} {m} {i} d c h k =
+    let e : get_or m (i + 1) d ≡ row_at m (i + 1) = get_or_default m (i + 1) d zero_row (omega (arith, c.long)) in
+    record {
+      from = omega (arith, c);
+      within = omega arith;
+      long = length-set m i (get_or m (i + 1) d) ∙ c.long;
+      same = ap (λ (r : Row). closing_by (last - (i + 1)) (i + 1) (set m i r)) e ∙ closing_next (last - (i + 1)) i m (omega arith) ∙ c.same;
+    }
 
 pub closed_end : {at last : ℕ} {l m : List Row} {i : ℕ} → Closed at last l m i → last ≤ i → set m i zero_row ≡ closing_by (last - at) at l
 unfolding closing_by
@@ -238,11 +242,11 @@ pub record Led (ranking : List ℕ) (count : ℕ) (l : List Row) (best : Row) (i
   pub within : i ≤ count
   pub same : led (best_from ranking best (rest count l i)) ≡ leader_down ranking (take count l)
 
-pub led_start : (ranking : List ℕ) (count : ℕ) (l : List Row) → 0 < count → count ≤ length l → Led ranking count l (row_at l 0) 1
+pub led_start : (ranking : List ℕ) (count : ℕ) (l : List Row) (d : Row) → 0 < count → count ≤ length l → Led ranking count l (get_or l 0 d) 1
 unfolding leader_down
-led_start ranking zero l h k = absurd (omega arith)
-led_start ranking (suc n) [] h k = absurd (omega arith)
-led_start ranking (suc n) (r ∷ l) h k =
+led_start ranking zero l d h k = absurd (omega arith)
+led_start ranking (suc n) [] d h k = absurd (omega arith)
+led_start ranking (suc n) (r ∷ l) d h k =
     let e : suc n - 1 ≡ n = omega arith in
     record { within = omega arith; same = ap (λ (m : ℕ). led (best_from ranking r (take m l))) e }
 
@@ -250,10 +254,10 @@ best_next : (ranking : List ℕ) (best : Row) {l : List Row} {r : Row} {t : List
 unfolding best_from
 best_next ranking best e = rw e
 
-pub led_next : {ranking : List ℕ} {count : ℕ} {l : List Row} {best : Row} {i : ℕ} → Led ranking count l best i → i < count → count ≤ length l → {next : Row} → next ≡ better_of ranking (row_at l i) best → Led ranking count l next (i + 1)
-led_next {ranking} {count} {l} {best} {i} d h k {next} e = record {
+pub led_next : {ranking : List ℕ} {count : ℕ} {l : List Row} {best : Row} {i : ℕ} (d : Row) → Led ranking count l best i → i < count → count ≤ length l → {next : Row} → next ≡ better_of ranking (get_or l i d) best → Led ranking count l next (i + 1)
+led_next {ranking} {count} {l} {best} {i} d s h k {next} e = record {
   within = omega arith;
-  same = ap (λ (b : Row). led (best_from ranking b (rest count l (i + 1)))) e ∙ ap led (sym (best_next ranking best (rest_next count l i h (omega (arith, h, k))))) ∙ d.same;
+  same = ap (λ (b : Row). led (best_from ranking b (rest count l (i + 1)))) e ∙ ap led (sym (best_next ranking best (rest_next count l i d h (omega (arith, h, k))))) ∙ s.same;
 }
 
 pub led_end : {ranking : List ℕ} {count : ℕ} {l : List Row} {best : Row} {i : ℕ} → Led ranking count l best i → count ≤ i → led best ≡ leader_down ranking (take count l)

@@ -1,5 +1,6 @@
 -- Adds and removals that were run on one list of records, as their contracts tell them; and the rows worked out afresh from the accepted calls alone.
-use Rattle.basics.specs.Words.{◌≡◌, Bool, true, false, ◌||◌, List, [], ◌∷◌, ◌++◌, ℕ, ◌<◌, eqb}
+use Rattle.std.specs.Prelude.{◌≡◌, ◌||◌, ◌∷◌, ◌++◌, ◌<◌}
+use Rattle.basics.specs.Words.{Bool, true, false, List, [], ℕ, eqb}
 use Rattle.live.specs.declared.Row.{Row}
 use Rattle.live.specs.declared.Counted.{Counted}
 use Rattle.live.specs.Calls.{Adds, Removes}

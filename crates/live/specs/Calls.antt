@@ -1,5 +1,6 @@
 -- What add, remove and the leader's call answer, and what the first two leave in the lent list.
-use Rattle.basics.specs.Words.{◌≡◌, not, List, [], ◌∷◌, ℕ, ◌+◌, ◌-◌, length, take}
+use Rattle.std.specs.Prelude.{◌≡◌, ◌∷◌, ◌+◌, ◌-◌}
+use Rattle.basics.specs.Words.{not, List, [], ℕ, length, take}
 use Rattle.refusals.specs.Refusals.{refuse, first_of, unless_refused}
 use Rattle.ranking.specs.Rankings.{is_machine_count, is_ranking}
 use Rattle.live.specs.declared.Row.{Row}

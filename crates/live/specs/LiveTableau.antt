@@ -1,6 +1,7 @@
 -- For every list of adds and removals from an empty table, rows and leader are those worked out afresh from the ids added and not since removed.
 -- Assumes nothing.
-use Rattle.basics.proofs.Words.{◌≡◌, refl, sym, ap, ◌∙◌, subst, true, false, not, List, [], ◌∷◌, ◌++◌, append-nil, append_assoc, ℕ, zero, suc, ◌+◌, ◌-◌, ◌<◌, ◌≤◌, arith, length, set, take, drop, length-append, length-drop, length-set, ltb, lit<, length-take-le, take-suc-set, take_at, pairwise, both, left, right, pairwise_those}
+use Rattle.std.specs.Prelude.{◌≡◌, ◌∷◌, ◌++◌, ◌+◌, ◌-◌, ◌<◌, ◌≤◌}
+use Rattle.basics.proofs.Words.{refl, sym, ap, ◌∙◌, subst, true, false, not, List, [], append-nil, append_assoc, ℕ, zero, suc, arith, length, set, take, drop, length-append, length-drop, length-set, ltb, lit<, length-take-le, take-suc-set, take_at, pairwise, both, left, right, pairwise_those}
 use Rattle.std.proofs.Common.{ltb-true, le-leb}
 use Rattle.std.proofs.lemmas.Bool.{not-true}
 use Rattle.refusals.specs.Refusals.{refuse, first_of, unless_refused}

@@ -1,5 +1,6 @@
 -- The rows of a live tableau, in order of arrival, and what a list of records is after a row is added or removed: its first records are the rows.
-use Rattle.basics.specs.Words.{Bool, true, false, not, ◌||◌, List, [], ◌∷◌, ◌++◌, Option, some, none, ℕ, set, take, drop, eqb, all_of, first_that}
+use Rattle.std.specs.Prelude.{◌||◌, ◌∷◌, ◌++◌}
+use Rattle.basics.specs.Words.{Bool, true, false, not, List, [], Option, some, none, ℕ, set, take, drop, eqb, all_of, first_that}
 use Rattle.ranking.specs.Profiles.{zero_profile}
 use Rattle.ranking.specs.Harmony.{better}
 use Rattle.live.specs.declared.Row.{Row}

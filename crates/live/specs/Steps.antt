@@ -1,5 +1,6 @@
 -- The steps by which the code finds, moves and compares rows.
-use Rattle.basics.specs.Words.{Bool, true, false, List, [], ◌∷◌, ℕ, zero, suc, ◌+◌, ◌-◌, get_or, set, take}
+use Rattle.std.specs.Prelude.{◌∷◌, ◌+◌, ◌-◌}
+use Rattle.basics.specs.Words.{Bool, true, false, List, [], ℕ, zero, suc, get_or, set, take}
 use Rattle.ranking.specs.Harmony.{better}
 use Rattle.live.specs.declared.Row.{Row}
 use Rattle.live.specs.declared.Lead.{Lead}

@@ -1,7 +1,8 @@
 // The live tableau: rows proposed and withdrawn in class, kept in a lent list of records in order of arrival, and the leader among them.
 #![tactic(auto)]
 
-ghost use Rattle.basics.specs.Words.{◌≡◌, true, not, ◌+◌, ◌-◌, ◌<◌, ◌≤◌, length, take};
+ghost use Rattle.std.specs.Prelude.{◌≡◌, ◌+◌, ◌-◌, ◌<◌, ◌≤◌};
+ghost use Rattle.basics.specs.Words.{true, not, length, take};
 ghost use Rattle.refusals.specs.Refusals.{checked_number, refuse, unless_refused};
 ghost use Rattle.ranking.specs.Rankings.{is_ranking};
 ghost use Rattle.live.specs.Rows.{zero_row, has_id, present, counted, refused_count, unled, led};
@@ -35,7 +36,7 @@ pub struct Lead {
 }
 
 // What a freed record is set to.
-fn zero_row_lem() -> Row
+fn zero_row() -> Row
     ensures { result ≡ zero_row }
 {
     Row {
@@ -107,7 +108,7 @@ fn no_leader(answer: Checked) -> Lead
     Lead {
         number: answer.number(),
         any: false,
-        row: zero_row_lem(),
+        row: zero_row(),
     }
 }
 
@@ -150,7 +151,7 @@ fn close_gap(rows: &mut [Row], at: usize, last: usize)
         rows[i] = row;
         i = next;
     }
-    let row = zero_row_lem();
+    let row = zero_row();
     rows[i] = row;
 }
 

@@ -1,5 +1,6 @@
 -- Two arcs take one pair exactly when there is a pair, of the symbols that a set can have, that both take. Assumes nothing.
-use Rattle.basics.proofs.Words.{◌≡◌, true, ◌&&◌, ◌<◌, some_below, both, left, right, found_below, finds_below}
+use Rattle.std.specs.Prelude.{◌≡◌, ◌&&◌, ◌<◌}
+use Rattle.basics.proofs.Words.{true, some_below, both, left, right, found_below, finds_below}
 use Rattle.machine.specs.declared.Arc.{Arc}
 use Rattle.machine.specs.declared.Pair.{Pair}
 use Rattle.machine.specs.Symbols.{is_pair}

@@ -1,5 +1,6 @@
 -- Constraint machines: arcs, the pairs that they take, steps, endings.
-use Rattle.basics.specs.Words.{Bool, true, false, not, ◌&&◌, List, [], ◌∷◌, Option, some, none, ℕ, zero, suc, length, get_or, eqb, some_below, member}
+use Rattle.std.specs.Prelude.{◌&&◌, ◌∷◌}
+use Rattle.basics.specs.Words.{Bool, true, false, not, List, [], Option, some, none, ℕ, zero, suc, length, get_or, eqb, some_below, member}
 use Rattle.machine.specs.declared.Arc.{Arc}
 use Rattle.machine.specs.declared.Pair.{Pair}
 use Rattle.machine.specs.declared.Ending.{Ending}

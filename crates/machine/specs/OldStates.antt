@@ -1,5 +1,6 @@
 -- Parts from before ending marks, whose state bytes are 0 and 1, as they were read then. Assumes nothing.
-use Rattle.basics.proofs.Words.{◌≡◌, refl, sym, ◌∙◌, ap, Bool, true, false, List, [], ◌∷◌, map, Option, some, none, ℕ, zero, suc, arith, get_or, eqb, leb, all_of, both, left, right}
+use Rattle.std.specs.Prelude.{◌≡◌, ◌∷◌}
+use Rattle.basics.proofs.Words.{refl, sym, ◌∙◌, ap, Bool, true, false, List, [], map, Option, some, none, ℕ, zero, suc, arith, get_or, eqb, leb, all_of, both, left, right}
 use Rattle.std.proofs.Common.{leb-true, le-leb}
 use Rattle.refusals.specs.Refusals.{refuse, first_of}
 use Rattle.machine.specs.declared.Arc.{Arc}

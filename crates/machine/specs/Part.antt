@@ -1,5 +1,6 @@
 -- A machine part of a card: the machine that its bytes are, and its refusal.
-use Rattle.basics.specs.Words.{Bool, ◌&&◌, not, List, [], ◌∷◌, map, Option, some, none, ℕ, zero, suc, ◌+◌, ◌*◌, ◌^◌, length, get_or, eqb, ltb, leb, slice, all_of, pairwise}
+use Rattle.std.specs.Prelude.{◌&&◌, ◌∷◌, ◌+◌, ◌*◌, ◌^◌}
+use Rattle.basics.specs.Words.{Bool, not, List, [], map, Option, some, none, ℕ, zero, suc, length, get_or, eqb, ltb, leb, slice, all_of, pairwise}
 use Rattle.refusals.specs.Refusals.{refuse, first_of}
 use Rattle.machine.specs.declared.Arc.{Arc}
 use Rattle.machine.specs.Machine.{Machine, clash}

@@ -1,5 +1,6 @@
 -- What an arc's kind says of the pairs that it takes; arcs of kinds 1 and 2 never clash. Assumes nothing.
-use Rattle.basics.proofs.Words.{◌≡◌, true, false, ◌&&◌, ℕ, zero, suc, arith, eqb, member, fails, left, right}
+use Rattle.std.specs.Prelude.{◌≡◌, ◌&&◌}
+use Rattle.basics.proofs.Words.{true, false, ℕ, zero, suc, arith, eqb, member, fails, left, right}
 use Rattle.std.proofs.Common.{eqb-true}
 use Rattle.std.proofs.lemmas.Bool.{eqb-false, not-true}
 use Rattle.machine.specs.declared.Arc.{Arc}

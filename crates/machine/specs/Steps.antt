@@ -1,5 +1,6 @@
 -- Steps and endings of an accepted part: at most one arc of a state takes a pair, and the bounds of what is handed back. Assumes nothing.
-use Rattle.basics.proofs.Words.{◌≡◌, refl, sym, ap, ◌∙◌, Bool, true, false, List, [], ◌∷◌, map, some, none, Option·none-ne-some, ℕ, zero, suc, ◌<◌, ◌≤◌, arith, length, get_or, length-map, List·getD-map, List·getD-eq-default, eqb, ltb, leb, clash as never, both, left, right, all_at, pairwise_at}
+use Rattle.std.specs.Prelude.{◌≡◌, ◌∷◌, ◌<◌, ◌≤◌}
+use Rattle.basics.proofs.Words.{refl, sym, ap, ◌∙◌, Bool, true, false, List, [], map, some, none, Option·none-ne-some, ℕ, zero, suc, arith, length, get_or, length-map, List·getD-map, List·getD-eq-default, eqb, ltb, leb, clash as never, both, left, right, all_at, pairwise_at}
 use Rattle.std.proofs.Common.{ltb-true, ltb-false, leb-true, eqb-true, eq-eqb}
 use Rattle.std.proofs.lemmas.Bool.{not-true}
 use Rattle.machine.specs.declared.Arc.{Arc}

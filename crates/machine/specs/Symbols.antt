@@ -1,5 +1,6 @@
 -- Symbols and pairs.
-use Rattle.basics.specs.Words.{Bool, ◌&&◌, not, ℕ, eqb, leb}
+use Rattle.std.specs.Prelude.{◌&&◌}
+use Rattle.basics.specs.Words.{Bool, not, ℕ, eqb, leb}
 use Rattle.machine.specs.declared.Pair.{Pair}
 pub use Rattle.symbols.specs.Symbols.{empty_symbol, first_symbol}
 

@@ -1,7 +1,8 @@
 // Constraint machines: pairs of symbols, arcs, steps and endings.
 #![tactic(auto)]
 
-ghost use Rattle.basics.specs.Words.{◌≡◌, true, ℕ, ◌<◌, ◌^◌, get_or, eqb, member};
+ghost use Rattle.std.specs.Prelude.{◌≡◌, ◌<◌, ◌^◌};
+ghost use Rattle.basics.specs.Words.{true, ℕ, get_or, eqb, member};
 ghost use Rattle.machine.specs.Symbols.{empty_symbol, pair_of, is_pair, within_symbols};
 ghost use Rattle.machine.specs.Machine.{start_state, takes, step_of, stepped, ending_of, ended};
 ghost use Rattle.machine.specs.Part.{state_count, arc_count, arcs_of, machine_of, shaped, sound_arc};

@@ -1,5 +1,6 @@
 // A machine part: its arcs.
-ghost use Rattle.basics.specs.Words.{◌≡◌, ◌+◌, ◌*◌, ◌^◌, ◌<◌, ◌≤◌, length};
+ghost use Rattle.std.specs.Prelude.{◌≡◌, ◌+◌, ◌*◌, ◌^◌, ◌<◌, ◌≤◌};
+ghost use Rattle.basics.specs.Words.{length};
 ghost use Rattle.machine.specs.Machine.{takes_from};
 ghost use Rattle.machine.specs.Part.{four_bytes_at, eight_bytes_at, arc_at};
 

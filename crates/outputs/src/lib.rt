@@ -1,7 +1,8 @@
 // The outputs worth trying: of outputs with the same column the first at least.
 #![tactic(auto)]
 
-ghost use Rattle.basics.specs.Words.{◌≡◌, true, ℕ, ◌<◌, ◌≤◌, length, member};
+ghost use Rattle.std.specs.Prelude.{◌≡◌, ◌<◌, ◌≤◌};
+ghost use Rattle.basics.specs.Words.{true, ℕ, length, member};
 ghost use Rattle.outputs.specs.Outputs.{SameColumn, Told, Worth, Wide};
 
 use basics::index;

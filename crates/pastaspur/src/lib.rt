@@ -1,4 +1,4 @@
-// The static library: the public calls as functions that C can call. include/pastaspur.h says what each is lent and answers.
+// The public calls as functions that C can call, which the static library `pastaspur_c` exports. include/pastaspur.h says what each is lent and answers.
 #![tactic(auto)]
 
 ghost use Rattle.std.specs.Prelude.{◌≡◌, [], ◌∷◌, length};
@@ -26,8 +26,7 @@ use results::{
 };
 
 // The best candidate for a word under a ranking: 1 to 10, 12.
-#[unsafe(no_mangle)]
-pub extern "C" fn pastaspur_optimize(
+pub fn pastaspur_optimize(
     card: &[u8],
     ranking: &[u8],
     word: &[u8],
@@ -43,8 +42,7 @@ pub extern "C" fn pastaspur_optimize(
 }
 
 // The same by Ellison's cull.
-#[unsafe(no_mangle)]
-pub extern "C" fn pastaspur_cull(
+pub fn pastaspur_cull(
     card: &[u8],
     ranking: &[u8],
     word: &[u8],
@@ -60,8 +58,7 @@ pub extern "C" fn pastaspur_cull(
 }
 
 // The best candidate over all words with one symbol from each set: 1 to 8, 25, 9, 10, 12.
-#[unsafe(no_mangle)]
-pub extern "C" fn pastaspur_optimize_sets(
+pub fn pastaspur_optimize_sets(
     card: &[u8],
     ranking: &[u8],
     sets: &[u64],
@@ -80,8 +77,7 @@ pub extern "C" fn pastaspur_optimize_sets(
 }
 
 // The best candidate for a word by weights: 1 to 6, 26, 8, 9, 10, 12.
-#[unsafe(no_mangle)]
-pub extern "C" fn pastaspur_optimize_weights(
+pub fn pastaspur_optimize_weights(
     card: &[u8],
     weights: &[u32],
     word: &[u8],
@@ -97,8 +93,7 @@ pub extern "C" fn pastaspur_optimize_weights(
 }
 
 // The best candidate over all words with one symbol from each set, by Ellison's cull: 1 to 8, 25, 9, 10, 12.
-#[unsafe(no_mangle)]
-pub extern "C" fn pastaspur_cull_sets(
+pub fn pastaspur_cull_sets(
     card: &[u8],
     ranking: &[u8],
     sets: &[u64],
@@ -114,8 +109,7 @@ pub extern "C" fn pastaspur_cull_sets(
 }
 
 // Judges a tableau for a card, a ranking and a word: 1 to 9, 19, 20, 21.
-#[unsafe(no_mangle)]
-pub extern "C" fn pastaspur_judge(
+pub fn pastaspur_judge(
     card: &[u8],
     ranking: &[u8],
     word: &[u8],
@@ -131,8 +125,7 @@ pub extern "C" fn pastaspur_judge(
 }
 
 // Evaluates a candidate on a card: 1 to 6, 13, 14.
-#[unsafe(no_mangle)]
-pub extern "C" fn pastaspur_evaluate(card: &[u8], candidate: &[u8], res: &mut [u16; 8]) -> u32
+pub fn pastaspur_evaluate(card: &[u8], candidate: &[u8], res: &mut [u16; 8]) -> u32
     ensures value { result ≡ (evaluating card.now candidate.now).number }
     ensures res_after { res.new ≡ evaluation_numbers (evaluating card.now candidate.now) }
 {
@@ -140,8 +133,7 @@ pub extern "C" fn pastaspur_evaluate(card: &[u8], candidate: &[u8], res: &mut [u
 }
 
 // Reads a part of a card, its offset and length: 1 to 6, 17.
-#[unsafe(no_mangle)]
-pub extern "C" fn pastaspur_read_part(card: &[u8], machine: u8, res: &mut [usize; 2]) -> u32
+pub fn pastaspur_read_part(card: &[u8], machine: u8, res: &mut [usize; 2]) -> u32
     ensures value { result ≡ (reading card.now machine).number }
     ensures res_after { res.new ≡ place_numbers (reading card.now machine) }
 {
@@ -149,8 +141,7 @@ pub extern "C" fn pastaspur_read_part(card: &[u8], machine: u8, res: &mut [usize
 }
 
 // Packs parts, joined, into a card, and answers its length: 1, 17, 3 to 6, 18.
-#[unsafe(no_mangle)]
-pub extern "C" fn pastaspur_pack(
+pub fn pastaspur_pack(
     symbols: u8,
     lengths: &[u16],
     parts: &[u8],
@@ -165,8 +156,7 @@ pub extern "C" fn pastaspur_pack(
 }
 
 // Joins two machines of a card, and answers the new card's length: 1 to 6, 27, 28, 18.
-#[unsafe(no_mangle)]
-pub extern "C" fn pastaspur_join(
+pub fn pastaspur_join(
     card: &[u8],
     first: u8,
     second: u8,
@@ -181,8 +171,7 @@ pub extern "C" fn pastaspur_join(
 }
 
 // Compares two profiles under a ranking, the order and the machine that decided: 1, 7.
-#[unsafe(no_mangle)]
-pub extern "C" fn pastaspur_compare(
+pub fn pastaspur_compare(
     machines: u8,
     ranking: &[u8],
     first: &[u16; 6],
@@ -202,8 +191,7 @@ pub extern "C" fn pastaspur_compare(
 }
 
 // Derives the condition from two profiles: 1.
-#[unsafe(no_mangle)]
-pub extern "C" fn pastaspur_condition(
+pub fn pastaspur_condition(
     machines: u8,
     first: &[u16; 6],
     second: &[u16; 6],
@@ -217,8 +205,7 @@ pub extern "C" fn pastaspur_condition(
 }
 
 // The smallest ranking that fits every condition of a list: 1, 15, 16.
-#[unsafe(no_mangle)]
-pub extern "C" fn pastaspur_find_ranking(machines: u8, conditions: &[u8], res: &mut [u8; 6]) -> u32
+pub fn pastaspur_find_ranking(machines: u8, conditions: &[u8], res: &mut [u8; 6]) -> u32
     ensures value { result ≡ (finding machines conditions.now).number }
     ensures res_after { res.new ≡ (finding machines conditions.now).ranking }
 {
@@ -226,8 +213,7 @@ pub extern "C" fn pastaspur_find_ranking(machines: u8, conditions: &[u8], res: &
 }
 
 // Adds a row to a live tableau, and answers the new row count: 1, 7, 23, 24.
-#[unsafe(no_mangle)]
-pub extern "C" fn pastaspur_add_row(
+pub fn pastaspur_add_row(
     machines: u8,
     ranking: &[u8],
     count: usize,
@@ -245,8 +231,7 @@ pub extern "C" fn pastaspur_add_row(
 }
 
 // Removes a row from a live tableau, and answers the new row count: 1, 7, 23, 24.
-#[unsafe(no_mangle)]
-pub extern "C" fn pastaspur_remove_row(
+pub fn pastaspur_remove_row(
     machines: u8,
     ranking: &[u8],
     count: usize,
@@ -263,8 +248,7 @@ pub extern "C" fn pastaspur_remove_row(
 }
 
 // The leader of a live tableau: 1, 7, 23.
-#[unsafe(no_mangle)]
-pub extern "C" fn pastaspur_leader(
+pub fn pastaspur_leader(
     machines: u8,
     ranking: &[u8],
     count: usize,

@@ -18,13 +18,17 @@ module _ {A : Type 0} (first second : A → ℕ) where
     lex_string l m = (to l m, from l m)
       where
         to : (l m : List A) → Lex ByNumbers l m → Lex ◌<◌ (string l) (string m)
+        to [] [] h = elim h [ ]
         to [] (b ∷ m) h = tt
+        to (a ∷ l) [] h = elim h [ ]
         to (a ∷ l) (b ∷ m) (inl (inl h)) = inl h
         to (a ∷ l) (b ∷ m) (inl (inr h)) = inr (h.0, inl h.1)
         to (a ∷ l) (b ∷ m) (inr h) = inr (ap first h.0, inr (ap second h.0, to l m h.1))
 
         from : (l m : List A) → Lex ◌<◌ (string l) (string m) → Lex ByNumbers l m
+        from [] [] h = elim h [ ]
         from [] (b ∷ m) h = tt
+        from (a ∷ l) [] h = elim h [ ]
         from (a ∷ l) (b ∷ m) (inl h) = inl (inl h)
         from (a ∷ l) (b ∷ m) (inr (e, inl h)) = inl (inr (e, h))
         from (a ∷ l) (b ∷ m) (inr (e, inr (k, h))) = inr (injective a b e k, from l m h)

@@ -1,11 +1,15 @@
 -- What ends in a piece of the input, and what is held after it, by the lines that are found in it. Assumes nothing.
-use Rattle.basics.specs.Words.{◌≡◌, refl, ap, sym, ◌∙◌, List, [], ◌∷◌, ◌++◌, Option, some, none, ℕ, ◌+◌, ◌≤◌, arith, length, drop, take, length-take, drop-drop, take_at}
+use Rattle.std.specs.Prelude.{◌≡◌, ◌∷◌, ◌++◌, ◌+◌, ◌≤◌}
+use Rattle.basics.specs.Words.{refl, ap, sym, ◌∙◌, List, [], Option, some, none, ℕ, arith, length, drop, take, length-take, drop-drop, take_at}
 use Rattle.lines.specs.declared.Next.TheVariants as next
 use Rattle.writing.specs.Text.{line_end, before, after}
 use Rattle.lines.specs.Input.{kept, next_of}
 use Rattle.writing.specs.Buffers.{at_front}
 use Rattle.lines.specs.Taking.{ended_lines, held_after}
 use Rattle.lines.specs.LinesOfPieces.{next_ended, next_open}
+use Rattle.tally.specs.declared.Tally.{Tally}
+use Rattle.lesson.specs.Tally.{line_tally, lines_tally}
+use Rattle.lesson.specs.TallyLaws.{tally_cons}
 use Rattle.writing.proofs.Cutting.{before_short, after_some}
 
 module _ (line piece : List ℕ) (held from : ℕ) (few : held ≤ 201) where
@@ -70,6 +74,17 @@ module _ (line piece : List ℕ) (held from : ℕ) (few : held ≤ 201) where
           (next_ended rest so_far short h).0
           ∙ ap (λ (k : List ℕ). k ∷ ended_lines [] others) (sym whole)
           ∙ ap (λ (r : List ℕ). take n now ∷ ended_lines [] r) (sym (goes_on n at h e))
+
+  -- so the lines from this one on give the tally, once the line is counted
+  pub counted_on : (card : List ℕ) (t : Tally) (n at : ℕ) {now : List ℕ} {u : Tally} → next_of (take held line) from (drop from piece) ≡ next.Line n at
+      → now ≡ at_front (kept (take held line ++ before line_end (drop from piece))) line
+      → u ≡ line_tally card t (take n now)
+      → lines_tally card u (ended_lines [] (drop at piece)) ≡ lines_tally card t (ended_lines (take held line) (drop from piece))
+  counted_on card t n at {now} e l counted =
+      let others = ended_lines [] (drop at piece) in
+      ap (λ (v : Tally). lines_tally card v others) counted
+      ∙ sym (tally_cons card t (take n now) others)
+      ∙ ap (lines_tally card t) (sym (first_ended n at e l))
 
   -- where none ends, what is kept of the line is held
   pub held_open : (n : ℕ) → next_of (take held line) from (drop from piece) ≡ next.Open n

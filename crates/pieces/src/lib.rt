@@ -2,13 +2,13 @@
 // lesson's closing lines. No contract can speak of what is written to standard output.
 #![tactic(auto)]
 
-ghost use Rattle.basics.specs.Words.{◌≡◌, true, false, [], ◌≤◌, length, take};
+ghost use Rattle.std.specs.Prelude.{◌≡◌, ◌≤◌};
+ghost use Rattle.basics.specs.Words.{true, false, [], length, take};
 ghost use Rattle.writing.specs.Buffers.{at_front};
 ghost use Rattle.lesson.specs.Printed.{Prints};
 ghost use Rattle.lesson.specs.Tally.{is_full, line_tally, line_text, Fits};
 ghost use Rattle.pieces.specs.Pieces.{Answers, printed_pieces};
 
-use libc::STDOUT_FILENO;
 use lines::Next;
 use tally::Tally;
 
@@ -24,14 +24,14 @@ struct Printed {
 
 // Prints the answer to the next line: its text, which is left at the front of `out`. Where it was not written, nothing is promised
 // of the tally: so a caller that goes on after a write that failed cannot keep its own contract.
-fn print_answer(card: &[u8], line: &[u8], tally: Tally, out: &mut [u8]) -> Printed
+fn print_answer(rt: &impl Print, card: &[u8], line: &[u8], tally: Tally, out: &mut [u8]) -> Printed
     requires { (25628 ≤ length out.old) × Fits tally × (tally.past ≡ false) }
     ensures tally { (result.written ≡ true → result.tally ≡ line_tally card.now tally line.now) × Fits result.tally }
     ensures text { out.new ≡ at_front (line_text card.now tally line.now) out.old }
 {
     let turn = lesson::answer_next(card, line, tally, out);
     let size = turn.size;
-    let written = io::write_all(STDOUT_FILENO, &out[..size]);
+    let written = rt.write_all(&out[..size]).is_ok();
     let tally = turn.tally;
     Printed { tally, written }
 }
@@ -48,6 +48,7 @@ pub struct Progress {
 // Prints the answers to the lines that end in a piece of the input, up to the first past the thousandth. The first one's bytes so
 // far stand at the front of `line`, `held` of them.
 pub fn answer_piece(
+    rt: &impl Print,
     card: &[u8],
     piece: &[u8],
     line: &mut [u8],
@@ -68,7 +69,7 @@ pub fn answer_piece(
                 length: whole,
                 at: after,
             } => {
-                let printed = print_answer(card, &line[..whole], so_far, out);
+                let printed = print_answer(rt, card, &line[..whole], so_far, out);
                 let written = printed.written;
                 let tally = printed.tally;
                 if tally.past | !written {

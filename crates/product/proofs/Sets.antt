@@ -1,5 +1,6 @@
 -- How the check of sets ends. Assumes nothing.
-use Rattle.basics.proofs.Words.{◌≡◌, true, false, List, ℕ, ◌+◌, ◌<◌, ◌≤◌, length, get_or, drop, drop-cons, drop-length, add-one, all_of, le-leb, lt-leb, all_next, all_fails, all_none}
+use Rattle.std.specs.Prelude.{◌≡◌, ◌+◌, ◌<◌, ◌≤◌}
+use Rattle.basics.proofs.Words.{true, false, List, ℕ, length, get_or, drop, drop-cons, drop-length, add-one, all_of, le-leb, lt-leb, all_next, all_fails, all_none}
 use Rattle.refusals.specs.Refusals.{refuse}
 use Rattle.refusals.proofs.Refusals.{last_one}
 use Rattle.product.specs.OptimizingSets.{symbol_set, sets_refusal}

@@ -1,5 +1,6 @@
 -- How the check of a word ends. Assumes nothing.
-use Rattle.basics.proofs.Words.{◌≡◌, Bool, true, false, ◌&&◌, List, ℕ, ◌+◌, ◌<◌, ◌≤◌, length, get_or, drop, leb, drop-cons, drop-length, add-one, all_of, le-leb, lt-leb, all_next, all_fails, all_none}
+use Rattle.std.specs.Prelude.{◌≡◌, ◌&&◌, ◌+◌, ◌<◌, ◌≤◌}
+use Rattle.basics.proofs.Words.{Bool, true, false, List, ℕ, length, get_or, drop, leb, drop-cons, drop-length, add-one, all_of, le-leb, lt-leb, all_next, all_fails, all_none}
 use Rattle.product.specs.Optimizing.{sound_word}
 
 abbrev pub symbol : ℕ → ℕ → Bool

@@ -1,6 +1,7 @@
 -- What a call answers, whichever order it compares profiles in and whether a word or sets are asked for: by the number of the checks before its search,
 -- the best candidate, and the word or the sets.
-use Rattle.basics.specs.Words.{Bool, true, List, [], ◌∷◌, ◌++◌, Option, some, none, ℕ, ◌*◌, length, drop, leb}
+use Rattle.std.specs.Prelude.{◌∷◌, ◌++◌, ◌*◌}
+use Rattle.basics.specs.Words.{Bool, true, List, [], Option, some, none, ℕ, length, drop, leb}
 use Rattle.refusals.specs.Refusals.{refuse, first_of, unless_refused}
 use Rattle.card.specs.Card.{card_refusal}
 use Rattle.candidate.specs.declared.Evaluation.{Evaluation}

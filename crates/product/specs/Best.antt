@@ -1,5 +1,6 @@
 -- The best candidate for a word: the order on candidates, and the least in that order.
-use Rattle.basics.specs.Words.{Bool, true, false, not, ◌&&◌, ◌||◌, List, [], ◌∷◌, map, Option, some, none, ℕ, zero, suc, ◌+◌, length, eqb, ltb, those, joined, numbers_below}
+use Rattle.std.specs.Prelude.{◌&&◌, ◌||◌, ◌∷◌, ◌+◌}
+use Rattle.basics.specs.Words.{Bool, true, false, not, List, [], map, Option, some, none, ℕ, zero, suc, length, eqb, ltb, those, joined, numbers_below}
 use Rattle.machine.specs.declared.Pair.{Pair}
 use Rattle.machine.specs.Symbols.{is_pair}
 use Rattle.machine.specs.Machine.{Machine}

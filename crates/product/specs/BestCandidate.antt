@@ -1,5 +1,6 @@
 -- When a candidate is the best for a word, among candidates of any length; and when an answer is it.
-use Rattle.basics.specs.Words.{◌≡◌, true, false, List, Option, some, none, ◌≢◌, ◌↔◌, ℕ, ◌<◌, ◌≤◌, length}
+use Rattle.std.specs.Prelude.{◌≡◌, ◌≢◌, ◌↔◌, ◌<◌, ◌≤◌}
+use Rattle.basics.specs.Words.{true, false, List, Option, some, none, ℕ, length}
 use Rattle.machine.specs.declared.Pair.{Pair}
 use Rattle.machine.specs.Machine.{Machine}
 use Rattle.ranking.specs.Harmony.{worse}

@@ -1,6 +1,7 @@
 -- The tie of candidates to the product, for accepted cards: from the start node a list of pairs has a cost exactly when it is a candidate for
 -- the word, and the cost is the price of its profile and its pair count. Under a ranking that is its profile in ranked order with its pair count.
-use Rattle.basics.specs.Words.{◌≡◌, List, some, ℕ, length}
+use Rattle.std.specs.Prelude.{◌≡◌}
+use Rattle.basics.specs.Words.{List, some, ℕ, length}
 use Rattle.machine.specs.declared.Pair.{Pair}
 use Rattle.card.specs.Card.{machines_of, card_refusal}
 use Rattle.candidate.specs.Candidates.{profile_of, IsCandidate}

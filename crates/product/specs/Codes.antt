@@ -1,5 +1,6 @@
 -- The joint step and the joint ending by the codes of the states: what they are at every position.
-use Rattle.basics.specs.Words.{List, map, Option, some, none, ℕ, ◌+◌}
+use Rattle.std.specs.Prelude.{◌+◌}
+use Rattle.basics.specs.Words.{List, map, Option, some, none, ℕ}
 use Rattle.machine.specs.declared.Pair.{Pair}
 use Rattle.machine.specs.Machine.{Machine}
 use Rattle.product.specs.Nodes.{state_counts, code_of, states_of}

@@ -1,5 +1,6 @@
 -- The joint step of all machines, and their joint ending.
-use Rattle.basics.specs.Words.{List, [], ◌∷◌, Option, some, none, ℕ}
+use Rattle.std.specs.Prelude.{◌∷◌}
+use Rattle.basics.specs.Words.{List, [], Option, some, none, ℕ}
 use Rattle.machine.specs.declared.Pair.{Pair}
 use Rattle.machine.specs.Machine.{Machine, step_of, ending_of}
 

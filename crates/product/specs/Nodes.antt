@@ -1,5 +1,6 @@
 -- Nodes of the product: an input position with one state per machine, as numbers.
-use Rattle.basics.specs.Words.{List, [], ◌∷◌, map, ℕ, ◌+◌, ◌*◌, ◌/◌, ◌%◌}
+use Rattle.std.specs.Prelude.{◌∷◌, ◌+◌, ◌*◌, ◌/◌, ◌%◌}
+use Rattle.basics.specs.Words.{List, [], map, ℕ}
 unfoldable pub use Rattle.basics.specs.Products.{product}
 use Rattle.machine.specs.Machine.{Machine}
 pub use Rattle.machine.specs.Machine.{state_count_of}

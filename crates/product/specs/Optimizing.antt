@@ -1,5 +1,6 @@
 -- What the optimizer answers for a word under a ranking: the whole result, and the answer slice at exit.
-use Rattle.basics.specs.Words.{Bool, ◌&&◌, List, ℕ, ◌*◌, length, leb, all_of}
+use Rattle.std.specs.Prelude.{◌&&◌, ◌*◌}
+use Rattle.basics.specs.Words.{Bool, List, ℕ, length, leb, all_of}
 use Rattle.refusals.specs.Refusals.{refuse}
 use Rattle.ranking.specs.Rankings.{is_ranking}
 use Rattle.card.specs.Layout.{machine_count, symbol_count}

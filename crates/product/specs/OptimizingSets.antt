@@ -1,5 +1,6 @@
 -- What the optimizer answers for a word heard only in part, with a set of symbols at each position: the whole result, and the answer slice at exit.
-use Rattle.basics.specs.Words.{Bool, not, ◌&&◌, List, [], ◌∷◌, ℕ, ◌*◌, length, leb, all_of, member}
+use Rattle.std.specs.Prelude.{◌&&◌, ◌∷◌, ◌*◌}
+use Rattle.basics.specs.Words.{Bool, not, List, [], ℕ, length, leb, all_of, member}
 use Rattle.refusals.specs.Refusals.{refuse, first_of}
 use Rattle.machine.specs.Symbols.{empty_symbol}
 use Rattle.machine.specs.Part.{sound_set}

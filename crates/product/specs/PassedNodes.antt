@@ -1,5 +1,6 @@
 -- The nodes that a list of pairs passes: an input position with one state per machine.
-use Rattle.basics.specs.Words.{cond, List, [], ◌∷◌, map, some, none, ℕ, ◌+◌, eqb}
+use Rattle.std.specs.Prelude.{◌∷◌, ◌+◌}
+use Rattle.basics.specs.Words.{cond, List, [], map, some, none, ℕ, eqb}
 use Rattle.machine.specs.declared.Pair.{Pair}
 use Rattle.machine.specs.Symbols.{empty_symbol}
 use Rattle.machine.specs.Machine.{Machine, start_state}

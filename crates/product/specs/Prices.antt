@@ -1,5 +1,6 @@
 -- What the marks of all machines and a number of pairs cost.
-use Rattle.basics.proofs.Words.{◌≡◌, refl, sym, ◌∙◌, ap, true, false, List, [], ◌∷◌, inl, inr, ℕ, ◌+◌, arith, length, get_or, clash}
+use Rattle.std.specs.Prelude.{◌≡◌, ◌∷◌, ◌+◌}
+use Rattle.basics.proofs.Words.{refl, sym, ◌∙◌, ap, true, false, List, [], inl, inr, ℕ, arith, length, get_or, clash}
 use Rattle.ranking.specs.Profiles.{merge}
 use Rattle.ranking.specs.Harmony.{is_better}
 use Rattle.ranking.specs.HarmonicInequality.{merge_count}

@@ -1,6 +1,7 @@
 -- The product of the machines over a list of sets of symbols as a graph: its letters are the pairs, and its paths from the start are the candidates
 -- for the words with one symbol from each set. A word is the case of sets of one symbol.
-use Rattle.basics.specs.Words.{◌≡◌, true, false, cond, List, map, Option, some, none, Option·none-ne-some, ℕ, ◌+◌, ◌<◌, length, get_or, eqb, leb, member}
+use Rattle.std.specs.Prelude.{◌≡◌, ◌+◌, ◌<◌}
+use Rattle.basics.specs.Words.{true, false, cond, List, map, Option, some, none, Option·none-ne-some, ℕ, length, get_or, eqb, leb, member}
 use Rattle.machine.specs.declared.Pair.{Pair}
 use Rattle.machine.specs.Symbols.{empty_symbol, is_pair}
 use Rattle.machine.specs.Machine.{Machine, start_state}

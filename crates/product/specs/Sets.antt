@@ -1,5 +1,6 @@
 -- Words heard only in part: a set of symbols, a 64-bit number, at each position.
-use Rattle.basics.specs.Words.{◌≡◌, Bool, true, false, ◌&&◌, List, [], ◌∷◌, map, Option, some, none, ℕ, ◌^◌, ltb, all_of, those, joined, numbers_below, member}
+use Rattle.std.specs.Prelude.{◌≡◌, ◌&&◌, ◌∷◌, ◌^◌}
+use Rattle.basics.specs.Words.{Bool, true, false, List, [], map, Option, some, none, ℕ, ltb, all_of, those, joined, numbers_below, member}
 use Rattle.machine.specs.declared.Pair.{Pair}
 use Rattle.machine.specs.Machine.{Machine}
 use Rattle.candidate.specs.Candidates.{IsCandidate}

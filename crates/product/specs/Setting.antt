@@ -1,5 +1,6 @@
 -- What an engine is given once the checks of the card and of the word or the sets are passed; a ranking, or weights, come to it.
-use Rattle.basics.specs.Words.{◌≡◌, true, List, ℕ, ◌≤◌, length, get_or, member}
+use Rattle.std.specs.Prelude.{◌≡◌, ◌≤◌}
+use Rattle.basics.specs.Words.{true, List, ℕ, length, get_or, member}
 use Rattle.card.specs.Layout.{symbol_count}
 use Rattle.card.specs.Card.{machines_of, card_refusal}
 use Rattle.product.specs.Nodes.{product, state_counts, position_at}

@@ -1,5 +1,6 @@
 -- Attained labels are small: they are costs of paths that pass no node twice.
-use Rattle.basics.specs.Words.{◌≡◌, true, List, some, ℕ, ◌+◌, ◌*◌, ◌<◌, ◌≤◌, arith, length, mul-le-mul_right}
+use Rattle.std.specs.Prelude.{◌≡◌, ◌+◌, ◌*◌, ◌<◌, ◌≤◌}
+use Rattle.basics.specs.Words.{true, List, some, ℕ, arith, length, mul-le-mul_right}
 use Rattle.card.specs.Layout.{machine_count}
 use Rattle.card.specs.Card.{machines_of}
 use Rattle.card.specs.Accepted.{accepted}

@@ -1,5 +1,6 @@
 -- The product of an accepted card's machines at the price of weights, as the theory of paths and an engine ask for it.
-use Rattle.basics.proofs.Words.{◌≡◌, refl, true, List, map, some, ℕ, ◌*◌, ◌≤◌, length, get_or, leb, all_of, each_at}
+use Rattle.std.specs.Prelude.{◌≡◌, ◌*◌, ◌≤◌}
+use Rattle.basics.proofs.Words.{refl, true, List, map, some, ℕ, length, get_or, leb, all_of, each_at}
 use Rattle.std.proofs.Common.{le-leb}
 use Rattle.machine.specs.declared.Pair.{Pair}
 use Rattle.card.specs.Card.{machines_of, card_refusal}

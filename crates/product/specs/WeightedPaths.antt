@@ -1,6 +1,7 @@
 -- The price of weights: the sum, then the number of pairs. So from the start node of the product a list of pairs has a cost exactly when it is a
 -- candidate for the word, and the cost is its sum with its pair count.
-use Rattle.basics.specs.Words.{◌≡◌, List, some, inl, ℕ, ◌+◌, arith, length}
+use Rattle.std.specs.Prelude.{◌≡◌, ◌+◌}
+use Rattle.basics.specs.Words.{List, some, inl, ℕ, arith, length}
 use Rattle.std.proofs.Common.{ltb-true, ltb-false}
 use Rattle.machine.specs.declared.Pair.{Pair}
 use Rattle.card.specs.Card.{machines_of, card_refusal}

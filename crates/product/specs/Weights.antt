@@ -1,5 +1,6 @@
 -- Weights, one per machine in card order, in whole thousandths: a profile's sum, the order of the sums, and the best candidate in that order.
-use Rattle.basics.specs.Words.{Bool, ◌&&◌, List, [], ◌∷◌, Option, ℕ, ◌+◌, ◌*◌, length, eqb, leb, ltb, all_of}
+use Rattle.std.specs.Prelude.{◌&&◌, ◌∷◌, ◌+◌, ◌*◌}
+use Rattle.basics.specs.Words.{Bool, List, [], Option, ℕ, length, eqb, leb, ltb, all_of}
 use Rattle.product.specs.Best.{Contender, ProfileOrder, best_in}
 
 -- one weight per machine, 0 to 4,000,000,000

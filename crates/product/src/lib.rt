@@ -2,7 +2,8 @@
 // in specs/. The code is the check of the word, and that of the sets in its place.
 #![tactic(auto)]
 
-ghost use Rattle.basics.specs.Words.{◌≡◌, ◌&&◌, ℕ, ◌^◌, ◌<◌, leb};
+ghost use Rattle.std.specs.Prelude.{◌≡◌, ◌&&◌, ◌^◌, ◌<◌};
+ghost use Rattle.basics.specs.Words.{ℕ, leb};
 ghost use Rattle.refusals.specs.Refusals.{refuse, checked_number};
 ghost use Rattle.product.specs.Optimizing.{sound_word};
 ghost use Rattle.product.specs.OptimizingSets.{symbol_set, sets_refusal};

@@ -1,5 +1,6 @@
 -- The order of byte strings.
-use Rattle.basics.specs.Words.{Bool, false, ◌&&◌, ◌||◌, List, [], ◌∷◌, ℕ, eqb, ltb}
+use Rattle.std.specs.Prelude.{◌&&◌, ◌||◌, ◌∷◌}
+use Rattle.basics.specs.Words.{Bool, false, List, [], ℕ, eqb, ltb}
 
 -- of two of one length, the smaller has the lower byte at the first place where they differ
 unfoldable pub smaller : List ℕ → List ℕ → Bool

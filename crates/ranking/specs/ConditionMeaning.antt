@@ -1,6 +1,7 @@
 -- What a ranking condition means: the rankings that fit the condition of two profiles are those under which the first is not worse than the
 -- second. Assumes nothing.
-use Rattle.basics.proofs.Words.{◌≡◌, refl, sym, ◌∙◌, Bool, true, false, or-true, List, [], ◌∷◌, ◌⊎◌, inl, inr, ◌↔◌, ℕ, suc, ◌<◌, arith, length, get_or, eqb, ltb, le_of_lt, le_of_eq, member, clash, fails, either, set_member, set_empty, empty_set}
+use Rattle.std.specs.Prelude.{◌≡◌, ◌∷◌, ◌⊎◌, ◌↔◌, ◌<◌}
+use Rattle.basics.proofs.Words.{refl, sym, ◌∙◌, Bool, true, false, or-true, List, [], inl, inr, ℕ, suc, arith, length, get_or, eqb, ltb, le_of_lt, le_of_eq, member, clash, fails, either, set_member, set_empty, empty_set}
 use Rattle.std.proofs.Common.{lt-ltb, le-ltb, eqb-true, eq-eqb}
 use Rattle.ranking.specs.Rankings.{is_ranking}
 use Rattle.ranking.specs.Harmony.{harmony, better, worse}

@@ -1,5 +1,6 @@
 -- Ranking conditions: where one of them comes from, and when a ranking fits it.
-use Rattle.basics.specs.Words.{Bool, true, false, ◌||◌, List, [], ◌∷◌, Option, some, none, ℕ, get_or, eqb, ltb, member, set_of}
+use Rattle.std.specs.Prelude.{◌||◌, ◌∷◌}
+use Rattle.basics.specs.Words.{Bool, true, false, List, [], Option, some, none, ℕ, get_or, eqb, ltb, member, set_of}
 use Rattle.refusals.specs.Refusals.{refuse, unless_refused, number_of}
 use Rattle.ranking.specs.declared.Condition.{Condition}
 use Rattle.ranking.specs.declared.Derived.{Derived}

@@ -1,5 +1,6 @@
 -- What the machine that comparing answers means: it is ranked, the counts differ there, and agree at every machine ranked above it. Assumes nothing.
-use Rattle.basics.specs.Words.{◌≡◌, refl, sym, ◌∙◌, ap, true, List, Option, some, none, ◌↔◌, ℕ, length, get_or}
+use Rattle.std.specs.Prelude.{◌≡◌, ◌↔◌}
+use Rattle.basics.specs.Words.{refl, sym, ◌∙◌, ap, true, List, Option, some, none, ℕ, length, get_or}
 use Rattle.ranking.specs.declared.Order.{Order}
 use Rattle.ranking.specs.declared.Order.TheVariants.{Better, Equal, Worse}
 use Rattle.ranking.specs.declared.Profile.{Profile}

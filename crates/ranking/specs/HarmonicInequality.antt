@@ -1,6 +1,7 @@
 -- Harmonic inequality (Riggle, (1)): comparison under a ranking is a strict total order on the first K counts, and merging one profile with both
 -- sides keeps it. Assumes nothing.
-use Rattle.basics.proofs.Words.{◌≡◌, refl, sym, ◌∙◌, ap, Bool, true, false, List, [], ◌∷◌, ◌⊎◌, inl, inr, ◌↔◌, ℕ, zero, suc, ◌+◌, ◌<◌, arith, length, get_or, clash}
+use Rattle.std.specs.Prelude.{◌≡◌, ◌∷◌, ◌⊎◌, ◌↔◌, ◌+◌, ◌<◌}
+use Rattle.basics.proofs.Words.{refl, sym, ◌∙◌, ap, Bool, true, false, List, [], inl, inr, ℕ, zero, suc, arith, length, get_or, clash}
 use Rattle.ranking.specs.declared.Order.{Order}
 use Rattle.ranking.specs.declared.Order.TheVariants.{Better, Equal, Worse}
 use Rattle.ranking.specs.Profiles.{merge}

@@ -1,5 +1,6 @@
 -- Harmonic comparison of two profiles, by their counts in card order.
-use Rattle.basics.specs.Words.{Bool, true, false, List, [], ◌∷◌, Option, some, none, ℕ, get_or, ltb}
+use Rattle.std.specs.Prelude.{◌∷◌}
+use Rattle.basics.specs.Words.{Bool, true, false, List, [], Option, some, none, ℕ, get_or, ltb}
 use Rattle.refusals.specs.Refusals.{refuse, first_of, unless_refused, number_of}
 use Rattle.ranking.specs.declared.Order.{Order}
 use Rattle.ranking.specs.declared.Order.TheVariants.{Better, Equal, Worse}

@@ -1,5 +1,6 @@
 -- Violation profiles: how often each machine's constraint is broken, in card order.
-use Rattle.basics.specs.Words.{List, [], ◌∷◌, ℕ, ◌+◌, replicate}
+use Rattle.std.specs.Prelude.{◌∷◌, ◌+◌}
+use Rattle.basics.specs.Words.{List, [], ℕ, replicate}
 use Rattle.ranking.specs.declared.Profile.{Profile}
 
 -- the profile of no violations

@@ -1,5 +1,6 @@
 -- Rankings of K machines, by their numbers in the card, highest first.
-use Rattle.basics.specs.Words.{Bool, not, ◌&&◌, List, [], ◌∷◌, map, ℕ, zero, suc, length, eqb, leb, every_below, occurrences, those, joined, numbers_below}
+use Rattle.std.specs.Prelude.{◌&&◌, ◌∷◌}
+use Rattle.basics.specs.Words.{Bool, not, List, [], map, ℕ, zero, suc, length, eqb, leb, every_below, occurrences, those, joined, numbers_below}
 
 -- K is 1 to 6
 abbrev pub is_machine_count : ℕ → Bool

@@ -1,6 +1,7 @@
 -- The violation semiring (Riggle, (2) and (4)), its infinite cost included, over profiles of K counts: the better of two is its sum, with the infinite
 -- cost as identity; merge is its product, with the zero profile as identity and the infinite cost as annihilator. Assumes nothing.
-use Rattle.basics.specs.Words.{◌≡◌, refl, sym, ◌∙◌, ap, true, List, ℕ, ◌≤◌, length-take-le}
+use Rattle.std.specs.Prelude.{◌≡◌, ◌≤◌}
+use Rattle.basics.specs.Words.{refl, sym, ◌∙◌, ap, true, List, ℕ, length-take-le}
 use Rattle.ranking.specs.Profiles.{zero_profile}
 use Rattle.ranking.specs.Rankings.{is_ranking}
 use Rattle.ranking.specs.Violations.{Violations, finite, infinite, OfCounts, no_violations, merge_costs, better_cost}

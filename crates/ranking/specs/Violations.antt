@@ -1,5 +1,6 @@
 -- Violations as costs: those of a profile, and the infinite cost, which is that of no candidate (Riggle, section 3).
-use Rattle.basics.specs.Words.{◌≡◌, List, ℕ, length, take}
+use Rattle.std.specs.Prelude.{◌≡◌}
+use Rattle.basics.specs.Words.{List, ℕ, length, take}
 use Rattle.ranking.specs.Profiles.{zero_profile, merge}
 use Rattle.ranking.specs.Harmony.{better_of}
 

@@ -1,5 +1,5 @@
 // Ranking conditions from two profiles.
-ghost use Rattle.basics.specs.Words.{◌≡◌, ◌≤◌};
+ghost use Rattle.std.specs.Prelude.{◌≡◌, ◌≤◌};
 ghost use Rattle.ranking.specs.Conditions.{fewer_in, derived, derived_from};
 
 use super::{Condition, Derived, Profile, rankings};

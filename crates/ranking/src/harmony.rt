@@ -1,5 +1,6 @@
 // Harmonic comparison of two profiles.
-ghost use Rattle.basics.specs.Words.{◌≡◌, true, ◌<◌, ◌≤◌, length, get_or};
+ghost use Rattle.std.specs.Prelude.{◌≡◌, ◌<◌, ◌≤◌};
+ghost use Rattle.basics.specs.Words.{true, length, get_or};
 ghost use Rattle.ranking.specs.Rankings.{is_ranking};
 ghost use Rattle.ranking.specs.Harmony.{harmony, compared, comparing};
 

@@ -5,7 +5,8 @@ pub mod conditions;
 pub mod harmony;
 pub mod rankings;
 
-ghost use Rattle.basics.specs.Words.{◌≡◌, ◌<◌, get_or};
+ghost use Rattle.std.specs.Prelude.{◌≡◌, ◌<◌};
+ghost use Rattle.basics.specs.Words.{get_or};
 ghost use Rattle.ranking.specs.Profiles.{zero_profile};
 
 use refusals::Refusal;

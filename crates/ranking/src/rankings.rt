@@ -1,5 +1,6 @@
 // The checks of a machine count and of a ranking.
-ghost use Rattle.basics.specs.Words.{◌≡◌, [], ◌∷◌, eqb, occurrences};
+ghost use Rattle.std.specs.Prelude.{◌≡◌, ◌∷◌};
+ghost use Rattle.basics.specs.Words.{[], eqb, occurrences};
 ghost use Rattle.refusals.specs.Refusals.{refuse, first_of, checked_number};
 ghost use Rattle.ranking.specs.Rankings.{is_machine_count, is_ranking};
 

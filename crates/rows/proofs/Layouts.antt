@@ -1,5 +1,6 @@
 -- The check of the layout, test by test. Assumes nothing.
-use Rattle.basics.proofs.Words.{◌≡◌, true, false, List, ℕ, ◌<◌, ◌≤◌, length, le-leb, lt-leb}
+use Rattle.std.specs.Prelude.{◌≡◌, ◌<◌, ◌≤◌}
+use Rattle.basics.proofs.Words.{true, false, List, ℕ, length, le-leb, lt-leb}
 use Rattle.layout.specs.Layout.{laid_out}
 use Rattle.rows.specs.Tableau.{row_count, every_row, sound_row, sound_head, sound_tableau}
 

@@ -1,5 +1,6 @@
 -- How the checks of a row go on and end. Assumes nothing.
-use Rattle.basics.proofs.Words.{◌≡◌, Bool, true, false, List, ℕ, ◌+◌, ◌-◌, ◌<◌, ◌≤◌, arith, length, get_or, take, drop, length-drop, eqb, take_all, all_of, eq-eqb, ne_eqb, le-leb, lt-leb, left_next, left_none, all_none, all_next, all_fails}
+use Rattle.std.specs.Prelude.{◌≡◌, ◌+◌, ◌-◌, ◌<◌, ◌≤◌}
+use Rattle.basics.proofs.Words.{Bool, true, false, List, ℕ, arith, length, get_or, take, drop, length-drop, eqb, take_all, all_of, eq-eqb, ne_eqb, le-leb, lt-leb, left_next, left_none, all_none, all_next, all_fails}
 use Rattle.card.specs.Layout.{symbol_count}
 use Rattle.card.specs.Card.{machines_of}
 use Rattle.candidate.specs.Candidates.{pairs_of, spelled, is_complete}

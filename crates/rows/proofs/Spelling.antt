@@ -1,5 +1,6 @@
 -- How a candidate's word is compared with a word, from a place in each. Assumes nothing.
-use Rattle.basics.proofs.Words.{◌≡◌, sym, ap, Bool, false, List, [], ◌∷◌, ℕ, ◌+◌, ◌<◌, ◌≤◌, arith, length, get_or, drop, leb, dec_lt, eq-eqb, ne_eqb, le-leb, lt-leb, left_next, left_none}
+use Rattle.std.specs.Prelude.{◌≡◌, ◌∷◌, ◌+◌, ◌<◌, ◌≤◌}
+use Rattle.basics.proofs.Words.{sym, ap, Bool, false, List, [], ℕ, arith, length, get_or, drop, leb, dec_lt, eq-eqb, ne_eqb, le-leb, lt-leb, left_next, left_none}
 use Rattle.machine.specs.Symbols.{empty_symbol}
 use Rattle.candidate.specs.Candidates.{pairs_of, spelled}
 use Rattle.product.specs.Best.{same_word}

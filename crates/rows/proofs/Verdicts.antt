@@ -1,5 +1,6 @@
 -- How the verdict is found: the claimed row first, then row by row. Assumes nothing.
-use Rattle.basics.specs.Words.{◌≡◌, refl, Bool, true, false, List, Option, none, ℕ, ◌+◌, ◌<◌, first_that, numbers_below}
+use Rattle.std.specs.Prelude.{◌≡◌, ◌+◌, ◌<◌}
+use Rattle.basics.specs.Words.{refl, Bool, true, false, List, Option, none, ℕ, first_that, numbers_below}
 use Rattle.ranking.specs.Lemmas.Searches.{count_on, count_found}
 use Rattle.rows.specs.declared.Verdict.TheVariants.{Right, AnotherRow, NotInTable}
 use Rattle.rows.specs.Tableau.{row_count, claimed_row, row_of}

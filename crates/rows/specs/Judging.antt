@@ -1,5 +1,6 @@
 -- What is asked of each row, and the verdict for the rows that win.
-use Rattle.basics.specs.Words.{Bool, true, false, ◌&&◌, List, Option, some, none, ℕ, get_or, eqb, every_below, first_that, numbers_below}
+use Rattle.std.specs.Prelude.{◌&&◌}
+use Rattle.basics.specs.Words.{Bool, true, false, List, Option, some, none, ℕ, get_or, eqb, every_below, first_that, numbers_below}
 use Rattle.card.specs.Layout.{symbol_count}
 use Rattle.card.specs.Card.{machines_of}
 use Rattle.candidate.specs.Candidates.{pairs_of, spelled, is_complete, profile_of}

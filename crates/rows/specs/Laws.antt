@@ -1,5 +1,6 @@
 -- What a tableau promises that is not refused. Assumes nothing.
-use Rattle.basics.proofs.Words.{◌≡◌, true, ◌&&◌, List, ℕ, ◌≤◌, length, drop, eqb, leb, ltb, all_of, left, right, every_at}
+use Rattle.std.specs.Prelude.{◌≡◌, ◌&&◌, ◌≤◌}
+use Rattle.basics.proofs.Words.{true, List, ℕ, length, drop, eqb, leb, ltb, all_of, left, right, every_at}
 use Rattle.std.proofs.Common.{leb-true, ltb-true}
 use Rattle.layout.specs.Layout.{laid_out}
 use Rattle.layout.specs.LaidOut.{layout_told}

@@ -1,5 +1,6 @@
 -- What the functions that read rows ask of a tableau and of a row.
-use Rattle.basics.specs.Words.{◌≡◌, true, List, ℕ, ◌<◌, ◌≤◌, length}
+use Rattle.std.specs.Prelude.{◌≡◌, ◌<◌, ◌≤◌}
+use Rattle.basics.specs.Words.{true, List, ℕ, length}
 use Rattle.layout.specs.LaidOut.{LaidOut}
 use Rattle.card.specs.Layout.{symbol_count}
 use Rattle.card.specs.Card.{machines_of}

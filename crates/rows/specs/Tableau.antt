@@ -1,5 +1,6 @@
 -- The layout of a tableau: rows, the row that is claimed to win, and of each row its counts and its candidate.
-use Rattle.basics.specs.Words.{Bool, ◌&&◌, List, [], ◌∷◌, ℕ, length, get_or, drop, eqb, leb, ltb, all_of, every_below}
+use Rattle.std.specs.Prelude.{◌&&◌, ◌∷◌}
+use Rattle.basics.specs.Words.{Bool, List, [], ℕ, length, get_or, drop, eqb, leb, ltb, all_of, every_below}
 use Rattle.layout.specs.Layout.{short_at, laid_out, part_of}
 
 -- R, rows, and the claimed winner's row, from 0

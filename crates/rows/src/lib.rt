@@ -1,7 +1,8 @@
 // A tableau's rows: their layout, their candidates and their counts, and the verdict for the best candidate's profile.
 #![tactic(auto)]
 
-ghost use Rattle.basics.specs.Words.{◌≡◌, [], ◌∷◌, ℕ, ◌+◌, ◌%◌, ◌<◌, ◌≤◌, length};
+ghost use Rattle.std.specs.Prelude.{◌≡◌, ◌∷◌, ◌+◌, ◌%◌, ◌<◌, ◌≤◌};
+ghost use Rattle.basics.specs.Words.{[], ℕ, length};
 ghost use Rattle.refusals.specs.Refusals.{refuse, first_of, checked_number};
 ghost use Rattle.layout.specs.Layout.{short_at};
 ghost use Rattle.layout.specs.LaidOut.{LaidOut};

@@ -4,13 +4,15 @@
 // No contract can speak of what is read and written.
 #![tactic(auto)]
 
-ghost use Rattle.basics.specs.Words.{◌≡◌, false, ◌≤◌, length, take};
-ghost use Rattle.io.specs.Counts.{IsPrefixLen};
+ghost use Rattle.std.specs.Prelude.{◌≡◌, ◌≤◌};
+ghost use Rattle.basics.specs.Words.{false, length, take};
 ghost use Rattle.lesson.specs.Tally.{Fits};
 ghost use Rattle.session.specs.Output.{Reads, Finishes};
 
-use libc::{STDIN_FILENO, STDOUT_FILENO};
 use pieces::Progress;
+use std::fs::File;
+use std::io::Read;
+use std::rt::Files;
 use tally::Tally;
 
 // More bytes than any accepted card has: of a longer file the first ones are used.
@@ -26,11 +28,10 @@ const LAST_BYTES: usize = 25748;
 const PIECE_BYTES: usize = 4096;
 
 // Reads a piece of the input, and answers its length: 0 where the input ends or fails.
-fn read_piece(piece: &mut [u8]) -> usize
-    ensures { IsPrefixLen result piece.new }
+fn read_piece(input: &mut impl Read, piece: &mut [u8]) -> usize
+    ensures { (result ≤ length piece.new) × (result ≡ length (take result piece.new)) }
 {
-    let got = libc::read(STDIN_FILENO, piece);
-    io::count(got, piece)
+    input.read(piece).unwrap_or(0)
 }
 
 // Prints the answers to the lines of the rest of the input that end, up to the first past the thousandth. The first one's bytes so
@@ -38,6 +39,8 @@ fn read_piece(piece: &mut [u8]) -> usize
 // that an input does: the loop counts its turns down, from a number that no run uses up, since a thousand million readings a second
 // take 584 years for it.
 fn answer_pieces(
+    rt: &impl Print,
+    input: &mut impl Read,
     card: &[u8],
     line: &mut [u8],
     held: usize,
@@ -52,11 +55,11 @@ fn answer_pieces(
     let mut so_far = tally;
     let mut turns = u64::MAX;
     while turns > 0 {
-        let n = read_piece(&mut piece);
+        let n = read_piece(input, &mut piece);
         if n == 0 {
             break;
         }
-        let progress = pieces::answer_piece(card, &piece[..n], line, bytes, so_far, out);
+        let progress = pieces::answer_piece(rt, card, &piece[..n], line, bytes, so_far, out);
         let after = progress.tally;
         if after.past | !progress.written {
             return progress;
@@ -74,11 +77,19 @@ fn answer_pieces(
 
 // Prints the answers to the lines of the rest of the input that end, writes what is printed after them to the front of `out`, and
 // answers its length: 0 where a write failed.
-fn answer_rest(card: &[u8], line: &mut [u8], held: usize, tally: Tally, out: &mut [u8]) -> usize
+fn answer_rest(
+    rt: &impl Print,
+    input: &mut impl Read,
+    card: &[u8],
+    line: &mut [u8],
+    held: usize,
+    tally: Tally,
+    out: &mut [u8],
+) -> usize
     requires { (held ≤ 201) × (length line.old ≡ 201) × Fits tally × (tally.past ≡ false) × (length out.old ≡ 25748) }
     ensures { Finishes card.now (take held line.old) tally out.new result }
 {
-    let progress = answer_pieces(card, line, held, tally, out);
+    let progress = answer_pieces(rt, input, card, line, held, tally, out);
     if !progress.written {
         return 0;
     }
@@ -87,29 +98,41 @@ fn answer_rest(card: &[u8], line: &mut [u8], held: usize, tally: Tally, out: &mu
 }
 
 // Prints the answers to the lines of the input, the last of which may lack its line end, and the closing lines.
-fn answer_input(card: &[u8]) {
+fn answer_input(rt: &impl Print, input: &mut impl Read, card: &[u8]) {
     let mut line = [0u8; LINE_BYTES];
     let mut out = [0u8; LAST_BYTES];
-    let size = answer_rest(card, &mut line, 0, Tally::none(), &mut out);
-    io::write_all(STDOUT_FILENO, &out[..size]);
+    let size = answer_rest(rt, input, card, &mut line, 0, Tally::none(), &mut out);
+    let _ = rt.write_all(&out[..size]);
+}
+
+// Reads until the buffer is full, the file ends or a read fails, and answers how many bytes it put at the front.
+fn read_full(file: &mut impl Read, bytes: &mut [u8]) -> usize
+    ensures { (result ≤ length bytes.new) × (result ≡ length (take result bytes.new)) }
+{
+    let mut done = 0;
+    while done < bytes.len() {
+        let n = read_piece(file, &mut bytes[done..]);
+        if n == 0 {
+            break;
+        }
+        done += n;
+    }
+    done
 }
 
 // Reads the card, and answers its length: 0 where there is none, or it cannot be read.
-fn read_card(card: &mut [u8]) -> usize
-    ensures { IsPrefixLen result card.new }
+fn read_card(rt: &impl Files, card: &mut [u8]) -> usize
+    ensures { (result ≤ length card.new) × (result ≡ length (take result card.new)) }
 {
-    let file = os::open_read(b"card.bin");
-    if file < 0 {
-        return 0;
+    match File::open(rt, "card.bin") {
+        Ok(mut file) => read_full(&mut file, card),
+        Err(_) => 0,
     }
-    let n = io::read_full(file, card);
-    libc::close(file);
-    n
 }
 
 // The whole program.
-pub fn run() {
+pub fn run(rt: &(impl Files + Print), input: &mut impl Read) {
     let mut card = [0u8; CARD_BYTES];
-    let n = read_card(&mut card);
-    answer_input(&card[..n]);
+    let n = read_card(rt, &mut card);
+    answer_input(rt, input, &card[..n]);
 }

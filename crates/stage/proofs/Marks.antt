@@ -1,5 +1,6 @@
 -- The marks of one constraint, by its place, in a number of six marks.
-use Rattle.basics.specs.Words.{◌≡◌, refl, sym, ◌∙◌, ap, ℕ, ◌/◌, ◌%◌, arith, div-one}
+use Rattle.std.specs.Prelude.{◌≡◌, ◌/◌, ◌%◌}
+use Rattle.basics.specs.Words.{refl, sym, ◌∙◌, ap, ℕ, arith, div-one}
 use Rattle.paths.specs.Ranked.{count_at}
 use Rattle.tables.specs.Marks.{nibbles, marks_cost}
 

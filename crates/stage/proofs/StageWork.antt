@@ -1,5 +1,6 @@
 -- Laws of a stage's labels in the work slice: reading, comparing and writing one.
-use Rattle.basics.proofs.Words.{◌≡◌, refl, sym, ◌∙◌, ap, subst, Bool, true, false, cond, false≢true, List, Option, none, some, ◌⊎◌, inl, inr, ◌≢◌, ℕ, ◌+◌, ◌*◌, ◌≤◌, ◌<◌, arith, length, get_or, set, length-set, eqb, ltb, get_or-set_same, get_or-set_other, ℕ_discrete, dec_lt, eqb-true, eq-eqb, ne_eqb, ltb-true, ltb-false}
+use Rattle.std.specs.Prelude.{◌≡◌, ◌⊎◌, ◌≢◌, ◌+◌, ◌*◌, ◌≤◌, ◌<◌}
+use Rattle.basics.proofs.Words.{refl, sym, ◌∙◌, ap, subst, Bool, true, false, cond, false≢true, List, Option, none, some, inl, inr, ℕ, arith, length, get_or, set, length-set, eqb, ltb, get_or-set_same, get_or-set_other, ℕ_discrete, dec_lt, eqb-true, eq-eqb, ne_eqb, ltb-true, ltb-false}
 use Rattle.paths.specs.Total.{Upto}
 use Rattle.paths.specs.Costs.{AtMost, Above, kept, lowered, above_none, above_some}
 use Rattle.paths.specs.Ranked.{Ranked, Less, count_at}

@@ -1,5 +1,6 @@
 -- The sum of the weights of a position's labels falls when one of them does: so a stage ends.
-use Rattle.basics.specs.Words.{◌≡◌, refl, ap, Option, none, some, inl, inr, ◌≢◌, ℕ, zero, suc, ◌+◌, ◌≤◌, ◌<◌, arith, ℕ_discrete}
+use Rattle.std.specs.Prelude.{◌≡◌, ◌≢◌, ◌+◌, ◌≤◌, ◌<◌}
+use Rattle.basics.specs.Words.{refl, ap, Option, none, some, inl, inr, ℕ, zero, suc, arith, ℕ_discrete}
 use Rattle.paths.specs.Costs.{Above}
 use Rattle.paths.specs.Ranked.{Ranked, Less}
 use Rattle.stage.specs.StageLabels.{height, total}

@@ -1,5 +1,6 @@
 -- Laws of trying an arc.
-use Rattle.basics.specs.Words.{◌≡◌, refl, sym, ◌∙◌, subst, Bool, true, false, false≢true, List, ◌≢◌, ℕ, ◌+◌, ◌≤◌, ◌<◌, length}
+use Rattle.std.specs.Prelude.{◌≡◌, ◌≢◌, ◌+◌, ◌≤◌, ◌<◌}
+use Rattle.basics.specs.Words.{refl, sym, ◌∙◌, subst, Bool, true, false, false≢true, List, ℕ, length}
 use Rattle.paths.specs.Ranked.{Less, less_total}
 use Rattle.paths.specs.Improvement.{Falls, improves_falls}
 use Rattle.stage.specs.StageLabels.{count_of, stage_label, total}

@@ -1,5 +1,6 @@
 -- Trying one arc in a stage: what the inner functions promise.
-use Rattle.basics.specs.Words.{◌≡◌, Bool, true, false, List, Option, none, some, ◌≢◌, ℕ, ◌+◌, ◌^◌, ◌≤◌, ◌<◌, length}
+use Rattle.std.specs.Prelude.{◌≡◌, ◌≢◌, ◌+◌, ◌^◌, ◌≤◌, ◌<◌}
+use Rattle.basics.specs.Words.{Bool, true, false, List, Option, none, some, ℕ, length}
 use Rattle.machine.specs.declared.Pair.{Pair}
 use Rattle.paths.specs.Costs.{AtMost, Above}
 use Rattle.paths.specs.Ranked.{Ranked, Less, count_at, ranked_costs}

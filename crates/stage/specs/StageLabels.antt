@@ -1,6 +1,7 @@
 -- The labels of a stage in the work slice. Node u's numbers are its state, 0 where the stage has no label for it, six counts in ranked order, and the
 -- number of pairs. The stage k finds the counts k; the counts below k are the fewest marks that the stages before found.
-use Rattle.basics.specs.Words.{cond, List, Option, none, some, ℕ, zero, suc, ◌+◌, ◌*◌, get_or, eqb}
+use Rattle.std.specs.Prelude.{◌+◌, ◌*◌}
+use Rattle.basics.specs.Words.{cond, List, Option, none, some, ℕ, zero, suc, get_or, eqb}
 use Rattle.paths.specs.Ranked.{Ranked}
 use Rattle.tables.specs.Work.{state_of}
 

@@ -1,7 +1,8 @@
 // A stage of the cull at one node: what the stages before kept of its arcs and of its ending, its label, and lowering that by an arc.
 #![tactic(auto)]
 
-ghost use Rattle.basics.specs.Words.{◌≡◌, true, ◌+◌, ◌*◌, ◌^◌, ◌<◌, eqb};
+ghost use Rattle.std.specs.Prelude.{◌≡◌, ◌+◌, ◌*◌, ◌^◌, ◌<◌};
+ghost use Rattle.basics.specs.Words.{true, eqb};
 ghost use Rattle.paths.specs.Ranked.{count_at};
 ghost use Rattle.tables.specs.Marks.{marks_cost};
 ghost use Rattle.tables.specs.Work.{HasNode};

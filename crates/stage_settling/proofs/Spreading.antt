@@ -1,5 +1,6 @@
 -- Settling a position by its insertions: one entry, the entries to one code, code after code until none is open.
-use Rattle.basics.proofs.Words.{◌≡◌, refl, sym, ◌∙◌, ap, subst, subst₂, Bool, true, false, cond, List, some, Option·none-ne-some, ◌⊎◌, inl, inr, ◌≢◌, ℕ, zero, suc, ◌+◌, ◌*◌, ◌≤◌, ◌<◌, arith, length, get_or, ℕ_discrete, clash, fails}
+use Rattle.std.specs.Prelude.{◌≡◌, ◌⊎◌, ◌≢◌, ◌+◌, ◌*◌, ◌≤◌, ◌<◌}
+use Rattle.basics.proofs.Words.{refl, sym, ◌∙◌, ap, subst, subst₂, Bool, true, false, cond, List, some, Option·none-ne-some, inl, inr, ℕ, zero, suc, arith, length, get_or, ℕ_discrete, clash, fails}
 use Rattle.paths.specs.Costs.{AtMost, Lowers, kept, lowered}
 use Rattle.paths.specs.Ranked.{Ranked, Less, count_at, ranked_costs, less_total}
 use Rattle.paths.specs.Graph.{Graph, run→cost}

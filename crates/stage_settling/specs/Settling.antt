@@ -1,5 +1,6 @@
 -- Settling a position in a stage: its labels fall by insertions, in lists by the code that they lead to, until none falls.
-use Rattle.basics.specs.Words.{◌≡◌, Bool, true, false, cond, List, some, ◌⊎◌, ℕ, zero, suc, ◌+◌, ◌*◌, ◌≤◌, ◌<◌, length, get_or, member}
+use Rattle.std.specs.Prelude.{◌≡◌, ◌⊎◌, ◌+◌, ◌*◌, ◌≤◌, ◌<◌}
+use Rattle.basics.specs.Words.{Bool, true, false, cond, List, some, ℕ, zero, suc, length, get_or, member}
 use Rattle.machine.specs.declared.Pair.{Pair}
 use Rattle.paths.specs.Costs.{Labels, AtMost}
 use Rattle.paths.specs.Ranked.{Ranked, Less, count_at, ranked_costs}

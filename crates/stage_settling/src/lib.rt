@@ -1,7 +1,7 @@
 // Settling a position in a stage of the cull: its labels fall by insertions until none falls.
 #![tactic(auto)]
 
-ghost use Rattle.basics.specs.Words.{◌<◌};
+ghost use Rattle.std.specs.Prelude.{◌<◌};
 ghost use Rattle.tables.specs.Work.{HasNode};
 ghost use Rattle.settling.specs.OpenCodes.{OneIn, Chosen};
 ghost use Rattle.stage.specs.Relaxing.{NodePre};

@@ -1,5 +1,6 @@
 -- Sets of symbols: going through one from the least symbol on, and the symbols that make pairs of a kind.
-use Rattle.basics.specs.Words.{Bool, ◌&&◌, not, ℕ, zero, suc, ◌+◌, ◌^◌, eqb, ltb}
+use Rattle.std.specs.Prelude.{◌&&◌, ◌+◌, ◌^◌}
+use Rattle.basics.specs.Words.{Bool, not, ℕ, zero, suc, eqb, ltb}
 use Rattle.std.specs.Int.Bits.{bit_and, bit_xor}
 use Rattle.std.specs.Int.Count.{count_trailing_zeros}
 use Rattle.symbols.specs.Symbols.{empty_symbol}

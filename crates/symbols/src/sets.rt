@@ -1,5 +1,6 @@
 // Sets of symbols as 64-bit numbers: bit n is symbol n, bit 0 the empty symbol.
-ghost use Rattle.basics.specs.Words.{◌≡◌, true, not, ◌&&◌, ℕ, ◌<◌, ◌^◌, eqb, member};
+ghost use Rattle.std.specs.Prelude.{◌≡◌, ◌&&◌, ◌<◌, ◌^◌};
+ghost use Rattle.basics.specs.Words.{true, not, ℕ, eqb, member};
 ghost use Rattle.symbols.specs.SymbolSets.{least_symbol, without_symbol, without_empty, sound_set, partners};
 
 // The set of the empty symbol.

@@ -1,5 +1,6 @@
 -- What a number of a step table says. Assumes nothing.
-use Rattle.basics.specs.Words.{◌≡◌, refl, Option, some, none, ℕ, ◌+◌, ◌*◌, ◌/◌, ◌%◌, ◌<◌, ◌≤◌, arith}
+use Rattle.std.specs.Prelude.{◌≡◌, ◌+◌, ◌*◌, ◌/◌, ◌%◌, ◌<◌, ◌≤◌}
+use Rattle.basics.specs.Words.{refl, Option, some, none, ℕ, arith}
 use Rattle.tables.specs.StepTable.{step_code}
 
 -- a step to one of at most 32 states, with at most 15 marks

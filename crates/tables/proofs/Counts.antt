@@ -1,5 +1,6 @@
 -- State counts and the states of a code, machine by machine. Assumes nothing.
-use Rattle.basics.specs.Words.{◌≡◌, sym, ◌∙◌, ap, List, [], ◌∷◌, ℕ, zero, suc, ◌+◌, ◌*◌, ◌<◌, ◌≤◌, arith, length, get_or, take, drop, set, drop_of_length-le, drop-cons, take-suc, take-suc-set, mul_assoc, mul-le-mul_left, add-one}
+use Rattle.std.specs.Prelude.{◌≡◌, ◌∷◌, ◌+◌, ◌*◌, ◌<◌, ◌≤◌}
+use Rattle.basics.specs.Words.{sym, ◌∙◌, ap, List, [], ℕ, zero, suc, arith, length, get_or, take, drop, set, drop_of_length-le, drop-cons, take-suc, take-suc-set, mul_assoc, mul-le-mul_left, add-one}
 use Rattle.product.specs.Nodes.{product}
 use Rattle.product.specs.Laws.Nodes.{Positive, product_positive}
 use Rattle.product.specs.Laws.JointStep.{counts_positive}

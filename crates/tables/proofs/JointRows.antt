@@ -1,5 +1,6 @@
 -- Numbers written into a row, one after the other. Assumes nothing.
-use Rattle.basics.specs.Words.{◌≡◌, ◌∙◌, List, ℕ, ◌+◌, ◌<◌, ◌≤◌, arith, length, get_or, set, length-set, get_or-set_same, get_or-set_other, ℕ_discrete}
+use Rattle.std.specs.Prelude.{◌≡◌, ◌+◌, ◌<◌, ◌≤◌}
+use Rattle.basics.specs.Words.{◌∙◌, List, ℕ, arith, length, get_or, set, length-set, get_or-set_same, get_or-set_other, ℕ_discrete}
 
 pub record RowTo (f : ℕ → ℕ) (n : ℕ) (ys : List ℕ) (y : ℕ) : Type 0 where
   pub within : y ≤ n

@@ -1,5 +1,6 @@
 -- Machines by their numbers: their counts, their states, their steps. Assumes nothing.
-use Rattle.basics.specs.Words.{◌≡◌, List, [], ◌∷◌, ℕ, zero, suc, ◌<◌, arith, length, get_or, length-map, List·getD-map}
+use Rattle.std.specs.Prelude.{◌≡◌, ◌∷◌, ◌<◌}
+use Rattle.basics.specs.Words.{List, [], ℕ, zero, suc, arith, length, get_or, length-map, List·getD-map}
 use Rattle.machine.specs.declared.Pair.{Pair}
 use Rattle.machine.specs.Machine.{Machine, no_machine, step_of}
 use Rattle.product.specs.Nodes.{state_count_of, state_counts, product, states_of}
@@ -22,6 +23,8 @@ counts_length ms = length-map ms state_count_of
 
 pub below_at : (qs ss : List ℕ) → Below qs ss → (m : ℕ) → m < length qs → get_or ss m 0 < get_or qs m 0
 below_at [] [] b m h = absurd (omega arith)
+below_at [] (s ∷ ss) b m h = elim b [ ]
+below_at (q ∷ qs) [] b m h = elim b [ ]
 below_at (q ∷ qs) (s ∷ ss) b zero h = b.0
 below_at (q ∷ qs) (s ∷ ss) b (suc m) h = below_at qs ss b.1 m (omega arith)
 

@@ -1,5 +1,6 @@
 -- The state counts of a card's machines at the front of an array.
-use Rattle.basics.specs.Words.{◌≡◌, sym, ◌∙◌, ap, true, List, [], ◌∷◌, ℕ, zero, suc, ◌≤◌, arith, length, take, length-map}
+use Rattle.std.specs.Prelude.{◌≡◌, ◌∷◌, ◌≤◌}
+use Rattle.basics.specs.Words.{sym, ◌∙◌, ap, true, List, [], ℕ, zero, suc, arith, length, take, length-map}
 use Rattle.ranking.specs.Rankings.{is_ranking}
 use Rattle.card.specs.Layout.{machine_count, symbol_count}
 use Rattle.card.specs.Card.{machines_of, card_refusal}

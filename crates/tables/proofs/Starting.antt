@@ -1,5 +1,6 @@
 -- The start node is the number 0: the first position, and each machine's start state is 0. Assumes nothing.
-use Rattle.basics.specs.Words.{◌≡◌, refl, List, [], ◌∷◌, map, arith}
+use Rattle.std.specs.Prelude.{◌≡◌, ◌∷◌}
+use Rattle.basics.specs.Words.{refl, List, [], map, arith}
 use Rattle.machine.specs.Machine.{Machine, start_state}
 use Rattle.product.specs.Nodes.{state_counts, code_of}
 use Rattle.product.specs.ProductGraph.{start_node}

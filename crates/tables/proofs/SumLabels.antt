@@ -1,5 +1,6 @@
 -- Laws of labels as numbers. Assumes nothing.
-use Rattle.basics.proofs.Words.{◌≡◌, ap, Bool, cond, List, some, none, ℕ, ◌≤◌, ◌<◌, length, get_or, lt-ltb, le-ltb}
+use Rattle.std.specs.Prelude.{◌≡◌, ◌≤◌, ◌<◌}
+use Rattle.basics.proofs.Words.{ap, Bool, cond, List, some, none, ℕ, length, get_or, lt-ltb, le-ltb}
 use Rattle.tables.specs.Laws.Harmony.{any_default}
 use Rattle.tables.specs.SumLabels.{no_label, cost_of, label_from, label_of}
 

@@ -1,5 +1,6 @@
 -- Laws of the work slice: what a node's numbers say, and what writing them does.
-use Rattle.basics.proofs.Words.{◌≡◌, refl, sym, ◌∙◌, ap, Bool, cond, not, List, [], ◌∷◌, none, some, Option·none-ne-some, ◌⊎◌, inl, inr, ◌≢◌, ℕ, zero, suc, ◌+◌, ◌*◌, ◌≤◌, ◌<◌, arith, length, get_or, set, length-set, List·getD-eq-default, eqb, get_or-set_same, get_or-set_other, ℕ_discrete, dec_lt, eq-eqb, ne_eqb, eqb-true, eqb-false, not-true, not-false}
+use Rattle.std.specs.Prelude.{◌≡◌, ◌∷◌, ◌⊎◌, ◌≢◌, ◌+◌, ◌*◌, ◌≤◌, ◌<◌}
+use Rattle.basics.proofs.Words.{refl, sym, ◌∙◌, ap, Bool, cond, not, List, [], none, some, Option·none-ne-some, inl, inr, ℕ, zero, suc, arith, length, get_or, set, length-set, List·getD-eq-default, eqb, get_or-set_same, get_or-set_other, ℕ_discrete, dec_lt, eq-eqb, ne_eqb, eqb-true, eqb-false, not-true, not-false}
 use Rattle.paths.specs.Ranked.{Ranked}
 use Rattle.tables.specs.Work.{state_of, cost_at, label_of, AlikeAt, Reached, Stored}
 

@@ -1,5 +1,6 @@
 -- A part of a card that is accepted.
-use Rattle.basics.specs.Words.{◌≡◌, List, ℕ}
+use Rattle.std.specs.Prelude.{◌≡◌}
+use Rattle.basics.specs.Words.{List, ℕ}
 use Rattle.machine.specs.Part.{part_refusal}
 
 -- a part that is accepted on some card

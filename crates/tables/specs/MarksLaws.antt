@@ -1,5 +1,6 @@
 -- Laws of the marks of a pair as one number: each mark is at most 15, and the number has them all.
-use Rattle.basics.specs.Words.{◌≡◌, refl, sym, ◌∙◌, ap, ℕ, zero, suc, ◌+◌, ◌*◌, ◌/◌, ◌%◌, ◌^◌, ◌≤◌, ◌<◌, arith, mod-lt, div-lt_iff_lt-mul, mul-le-mul_right, mul-add-div_right, mul-add-mod_self_right, div-eq_of_lt, mod-eq_of_lt, one-le-pow, pow-succ'}
+use Rattle.std.specs.Prelude.{◌≡◌, ◌+◌, ◌*◌, ◌/◌, ◌%◌, ◌^◌, ◌≤◌, ◌<◌}
+use Rattle.basics.specs.Words.{refl, sym, ◌∙◌, ap, ℕ, zero, suc, arith, mod-lt, div-lt_iff_lt-mul, mul-le-mul_right, mul-add-div_right, mul-add-mod_self_right, div-eq_of_lt, mod-eq_of_lt, one-le-pow, pow-succ'}
 use Rattle.paths.specs.Ranked.{Ranked, letter_count, count_at}
 use Rattle.tables.specs.Marks.{nibbles, from_nibbles}
 

@@ -1,5 +1,6 @@
 -- Marks of machines as one number, in the order of a ranking.
-use Rattle.basics.specs.Words.{◌≡◌, List, [], ◌∷◌, ℕ, ◌<◌, length, get_or}
+use Rattle.std.specs.Prelude.{◌≡◌, ◌∷◌, ◌<◌}
+use Rattle.basics.specs.Words.{List, [], ℕ, length, get_or}
 use Rattle.paths.specs.ByRanking.{ranked}
 use Rattle.tables.specs.Marks.{from_nibbles}
 

@@ -1,6 +1,7 @@
 -- A label as one number: the sum times 4,096 and the number of pairs. Of two labels the lesser has the lesser number, and numbers add up as labels do:
 -- a best path has fewer than 4,096 pairs.
-use Rattle.basics.specs.Words.{cond, List, Option, some, none, ℕ, ◌/◌, ◌%◌, get_or, ltb}
+use Rattle.std.specs.Prelude.{◌/◌, ◌%◌}
+use Rattle.basics.specs.Words.{cond, List, Option, some, none, ℕ, get_or, ltb}
 use Rattle.paths.specs.Ranked.{Ranked}
 
 -- the number of a node that has no label

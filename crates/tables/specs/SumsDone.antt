@@ -1,5 +1,6 @@
 -- All nodes labelled.
-use Rattle.basics.specs.Words.{◌≡◌, List, ℕ, length}
+use Rattle.std.specs.Prelude.{◌≡◌}
+use Rattle.basics.specs.Words.{List, ℕ, length}
 use Rattle.paths.specs.Positions.{Done}
 use Rattle.product.specs.Setting.{position_of}
 use Rattle.product.specs.WeightedPaths.{weighted_graph}

@@ -1,5 +1,6 @@
 -- Machines as an accepted card has them, and their state counts.
-use Rattle.basics.specs.Words.{◌≡◌, List, ℕ, ◌<◌, ◌≤◌, length}
+use Rattle.std.specs.Prelude.{◌≡◌, ◌<◌, ◌≤◌}
+use Rattle.basics.specs.Words.{List, ℕ, length}
 use Rattle.machine.specs.Machine.{Machine}
 use Rattle.product.specs.Nodes.{state_count_of, state_counts, product}
 use Rattle.product.specs.Laws.JointStep.{AllSound}

@@ -1,6 +1,7 @@
 -- The work slice: eight numbers to a node. Node u's stand from u * 8 on: its state, 0 where it has no label, six counts in ranked order, the number
 -- of pairs.
-use Rattle.basics.specs.Words.{◌≡◌, Bool, true, false, cond, List, Option, none, some, ◌≢◌, ℕ, ◌+◌, ◌*◌, ◌≤◌, ◌<◌, length, get_or, eqb}
+use Rattle.std.specs.Prelude.{◌≡◌, ◌≢◌, ◌+◌, ◌*◌, ◌≤◌, ◌<◌}
+use Rattle.basics.specs.Words.{Bool, true, false, cond, List, Option, none, some, ℕ, length, get_or, eqb}
 use Rattle.paths.specs.Ranked.{Ranked}
 
 -- the slice has the node u

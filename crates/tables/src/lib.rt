@@ -1,7 +1,8 @@
 // What the search writes down: steps and labels as numbers; the start node; a ranking as six places.
 #![tactic(auto)]
 
-ghost use Rattle.basics.specs.Words.{◌≡◌, List, get_or};
+ghost use Rattle.std.specs.Prelude.{◌≡◌};
+ghost use Rattle.basics.specs.Words.{List, get_or};
 ghost use Rattle.machine.specs.Machine.{Machine};
 ghost use Rattle.product.specs.Nodes.{state_counts};
 ghost use Rattle.product.specs.ProductGraph.{start_node};

@@ -18,6 +18,7 @@ const ANSWER_BYTES: usize = 6398;
 const TARGET_BYTES: usize = 32000;
 
 fn search(
+    rt: &impl Print,
     culls: bool,
     card: &[u8],
     ranking: &[u8],
@@ -26,19 +27,20 @@ fn search(
     answer: &mut [u8],
 ) {
     if culls {
-        write(b"cull");
+        write(rt, b"cull");
         let evaluation = cull::cull(card, ranking, word, work, answer);
-        write_best(evaluation, work, answer);
+        write_best(rt, evaluation, work, answer);
     } else {
-        write(b"optimize");
+        write(rt, b"optimize");
         let evaluation = optimizer::optimize(card, ranking, word, work, answer);
-        write_best(evaluation, work, answer);
+        write_best(rt, evaluation, work, answer);
     }
 }
 
 // By the engine that culls, or by the first one, with so many numbers of work, and an answer of so many bytes, each `fill`. Answers whether there is as
 // much to lend.
 pub fn lend_and_search(
+    rt: &impl Print,
     culls: bool,
     card: &[u8],
     ranking: &[u8],
@@ -56,6 +58,7 @@ pub fn lend_and_search(
     let mut work = [7u16; WORK_NUMBERS];
     let mut answer = [fill; ANSWER_BYTES];
     search(
+        rt,
         culls,
         card,
         ranking,
@@ -67,6 +70,7 @@ pub fn lend_and_search(
 }
 
 fn search_sets(
+    rt: &impl Print,
     culls: bool,
     card: &[u8],
     ranking: &[u8],
@@ -75,18 +79,19 @@ fn search_sets(
     answer: &mut [u8],
 ) {
     if culls {
-        write(b"cull sets");
+        write(rt, b"cull sets");
         let evaluation = cull::cull_sets(card, ranking, sets, work, answer);
-        write_best(evaluation, work, answer);
+        write_best(rt, evaluation, work, answer);
     } else {
-        write(b"optimize sets");
+        write(rt, b"optimize sets");
         let evaluation = optimizer::optimize_sets(card, ranking, sets, work, answer);
-        write_best(evaluation, work, answer);
+        write_best(rt, evaluation, work, answer);
     }
 }
 
 // As `lend_and_search`, with the first sets, as many as `positions`.
 pub fn lend_and_search_sets(
+    rt: &impl Print,
     culls: bool,
     card: &[u8],
     ranking: &[u8],
@@ -108,6 +113,7 @@ pub fn lend_and_search_sets(
     let mut work = [7u16; WORK_NUMBERS];
     let mut answer = [fill; ANSWER_BYTES];
     search_sets(
+        rt,
         culls,
         card,
         ranking,
@@ -119,6 +125,7 @@ pub fn lend_and_search_sets(
 }
 
 fn optimize_weights(
+    rt: &impl Print,
     card: &[u8],
     weights: &[u32],
     word: &[u8],
@@ -126,16 +133,17 @@ fn optimize_weights(
     answer: &mut [u8],
 ) {
     let weighing = weights::optimize(card, weights, word, work, answer);
-    write(b"optimize weights");
-    write_evaluation(weighing.evaluation);
-    write_spaced_number(weighing.sum);
-    write_slice(answer);
-    write_kept(weighing.evaluation.number, wide_sevens(work));
+    write(rt, b"optimize weights");
+    write_evaluation(rt, weighing.evaluation);
+    write_spaced_number(rt, weighing.sum);
+    write_slice(rt, answer);
+    write_kept(rt, weighing.evaluation.number, wide_sevens(work));
 }
 
 // With the first weights, as many as `machines`, so many numbers of work, and an answer of so many bytes, each `fill`. Answers whether there is as much to
 // lend.
 pub fn lend_and_weigh(
+    rt: &impl Print,
     card: &[u8],
     weights: [u32; 8],
     machines: usize,
@@ -156,6 +164,7 @@ pub fn lend_and_weigh(
     let mut work = [7u64; WEIGHTS_WORK_NUMBERS];
     let mut answer = [fill; ANSWER_BYTES];
     optimize_weights(
+        rt,
         card,
         &weights[0..machines],
         word,
@@ -165,15 +174,23 @@ pub fn lend_and_weigh(
     true
 }
 
-fn judge(card: &[u8], ranking: &[u8], word: &[u8], work: &mut [u16], tableau: &[u8]) {
-    write(b"judge");
+fn judge(
+    rt: &impl Print,
+    card: &[u8],
+    ranking: &[u8],
+    word: &[u8],
+    work: &mut [u16],
+    tableau: &[u8],
+) {
+    write(rt, b"judge");
     let judged = tableau::judge(card, ranking, word, work, tableau);
-    write_three(judged.number, judged.verdict, judged.row);
-    write_kept(judged.number, sevens(work));
+    write_three(rt, judged.number, judged.verdict, judged.row);
+    write_kept(rt, judged.number, sevens(work));
 }
 
 // With so many numbers of work. Answers whether there is as much to lend.
 pub fn lend_and_judge(
+    rt: &impl Print,
     card: &[u8],
     ranking: &[u8],
     word: &[u8],
@@ -184,33 +201,34 @@ pub fn lend_and_judge(
         return false;
     }
     let mut work = [7u16; WORK_NUMBERS];
-    judge(card, ranking, word, &mut work[0..room], tableau);
+    judge(rt, card, ranking, word, &mut work[0..room], tableau);
     true
 }
 
-pub fn evaluate(card: &[u8], candidate: &[u8]) {
-    write(b"evaluate");
-    write_evaluation(candidate::evaluate(card, candidate));
+pub fn evaluate(rt: &impl Print, card: &[u8], candidate: &[u8]) {
+    write(rt, b"evaluate");
+    write_evaluation(rt, candidate::evaluate(card, candidate));
 }
 
-pub fn read_part(card: &[u8], machine: u8) {
+pub fn read_part(rt: &impl Print, card: &[u8], machine: u8) {
     let place = card::read_part(card, machine);
-    write(b"part");
-    write_spaced_byte(place.number);
-    write_spaced_size(place.offset);
-    write_spaced_size(place.length);
+    write(rt, b"part");
+    write_spaced_byte(rt, place.number);
+    write_spaced_size(rt, place.offset);
+    write_spaced_size(rt, place.length);
 }
 
-fn pack(symbols: u8, lengths: &[u16], parts: &[u8], target: &mut [u8]) {
+fn pack(rt: &impl Print, symbols: u8, lengths: &[u16], parts: &[u8], target: &mut [u8]) {
     let packed = card::pack(symbols, lengths, parts, target);
-    write(b"pack");
-    write_spaced_byte(packed.number);
-    write_spaced_size(packed.length);
-    write_slice(target);
+    write(rt, b"pack");
+    write_spaced_byte(rt, packed.number);
+    write_spaced_size(rt, packed.length);
+    write_slice(rt, target);
 }
 
 // With the first lengths, as many as `machines`, and a target of so many bytes, each `fill`. Answers whether there is as much to lend.
 pub fn lend_and_pack(
+    rt: &impl Print,
     symbols: u8,
     lengths: [u16; 7],
     machines: usize,
@@ -225,53 +243,66 @@ pub fn lend_and_pack(
         return false;
     }
     let mut target = [fill; TARGET_BYTES];
-    pack(symbols, &lengths[0..machines], parts, &mut target[0..bytes]);
+    pack(
+        rt,
+        symbols,
+        &lengths[0..machines],
+        parts,
+        &mut target[0..bytes],
+    );
     true
 }
 
-fn join(card: &[u8], first: u8, second: u8, target: &mut [u8]) {
+fn join(rt: &impl Print, card: &[u8], first: u8, second: u8, target: &mut [u8]) {
     let joined = join::join(card, first, second, target);
-    write(b"join");
-    write_spaced_byte(joined.number);
-    write_spaced_size(joined.length);
-    write_slice(target);
+    write(rt, b"join");
+    write_spaced_byte(rt, joined.number);
+    write_spaced_size(rt, joined.length);
+    write_slice(rt, target);
 }
 
 // With a target of so many bytes, each `fill`. Answers whether there is as much to lend.
-pub fn lend_and_join(card: &[u8], first: u8, second: u8, bytes: usize, fill: u8) -> bool {
+pub fn lend_and_join(
+    rt: &impl Print,
+    card: &[u8],
+    first: u8,
+    second: u8,
+    bytes: usize,
+    fill: u8,
+) -> bool {
     if bytes > TARGET_BYTES {
         return false;
     }
     let mut target = [fill; TARGET_BYTES];
-    join(card, first, second, &mut target[0..bytes]);
+    join(rt, card, first, second, &mut target[0..bytes]);
     true
 }
 
-pub fn compare(machines: u8, ranking: &[u8], first: Profile, second: Profile) {
-    write(b"compare");
+pub fn compare(rt: &impl Print, machines: u8, ranking: &[u8], first: Profile, second: Profile) {
+    write(rt, b"compare");
     match ranking::harmony::compare(machines, ranking, first, second) {
         Comparison::Ordered(order) => {
-            write_order(order);
+            write_order(rt, order);
         }
         Comparison::Refused(refusal) => {
-            write_three(refusal.number(), 0, 0);
+            write_three(rt, refusal.number(), 0, 0);
         }
     }
 }
 
-pub fn derive(machines: u8, first: Profile, second: Profile) {
-    write(b"condition");
+pub fn derive(rt: &impl Print, machines: u8, first: Profile, second: Profile) {
+    write(rt, b"condition");
     match ranking::conditions::derive(machines, first, second) {
         Derived::Condition(condition) => {
-            write_three(0, condition.fewer, condition.more);
+            write_three(rt, 0, condition.fewer, condition.more);
         }
         Derived::Refused(refusal) => {
-            write_three(refusal.number(), 0, 0);
+            write_three(rt, refusal.number(), 0, 0);
         }
     }
 }
 
-pub fn find(machines: u8, conditions: &[u8]) {
-    write(b"ranking");
-    write_finding(finder::find(machines, conditions));
+pub fn find(rt: &impl Print, machines: u8, conditions: &[u8]) {
+    write(rt, b"ranking");
+    write_finding(rt, finder::find(machines, conditions));
 }

@@ -1,36 +1,34 @@
 // Text, and numbers in decimal, to standard output.
-use libc::STDOUT_FILENO;
-
-pub fn write(text: &[u8]) {
-    io::write_all(STDOUT_FILENO, text);
+pub fn write(rt: &impl Print, text: &[u8]) {
+    let _ = rt.write_all(text);
 }
 
-pub fn write_number(number: u64) {
-    io::print_decimal(STDOUT_FILENO, number);
+pub fn write_number(rt: &impl Print, number: u64) {
+    let _ = rt.print(number);
 }
 
-pub fn write_byte(byte: u8) {
-    write_number(byte as u64);
+pub fn write_byte(rt: &impl Print, byte: u8) {
+    write_number(rt, byte as u64);
 }
 
-pub fn write_count(count: u16) {
-    write_number(count as u64);
+pub fn write_count(rt: &impl Print, count: u16) {
+    write_number(rt, count as u64);
 }
 
 // The same with a space before.
-pub fn write_spaced_number(number: u64) {
-    write(b" ");
-    write_number(number);
+pub fn write_spaced_number(rt: &impl Print, number: u64) {
+    write(rt, b" ");
+    write_number(rt, number);
 }
 
-pub fn write_spaced_byte(byte: u8) {
-    write_spaced_number(byte as u64);
+pub fn write_spaced_byte(rt: &impl Print, byte: u8) {
+    write_spaced_number(rt, byte as u64);
 }
 
-pub fn write_spaced_count(count: u16) {
-    write_spaced_number(count as u64);
+pub fn write_spaced_count(rt: &impl Print, count: u16) {
+    write_spaced_number(rt, count as u64);
 }
 
-pub fn write_spaced_size(size: usize) {
-    write_spaced_number(size as u64);
+pub fn write_spaced_size(rt: &impl Print, size: usize) {
+    write_spaced_number(rt, size as u64);
 }

@@ -12,66 +12,66 @@ use ranking::{Finding, Order, Profile};
 // What slices are written modulo.
 const PRIME: u64 = 1000000007;
 
-pub fn end_line() {
-    write(b"\n");
+pub fn end_line(rt: &impl Print) {
+    write(rt, b"\n");
 }
 
 // The line of a faulty case.
-pub fn write_bad_case() {
-    write(b"bad case\n");
+pub fn write_bad_case(rt: &impl Print) {
+    write(rt, b"bad case\n");
 }
 
-fn write_next_count(count: u16) {
-    write(b",");
-    write_count(count);
+fn write_next_count(rt: &impl Print, count: u16) {
+    write(rt, b",");
+    write_count(rt, count);
 }
 
-fn write_next_machine(machine: u8) {
-    write(b",");
-    write_byte(machine);
+fn write_next_machine(rt: &impl Print, machine: u8) {
+    write(rt, b",");
+    write_byte(rt, machine);
 }
 
-fn write_profile(profile: Profile) {
-    write_spaced_count(profile.counts[0]);
-    write_next_count(profile.counts[1]);
-    write_next_count(profile.counts[2]);
-    write_next_count(profile.counts[3]);
-    write_next_count(profile.counts[4]);
-    write_next_count(profile.counts[5]);
+fn write_profile(rt: &impl Print, profile: Profile) {
+    write_spaced_count(rt, profile.counts[0]);
+    write_next_count(rt, profile.counts[1]);
+    write_next_count(rt, profile.counts[2]);
+    write_next_count(rt, profile.counts[3]);
+    write_next_count(rt, profile.counts[4]);
+    write_next_count(rt, profile.counts[5]);
 }
 
 // Number, profile, pair count, word length.
-pub fn write_evaluation(evaluation: Evaluation) {
-    write_spaced_byte(evaluation.number);
-    write_profile(evaluation.profile);
-    write_spaced_count(evaluation.pairs);
-    write_spaced_count(evaluation.word_length);
+pub fn write_evaluation(rt: &impl Print, evaluation: Evaluation) {
+    write_spaced_byte(rt, evaluation.number);
+    write_profile(rt, evaluation.profile);
+    write_spaced_count(rt, evaluation.pairs);
+    write_spaced_count(rt, evaluation.word_length);
 }
 
 // Number and ranking.
-pub fn write_finding(finding: Finding) {
-    write_spaced_byte(finding.number);
-    write_spaced_byte(finding.ranking[0]);
-    write_next_machine(finding.ranking[1]);
-    write_next_machine(finding.ranking[2]);
-    write_next_machine(finding.ranking[3]);
-    write_next_machine(finding.ranking[4]);
-    write_next_machine(finding.ranking[5]);
+pub fn write_finding(rt: &impl Print, finding: Finding) {
+    write_spaced_byte(rt, finding.number);
+    write_spaced_byte(rt, finding.ranking[0]);
+    write_next_machine(rt, finding.ranking[1]);
+    write_next_machine(rt, finding.ranking[2]);
+    write_next_machine(rt, finding.ranking[3]);
+    write_next_machine(rt, finding.ranking[4]);
+    write_next_machine(rt, finding.ranking[5]);
 }
 
 // A number, and the two fields of a result.
-pub fn write_three(number: u8, first: u8, second: u8) {
-    write_spaced_byte(number);
-    write_spaced_byte(first);
-    write_spaced_byte(second);
+pub fn write_three(rt: &impl Print, number: u8, first: u8, second: u8) {
+    write_spaced_byte(rt, number);
+    write_spaced_byte(rt, first);
+    write_spaced_byte(rt, second);
 }
 
 // Better is 1, equal 2, worse 3, and then the machine that decided, 0 with equal.
-pub fn write_order(order: Order) {
+pub fn write_order(rt: &impl Print, order: Order) {
     match order {
-        Order::Better(machine) => write_three(0, 1, machine),
-        Order::Equal => write_three(0, 2, 0),
-        Order::Worse(machine) => write_three(0, 3, machine),
+        Order::Better(machine) => write_three(rt, 0, 1, machine),
+        Order::Equal => write_three(rt, 0, 2, 0),
+        Order::Worse(machine) => write_three(rt, 0, 3, machine),
     }
 }
 
@@ -82,12 +82,12 @@ fn wide(byte: u8) -> u64
 }
 
 // A slice in short: its bytes as the digits of a number to base 257, modulo a prime.
-pub fn write_slice(bytes: &[u8]) {
+pub fn write_slice(rt: &impl Print, bytes: &[u8]) {
     let mut sum: u64 = 0;
     for at in 0..bytes.len() {
         sum = (257 * sum + wide(bytes[at])) % PRIME;
     }
-    write_spaced_number(sum);
+    write_spaced_number(rt, sum);
 }
 
 // How many numbers are 7.
@@ -102,15 +102,15 @@ pub fn wide_sevens(numbers: &[u64]) -> usize {
 }
 
 // How many numbers of the work slice are still 7, where the call has to keep it: it is left open once check 9 is passed.
-pub fn write_kept(number: u8, count: usize) {
+pub fn write_kept(rt: &impl Print, number: u8, count: usize) {
     if ((1 <= number) & (number <= 9)) | (number == 25) | (number == 26) {
-        write_spaced_size(count);
+        write_spaced_size(rt, count);
     }
 }
 
 // What a search answers, and the slices that it was lent.
-pub fn write_best(evaluation: Evaluation, work: &[u16], answer: &[u8]) {
-    write_evaluation(evaluation);
-    write_slice(answer);
-    write_kept(evaluation.number, sevens(work));
+pub fn write_best(rt: &impl Print, evaluation: Evaluation, work: &[u16], answer: &[u8]) {
+    write_evaluation(rt, evaluation);
+    write_slice(rt, answer);
+    write_kept(rt, evaluation.number, sevens(work));
 }

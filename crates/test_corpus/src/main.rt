@@ -21,6 +21,7 @@
 // for a faulty case.
 #![tactic(auto)]
 
+use std::rt::Files;
 use test_calls::calls::{
     compare, derive, evaluate, find, lend_and_join, lend_and_judge, lend_and_pack, lend_and_search,
     lend_and_search_sets, lend_and_weigh, read_part,
@@ -35,7 +36,7 @@ use test_calls::writing::{end_line, write_bad_case};
 // One byte more than the file may have.
 const FILE_BYTES: usize = 409601;
 
-fn search_case(file: &[u8], culls: bool, card: usize) -> usize {
+fn search_case(rt: &impl Print, file: &[u8], culls: bool, card: usize) -> usize {
     let ranking = after_bytes(file, card);
     let word = after_bytes(file, ranking);
     let room = after_bytes(file, word);
@@ -46,6 +47,7 @@ fn search_case(file: &[u8], culls: bool, card: usize) -> usize {
         return NOWHERE;
     }
     let lent = lend_and_search(
+        rt,
         culls,
         bytes_at(file, card),
         bytes_at(file, ranking),
@@ -57,7 +59,7 @@ fn search_case(file: &[u8], culls: bool, card: usize) -> usize {
     if lent { end } else { NOWHERE }
 }
 
-fn search_sets_case(file: &[u8], culls: bool, card: usize) -> usize {
+fn search_sets_case(rt: &impl Print, file: &[u8], culls: bool, card: usize) -> usize {
     let ranking = after_bytes(file, card);
     let sets = after_bytes(file, ranking);
     let room = after_sets(file, sets);
@@ -68,6 +70,7 @@ fn search_sets_case(file: &[u8], culls: bool, card: usize) -> usize {
         return NOWHERE;
     }
     let lent = lend_and_search_sets(
+        rt,
         culls,
         bytes_at(file, card),
         bytes_at(file, ranking),
@@ -80,7 +83,7 @@ fn search_sets_case(file: &[u8], culls: bool, card: usize) -> usize {
     if lent { end } else { NOWHERE }
 }
 
-fn weigh_case(file: &[u8], card: usize) -> usize {
+fn weigh_case(rt: &impl Print, file: &[u8], card: usize) -> usize {
     let weights = after_bytes(file, card);
     let word = after_weights(file, weights);
     let room = after_bytes(file, word);
@@ -91,6 +94,7 @@ fn weigh_case(file: &[u8], card: usize) -> usize {
         return NOWHERE;
     }
     let lent = lend_and_weigh(
+        rt,
         bytes_at(file, card),
         weights_at(file, weights),
         size_at(file, weights),
@@ -102,25 +106,25 @@ fn weigh_case(file: &[u8], card: usize) -> usize {
     if lent { end } else { NOWHERE }
 }
 
-fn evaluate_case(file: &[u8], card: usize) -> usize {
+fn evaluate_case(rt: &impl Print, file: &[u8], card: usize) -> usize {
     let candidate = after_bytes(file, card);
     let end = after_bytes(file, candidate);
     if end != NOWHERE {
-        evaluate(bytes_at(file, card), bytes_at(file, candidate));
+        evaluate(rt, bytes_at(file, card), bytes_at(file, candidate));
     }
     end
 }
 
-fn read_part_case(file: &[u8], card: usize) -> usize {
+fn read_part_case(rt: &impl Print, file: &[u8], card: usize) -> usize {
     let machine = after_bytes(file, card);
     let end = after(file, machine, 1);
     if end != NOWHERE {
-        read_part(bytes_at(file, card), byte_at(file, machine));
+        read_part(rt, bytes_at(file, card), byte_at(file, machine));
     }
     end
 }
 
-fn pack_case(file: &[u8], symbols: usize) -> usize {
+fn pack_case(rt: &impl Print, file: &[u8], symbols: usize) -> usize {
     let lengths = after(file, symbols, 1);
     let parts = after_numbers(file, lengths);
     let bytes = after_bytes(file, parts);
@@ -130,6 +134,7 @@ fn pack_case(file: &[u8], symbols: usize) -> usize {
         return NOWHERE;
     }
     let lent = lend_and_pack(
+        rt,
         byte_at(file, symbols),
         numbers_at(file, lengths),
         size_at(file, lengths),
@@ -140,7 +145,7 @@ fn pack_case(file: &[u8], symbols: usize) -> usize {
     if lent { end } else { NOWHERE }
 }
 
-fn join_case(file: &[u8], card: usize) -> usize {
+fn join_case(rt: &impl Print, file: &[u8], card: usize) -> usize {
     let first = after_bytes(file, card);
     let second = after(file, first, 1);
     let bytes = after(file, second, 1);
@@ -150,6 +155,7 @@ fn join_case(file: &[u8], card: usize) -> usize {
         return NOWHERE;
     }
     let lent = lend_and_join(
+        rt,
         bytes_at(file, card),
         byte_at(file, first),
         byte_at(file, second),
@@ -159,13 +165,14 @@ fn join_case(file: &[u8], card: usize) -> usize {
     if lent { end } else { NOWHERE }
 }
 
-fn compare_case(file: &[u8], machines: usize) -> usize {
+fn compare_case(rt: &impl Print, file: &[u8], machines: usize) -> usize {
     let ranking = after(file, machines, 1);
     let first = after_bytes(file, ranking);
     let second = after(file, first, 12);
     let end = after(file, second, 12);
     if end != NOWHERE {
         compare(
+            rt,
             byte_at(file, machines),
             bytes_at(file, ranking),
             profile_at(file, first),
@@ -175,12 +182,13 @@ fn compare_case(file: &[u8], machines: usize) -> usize {
     end
 }
 
-fn derive_case(file: &[u8], machines: usize) -> usize {
+fn derive_case(rt: &impl Print, file: &[u8], machines: usize) -> usize {
     let first = after(file, machines, 1);
     let second = after(file, first, 12);
     let end = after(file, second, 12);
     if end != NOWHERE {
         derive(
+            rt,
             byte_at(file, machines),
             profile_at(file, first),
             profile_at(file, second),
@@ -189,16 +197,16 @@ fn derive_case(file: &[u8], machines: usize) -> usize {
     end
 }
 
-fn find_case(file: &[u8], machines: usize) -> usize {
+fn find_case(rt: &impl Print, file: &[u8], machines: usize) -> usize {
     let conditions = after(file, machines, 1);
     let end = after_bytes(file, conditions);
     if end != NOWHERE {
-        find(byte_at(file, machines), bytes_at(file, conditions));
+        find(rt, byte_at(file, machines), bytes_at(file, conditions));
     }
     end
 }
 
-fn judge_case(file: &[u8], card: usize) -> usize {
+fn judge_case(rt: &impl Print, file: &[u8], card: usize) -> usize {
     let ranking = after_bytes(file, card);
     let word = after_bytes(file, ranking);
     let room = after_bytes(file, word);
@@ -208,6 +216,7 @@ fn judge_case(file: &[u8], card: usize) -> usize {
         return NOWHERE;
     }
     let lent = lend_and_judge(
+        rt,
         bytes_at(file, card),
         bytes_at(file, ranking),
         bytes_at(file, word),
@@ -218,53 +227,53 @@ fn judge_case(file: &[u8], card: usize) -> usize {
 }
 
 // The case at a place: its first byte is its kind.
-fn case(file: &[u8], at: usize) -> usize {
+fn case(rt: &impl Print, file: &[u8], at: usize) -> usize {
     let start = after(file, at, 1);
     match byte_at(file, at) {
-        1 => search_case(file, false, start),
-        2 => evaluate_case(file, start),
-        3 => read_part_case(file, start),
-        4 => pack_case(file, start),
-        5 => compare_case(file, start),
-        6 => derive_case(file, start),
-        7 => find_case(file, start),
-        8 => judge_case(file, start),
-        9 => search_case(file, true, start),
-        13 => search_sets_case(file, false, start),
-        14 => search_sets_case(file, true, start),
-        15 => weigh_case(file, start),
-        16 => join_case(file, start),
+        1 => search_case(rt, file, false, start),
+        2 => evaluate_case(rt, file, start),
+        3 => read_part_case(rt, file, start),
+        4 => pack_case(rt, file, start),
+        5 => compare_case(rt, file, start),
+        6 => derive_case(rt, file, start),
+        7 => find_case(rt, file, start),
+        8 => judge_case(rt, file, start),
+        9 => search_case(rt, file, true, start),
+        13 => search_sets_case(rt, file, false, start),
+        14 => search_sets_case(rt, file, true, start),
+        15 => weigh_case(rt, file, start),
+        16 => join_case(rt, file, start),
         _ => NOWHERE,
     }
 }
 
 // Every case, up to the first that is faulty. A case has a byte at least, so there are not more cases than bytes.
-fn cases(file: &[u8]) {
+fn cases(rt: &impl Print, file: &[u8]) {
     let mut at = 0;
     for _ in 0..file.len() {
         if at == file.len() {
             return;
         }
-        at = case(file, at);
+        at = case(rt, file, at);
         if at > file.len() {
-            write_bad_case();
+            write_bad_case(rt);
             return;
         }
-        end_line();
+        end_line(rt);
     }
 }
 
 // Runs the file, read into a buffer that is longer than it: one that fills the buffer is too long.
-fn run(file: &mut [u8]) {
-    let n = read_file(b"cases", file);
+fn run(rt: &(impl Files + Print), file: &mut [u8]) {
+    let n = read_file(rt, "cases", file);
     if n == file.len() {
-        write_bad_case();
+        write_bad_case(rt);
         return;
     }
-    cases(&file[..n]);
+    cases(rt, &file[..n]);
 }
 
-fn main() {
+fn main(rt: HostRuntime) {
     let mut file = [0u8; FILE_BYTES];
-    run(&mut file);
+    run(&rt, &mut file);
 }

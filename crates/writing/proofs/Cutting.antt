@@ -1,5 +1,6 @@
 -- Laws of the texts before and after a byte, and of the segments. Assumes nothing.
-use Rattle.basics.proofs.Words.{◌≡◌, refl, ap, sym, ◌∙◌, Bool, true, false, List, [], ◌∷◌, Option, some, none, ℕ, suc, ◌+◌, ◌-◌, ◌<◌, ◌≤◌, min, arith, length, get_or, take, drop, length-take, length-drop, drop_of_length-le, eqb, take_all, add-zero, suc_inj, suc-ne-zero, add-one, eq-eqb, ne_eqb}
+use Rattle.std.specs.Prelude.{◌≡◌, ◌∷◌, ◌+◌, ◌-◌, ◌<◌, ◌≤◌}
+use Rattle.basics.proofs.Words.{refl, ap, sym, ◌∙◌, Bool, true, false, List, [], Option, some, none, ℕ, suc, min, arith, length, get_or, take, drop, length-take, length-drop, drop_of_length-le, eqb, take_all, add-zero, suc_inj, suc-ne-zero, add-one, eq-eqb, ne_eqb}
 use Rattle.writing.specs.Text.{before, after, segments}
 use Rattle.writing.specs.Cutting.{before_nil, after_nil, segments_nil, before_hit, after_hit, segments_hit, before_miss, after_miss, segments_miss}
 use Rattle.writing.proofs.Lists.{rest_cons}

@@ -1,5 +1,6 @@
 -- Laws of numbers in decimal. Assumes nothing.
-use Rattle.basics.proofs.Words.{◌≡◌, refl, ap, ◌∙◌, Bool, true, false, List, [], ◌∷◌, ℕ, zero, suc, ◌+◌, ◌*◌, ◌/◌, ◌%◌, ◌^◌, ◌<◌, ◌≤◌, arith, length, get_or, drop, length-append, drop_of_length-le, ltb, leb, lit<, lit≤, pow-suc, pow-le-pow_right, add-one, leb-true, ltb-true, ltb-false, left, right}
+use Rattle.std.specs.Prelude.{◌≡◌, ◌∷◌, ◌+◌, ◌*◌, ◌/◌, ◌%◌, ◌^◌, ◌<◌, ◌≤◌}
+use Rattle.basics.proofs.Words.{refl, ap, ◌∙◌, Bool, true, false, List, [], ℕ, zero, suc, arith, length, get_or, drop, length-append, drop_of_length-le, ltb, leb, lit<, lit≤, pow-suc, pow-le-pow_right, add-one, leb-true, ltb-true, ltb-false, left, right}
 use Rattle.writing.specs.Decimal.{is_digit, digit_value, value_from, digit_of, decimal}
 use Rattle.writing.specs.DecimalRead.{decimal_digit, decimal_more}
 use Rattle.writing.proofs.Lists.{rest_cons}

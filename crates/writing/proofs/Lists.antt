@@ -1,5 +1,6 @@
 -- Laws of lists from a place on, of tests over them, and of stores in a row. Assumes nothing.
-use Rattle.basics.proofs.Words.{◌≡◌, refl, ap, sym, ◌∙◌, Bool, true, false, List, [], ◌∷◌, ◌++◌, ℕ, zero, suc, ◌+◌, ◌<◌, ◌≤◌, min, arith, length, get_or, take, drop, set, leb, drop-cons, take_all, sets, sets-eq, ext_get_or, add-zero, add-suc, suc-add, zero-add, add-one, all_of, leb-true, leb-false, left, right}
+use Rattle.std.specs.Prelude.{◌≡◌, ◌∷◌, ◌++◌, ◌+◌, ◌<◌, ◌≤◌}
+use Rattle.basics.proofs.Words.{refl, ap, sym, ◌∙◌, Bool, true, false, List, [], ℕ, zero, suc, min, arith, length, get_or, take, drop, set, leb, drop-cons, take_all, sets, sets-eq, ext_get_or, add-zero, add-suc, suc-add, zero-add, add-one, all_of, leb-true, leb-false, left, right}
 use Rattle.writing.specs.Buffers.{Below}
 
 -- the element at a place, and the rest

@@ -1,5 +1,6 @@
 -- Laws of texts written in a buffer, one after another. Assumes nothing.
-use Rattle.basics.specs.Words.{◌≡◌, refl, ap, sym, ◌∙◌, List, [], ◌∷◌, ◌++◌, ℕ, ◌+◌, ◌/◌, ◌%◌, ◌<◌, ◌≤◌, arith, length, set, length-append, sets, length-sets, add-zero}
+use Rattle.std.specs.Prelude.{◌≡◌, ◌∷◌, ◌++◌, ◌+◌, ◌/◌, ◌%◌, ◌<◌, ◌≤◌}
+use Rattle.basics.specs.Words.{refl, ap, sym, ◌∙◌, List, [], ℕ, arith, length, set, length-append, sets, length-sets, add-zero}
 use Rattle.writing.specs.Decimal.{decimal}
 use Rattle.writing.specs.Buffers.{Written, at_front}
 use Rattle.writing.specs.DecimalRead.{decimal_digit, decimal_more}

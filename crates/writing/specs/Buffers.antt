@@ -1,5 +1,6 @@
 -- Texts written in a lent buffer.
-use Rattle.basics.specs.Words.{◌≡◌, List, ◌++◌, ℕ, ◌+◌, ◌<◌, length, get_or, drop, sets}
+use Rattle.std.specs.Prelude.{◌≡◌, ◌++◌, ◌+◌, ◌<◌}
+use Rattle.basics.specs.Words.{List, ℕ, length, get_or, drop, sets}
 
 -- every number of a list is below a bound
 abbrev pub Below : ℕ → List ℕ → Type 0

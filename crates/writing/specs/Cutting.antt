@@ -1,5 +1,6 @@
 -- Laws of the texts before and after a byte and of the segments, by the text's first byte.
-use Rattle.basics.specs.Words.{◌≡◌, refl, true, false, List, [], ◌∷◌, some, none, ℕ, eqb}
+use Rattle.std.specs.Prelude.{◌≡◌, ◌∷◌}
+use Rattle.basics.specs.Words.{refl, true, false, List, [], some, none, ℕ, eqb}
 use Rattle.writing.specs.Text.{before, after, to_first, segments}
 
 -- the empty text

@@ -1,5 +1,6 @@
 -- Numbers in decimal.
-use Rattle.basics.specs.Words.{Bool, true, false, ◌&&◌, List, [], ◌∷◌, ◌++◌, ℕ, zero, suc, ◌+◌, ◌-◌, ◌*◌, ◌/◌, ◌%◌, leb, ltb}
+use Rattle.std.specs.Prelude.{◌&&◌, ◌∷◌, ◌++◌, ◌+◌, ◌-◌, ◌*◌, ◌/◌, ◌%◌}
+use Rattle.basics.specs.Words.{Bool, true, false, List, [], ℕ, zero, suc, leb, ltb}
 use Prim.Native.Char.{code}
 
 -- a byte that is a decimal digit, and the number that it says

@@ -1,5 +1,6 @@
 -- A number in decimal says that number.
-use Rattle.basics.specs.Words.{◌≡◌, refl, ◌∙◌, Bool, true, false, ◌&&◌, List, [], ◌∷◌, ◌++◌, ℕ, zero, suc, ◌+◌, ◌*◌, ◌/◌, ◌%◌, ◌<◌, ◌≤◌, arith, ltb, not-suc-le-zero, add-one, all_of}
+use Rattle.std.specs.Prelude.{◌≡◌, ◌&&◌, ◌∷◌, ◌++◌, ◌+◌, ◌*◌, ◌/◌, ◌%◌, ◌<◌, ◌≤◌}
+use Rattle.basics.specs.Words.{refl, ◌∙◌, Bool, true, false, List, [], ℕ, zero, suc, arith, ltb, not-suc-le-zero, add-one, all_of}
 use Rattle.std.proofs.Common.{ltb-true, ltb-false, lt-ltb, le-ltb, le-leb}
 use Rattle.writing.specs.Decimal.{is_digit, digit_value, value_from, value_of, digit_of, digits_within, decimal}
 

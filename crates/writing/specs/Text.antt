@@ -1,5 +1,6 @@
 -- Texts as lists of bytes, and how they are cut.
-use Rattle.basics.specs.Words.{true, false, List, [], ◌∷◌, Option, some, none, ℕ, eqb}
+use Rattle.std.specs.Prelude.{◌∷◌}
+use Rattle.basics.specs.Words.{true, false, List, [], Option, some, none, ℕ, eqb}
 use Prim.Native.Char.{code}
 use Prim.Native.String.{String}
 

@@ -1,5 +1,6 @@
 // Writing the lines that the program prints.
-ghost use Rattle.basics.specs.Words.{◌≡◌, ◌+◌, ◌*◌, ◌<◌, ◌≤◌, length, joined};
+ghost use Rattle.std.specs.Prelude.{◌≡◌, ◌+◌, ◌*◌, ◌<◌, ◌≤◌};
+ghost use Rattle.basics.specs.Words.{length, joined};
 ghost use Rattle.writing.specs.Buffers.{Written, Below, at_front};
 ghost use Rattle.writing.specs.Writing.{next_count, with_commas, pair_text, pairs_text, bad_line, refused_line, accepted_line, line_of, total_line, closing_lines};
 

@@ -1,5 +1,6 @@
 // Numbers in decimal.
-ghost use Rattle.basics.specs.Words.{◌≡◌, true, ◌+◌, ◌≤◌, ◌<◌, length, all_of};
+ghost use Rattle.std.specs.Prelude.{◌≡◌, ◌+◌, ◌≤◌, ◌<◌};
+ghost use Rattle.basics.specs.Words.{true, length, all_of};
 ghost use Rattle.writing.specs.Decimal.{is_digit, value_of};
 ghost use Rattle.writing.specs.Decimal.{decimal as Decimal·decimal};
 ghost use Rattle.writing.specs.Buffers.{Written};

@@ -1,5 +1,6 @@
 // Texts as slices of bytes.
-ghost use Rattle.basics.specs.Words.{◌≡◌, [], ◌∷◌, ◌+◌, ◌<◌, ◌≤◌, min, length};
+ghost use Rattle.std.specs.Prelude.{◌≡◌, ◌∷◌, ◌+◌, ◌<◌, ◌≤◌};
+ghost use Rattle.basics.specs.Words.{[], min, length};
 ghost use Rattle.writing.specs.Text.{before};
 ghost use Rattle.writing.specs.Buffers.{Written};
 

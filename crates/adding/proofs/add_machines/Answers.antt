@@ -1,7 +1,8 @@
-use Rattle.basics.proofs.Words.{◌≡◌, refl, ◌∙◌, suc, ◌-◌, arith, length, mul_comm, rules}
+use Rattle.std.specs.Prelude.{◌≡◌, ◌-◌}
+use Rattle.basics.proofs.Words.{refl, ◌∙◌, suc, arith, mul_comm}
 use Rattle.product.specs.Laws.Nodes.{product_positive}
 use Rattle.adding.specs.Cells.{high_at, low_at}
-use Rattle.adding.proofs.Filling.{Reached, SumsFrom, reached_start, machine_below, place_enough, reached_next, sums_start, sums_next, sums_end, codes_few, machine_pre}
+use Rattle.adding.proofs.Filling.{reached_start, machine_below, place_enough, reached_next, sums_start, sums_next, sums_end, codes_few, machine_pre}
 use Rattle.adding.proofs.add_machines.Goals as goal
 
 pub begin-requires : goal.begin-requires
@@ -13,14 +14,13 @@ begin-requires-2 c =
     omega (arith, c.requires.low_room, product_positive c.args.counts.now c.requires.some)
 
 pub loop-m-init : goal.loop-m-init
-loop-m-init c =
-    (
-      reached_start c.requires.enough,
-      sums_start (high_at c.args.steps.now c.args.weights.now c.args.width) c.args.four c.args.counts.now c.args.end c.begin.ensures.1,
-      sums_start (low_at c.args.steps.now c.args.weights.now c.args.width) c.args.four c.args.counts.now c.args.end c.begin-2.ensures.1,
-      refl,
-      refl,
-    )
+loop-m-init c = (
+  reached_start c.requires.enough,
+  sums_start (high_at c.args.steps.now c.args.weights.now c.args.width) c.args.four c.args.counts.now c.args.end c.begin.ensures.1,
+  sums_start (low_at c.args.steps.now c.args.weights.now c.args.width) c.args.four c.args.counts.now c.args.end c.begin-2.ensures.1,
+  refl,
+  refl,
+)
 
 pub bounds-counts-m : goal.bounds-counts-m
 bounds-counts-m c =
@@ -93,8 +93,7 @@ loop-m-preserved c =
     let el = i.4 ∙ c.begin-2.ensures.0 in
     let m = c.loop-m.m - 1 in
     let t : c.loop-m.m ≡ suc m = omega (arith, c.loop-m-test.true) in
-    let is = c.index-states.ensures.0 in
-    (
+    let is = c.index-states.ensures.0 in (
       reached_next c.requires.enough i.0 m t _ is,
       sums_next c.requires.enough i.0 m t _ is (high_at c.args.steps.now c.args.weights.now c.args.width) c.requires.some i.1 c.add_machine.ensures.highs,
       sums_next c.requires.enough i.0 m t _ is (low_at c.args.steps.now c.args.weights.now c.args.width) c.requires.some i.2 c.add_machine.ensures.lows,

@@ -1,4 +1,4 @@
-use Rattle.basics.proofs.Words.{sym, arith, rules, eq-eqb}
+use Rattle.basics.proofs.Words.{sym, arith, eq-eqb}
 use Rattle.adding.specs.Cells.{high_cell}
 use Rattle.adding.specs.Laws.Numbers.{scaled_few, marks_high, some_step}
 use Rattle.adding.proofs.high_cell.Goals as goal
@@ -16,5 +16,5 @@ overflow_mul-result-2 c = omega (arith, marks_high c.args.step c.args.weight c.r
 pub overflow_add-result : goal.overflow_add-result
 overflow_add-result c = omega (arith, scaled_few c.args.step c.args.scale (omega arith) c.requires.0, marks_high c.args.step c.args.weight c.requires.1)
 
-pub returns-then-step-eq-NO_STEP : goal.returns
-returns-then-step-eq-NO_STEP c = sym (some_step c.args.step c.args.scale c.args.weight c.if-step-eq-NO_STEP.false)
+pub returns : goal.returns
+returns c = sym (some_step c.args.step c.args.scale c.args.weight c.if-step-eq-NO_STEP.false)

@@ -1,5 +1,6 @@
 -- Bounds of cells.
-use Rattle.basics.specs.Words.{◌≡◌, Bool, true, false, cond, ℕ, ◌+◌, ◌*◌, ◌/◌, ◌%◌, ◌^◌, ◌<◌, ◌≤◌, arith, eqb, mul-le-mul, mul-le-mul_right}
+use Rattle.std.specs.Prelude.{◌≡◌, ◌+◌, ◌*◌, ◌/◌, ◌%◌, ◌^◌, ◌<◌, ◌≤◌}
+use Rattle.basics.specs.Words.{Bool, true, false, cond, ℕ, arith, eqb, mul-le-mul, mul-le-mul_right}
 use Rattle.std.proofs.Common.{ne_eqb}
 use Rattle.adding.specs.Cells.{nowhere, high_cell, low_cell}
 

@@ -1,5 +1,6 @@
 -- Laws of sums of cells.
-use Rattle.basics.specs.Words.{◌≡◌, refl, sym, ◌∙◌, ap, List, [], ◌∷◌, ◌++◌, ℕ, zero, suc, ◌+◌, ◌*◌, ◌/◌, ◌%◌, ◌<◌, ◌≤◌, arith, length, get_or, take, drop, take-append-drop, mul-add-mod_self_right, mod-eq_of_lt, mul-le-mul_right, mod-lt, div-add-mod', mul_assoc, add-mul, mul-zero, suc-mul, product}
+use Rattle.std.specs.Prelude.{◌≡◌, ◌∷◌, ◌++◌, ◌+◌, ◌*◌, ◌/◌, ◌%◌, ◌<◌, ◌≤◌}
+use Rattle.basics.specs.Words.{refl, sym, ◌∙◌, ap, List, [], ℕ, zero, suc, arith, length, get_or, take, drop, take-append-drop, mul-add-mod_self_right, mod-eq_of_lt, mul-le-mul_right, mod-lt, div-add-mod', mul_assoc, add-mul, mul-zero, suc-mul, product}
 use Rattle.paths.specs.Numbering.{position_is}
 use Rattle.product.specs.Laws.Nodes.{Positive}
 use Rattle.adding.specs.Cells.{cell_sum, places}

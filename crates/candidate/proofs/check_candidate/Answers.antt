@@ -1,6 +1,5 @@
-use Rattle.basics.proofs.Words.{◌≡◌, sym, ◌∙◌, ◌≤◌, ◌-◌, ◌%◌, arith, length, drop, all_of, rules, not-true, not-false, all_none, all_next, all_fails}
+use Rattle.basics.proofs.Words.{sym, ◌∙◌, arith, all_none, all_next, all_fails}
 use Rattle.refusals.proofs.Refusals.{passes_with, refuses_with}
-use Rattle.candidate.specs.Candidates.{pairs_of}
 use Rattle.candidate.specs.Evaluating.{sound_pair}
 use Rattle.candidate.specs.Laws.Pairs.{pairs_next, pairs_end, odd_refused, long_refused, sound_is}
 use Rattle.candidate.proofs.check_candidate.Goals as goal
@@ -18,19 +17,19 @@ returns-then-not-is_sound_at c =
     let l = c.args.candidate.now in
     sym (refuses_with 13 (sound_is c.args.symbols l (omega arith) (omega arith)
     ∙ sym c.loop-at.invariant.2
-    ∙ all_fails (sound_pair c.args.symbols) (pairs_next l c.loop-at.at (omega arith)) (sym c.is_sound_at.ensures ∙ not-true c.is_sound_at.result c.if-not-is_sound_at.true)))
+    ∙ all_fails (sound_pair c.args.symbols) (pairs_next l c.loop-at.at (omega arith)) (sym c.is_sound_at.ensures ∙ c.if-not-is_sound_at.true)))
 
 pub loop-at-preserved : goal.loop-at-preserved
 loop-at-preserved c =
     let l = c.args.candidate.now in (
       omega arith,
       omega arith,
-      all_next (sound_pair c.args.symbols) (pairs_next l c.loop-at.at (omega arith)) (sym c.is_sound_at.ensures ∙ not-false c.is_sound_at.result c.if-not-is_sound_at.false)
+      all_next (sound_pair c.args.symbols) (pairs_next l c.loop-at.at (omega arith)) (sym c.is_sound_at.ensures ∙ c.if-not-is_sound_at.false)
           ∙ c.loop-at.invariant.2,
     )
 
-pub returns-then-candidate-ne0 : goal.returns
-returns-then-candidate-ne0 c =
+pub returns : goal.returns
+returns c =
     let l = c.args.candidate.now in
     sym (passes_with 13 (sound_is c.args.symbols l (omega arith) (omega arith)
     ∙ sym c.loop-at.invariant.2

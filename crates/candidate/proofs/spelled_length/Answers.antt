@@ -1,23 +1,26 @@
-use Rattle.basics.proofs.Words.{◌≡◌, sym, ◌∙◌, ⊎_elim, ◌≤◌, ◌-◌, ◌+◌, ◌*◌, ◌%◌, arith, length, drop, rules, not-true, not-false}
-use Rattle.candidate.specs.Candidates.{pairs_of, spelled}
+use Rattle.basics.proofs.Words.{sym, ◌∙◌, arith}
 use Rattle.candidate.specs.Laws.Pairs.{spelled_next, spelled_same, spelled_end}
+use Rattle.candidate.proofs.spelled_length.Goals.{then-not-inserts_at, else-not-inserts_at}
 use Rattle.candidate.proofs.spelled_length.Goals as goal
 
 pub loop-at-preserved : goal.loop-at-preserved
 loop-at-preserved c =
     let l = c.args.candidate.now in
     let r = c.inserts_at.ensures in
-    (elim c.if-not-inserts_at.branch [ then-not-inserts_at w ↦ (
-      omega arith,
-      omega arith,
-      omega arith,
-      omega (arith, spelled_next l c.loop-at.at (omega arith) (sym r ∙ not-true c.inserts_at.result w.0.taken)),
-    ) | else-not-inserts_at w ↦ (
-      omega arith,
-      omega arith,
-      omega arith,
-      omega (arith, spelled_same l c.loop-at.at (omega arith) (sym r ∙ not-false c.inserts_at.result w.0.left)),
-    ) ])
+    (elim c.if-not-inserts_at.branch [
+      | then-not-inserts_at w ↦ (
+        omega arith,
+        omega arith,
+        omega arith,
+        omega (arith, spelled_next l c.loop-at.at (omega arith) (sym r ∙ w.if-not-inserts_at.true)),
+      )
+      | else-not-inserts_at w ↦ (
+        omega arith,
+        omega arith,
+        omega arith,
+        omega (arith, spelled_same l c.loop-at.at (omega arith) (sym r ∙ w.if-not-inserts_at.false)),
+      )
+    ])
 
 pub returns : goal.returns
 returns c =

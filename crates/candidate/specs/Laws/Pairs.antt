@@ -1,5 +1,6 @@
 -- How the pairs of a byte string go on from a place. Assumes nothing.
-use Rattle.basics.proofs.Words.{◌≡◌, refl, Bool, true, false, ◌&&◌, List, [], ◌∷◌, ℕ, suc, ◌+◌, ◌/◌, ◌%◌, ◌<◌, ◌≤◌, arith, length, get_or, drop, drop_of_length-le, leb, eqb, drop-cons, all_of, leb-true, eqb-true, eq-eqb, ne_eqb, le-leb, lt-leb, left, right, clash}
+use Rattle.std.specs.Prelude.{◌≡◌, ◌&&◌, ◌∷◌, ◌+◌, ◌/◌, ◌%◌, ◌<◌, ◌≤◌}
+use Rattle.basics.proofs.Words.{refl, Bool, true, false, List, [], ℕ, suc, arith, length, get_or, drop, drop_of_length-le, leb, eqb, drop-cons, all_of, leb-true, eqb-true, eq-eqb, ne_eqb, le-leb, lt-leb, left, right, clash}
 use Rattle.machine.specs.declared.Pair.{Pair}
 use Rattle.machine.specs.Symbols.{empty_symbol, is_pair, within_symbols}
 use Rattle.candidate.specs.Candidates.{pair_at, pairs_of, spelled}

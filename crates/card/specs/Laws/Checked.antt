@@ -1,5 +1,6 @@
 -- What the check of parts tells of them. Assumes nothing.
-use Rattle.basics.specs.Words.{◌≡◌, List, [], ◌∷◌, map, ℕ, zero, suc, ◌*◌, ◌<◌, ◌≤◌, arith, length, get_or, take, drop, length-drop, length-take-le, mul-le-mul, product}
+use Rattle.std.specs.Prelude.{◌≡◌, ◌∷◌, ◌*◌, ◌<◌, ◌≤◌}
+use Rattle.basics.specs.Words.{List, [], map, ℕ, zero, suc, arith, length, get_or, take, drop, length-drop, length-take-le, mul-le-mul, product}
 use Rattle.machine.specs.Part.{state_count, part_refusal}
 use Rattle.machine.specs.Accepted.{Shaped, shape_facts, accepted}
 use Rattle.layout.specs.Layout.{Bytes}

@@ -1,5 +1,6 @@
 -- What the check of the counts tells of a card, and its parts. Assumes nothing.
-use Rattle.basics.proofs.Words.{◌≡◌, true, ◌&&◌, List, ℕ, ◌<◌, ◌≤◌, length, get_or, leb, left, right}
+use Rattle.std.specs.Prelude.{◌≡◌, ◌&&◌, ◌<◌, ◌≤◌}
+use Rattle.basics.proofs.Words.{true, List, ℕ, length, get_or, leb, left, right}
 use Rattle.std.proofs.Common.{leb-true, le-leb}
 use Rattle.layout.specs.Layout.{part_of}
 use Rattle.layout.specs.LaidOut.{length_parts as length-parts-in, part_at as part_in_at}

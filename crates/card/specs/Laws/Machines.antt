@@ -1,5 +1,6 @@
 -- The machines of a card by their numbers.
-use Rattle.basics.proofs.Words.{◌≡◌, ap, ◌∙◌, List, [], ℕ, ◌<◌, length, get_or, length-map, map_at}
+use Rattle.std.specs.Prelude.{◌≡◌, ◌<◌}
+use Rattle.basics.proofs.Words.{ap, ◌∙◌, List, [], ℕ, length, get_or, length-map, map_at}
 use Rattle.machine.specs.Machine.{Machine}
 use Rattle.machine.specs.Part.{machine_of}
 use Rattle.layout.specs.Layout.{part_of}

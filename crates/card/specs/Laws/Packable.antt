@@ -1,5 +1,6 @@
 -- What the checks of packing tell of its input. Assumes nothing.
-use Rattle.basics.specs.Words.{◌≡◌, true, List, [], ◌∷◌, map, ℕ, ◌≤◌, length, length-map, eqb, leb, lit<, joined, product}
+use Rattle.std.specs.Prelude.{◌≡◌, ◌∷◌, ◌≤◌}
+use Rattle.basics.specs.Words.{true, List, [], map, ℕ, length, length-map, eqb, leb, lit<, joined, product}
 use Rattle.std.proofs.Common.{leb-true, eqb-true, le-leb, eq-eqb}
 use Rattle.refusals.specs.Refusals.{refuse}
 use Rattle.refusals.proofs.Refusals.{passed}

@@ -1,5 +1,6 @@
 -- A packed card read back. Assumes nothing.
-use Rattle.basics.specs.Words.{◌≡◌, refl, ap, sym, ◌∙◌, List, [], ◌∷◌, ◌++◌, map, ℕ, zero, suc, ◌+◌, ◌*◌, ◌<◌, ◌≤◌, arith, length, get_or, take, drop, take-suc, take-length, drop-append-add, numbers_below}
+use Rattle.std.specs.Prelude.{◌≡◌, ◌∷◌, ◌++◌, ◌+◌, ◌*◌, ◌<◌, ◌≤◌}
+use Rattle.basics.specs.Words.{refl, ap, sym, ◌∙◌, List, [], map, ℕ, zero, suc, arith, length, get_or, take, drop, take-suc, take-length, drop-append-add, numbers_below}
 use Rattle.layout.specs.Layout.{offset_of, length_of, due_offset, part_of, parts_in}
 use Rattle.card.specs.Layout.{machine_count, symbol_count, parts_of}
 use Rattle.card.specs.Packing.{total, split, table, packed}

@@ -1,5 +1,6 @@
 -- A card that is laid out, put together again from its parts. Assumes nothing.
-use Rattle.basics.proofs.Words.{◌≡◌, refl, ap, sym, ◌∙◌, List, [], ◌∷◌, ◌++◌, map, append-nil, append_assoc, ℕ, zero, suc, ◌+◌, ◌*◌, ◌<◌, ◌≤◌, arith, length, get_or, take, drop, length-map, length-drop, take-add, drop-cons, take-length, drop_at, length-take-le, ext_get_or, numbers_below, joined, map_at, length_numbers}
+use Rattle.std.specs.Prelude.{◌≡◌, ◌∷◌, ◌++◌, ◌+◌, ◌*◌, ◌<◌, ◌≤◌}
+use Rattle.basics.proofs.Words.{refl, ap, sym, ◌∙◌, List, [], map, append-nil, append_assoc, ℕ, zero, suc, arith, length, get_or, take, drop, length-map, length-drop, take-add, drop-cons, take-length, drop_at, length-take-le, ext_get_or, numbers_below, joined, map_at, length_numbers}
 use Rattle.layout.specs.Layout.{Bytes, offset_of, length_of, due_offset, part_of, parts_in}
 use Rattle.card.specs.Layout.{machine_count, symbol_count, parts_of}
 use Rattle.card.specs.Packing.{total, split, places, packed}

@@ -1,5 +1,6 @@
 -- Laws of refusals and of lists with one element more. Assumes nothing.
-use Rattle.basics.specs.Words.{◌≡◌, refl, ap, sym, ◌∙◌, List, [], ◌∷◌, ◌++◌, map, append-nil, append_assoc, ℕ, zero, suc, arith, joined}
+use Rattle.std.specs.Prelude.{◌≡◌, ◌∷◌, ◌++◌}
+use Rattle.basics.specs.Words.{refl, ap, sym, ◌∙◌, List, [], map, append-nil, append_assoc, ℕ, zero, suc, arith, joined}
 use Rattle.refusals.specs.Refusals.{first_of}
 
 -- nothing is refused where each in turn refuses nothing

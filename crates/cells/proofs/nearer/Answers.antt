@@ -1,8 +1,8 @@
-use Rattle.basics.proofs.Words.{refl, inl, inr, arith, rules}
+use Rattle.basics.proofs.Words.{refl, inl, inr, arith}
 use Rattle.cells.proofs.nearer.Goals as goal
 
 pub returns-then-a-b : goal.returns-then-a-b
 returns-then-a-b c = record { one = inl refl; first = omega arith; second = omega (arith, c.if-a-b.true) }
 
-pub returns-then-a-b : goal.returns
-returns-then-a-b c = record { one = inr refl; first = omega (arith, c.if-a-b.false); second = omega arith }
+pub returns : goal.returns
+returns c = record { one = inr refl; first = omega (arith, c.if-a-b.false); second = omega arith }

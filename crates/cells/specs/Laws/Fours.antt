@@ -1,5 +1,6 @@
 -- Laws of a set of outputs four by four.
-use Rattle.basics.proofs.Words.{◌≡◌, refl, sym, ◌∙◌, ap, Bool, true, not, ◌&&◌, ◌⊎◌, inl, inr, ◌≢◌, ℕ, zero, suc, ◌-◌, ◌^◌, ◌<◌, ◌≤◌, arith, get_or, eqb, ℕ_discrete, dec_lt, member, clash, left as left-of, right as right_of, has_member}
+use Rattle.std.specs.Prelude.{◌≡◌, ◌&&◌, ◌⊎◌, ◌≢◌, ◌-◌, ◌^◌, ◌<◌, ◌≤◌}
+use Rattle.basics.proofs.Words.{refl, sym, ◌∙◌, ap, Bool, true, not, inl, inr, ℕ, zero, suc, arith, get_or, eqb, ℕ_discrete, dec_lt, member, clash, left as left-of, right as right_of, has_member}
 use Rattle.std.proofs.lemmas.Nat.{and_le_l, and_le_r, trailing_le}
 use Rattle.std.specs.Int.Count.{count_trailing_zeros}
 use Rattle.std.proofs.Common.{eq-eqb, ne_eqb}

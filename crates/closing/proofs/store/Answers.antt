@@ -33,6 +33,6 @@ bounds-work-node-9 c = simp length-set (omega (arith, c.requires.0))
 pub shape_of-work : goal.shape_of-work
 shape_of-work c = simp length-set
 
-pub returns-then-high-ge-NOWHERE : goal.returns
+pub returns : goal.returns
 unfolding written
-returns-then-high-ge-NOWHERE c = label_stored _ _ _ _ _ c.if-high-ge-NOWHERE.false (c.requires.1 c.if-high-ge-NOWHERE.false) (search rules) (stored _ _ c.requires.0 _ _ _ _ _ _ _)
+returns c = label_stored _ _ _ _ _ c.if-high-ge-NOWHERE.false (c.requires.1 c.if-high-ge-NOWHERE.false) (search rules) (stored _ _ c.requires.0 _ _ _ _ _ _ _)

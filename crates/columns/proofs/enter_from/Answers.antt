@@ -1,4 +1,5 @@
-use Rattle.basics.proofs.Words.{◌≡◌, arith, rules}
+use Rattle.std.specs.Prelude.{◌≡◌}
+use Rattle.basics.proofs.Words.{arith}
 use Rattle.columns.proofs.AtHand.{from_pre, from_another, from_entered}
 use Rattle.columns.proofs.enter_from.Goals as goal
 
@@ -13,6 +14,6 @@ pub enter_step-requires : goal.enter_step-requires
 enter_step-requires c =
     from_pre c.requires c.step_code.result c.step_code.ensures
 
-pub returns-then-from-state : goal.returns
-returns-then-from-state c =
+pub returns : goal.returns
+returns c =
     λ x one. from_entered {e = c.step_code.result} c.args.arc c.args.state x (omega (arith, c.if-from-state.false)) c.step_code.ensures (λ y. c.outputs_for-outputs.ensures x y one) c.enter_step.ensures

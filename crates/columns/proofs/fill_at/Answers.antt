@@ -1,10 +1,10 @@
-use Rattle.basics.proofs.Words.{◌≡◌, refl, ◌∙◌, ◌-◌, arith, length, get_or, rules}
+use Rattle.basics.proofs.Words.{refl, ◌∙◌, arith, length, get_or}
 use Rattle.card.specs.Card.{machines_of}
 use Rattle.card.specs.Laws.Machines.{machine_at_lem}
 use Rattle.machine.specs.Machine.{no_machine}
 use Rattle.tables.specs.StepTable.{machine_at}
 use Rattle.columns.specs.AtHand.{StateFilled}
-use Rattle.columns.proofs.AtHand.{AtHandTo, counts_long, hand_start, machine_there, state_pre, hand_next, hand_end}
+use Rattle.columns.proofs.AtHand.{counts_long, hand_start, machine_there, state_pre, hand_next, hand_end}
 use Rattle.columns.proofs.fill_at.Goals as goal
 
 pub set_of-set-requires : goal.set_of-set-requires
@@ -30,17 +30,16 @@ fill_state-outputs-requires c =
 
 pub loop-m-preserved : goal.loop-m-preserved
 loop-m-preserved c =
-    let at_set_of = after_set_of.set_of_lem in
     let t = c.loop-m-test.true in
     let card = c.args.card.now in
     let states = c.args.states.now in
-    let h : StateFilled (machine_at (machines_of card) c.loop-m.m) (get_or states c.loop-m.m 0) c.args.input (length states) c.loop-m.m c.loop-m.steps c.fill_state-outputs.new.0 c.fill_state-outputs.result =
-    rw (machine_at_lem card c.loop-m.m (machine_there c.requires.0 c.requires.1 c.loop-m.invariant.1 t) no_machine, ← c.part.ensures) (c.fill_state-outputs.ensures c.args.input at_set_of.ensures) in
-    (c.fill_state-outputs.auto.0 ∙ c.loop-m.invariant.0, hand_next c.requires.0 c.requires.1 c.loop-m.invariant.1 t c.fill_state-outputs.result h)
+    let h : StateFilled (machine_at (machines_of card) c.loop-m.m) (get_or states c.loop-m.m 0) c.args.input (length states) c.loop-m.m c.loop-m.steps c.fill_state-outputs.new.steps c.fill_state-outputs.result =
+    rw (machine_at_lem card c.loop-m.m (machine_there c.requires.0 c.requires.1 c.loop-m.invariant.1 t) no_machine, ← c.part.ensures) (c.fill_state-outputs.ensures c.args.input c.set_of-set.ensures) in
+    (c.fill_state-outputs.auto.steps ∙ c.loop-m.invariant.0, hand_next c.requires.0 c.requires.1 c.loop-m.invariant.1 t c.fill_state-outputs.result h)
 
 pub shape_of-steps : goal.shape_of-steps
 shape_of-steps c =
-    c.loop-m.invariant.0 ∙ c.clear.kept.0
+    c.loop-m.invariant.0 ∙ c.clear.auto.steps
 
 pub returns : goal.returns
 returns c =

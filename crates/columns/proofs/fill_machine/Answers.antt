@@ -1,8 +1,9 @@
-use Rattle.basics.proofs.Words.{◌≡◌, refl, ◌∙◌, ℕ, ◌≤◌, ◌-◌, ◌+◌, ◌^◌, arith, length, rules}
+use Rattle.std.specs.Prelude.{◌-◌, ◌+◌}
+use Rattle.basics.proofs.Words.{refl, ◌∙◌, arith}
 use Rattle.machine.specs.Part.{state_count, arc_count, arcs_of}
 use Rattle.machine.specs.Accepted.{accepted}
 use Rattle.machine.specs.Laws.Arcs.{arcs_count}
-use Rattle.columns.proofs.Arcs.{arc_pre, arc_from, ArcsIn, arcs_none, arcs_next, arcs_all}
+use Rattle.columns.proofs.Arcs.{arc_pre, arc_from, arcs_none, arcs_next, arcs_all}
 use Rattle.columns.proofs.fill_machine.Goals as goal
 
 pub arc_count-left-requires : goal.arc_count-left-requires
@@ -11,9 +12,9 @@ arc_count-left-requires c = (accepted c.requires.0.accepted.0 c.args.part.now c.
 pub loop-left-init : goal.loop-left-init
 loop-left-init c =
     let part = c.args.part.now in (
-      omega (arith, c.arc_count_lem.ensures),
+      omega (arith, c.arc_count-left.ensures),
       refl,
-      λ x e. arcs_none c.args.steps.now (arcs_of part) (state_count part) c.args.width c.args.first x c.requires.0.enough c.arc_count_lem.result (omega (arith, c.arc_count_lem.ensures, arcs_count part (2 + state_count part) (arc_count part))) c.requires.0.blank,
+      λ x e. arcs_none c.args.steps.now (arcs_of part) (state_count part) c.args.width c.args.first x c.requires.0.enough c.arc_count-left.result (omega (arith, c.arc_count-left.ensures, arcs_count part (2 + state_count part) (arc_count part))) c.requires.0.blank,
     )
 
 pub nth_arc-requires : goal.nth_arc-requires
@@ -22,7 +23,7 @@ nth_arc-requires c =
 
 pub enter_arc-outputs-requires : goal.enter_arc-outputs-requires
 enter_arc-outputs-requires c =
-    arc_pre c.requires.0 c.loop-left.steps c.loop-left.invariant.1 (c.loop-left.false - 1) (omega (arith, c.loop-left.invariant.0, c.loop-left-test.true)) c.nth_arc.result (c.nth_arc.ensures c.nth_arc.result)
+    arc_pre c.requires.0 c.loop-left.steps c.loop-left.invariant.1 (c.loop-left.left - 1) (omega (arith, c.loop-left.invariant.0, c.loop-left-test.true)) c.nth_arc.result (c.nth_arc.ensures c.nth_arc.result)
 
 pub loop-left-preserved : goal.loop-left-preserved
 loop-left-preserved c =
@@ -30,11 +31,11 @@ loop-left-preserved c =
     let part = c.args.part.now in
     let a = c.nth_arc.result in (
       omega (arith, c.loop-left.invariant.0),
-      c.enter_arc-outputs.auto.0 ∙ c.loop-left.invariant.1,
+      c.enter_arc-outputs.auto.steps ∙ c.loop-left.invariant.1,
       λ x e.
-          arcs_next c.args.steps.now (arcs_of part) (state_count part) c.args.width c.args.first x c.requires.0.enough (c.loop-left.false - 1) c.loop-left.false a c.loop-left.true c.enter_arc-outputs.result
+          arcs_next c.args.steps.now (arcs_of part) (state_count part) c.args.width c.args.first x c.requires.0.enough (c.loop-left.left - 1) c.loop-left.left a c.loop-left.taken c.enter_arc-outputs.result
           (omega (arith, t)) (omega (arith, c.loop-left.invariant.0, t, arcs_count part (2 + state_count part) (arc_count part))) (c.nth_arc.ensures a)
-          (arc_from c.requires.0 (c.loop-left.false - 1) (omega (arith, c.loop-left.invariant.0, t)) a (c.nth_arc.ensures a)) (c.loop-left.invariant.2 x e) (c.enter_arc-outputs.ensures x e),
+          (arc_from c.requires.0 (c.loop-left.left - 1) (omega (arith, c.loop-left.invariant.0, t)) a (c.nth_arc.ensures a)) (c.loop-left.invariant.2 x e) (c.enter_arc-outputs.ensures x e),
     )
 
 pub shape_of-steps : goal.shape_of-steps

@@ -1,8 +1,9 @@
-use Rattle.basics.proofs.Words.{◌≡◌, refl, ◌∙◌, ℕ, ◌≤◌, ◌-◌, ◌+◌, ◌^◌, arith, length, rules}
+use Rattle.std.specs.Prelude.{◌-◌, ◌+◌}
+use Rattle.basics.proofs.Words.{refl, ◌∙◌, arith}
 use Rattle.machine.specs.Part.{state_count, arc_count, arcs_of}
 use Rattle.machine.specs.Accepted.{accepted}
 use Rattle.machine.specs.Laws.Arcs.{arcs_count}
-use Rattle.columns.proofs.AtHand.{arc_of, StateIn, state_none, state_next, state_all}
+use Rattle.columns.proofs.AtHand.{arc_of, state_none, state_next, state_all}
 use Rattle.columns.proofs.fill_state.Goals as goal
 
 pub arc_count-left-requires : goal.arc_count-left-requires
@@ -11,9 +12,9 @@ arc_count-left-requires c = (accepted c.requires.0.accepted.0 c.args.part.now c.
 pub loop-left-init : goal.loop-left-init
 loop-left-init c =
     let part = c.args.part.now in (
-      omega (arith, c.arc_count_lem.ensures),
+      omega (arith, c.arc_count-left.ensures),
       refl,
-      λ x e. state_none c.args.steps.now (arcs_of part) c.args.state c.args.width c.args.place x c.arc_count_lem.result (omega (arith, c.arc_count_lem.ensures, arcs_count part (2 + state_count part) (arc_count part))) c.requires.0.blank,
+      λ x e. state_none c.args.steps.now (arcs_of part) c.args.state c.args.width c.args.place x c.arc_count-left.result (omega (arith, c.arc_count-left.ensures, arcs_count part (2 + state_count part) (arc_count part))) c.requires.0.blank,
     )
 
 pub nth_arc-requires : goal.nth_arc-requires
@@ -22,7 +23,7 @@ nth_arc-requires c =
 
 pub enter_from-entered-requires : goal.enter_from-entered-requires
 enter_from-entered-requires c =
-    arc_of c.requires.0 c.loop-left.steps c.loop-left.invariant.1 (c.loop-left.false - 1) (omega (arith, c.loop-left.invariant.0, c.loop-left-test.true)) c.nth_arc.result (c.nth_arc.ensures c.nth_arc.result)
+    arc_of c.requires.0 c.loop-left.steps c.loop-left.invariant.1 (c.loop-left.left - 1) (omega (arith, c.loop-left.invariant.0, c.loop-left-test.true)) c.nth_arc.result (c.nth_arc.ensures c.nth_arc.result)
 
 pub loop-left-preserved : goal.loop-left-preserved
 loop-left-preserved c =
@@ -30,9 +31,9 @@ loop-left-preserved c =
     let part = c.args.part.now in
     let a = c.nth_arc.result in (
       omega (arith, c.loop-left.invariant.0),
-      c.enter_from-entered.auto.0 ∙ c.loop-left.invariant.1,
+      c.enter_from-entered.auto.steps ∙ c.loop-left.invariant.1,
       λ x e.
-          state_next c.args.steps.now (arcs_of part) c.args.state c.args.width c.args.place x (c.loop-left.false - 1) c.loop-left.false a c.loop-left.true c.enter_from-entered.result
+          state_next c.args.steps.now (arcs_of part) c.args.state c.args.width c.args.place x (c.loop-left.left - 1) c.loop-left.left a c.loop-left.taken c.enter_from-entered.result
           (omega (arith, t)) (omega (arith, c.loop-left.invariant.0, t, arcs_count part (2 + state_count part) (arc_count part))) (c.nth_arc.ensures a)
           (c.loop-left.invariant.2 x e) (c.enter_from-entered.ensures x e),
     )

@@ -1,5 +1,6 @@
 -- The places of a column: at most 40, where one to six machines of at most 32 states have at most 128 joint states; at most 21, where these are at most 16.
-use Rattle.basics.proofs.Words.{◌≡◌, refl, Bool, true, false, cond, List, [], ◌∷◌, ℕ, zero, suc, ◌+◌, ◌-◌, ◌*◌, ◌/◌, ◌<◌, ◌≤◌, arith, length, get_or, leb, ltb, le-div_iff_mul-le, mul_comm, mul-le-mul_right, every_below, product, every_at}
+use Rattle.std.specs.Prelude.{◌≡◌, ◌∷◌, ◌+◌, ◌-◌, ◌*◌, ◌/◌, ◌<◌, ◌≤◌}
+use Rattle.basics.proofs.Words.{refl, Bool, true, false, cond, List, [], ℕ, zero, suc, arith, length, get_or, leb, ltb, le-div_iff_mul-le, mul_comm, mul-le-mul_right, every_below, product, every_at}
 use Rattle.std.proofs.Common.{leb-true, ltb-true, ltb-false}
 use Rattle.product.specs.Laws.Nodes.{Positive, product_positive}
 use Rattle.cells.specs.Cells.{places}

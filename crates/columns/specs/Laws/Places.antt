@@ -1,5 +1,6 @@
 -- The places of columns: at most 40 for an accepted card, and at most 21 if it has at most 16 joint states.
-use Rattle.basics.specs.Words.{◌≡◌, ap, List, [], ◌∷◌, ℕ, zero, suc, ◌+◌, ◌*◌, ◌<◌, ◌≤◌, arith, length, get_or, take, mul-le-mul_right, suc-mul, dec_lt, product}
+use Rattle.std.specs.Prelude.{◌≡◌, ◌∷◌, ◌+◌, ◌*◌, ◌<◌, ◌≤◌}
+use Rattle.basics.specs.Words.{ap, List, [], ℕ, zero, suc, arith, length, get_or, take, mul-le-mul_right, suc-mul, dec_lt, product}
 use Rattle.tables.specs.Tables.{CountsOfSome}
 use Rattle.tables.proofs.Counts.{few_counts, all_positive, few_states_lem, count_few}
 use Rattle.cells.specs.Cells.{places}

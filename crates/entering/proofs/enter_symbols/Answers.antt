@@ -1,5 +1,6 @@
-use Rattle.basics.proofs.Words.{◌≡◌, refl, sym, ◌∙◌, ap, not, ◌&&◌, ℕ, arith, length, eqb, member, rules}
-use Rattle.entering.proofs.Symbols.{blank_position, still_ready, blank_codes, SymbolsTried, symbols_start, symbols_next, symbols_end}
+use Rattle.std.specs.Prelude.{◌&&◌}
+use Rattle.basics.proofs.Words.{refl, sym, ◌∙◌, ap, not, ℕ, arith, eqb, member}
+use Rattle.entering.proofs.Symbols.{blank_position, still_ready, blank_codes, symbols_start, symbols_next, symbols_end}
 use Rattle.entering.proofs.enter_symbols.Goals as goal
 
 pub loop-left-init : goal.loop-left-init
@@ -19,12 +20,11 @@ loop-left-smaller c = c.without_least-left.ensures.0
 
 pub loop-left-preserved : goal.loop-left-preserved
 loop-left-preserved c =
-    let x = c.least-symbol.ensures in
-    (
-      symbols_next c.args.card.now c.requires.0.accepted x.2 (λ n. c.without_least-left.ensures.1 n ∙ ap (λ (k : ℕ). member c.loop-left.false n && not (eqb n k)) (sym x.0)) c.loop-left.invariant.0 c.enter_input.ensures,
-      c.enter_input.kept.1.1.0 ∙ c.loop-left.invariant.1,
-      c.enter_input.kept.1.1.1.1.1.1.1.1.0 ∙ c.loop-left.invariant.2,
-      c.enter_input.kept.1.1.1.1.1.1.1.1.1.0 ∙ c.loop-left.invariant.3,
+    let x = c.least-symbol.ensures in (
+      symbols_next c.args.card.now c.requires.0.accepted x.2 (λ n. c.without_least-left.ensures.1 n ∙ ap (λ (k : ℕ). member c.loop-left.left n && not (eqb n k)) (sym x.0)) c.loop-left.invariant.0 c.enter_input.ensures,
+      c.enter_input.auto.steps ∙ c.loop-left.invariant.1,
+      c.enter_input.auto.high ∙ c.loop-left.invariant.2,
+      c.enter_input.auto.low ∙ c.loop-left.invariant.3,
     )
 
 pub shape_of-own : goal.shape_of-own

@@ -1,5 +1,6 @@
 -- What marks add at most, 15 for each machine: a step to a label with room for it stays a label.
-use Rattle.basics.specs.Words.{◌≡◌, refl, sym, ◌∙◌, ap, List, [], ◌∷◌, Option, some, none, Option·none-ne-some, ℕ, zero, suc, ◌+◌, ◌*◌, ◌/◌, ◌%◌, ◌<◌, ◌≤◌, arith, length, get_or, replicate, mul-le-mul_right}
+use Rattle.std.specs.Prelude.{◌≡◌, ◌∷◌, ◌+◌, ◌*◌, ◌/◌, ◌%◌, ◌<◌, ◌≤◌}
+use Rattle.basics.specs.Words.{refl, sym, ◌∙◌, ap, List, [], Option, some, none, Option·none-ne-some, ℕ, zero, suc, arith, length, get_or, replicate, mul-le-mul_right}
 use Rattle.machine.specs.declared.Pair.{Pair}
 use Rattle.machine.specs.Machine.{Machine, step_of}
 use Rattle.product.specs.Nodes.{state_counts, product}

@@ -1,6 +1,7 @@
-use Rattle.basics.proofs.Words.{◌≡◌, sym, ap, ◌∙◌, not, ◌-◌, length, rules}
-use Rattle.finder.specs.Steps.{condition_at, blocks}
-use Rattle.finder.proofs.Pairs.{Reached, reached_start, reached_next, reached_fails, reached_end}
+use Rattle.std.specs.Prelude.{◌-◌}
+use Rattle.basics.proofs.Words.{not, length}
+use Rattle.finder.specs.Steps.{blocks}
+use Rattle.finder.proofs.Pairs.{Reached}
 use Rattle.finder.proofs.may_stand.Given as goal
 
 abbrev pub invariant-loop-at : goal.invariant-loop-at

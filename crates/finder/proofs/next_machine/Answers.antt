@@ -1,14 +1,9 @@
-use Rattle.basics.proofs.Words.{◌≡◌, ap, ap₂, sym, ◌∙◌, Bool, not, ◌&&◌, none, ◌≤◌, ◌-◌, arith, rules}
+use Rattle.std.specs.Prelude.{◌&&◌}
+use Rattle.basics.proofs.Words.{ap, ap₂, sym, ◌∙◌, Bool, not, rules}
 use Rattle.finder.specs.Finder.{conditions_of}
-use Rattle.finder.specs.Steps.{next_machine, next_of}
-use Rattle.finder.proofs.Steps.{next, next_start, next_on, next_found}
+use Rattle.finder.specs.Steps.{next_of}
+use Rattle.finder.proofs.Steps.{next_start, next_on, next_found}
 use Rattle.finder.proofs.next_machine.Goals as goal
-
--- the machine is the next one if the code says so
-told : (c : goal.After-may_stand)
-    → next (conditions_of c.before.before.before.before.before.args.conditions.now) c.before.before.before.before.before.args.placed c.before.before.before.loop.machine
-    ≡ (not c.before.has.result && c.may-stand.result)
-told c = ap₂ (λ (a b : Bool). not a && b) (sym c.has.ensures) (sym c.may_stand.ensures)
 
 pub loop-machine-init : goal.loop-machine-init
 loop-machine-init c = (search rules, next_start _ _)
@@ -16,14 +11,9 @@ loop-machine-init c = (search rules, next_start _ _)
 pub returns-then-has-may_stand : goal.returns-then-has-may_stand
 returns-then-has-may_stand c =
     let cs = conditions_of c.args.conditions.now in
-    sym (ap next_of (next_found cs c.args.placed c.args.machines c.loop-machine.machine c.loop-machine-test.true c.loop-machine.invariant.1 (told c.before ∙ c.if-has-may_stand.true)))
+    sym (ap next_of (next_found cs c.args.placed c.args.machines c.loop-machine.machine c.loop-machine-test.true c.loop-machine.invariant.1 (ap₂ (λ (a b : Bool). not a && b) (sym c.has.ensures) (sym c.may_stand.ensures) ∙ c.if-has-may_stand.true)))
 
 pub loop-machine-preserved : goal.loop-machine-preserved
 loop-machine-preserved c =
     let cs = conditions_of c.args.conditions.now in
-    (search rules, next_on cs c.args.placed c.loop-machine.machine c.loop-machine.invariant.1 (told c.before ∙ c.if-has-may_stand.false))
-
-pub returns-then-has-may_stand : goal.returns
-returns-then-has-may_stand c =
-    let e : c.loop-machine.machine ≡ c.args.machines = omega arith in
-    sym (ap next_of (rw e at c.loop-machine.invariant.1))
+    (search rules, next_on cs c.args.placed c.loop-machine.machine c.loop-machine.invariant.1 (ap₂ (λ (a b : Bool). not a && b) (sym c.has.ensures) (sym c.may_stand.ensures) ∙ c.if-has-may_stand.false))

@@ -1,4 +1,5 @@
-use Rattle.basics.proofs.Words.{ap₂, ◌&&◌, rules}
+use Rattle.std.specs.Prelude.{◌&&◌}
+use Rattle.basics.proofs.Words.{ap₂}
 use Rattle.finder.specs.Finder.{sound_condition}
 use Rattle.finder.proofs.Sets.{below_shifted}
 use Rattle.finder.proofs.sound.Goals as goal

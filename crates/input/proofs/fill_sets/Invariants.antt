@@ -1,4 +1,5 @@
-use Rattle.basics.proofs.Words.{◌≡◌, refl, ◌-◌, ◌≤◌, arith, length, length-set, rules}
+use Rattle.std.specs.Prelude.{◌≡◌, ◌-◌, ◌≤◌}
+use Rattle.basics.proofs.Words.{refl, arith, length, length-set, rules}
 use Rattle.input.proofs.Words.{FilledBelow, filled_start, filled_next, filled_end, small_at}
 use Rattle.input.proofs.fill_sets.Given as goal
 

@@ -1,13 +1,10 @@
-use Rattle.basics.proofs.Words.{◌≡◌, refl, ◌∙◌, ap, ◌^◌, ◌<◌, arith, length, rules}
+use Rattle.basics.proofs.Words.{refl, ◌∙◌, ap, arith}
 use Rattle.cells.specs.Fours.{next_four}
 use Rattle.cells.specs.Laws.Fours.{without_less}
 use Rattle.insertions.proofs.Fours.{fours_small}
 use Rattle.insertions.proofs.Blocks.{asks_four, high_pre, codes_few}
-use Rattle.insertions.proofs.Loops.{CountTo, zeros_of, count_start, room_for_four, four_counted, add_pre, counted}
+use Rattle.insertions.proofs.Loops.{zeros_of, count_start, room_for_four, four_counted, add_pre, counted}
 use Rattle.insertions.proofs.count.Goals as goal
-
-small : (s : goal.Start) → s.args.kept < 2 ^ 64
-small c = search rules
 
 pub clear-requires : goal.clear-requires
 clear-requires c =
@@ -19,22 +16,22 @@ loop-left-init c =
 
 pub add_four-requires : goal.add_four-requires
 add_four-requires c =
-    asks_four c.requires.1 c.loop-left.false _ _ c.next_four-four.ensures (omega (arith, c.requires.2, c.loop-left.invariant.1)) (omega (arith, c.requires.3, c.loop-left.invariant.2))
+    asks_four c.requires.1 c.loop-left.left _ _ c.next_four-four.ensures (omega (arith, c.requires.2, c.loop-left.invariant.1)) (omega (arith, c.requires.3, c.loop-left.invariant.2))
 
 pub count_four-requires : goal.count_four-requires
 count_four-requires c =
-    (room_for_four c.requires.1 (small c.before.before.before.before.before.before.before.before.before.before.before.before.before.before.before.before.before.before.before) c.loop-left.invariant.0, high_pre c.requires.1 c.loop-left.invariant.0.fours (c.next_four-four.ensures ∙ ap next_four c.loop-left.invariant.0.fours_to.left_is) c.add_four.ensures (omega (arith, c.requires.2, c.add_four.kept.1.1.1.1.1.1.0, c.loop-left.invariant.1)))
+    (room_for_four c.requires.1 (omega arith) c.loop-left.invariant.0, high_pre c.requires.1 c.loop-left.invariant.0.fours (c.next_four-four.ensures ∙ ap next_four c.loop-left.invariant.0.fours_to.left_is) c.add_four.ensures (omega (arith, c.requires.2, c.add_four.auto.high, c.loop-left.invariant.1)))
 
 pub loop-left-smaller : goal.loop-left-smaller
 loop-left-smaller c =
-    omega (arith, c.without_four-left.ensures, without_less c.loop-left.false (omega (arith, c.loop-left.invariant.0.fours_to.left_is, fours_small (small c.before.before.before.before.before.before.before.before.before.before.before.before.before.before.before.before.before.before.before.before.before) c.loop-left.invariant.0.fours)) (omega (arith, c.loop-left-test.true)))
+    omega (arith, c.without_four-left.ensures, without_less c.loop-left.left (omega (arith, c.loop-left.invariant.0.fours_to.left_is, fours_small {kept = c.args.kept} (omega arith) c.loop-left.invariant.0.fours)) (omega (arith, c.loop-left-test.true)))
 
 pub loop-left-preserved : goal.loop-left-preserved
 loop-left-preserved c =
     let j = c.add_four in (
-      four_counted c.requires.1 (small c.before.before.before.before.before.before.before.before.before.before.before.before.before.before.before.before.before.before.before.before.before) c.loop-left.invariant.0 (omega (arith, c.loop-left-test.true)) c.next_four-four.ensures j.ensures c.count_four.ensures c.without_four-left.ensures,
-      j.kept.1.1.1.1.1.1.0 ∙ c.loop-left.invariant.1,
-      j.kept.1.1.1.1.1.1.1.0 ∙ c.loop-left.invariant.2,
+      four_counted c.requires.1 (omega arith) c.loop-left.invariant.0 (omega (arith, c.loop-left-test.true)) c.next_four-four.ensures j.ensures c.count_four.ensures c.without_four-left.ensures,
+      j.auto.high ∙ c.loop-left.invariant.1,
+      j.auto.low ∙ c.loop-left.invariant.2,
     )
 
 -- there are at most 128 codes
@@ -48,7 +45,7 @@ overflow_add-lists c =
 
 pub add_up-requires : goal.add_up-requires
 add_up-requires c =
-    add_pre c.requires.1 (small c.before.before.before.before.before.before.before.before.before.before.before) c.loop-left.invariant.0
+    add_pre c.requires.1 (omega arith) c.loop-left.invariant.0
 
 pub fill_on-requires : goal.fill_on-requires
 fill_on-requires c =
@@ -56,7 +53,7 @@ fill_on-requires c =
 
 pub overflow_cast-result : goal.overflow_cast-result
 overflow_cast-result c =
-    let C = counted c.requires.1 (small c.before.before.before.before.before.before.before.before.before.before.before.before.before.before.before.before) c.loop-left.invariant.0 (omega (arith, c.loop-left-test.false)) c.add_up.ensures c.fill_on.ensures in
+    let C = counted c.requires.1 (omega arith) c.loop-left.invariant.0 (omega (arith, c.loop-left-test.false)) c.add_up.ensures c.fill_on.ensures in
     omega (arith, C.few, codes_few c.requires.1)
 
 pub shape_of-high : goal.shape_of-high
@@ -69,4 +66,4 @@ shape_of-low c =
 
 pub returns : goal.returns
 returns c =
-    (counted c.requires.1 (small c.before.before.before.before.before.before.before.before.before.before.before.before.before.before.before.before) c.loop-left.invariant.0 (omega (arith, c.loop-left-test.false)) c.add_up.ensures c.fill_on.ensures, refl)
+    (counted c.requires.1 (omega arith) c.loop-left.invariant.0 (omega (arith, c.loop-left-test.false)) c.add_up.ensures c.fill_on.ensures, refl)

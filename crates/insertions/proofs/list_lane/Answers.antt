@@ -1,14 +1,15 @@
-use Rattle.basics.proofs.Words.{sym, ◌∙◌, ap, ℕ, ◌+◌, ◌<◌, arith, length, get_or, set, length-set, rules}
+use Rattle.std.specs.Prelude.{◌+◌, ◌<◌}
+use Rattle.basics.proofs.Words.{sym, ◌∙◌, ap, ℕ, arith, length, get_or, set, length-set}
 use Rattle.insertions.specs.Lanes.{lane_of}
 use Rattle.insertions.proofs.Lanes.{bump_moves, bump_stays, put_moves, put_stays, lane_room}
 use Rattle.insertions.proofs.list_lane.Goals as goal
 
 -- the place behind the list is there
-place : (c : goal.After-entry_of)
-    → (get_or c.before.before.before.before.before.before.args.ends.now (c.before.before.list_of_lem.result + 1) 0 < length c.before.before.before.before.before.before.args.entries.now)
-    × (get_or c.before.before.before.before.before.before.args.ends.now (c.before.before.list_of_lem.result + 1) 0 < 65535)
+place : (c : goal.After-entry_of-unread)
+    → (get_or c.args.ends.now (c.list_of-at.result + 1) 0 < length c.args.entries.now)
+    × (get_or c.args.ends.now (c.list_of-at.result + 1) 0 < 65535)
 place c =
-    let at_list_of = c.before.before.list_of_lem in
+    let at_list_of = c.list_of-at in
     lane_room (lane_of c.args.code c.args.step c.args.rest) c.requires (sym c.moves.ensures ∙ c.if-moves.true) at_list_of.result at_list_of.ensures.0
 
 pub entry_of-requires : goal.entry_of-requires
@@ -36,8 +37,8 @@ returns-then-moves c =
     let es = c.args.entries.now in
     let ns = c.args.ends.now in
     let t = sym c.moves.ensures ∙ c.if-moves.true in
-    let e = c.before.before.list_of_lem.ensures.0 in
-    let d = c.entry_of_lem.ensures in
+    let e = c.list_of-at.ensures.0 in
+    let d = c.entry_of.ensures in
     ((λ i. set es (get_or ns (e i + 1) 0) (d i)) ∙ sym (put_moves x es ns t), ap (λ (n : ℕ). set ns (n + 1) (get_or ns (n + 1) 0 + 1)) e ∙ sym (bump_moves 1 x ns t))
 
 pub returns-else-moves : goal.returns-else-moves

@@ -1,4 +1,5 @@
-use Rattle.basics.proofs.Words.{◌≡◌, ◌∙◌, ap, ℕ, ◌+◌, ◌-◌, ◌*◌, ◌≤◌, arith, length, rules}
+use Rattle.std.specs.Prelude.{◌≡◌, ◌+◌, ◌*◌}
+use Rattle.basics.proofs.Words.{◌∙◌, ap, ℕ, arith, length}
 use Rattle.insertions.specs.Lanes.{bumped, placed}
 use Rattle.insertions.specs.Tables.{code_lane, lanes_from}
 use Rattle.insertions.proofs.Lanes.{bumped_start, placed_start, bumped_on, placed_on, placed_size, equal_alike, entry_next}
@@ -49,7 +50,7 @@ loop-b-preserved c =
     let f = lanes_from high low c.args.front c.args.back (c.args.a * c.args.back) in
     let g = code_lane high low (c.args.a * c.args.back + c.loop-b.b) (c.args.a * 4) ((c.args.front + c.loop-b.b) * 4) in
     let A = code_lanes high low c.args.front c.args.back c.args.a c.loop-b.b t in
-    let d = c.before.before.List-code.ensures in
+    let d = c.list_code.ensures in
     let p = c.loop-b.invariant.1 in
     let q = c.loop-b.invariant.2 in
     let n = code_next c.loop-b.b in

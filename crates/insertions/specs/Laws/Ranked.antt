@@ -1,6 +1,7 @@
 -- Marks times the weights of machines in ranked order: place by place.
-use Rattle.basics.specs.Words.{◌≡◌, refl, ◌∙◌, true, false, cond, List, [], ◌∷◌, ℕ, zero, suc, ◌+◌, ◌*◌, ◌<◌, ◌≤◌, arith, length, get_or, eqb, mul-add}
-use Rattle.std.proofs.Common.{eq-eqb, ne_eqb}
+use Rattle.std.specs.Prelude.{◌≡◌, ◌∷◌, ◌+◌, ◌*◌, ◌<◌, ◌≤◌}
+use Rattle.basics.specs.Words.{refl, ◌∙◌, true, false, cond, List, [], ℕ, zero, suc, arith, length, get_or, eqb, mul-add}
+use Rattle.std.proofs.Common.{eq-eqb, ne_eqb, subst}
 use Rattle.cells.specs.Cells.{high_of, low_of}
 use Rattle.cells.specs.Columns.{weighed}
 use Rattle.settling.specs.Prices.{ranked_highs, ranked_lows}
@@ -46,9 +47,9 @@ weighed_one m zero n (k ∷ ks) =
     before j (k ∷ ks) h = let e : eqb (m + 0) j ≡ false = ne_eqb (m + 0) j (omega arith) in rw e (omega (arith, before (suc j) ks (omega arith)))
 weighed_one m (suc a) n (k ∷ ks) =
     let e : eqb (m + suc a) m ≡ false = ne_eqb (m + suc a) m (omega arith) in
-    let d : m + suc a ≡ suc m + a = omega arith in
-    let q = weighed_one (suc m) a n ks in
-    rw e (rw d (omega (arith, q)))
+    let d : suc m + a ≡ m + suc a = omega arith in
+    let q = subst (λ (j : ℕ). weighed (λ k. cond (eqb j k) n 0) (suc m) ks ≡ get_or ks a 0 * n) d (weighed_one (suc m) a n ks) in
+    rw e (omega (arith, q))
 
 pub weighed_by : (order numbers marks : List ℕ) → weighed (weight_by order numbers) 0 marks ≡ priced_by order numbers marks
 unfolding weight_by priced_by

@@ -1,5 +1,5 @@
-use Rattle.basics.proofs.Words.{◌≡◌, ℕ, ◌+◌, ◌-◌, ◌≤◌, ◌<◌, arith, get_or, rules}
-use Rattle.cells.specs.Cells.{nowhere}
+use Rattle.std.specs.Prelude.{◌≡◌, ◌+◌}
+use Rattle.basics.proofs.Words.{ℕ, arith, get_or}
 use Rattle.lanes.proofs.Trying.{none_more}
 use Rattle.lanes.proofs.any_step.Goals as goal
 
@@ -13,5 +13,5 @@ pub loop-j-preserved : goal.loop-j-preserved
 loop-j-preserved c =
     (omega arith, none_more (λ k. get_or c.args.high.now (c.args.at + k) 0) c.loop-j.j c.loop-j.invariant.1 c.if-high-at-lt-NOWHERE.false)
 
-pub returns-then-high-at-lt-NOWHERE : goal.returns
-returns-then-high-at-lt-NOWHERE c = λ e k h. c.loop-j.invariant.1 k (omega (arith, c.loop-j-test.false))
+pub returns : goal.returns
+returns c = λ e k h. c.loop-j.invariant.1 k (omega (arith, c.loop-j-test.false))

@@ -1,4 +1,5 @@
-use Rattle.basics.proofs.Words.{sym, ◌+◌, ◌%◌, arith, get_or, rules}
+use Rattle.std.specs.Prelude.{◌+◌, ◌%◌}
+use Rattle.basics.proofs.Words.{sym, arith, get_or}
 use Rattle.lanes.specs.Trying.{way_of}
 use Rattle.lanes.specs.Laws.Least.{keeps_high, keeps_low, falls_high, falls_low}
 use Rattle.lanes.proofs.try_lane.Goals as goal
@@ -27,6 +28,6 @@ pub returns-then-rest-lowest : goal.returns-then-rest-lowest
 returns-then-rest-lowest c =
     let w = way_of c.args.next.now c.args.high.now c.args.low.now c.args.a c.args.b in sym (falls_low w c.args.label (omega (arith, c.if-way-least.false, c.if-least-way.false)) c.if-rest-lowest.true)
 
-pub returns-then-least-way : goal.returns
-returns-then-least-way c =
+pub returns : goal.returns
+returns c =
     let w = way_of c.args.next.now c.args.high.now c.args.low.now c.args.a c.args.b in sym (keeps_low w c.args.label (omega (arith, c.if-way-least.false, c.if-least-way.false)) c.if-rest-lowest.false)

@@ -1,5 +1,5 @@
-use Rattle.basics.proofs.Words.{◌≡◌, ◌+◌, ◌*◌, ◌-◌, ◌≤◌, arith, rules}
-use Rattle.lanes.specs.Trying.{TriedIn}
+use Rattle.std.specs.Prelude.{◌≡◌, ◌+◌, ◌*◌}
+use Rattle.basics.proofs.Words.{arith}
 use Rattle.lanes.proofs.Trying.{front_few, back_few, row_last, tried_none, code_pre, tried_code}
 use Rattle.lanes.proofs.try_row.Goals as goal
 
@@ -35,7 +35,7 @@ try_code-requires c =
 pub loop-b-preserved : goal.loop-b-preserved
 loop-b-preserved c =
     let t = c.loop-b-test.true in
-    (tried_code c.requires.0 c.args.a c.loop-b.b t c.try_code.auto.0 c.loop-b.invariant.0 (omega arith) c.try_code.ensures, omega (arith, t))
+    (tried_code c.requires.0 c.args.a c.loop-b.b t c.try_code.auto.own c.loop-b.invariant.0 (omega arith) c.try_code.ensures, omega (arith, t))
 
 pub shape_of-own : goal.shape_of-own
 shape_of-own c = c.loop-b.invariant.0.size

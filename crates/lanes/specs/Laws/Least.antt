@@ -1,5 +1,6 @@
 -- The lesser of two cells, and the least of several.
-use Rattle.basics.specs.Words.{◌≡◌, refl, ℕ, ◌+◌, ◌<◌, ◌≤◌, arith, add-one}
+use Rattle.std.specs.Prelude.{◌≡◌, ◌+◌, ◌<◌, ◌≤◌}
+use Rattle.basics.specs.Words.{refl, ℕ, arith, add-one}
 use borrow.Author.Tests.{le-ltb, lt-ltb, eq-eqb, ne_eqb}
 use Rattle.cells.specs.declared.Cell.{Cell}
 use Rattle.lanes.specs.Trying.{lesser, least_of}

@@ -1,5 +1,6 @@
 -- How a caller meets what trying asks: with the columns and the weights of a card's machines, and the joint steps that adding leaves.
-use Rattle.basics.specs.Words.{◌≡◌, List, ℕ, zero, suc, ◌+◌, ◌*◌, ◌<◌, ◌≤◌, arith, length, get_or, mul_comm}
+use Rattle.std.specs.Prelude.{◌≡◌, ◌+◌, ◌*◌, ◌<◌, ◌≤◌}
+use Rattle.basics.specs.Words.{List, ℕ, zero, suc, arith, length, get_or, mul_comm}
 use Rattle.machine.specs.Machine.{Machine}
 use Rattle.product.specs.Nodes.{state_counts, product}
 use Rattle.product.specs.Laws.Nodes.{product_positive}

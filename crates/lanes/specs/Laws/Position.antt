@@ -1,5 +1,6 @@
 -- Trying all codes of a position by four outputs, while the position is entered.
-use Rattle.basics.specs.Words.{◌≡◌, refl, sym, ◌∙◌, ap, cond, List, Option, some, none, ◌⊎◌, inl, inr, ◌≢◌, ℕ, zero, suc, ◌+◌, ◌%◌, ◌<◌, ◌≤◌, arith, eqb, ltb, dec_lt, ℕ_discrete}
+use Rattle.std.specs.Prelude.{◌≡◌, ◌⊎◌, ◌≢◌, ◌+◌, ◌%◌, ◌<◌, ◌≤◌}
+use Rattle.basics.specs.Words.{refl, sym, ◌∙◌, ap, cond, List, Option, some, none, inl, inr, ℕ, zero, suc, arith, eqb, ltb, dec_lt, ℕ_discrete}
 use Rattle.std.proofs.Common.{eq-eqb, ne_eqb, lt-ltb, le-ltb}
 use Rattle.machine.specs.declared.Pair.{Pair}
 use Rattle.paths.specs.Costs.{Labels}

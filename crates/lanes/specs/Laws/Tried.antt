@@ -1,5 +1,6 @@
 -- What adding and trying together mean: the labels of a position after the pairs with one symbol and four outputs were tried at each of its codes.
-use Rattle.basics.specs.Words.{◌≡◌, true, List, some, ◌≢◌, ℕ, suc, ◌+◌, ◌*◌, ◌<◌, ◌≤◌, arith, get_or, suc-mul, mul-le-mul_right, member}
+use Rattle.std.specs.Prelude.{◌≡◌, ◌≢◌, ◌+◌, ◌*◌, ◌<◌, ◌≤◌}
+use Rattle.basics.specs.Words.{true, List, some, ℕ, suc, arith, get_or, suc-mul, mul-le-mul_right, member}
 use Rattle.machine.specs.declared.Pair.{Pair}
 use Rattle.machine.specs.Symbols.{empty_symbol}
 use Rattle.machine.specs.Machine.{Machine}

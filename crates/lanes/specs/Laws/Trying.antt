@@ -1,6 +1,7 @@
 -- Trying a step: a label stays as it is where there is no step or no label to go on from, and is the lesser of both else. With these three laws
 -- `paths/Positions.entering-no-edge`, `entering-unlabelled` and `entering-letter` take a lane each.
-use Rattle.basics.specs.Words.{◌≡◌, sym, ◌∙◌, ap, List, Option, some, none, Option·none-ne-some, ◌⊎◌, inl, inr, ℕ, ◌+◌, ◌/◌, ◌%◌, ◌<◌, ◌≤◌, arith, dec_lt}
+use Rattle.std.specs.Prelude.{◌≡◌, ◌⊎◌, ◌+◌, ◌/◌, ◌%◌, ◌<◌, ◌≤◌}
+use Rattle.basics.specs.Words.{sym, ◌∙◌, ap, List, Option, some, none, Option·none-ne-some, inl, inr, ℕ, arith, dec_lt}
 use Rattle.paths.specs.Total.{Upto}
 use Rattle.paths.specs.Costs.{AtMost, Above, Lowers, kept, lowered}
 use Rattle.paths.specs.Ranked.{Ranked, add, Less}

@@ -1,6 +1,6 @@
-use Rattle.basics.proofs.Words.{◌≡◌, ap, sym, ◌∙◌, true, ◌+◌, ◌*◌, ◌-◌, ◌≤◌, arith, length, eqb, every_below, rules, eq-eqb, ne_eqb, every_next}
-use Rattle.layout.specs.Layout.{offset_of, due_offset, in_place, laid_out}
-use Rattle.layout.proofs.Checking.{due_step, no_table, out_of_place, end_decides}
+use Rattle.std.specs.Prelude.{◌≡◌, ◌+◌, ◌*◌, ◌-◌, ◌≤◌}
+use Rattle.basics.proofs.Words.{true, every_below}
+use Rattle.layout.specs.Layout.{due_offset, in_place}
 use Rattle.layout.proofs.is_laid_out.Given as goal
 
 abbrev pub invariant-loop-i : goal.invariant-loop-i

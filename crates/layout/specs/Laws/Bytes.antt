@@ -1,5 +1,6 @@
 -- Lists of bytes, and the two bytes of a number. Assumes nothing.
-use Rattle.basics.specs.Words.{◌≡◌, List, [], ◌∷◌, ◌++◌, ℕ, zero, suc, ◌+◌, ◌/◌, ◌%◌, ◌<◌, arith, get_or, take, drop, lit<, get_or-drop}
+use Rattle.std.specs.Prelude.{◌≡◌, ◌∷◌, ◌++◌, ◌+◌, ◌/◌, ◌%◌, ◌<◌}
+use Rattle.basics.specs.Words.{List, [], ℕ, zero, suc, arith, get_or, take, drop, lit<, get_or-drop}
 use Rattle.layout.specs.Layout.{Bytes, short_at}
 
 -- the bytes that a number was read from

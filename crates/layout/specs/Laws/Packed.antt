@@ -1,5 +1,6 @@
 -- The table of a card read back. Assumes nothing.
-use Rattle.basics.specs.Words.{◌≡◌, refl, ap, ◌∙◌, List, ◌∷◌, ◌++◌, ℕ, suc, ◌+◌, ◌*◌, ◌<◌, arith, length, get_or, take, length-append}
+use Rattle.std.specs.Prelude.{◌≡◌, ◌∷◌, ◌++◌, ◌+◌, ◌*◌, ◌<◌}
+use Rattle.basics.specs.Words.{refl, ap, ◌∙◌, List, ℕ, suc, arith, length, get_or, take, length-append}
 use Rattle.layout.specs.Packing.{total, places, table, packed}
 use Rattle.layout.specs.Laws.Places.{length_places, PlaceAt, place_at}
 

@@ -1,5 +1,6 @@
 -- Laws of parts that are joined and split by their lengths. Assumes nothing.
-use Rattle.basics.specs.Words.{◌≡◌, refl, ap, sym, ◌∙◌, List, [], ◌∷◌, ◌++◌, map, ℕ, zero, suc, ◌+◌, ◌<◌, ◌≤◌, arith, length, get_or, take, drop, length-append, length-drop, take-append-drop, drop-drop, drop-cons, take-suc, length-take-le, take_at, drop_at, add-one, joined}
+use Rattle.std.specs.Prelude.{◌≡◌, ◌∷◌, ◌++◌, ◌+◌, ◌<◌, ◌≤◌}
+use Rattle.basics.specs.Words.{refl, ap, sym, ◌∙◌, List, [], map, ℕ, zero, suc, arith, length, get_or, take, drop, length-append, length-drop, take-append-drop, drop-drop, drop-cons, take-suc, length-take-le, take_at, drop_at, add-one, joined}
 use Rattle.layout.specs.Packing.{total, split}
 
 -- the sum of the lengths of the first n parts, one part more

@@ -1,5 +1,6 @@
 -- Laws of the table of places: what is read where part i's offset and length were written. Assumes nothing.
-use Rattle.basics.specs.Words.{◌≡◌, refl, ap, sym, ◌∙◌, List, [], ◌∷◌, ◌++◌, ℕ, zero, suc, ◌+◌, ◌*◌, ◌/◌, ◌%◌, ◌<◌, ◌≤◌, arith, length, get_or, take, drop, drop-cons, get_or-drop, not-suc-le-zero}
+use Rattle.std.specs.Prelude.{◌≡◌, ◌∷◌, ◌++◌, ◌+◌, ◌*◌, ◌/◌, ◌%◌, ◌<◌, ◌≤◌}
+use Rattle.basics.specs.Words.{refl, ap, sym, ◌∙◌, List, [], ℕ, zero, suc, arith, length, get_or, take, drop, drop-cons, get_or-drop, not-suc-le-zero}
 use Rattle.layout.specs.Layout.{Bytes}
 use Rattle.layout.specs.Packing.{total, places}
 use Rattle.layout.specs.Laws.Bytes.{bytes_none, bytes_cons}

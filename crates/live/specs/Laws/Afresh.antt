@@ -1,5 +1,6 @@
 -- The rows worked out afresh after one call more. Assumes nothing.
-use Rattle.basics.proofs.Words.{◌≡◌, refl, sym, ap, ◌∙◌, Bool, true, false, not, ◌||◌, List, [], ◌∷◌, ◌++◌, ℕ, eqb, those, same, those_here, those_later}
+use Rattle.std.specs.Prelude.{◌≡◌, ◌||◌, ◌∷◌, ◌++◌}
+use Rattle.basics.proofs.Words.{refl, sym, ap, ◌∙◌, Bool, true, false, not, List, [], ℕ, eqb, those, same, those_here, those_later}
 use Rattle.std.proofs.Common.{eqb-true, eq-eqb}
 use Rattle.live.specs.declared.Row.{Row}
 use Rattle.live.specs.Rows.{has_id, lacks}

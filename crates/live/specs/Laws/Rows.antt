@@ -1,5 +1,6 @@
 -- Laws of the rows with and without an id. Assumes nothing.
-use Rattle.basics.proofs.Words.{◌≡◌, refl, sym, ap, ◌∙◌, Bool, true, false, not, List, [], ◌∷◌, ◌++◌, ℕ, zero, suc, ◌<◌, arith, length, take, all_of, pairwise, those, both, left, right, clash, fails, all_append, those_here, those_later}
+use Rattle.std.specs.Prelude.{◌≡◌, ◌∷◌, ◌++◌, ◌<◌}
+use Rattle.basics.proofs.Words.{refl, sym, ap, ◌∙◌, Bool, true, false, not, List, [], ℕ, zero, suc, arith, length, take, all_of, pairwise, those, both, left, right, clash, fails, all_append, those_here, those_later}
 use Rattle.std.proofs.Common.{eqb-true, eq-eqb}
 use Rattle.live.specs.declared.Row.{Row}
 use Rattle.live.specs.Rows.{has_id, present, without, lacks, differ}

@@ -1,4 +1,4 @@
-use Rattle.basics.proofs.Words.{arith, rules}
+use Rattle.basics.proofs.Words.{arith}
 use Rattle.machine.specs.Accepted.{shape_facts}
 use Rattle.machine.proofs.state_count.Goals as goal
 

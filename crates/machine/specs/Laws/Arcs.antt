@@ -1,5 +1,6 @@
 -- The arcs of a part: the tests of one arc, and how a loop over them goes on. Assumes nothing.
-use Rattle.basics.proofs.Words.{◌≡◌, refl, sym, ap, ◌∙◌, Bool, true, false, List, [], ◌∷◌, Option, some, none, ℕ, zero, suc, ◌+◌, ◌-◌, ◌*◌, ◌<◌, ◌≤◌, arith, length, get_or, not-suc-le-zero, sub-one, all_of, eq-eqb, ne_eqb, all_none, all_next, all_fails}
+use Rattle.std.specs.Prelude.{◌≡◌, ◌∷◌, ◌+◌, ◌-◌, ◌*◌, ◌<◌, ◌≤◌}
+use Rattle.basics.proofs.Words.{refl, sym, ap, ◌∙◌, Bool, true, false, List, [], Option, some, none, ℕ, zero, suc, arith, length, get_or, not-suc-le-zero, sub-one, all_of, eq-eqb, ne_eqb, all_none, all_next, all_fails}
 use Rattle.machine.specs.declared.Arc.{Arc}
 use Rattle.machine.specs.declared.Pair.{Pair}
 use Rattle.machine.specs.Machine.{takes, takes_from, step_among}

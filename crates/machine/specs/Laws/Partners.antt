@@ -1,5 +1,6 @@
 -- The symbols of a set that make a pair of an arc's kind with a symbol. Assumes nothing.
-use Rattle.basics.proofs.Words.{◌≡◌, refl, sym, ◌∙◌, ap, ap₂, Bool, true, false, not, ◌&&◌, and-true, and-false, and_self, and_comm, and_assoc, ℕ, zero, suc, ◌^◌, eqb, member, eqb-true, eq-eqb, same, member_one, member_and}
+use Rattle.std.specs.Prelude.{◌≡◌, ◌&&◌, ◌^◌}
+use Rattle.basics.proofs.Words.{refl, sym, ◌∙◌, ap, ap₂, Bool, true, false, not, and-true, and-false, and_self, and_comm, and_assoc, ℕ, zero, suc, eqb, member, eqb-true, eq-eqb, same, member_one, member_and}
 use Rattle.std.specs.Int.Bits.{bit_and}
 use Rattle.symbols.specs.Laws.Partners.{without_symbol_lem}
 use Rattle.machine.specs.Symbols.{empty_symbol, pair_of}

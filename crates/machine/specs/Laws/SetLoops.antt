@@ -1,5 +1,6 @@
 -- Going through a set, the least symbol first, with one number for each symbol: what is new at the symbols passed. Assumes nothing.
-use Rattle.basics.proofs.Words.{◌≡◌, refl, ◌∙◌, ap, Bool, true, false, cond, not, ◌&&◌, ℕ, ◌≤◌, arith, eqb, ℕ_discrete, member, eq-eqb, ne_eqb, clash, no_member}
+use Rattle.std.specs.Prelude.{◌≡◌, ◌&&◌, ◌≤◌}
+use Rattle.basics.proofs.Words.{refl, ◌∙◌, ap, Bool, true, false, cond, not, ℕ, arith, eqb, ℕ_discrete, member, eq-eqb, ne_eqb, clash, no_member}
 
 -- the symbols of the set that are not left have their new numbers, and all others the old ones
 pub record Passed (old new now : ℕ → ℕ) (set left : ℕ) : Type 0 where

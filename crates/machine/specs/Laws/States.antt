@@ -1,5 +1,6 @@
 -- The state bytes of a part. Assumes nothing.
-use Rattle.basics.specs.Words.{◌≡◌, refl, sym, ap, ◌∙◌, true, List, ◌∷◌, map, Option, some, none, ℕ, zero, suc, ◌+◌, ◌-◌, ◌<◌, ◌≤◌, arith, length, get_or, take, List·getD-map, List·getD-eq-default, slice, slice-cons, get_or-drop, get_or-take, add-one}
+use Rattle.std.specs.Prelude.{◌≡◌, ◌∷◌, ◌+◌, ◌-◌, ◌<◌, ◌≤◌}
+use Rattle.basics.specs.Words.{refl, sym, ap, ◌∙◌, true, List, map, Option, some, none, ℕ, zero, suc, arith, length, get_or, take, List·getD-map, List·getD-eq-default, slice, slice-cons, get_or-drop, get_or-take, add-one}
 use Rattle.machine.specs.Machine.{ending_of}
 use Rattle.machine.specs.Part.{state_count, state_bytes, ending_byte, machine_of, shaped}
 use Rattle.machine.specs.Accepted.{state_count_lem}

@@ -1,6 +1,5 @@
-use Rattle.basics.proofs.Words.{◌≡◌, refl, ℕ, ◌<◌, ◌≤◌, ◌-◌, arith, rules, clash}
+use Rattle.basics.proofs.Words.{refl, arith, clash}
 use borrow.Author.Count.{below_more}
-use Rattle.adding.specs.Cells.{step_at}
 use Rattle.adding.specs.Laws.Numbers.{column_few, column_in}
 use Rattle.outputs.proofs.is_same.Goals as goal
 
@@ -43,5 +42,5 @@ pub loop-place-preserved : goal.loop-place-preserved
 loop-place-preserved c =
     (omega (arith, c.loop-place-test.true), below_more _ _ c.loop-place.invariant.1 c.if-steps-a.false)
 
-pub returns-then-steps-a : goal.returns
-returns-then-steps-a c = λ e r h. c.loop-place.invariant.1 r (omega (arith, c.loop-place-test.false))
+pub returns : goal.returns
+returns c = λ e r h. c.loop-place.invariant.1 r (omega (arith, c.loop-place-test.false))

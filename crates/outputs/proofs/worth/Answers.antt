@@ -1,6 +1,6 @@
-use Rattle.basics.proofs.Words.{◌≡◌, refl, ap, arith, length, rules}
+use Rattle.basics.proofs.Words.{refl, ap, arith}
 use lib.Bits.{bit_or}
-use Rattle.outputs.proofs.Keeping.{WorthTo, worth_start, worth_passed, worth_kept, worth_end, not_not}
+use Rattle.outputs.proofs.Keeping.{worth_start, worth_passed, worth_kept, worth_end}
 use Rattle.outputs.proofs.worth.Goals as goal
 
 pub loop-left-init : goal.loop-left-init
@@ -20,7 +20,7 @@ loop-left-smaller-then-not-is_known c =
 
 pub loop-left-preserved-then-not-is_known : goal.loop-left-preserved-then-not-is_known
 loop-left-preserved-then-not-is_known c =
-    (worth_kept c.loop-left.invariant.0 c.least-output.result c.without_least-rest.result c.least-output.ensures.0 c.least-output.ensures.2 c.without_least-rest.ensures.1 (bit_or c.loop-left.kept c.set_of_lem.result) (ap (bit_or c.loop-left.kept) c.set_of_lem.ensures), omega (arith, after_is_known.is_Known.kept.1.1.1.1.0, c.loop-left.invariant.1))
+    (worth_kept c.loop-left.invariant.0 c.least-output.result c.without_least-rest.result c.least-output.ensures.0 c.least-output.ensures.2 c.without_least-rest.ensures.1 (bit_or c.loop-left.kept c.set_of-kept.result) (ap (bit_or c.loop-left.kept) c.set_of-kept.ensures), omega (arith, c.is_known.auto.last, c.loop-left.invariant.1))
 
 pub loop-left-smaller : goal.loop-left-smaller
 loop-left-smaller c =
@@ -28,7 +28,7 @@ loop-left-smaller c =
 
 pub loop-left-preserved : goal.loop-left-preserved
 loop-left-preserved c =
-    (worth_passed c.loop-left.invariant.0 c.least-output.result c.without_least-rest.result c.least-output.ensures.0 c.least-output.ensures.2 c.without_least-rest.ensures.1 (c.before.before.is_Known.ensures (not_not _ c.if-not-is_known.false)), omega (arith, c.before.before.is_Known.auto.1.1.1.1.0, c.loop-left.invariant.1))
+    (worth_passed c.loop-left.invariant.0 c.least-output.result c.without_least-rest.result c.least-output.ensures.0 c.least-output.ensures.2 c.without_least-rest.ensures.1 (c.is_known.ensures c.if-not-is_known.false), omega (arith, c.is_known.auto.last, c.loop-left.invariant.1))
 
 pub returns : goal.returns
 returns c = worth_end c.loop-left.invariant.0 c.loop-left-test.false

@@ -1,6 +1,6 @@
-use Rattle.basics.proofs.Words.{◌≡◌, refl, sym, ◌∙◌, ap, true, false, ℕ, ◌≤◌, ◌-◌, arith, length, get_or, drop, all_of, rules, not-true, not-false}
+use Rattle.std.specs.Prelude.{◌≡◌}
+use Rattle.basics.proofs.Words.{refl, sym, ◌∙◌, ap, true, false, ℕ, arith, length, get_or, drop, all_of}
 use Rattle.refusals.proofs.Refusals.{passes_with, refuses_with}
-use Rattle.product.specs.Optimizing.{sound_word}
 use Rattle.product.proofs.Words.{symbol, wrong_length, right_length, next_symbol, wrong_symbol, no_symbol_left}
 use Rattle.product.proofs.check_word.Goals as goal
 
@@ -13,17 +13,17 @@ loop-at-init c = (refl, omega arith, right_length c.args.symbols c.args.word.now
 pub returns-then-not-is_symbol : goal.returns-then-not-is_symbol
 returns-then-not-is_symbol c =
     let w = c.args.word.now in
-    let e : symbol c.args.symbols (get_or w c.loop-at.at 0) ≡ false = sym c.is_symbol.ensures ∙ not-true _ c.if-not-is_symbol.true in
+    let e : symbol c.args.symbols (get_or w c.loop-at.at 0) ≡ false = sym c.is_symbol.ensures ∙ c.if-not-is_symbol.true in
     sym (refuses_with 8 (sym c.loop-at.invariant.2 ∙ wrong_symbol c.args.symbols w c.loop-at.at (omega arith) e))
 
 pub loop-at-preserved : goal.loop-at-preserved
 loop-at-preserved c =
     let w = c.args.word.now in
-    let e : symbol c.args.symbols (get_or w c.loop-at.at 0) ≡ true = sym c.is_symbol.ensures ∙ not-false _ c.if-not-is_symbol.false in
+    let e : symbol c.args.symbols (get_or w c.loop-at.at 0) ≡ true = sym c.is_symbol.ensures ∙ c.if-not-is_symbol.false in
     (refl, omega arith, next_symbol c.args.symbols w c.loop-at.at (omega arith) e ∙ c.loop-at.invariant.2)
 
-pub returns-then-word-gt24 : goal.returns
-returns-then-word-gt24 c =
+pub returns : goal.returns
+returns c =
     let w = c.args.word.now in
     let e : c.loop-at.at ≡ length w = omega arith in
     sym (passes_with 8 (sym c.loop-at.invariant.2 ∙ ap (λ (n : ℕ). all_of (symbol c.args.symbols) (drop n w)) e ∙ no_symbol_left c.args.symbols w))

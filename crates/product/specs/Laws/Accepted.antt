@@ -1,5 +1,6 @@
 -- What an accepted card promises of its machines and of P.
-use Rattle.basics.proofs.Words.{◌≡◌, refl, ap, ap₂, List, [], ◌∷◌, map, ℕ, ◌≤◌, arith, length, both}
+use Rattle.std.specs.Prelude.{◌≡◌, ◌∷◌, ◌≤◌}
+use Rattle.basics.proofs.Words.{refl, ap, ap₂, List, [], map, ℕ, arith, length, both}
 use Rattle.std.proofs.Common.{le-leb}
 use Rattle.refusals.proofs.Refusals.{none_first}
 use Rattle.machine.specs.Part.{machine_of, state_count, part_refusal}

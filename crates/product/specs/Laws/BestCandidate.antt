@@ -1,5 +1,6 @@
 -- The best candidate is the best path from the start node, and a candidate that none beats by profile or pair count is a cheapest one.
-use Rattle.basics.proofs.Words.{◌≡◌, sym, ◌∙◌, ap, true, false, List, Option, some, ◌⊎◌, inl, inr, ◌≢◌, ℕ, ◌<◌, ◌≤◌, arith, length, length-map, ext_get_or, dec_lt, clash}
+use Rattle.std.specs.Prelude.{◌≡◌, ◌⊎◌, ◌≢◌, ◌<◌, ◌≤◌}
+use Rattle.basics.proofs.Words.{sym, ◌∙◌, ap, true, false, List, Option, some, inl, inr, ℕ, arith, length, length-map, ext_get_or, dec_lt, clash}
 use Rattle.machine.specs.declared.Pair.{Pair}
 use Rattle.machine.specs.Machine.{Machine}
 use Rattle.ranking.specs.Rankings.{is_ranking}

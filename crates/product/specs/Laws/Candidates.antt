@@ -1,5 +1,6 @@
 -- The tie at the start node, in the words of candidates.
-use Rattle.basics.proofs.Words.{◌≡◌, refl, sym, ◌∙◌, ap, Bool, true, false, ◌&&◌, false≢true, List, [], ◌∷◌, map, Option, some, none, Option·none-ne-some, ℕ, arith, length, eqb, all_of, both, left, right}
+use Rattle.std.specs.Prelude.{◌≡◌, ◌&&◌, ◌∷◌}
+use Rattle.basics.proofs.Words.{refl, sym, ◌∙◌, ap, Bool, true, false, false≢true, List, [], map, Option, some, none, Option·none-ne-some, ℕ, arith, length, eqb, all_of, both, left, right}
 use Rattle.std.proofs.Common.{eqb-true, eq-eqb}
 use Rattle.machine.specs.declared.Pair.{Pair}
 use Rattle.machine.specs.Symbols.{is_pair}

@@ -1,5 +1,6 @@
 -- The graph of an accepted card, as the theory of paths and an engine ask for it.
-use Rattle.basics.specs.Words.{◌≡◌, true, List, some, ℕ, ◌<◌, ◌≤◌, arith, length}
+use Rattle.std.specs.Prelude.{◌≡◌, ◌<◌, ◌≤◌}
+use Rattle.basics.specs.Words.{true, List, some, ℕ, arith, length}
 use Rattle.machine.specs.declared.Pair.{Pair}
 use Rattle.machine.specs.Symbols.{within_symbols}
 use Rattle.card.specs.Layout.{symbol_count}

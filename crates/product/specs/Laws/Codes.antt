@@ -1,5 +1,6 @@
 -- Laws for an engine: a node's moves and ending by its position and its code, and the step by codes machine by machine.
-use Rattle.basics.specs.Words.{◌≡◌, refl, ◌∙◌, ap, true, List, [], ◌∷◌, map, Option, some, none, Option·none-ne-some, ℕ, ◌+◌, ◌*◌, ◌/◌, ◌%◌, ◌<◌, ◌≤◌, length, get_or, member}
+use Rattle.std.specs.Prelude.{◌≡◌, ◌∷◌, ◌+◌, ◌*◌, ◌/◌, ◌%◌, ◌<◌, ◌≤◌}
+use Rattle.basics.specs.Words.{refl, ◌∙◌, ap, true, List, [], map, Option, some, none, Option·none-ne-some, ℕ, length, get_or, member}
 use borrow.Author.Tests.{eq-eqb, ne_eqb}
 use Rattle.machine.specs.declared.Pair.{Pair}
 use Rattle.machine.specs.Symbols.{empty_symbol, is_pair}

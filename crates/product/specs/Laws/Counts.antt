@@ -1,5 +1,6 @@
 -- How large the counts of a candidate are: at most 15 marks a pair, and 15 for ending.
-use Rattle.basics.proofs.Words.{◌≡◌, refl, sym, ◌∙◌, true, List, [], ◌∷◌, Option, some, none, Option·none-ne-some, ℕ, suc, ◌+◌, ◌*◌, ◌≤◌, arith, length, leb, all_of, both}
+use Rattle.std.specs.Prelude.{◌≡◌, ◌∷◌, ◌+◌, ◌*◌, ◌≤◌}
+use Rattle.basics.proofs.Words.{refl, sym, ◌∙◌, true, List, [], Option, some, none, Option·none-ne-some, ℕ, suc, arith, length, leb, all_of, both}
 use Rattle.std.proofs.Common.{le-leb}
 use Rattle.machine.specs.declared.Pair.{Pair}
 use Rattle.machine.specs.Machine.{Machine, start_state, step_of, ending_of}

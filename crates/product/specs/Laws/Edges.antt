@@ -1,5 +1,6 @@
 -- Laws of the edges: where a move leads, what it costs, and what the theory of paths asks of the product.
-use Rattle.basics.specs.Words.{◌≡◌, refl, ◌∙◌, ap, Bool, true, false, cond, List, [], ◌∷◌, map, Option, some, none, Option·none-ne-some, ℕ, zero, suc, ◌+◌, ◌*◌, ◌<◌, ◌≤◌, arith, length, get_or, eqb, leb, member}
+use Rattle.std.specs.Prelude.{◌≡◌, ◌∷◌, ◌+◌, ◌*◌, ◌<◌, ◌≤◌}
+use Rattle.basics.specs.Words.{refl, ◌∙◌, ap, Bool, true, false, cond, List, [], map, Option, some, none, Option·none-ne-some, ℕ, zero, suc, arith, length, get_or, eqb, leb, member}
 use Rattle.std.proofs.Common.{eqb-true, leb-true}
 use Rattle.std.proofs.lemmas.Bool.{eqb-false}
 use Rattle.machine.specs.declared.Pair.{Pair}

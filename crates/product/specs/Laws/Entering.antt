@@ -1,6 +1,7 @@
 -- Entering a position of a graph over a card's nodes and a list of sets: at the last one its endings are looked at, node by node; at another one the
 -- pairs that leave it, a symbol of the set after the other, for each symbol node by node, for each node out by out.
-use Rattle.basics.proofs.Words.{◌≡◌, refl, sym, ◌∙◌, ap, Bool, true, false, not, ◌&&◌, List, some, none, Option·none-ne-some, ◌⊎◌, inl, inr, ◌≢◌, ℕ, suc, ◌+◌, ◌*◌, ◌<◌, arith, length, get_or, eqb, dec_lt, ℕ_discrete, member, clash, no_member}
+use Rattle.std.specs.Prelude.{◌≡◌, ◌&&◌, ◌⊎◌, ◌≢◌, ◌+◌, ◌*◌, ◌<◌}
+use Rattle.basics.proofs.Words.{refl, sym, ◌∙◌, ap, Bool, true, false, not, List, some, none, Option·none-ne-some, inl, inr, ℕ, suc, arith, length, get_or, eqb, dec_lt, ℕ_discrete, member, clash, no_member}
 use Rattle.std.proofs.Common.{eqb-true}
 use Rattle.machine.specs.declared.Pair.{Pair}
 use Rattle.machine.specs.Symbols.{empty_symbol}

@@ -1,6 +1,7 @@
 -- Walking along labels and writing the pairs: what is written, and what is left. Over any graph whose letters are the pairs and whose costs tell how
 -- many of them there are.
-use Rattle.basics.specs.Words.{◌≡◌, refl, sym, ◌∙◌, ap, List, [], ◌∷◌, ◌++◌, append_assoc, some, ℕ, suc, ◌+◌, ◌*◌, ◌<◌, ◌≤◌, arith, length, get_or, drop, set, length-append, set_at, drop-cons}
+use Rattle.std.specs.Prelude.{◌≡◌, ◌∷◌, ◌++◌, ◌+◌, ◌*◌, ◌<◌, ◌≤◌}
+use Rattle.basics.specs.Words.{refl, sym, ◌∙◌, ap, List, [], append_assoc, some, ℕ, suc, arith, length, get_or, drop, set, length-append, set_at, drop-cons}
 use Rattle.machine.specs.declared.Pair.{Pair}
 use Rattle.candidate.specs.Candidates.{bytes_of}
 use Rattle.paths.specs.Costs.{Costs, Labels}

@@ -1,5 +1,6 @@
 -- Laws of the joint step: the joint marks of a list of pairs, pair by pair; what sound machines promise of it.
-use Rattle.basics.specs.Words.{◌≡◌, refl, true, List, [], ◌∷◌, map, Option, some, none, Option·none-ne-some, ℕ, ◌<◌, ◌≤◌}
+use Rattle.std.specs.Prelude.{◌≡◌, ◌∷◌, ◌<◌, ◌≤◌}
+use Rattle.basics.specs.Words.{refl, true, List, [], map, Option, some, none, Option·none-ne-some, ℕ}
 use Rattle.machine.specs.declared.Pair.{Pair}
 use Rattle.machine.specs.Symbols.{within_symbols}
 use Rattle.machine.specs.Machine.{Machine, start_state, step_of, ending_of}

@@ -1,6 +1,7 @@
 -- Finding the least of the pairs at a position that pass a test: in by in, the empty symbol first, and out by out. The test of an engine is that a
 -- pair keeps to its labels.
-use Rattle.basics.proofs.Words.{◌≡◌, refl, sym, ◌∙◌, ap, Bool, true, false, not, ◌&&◌, ◌||◌, List, ◌⊎◌, inl, inr, ◌≢◌, ℕ, ◌<◌, arith, get_or, eqb, ℕ_discrete, member, left as left-passes, either, left_fails, right_fails, clash, no_member}
+use Rattle.std.specs.Prelude.{◌≡◌, ◌&&◌, ◌||◌, ◌⊎◌, ◌≢◌, ◌<◌}
+use Rattle.basics.proofs.Words.{refl, sym, ◌∙◌, ap, Bool, true, false, not, List, inl, inr, ℕ, arith, get_or, eqb, ℕ_discrete, member, left as left-passes, either, left_fails, right_fails, clash, no_member}
 use Rattle.std.proofs.Common.{eqb-true, eq-eqb}
 use Rattle.machine.specs.declared.Pair.{Pair}
 use Rattle.machine.specs.Symbols.{empty_symbol}

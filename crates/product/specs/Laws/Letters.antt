@@ -1,6 +1,7 @@
 -- The letters of the edges at a node: an insertion stays at its position, any other pair reads a symbol of the set there and leads to the next one.
 -- It is all that labelling and walking ask of a graph over a card's nodes, whatever its costs: the product at any price, or a part of it.
-use Rattle.basics.proofs.Words.{◌≡◌, ◌∙◌, ap, subst, true, List, some, ◌⊎◌, inl, inr, ◌≢◌, ℕ, suc, ◌≤◌, ◌<◌, arith, length, get_or, leb, member, right}
+use Rattle.std.specs.Prelude.{◌≡◌, ◌⊎◌, ◌≢◌, ◌≤◌, ◌<◌}
+use Rattle.basics.proofs.Words.{◌∙◌, ap, subst, true, List, some, inl, inr, ℕ, suc, arith, length, get_or, leb, member, right}
 use Rattle.std.proofs.Common.{leb-true}
 use Rattle.machine.specs.declared.Pair.{Pair}
 use Rattle.machine.specs.Symbols.{empty_symbol, is_pair}

@@ -1,5 +1,6 @@
 -- Laws of nodes as numbers: numbering and reading back.
-use Rattle.basics.specs.Words.{◌≡◌, refl, ◌∙◌, ap, List, [], ◌∷◌, ℕ, suc, ◌+◌, ◌*◌, ◌/◌, ◌%◌, ◌<◌, ◌≤◌, arith, mul-le-mul_right, mul-add-div_right, mul-add-mod_self_right, div-eq_of_lt, mod-eq_of_lt, mod-lt, div-lt_iff_lt-mul, suc-mul, mul-pos}
+use Rattle.std.specs.Prelude.{◌≡◌, ◌∷◌, ◌+◌, ◌*◌, ◌/◌, ◌%◌, ◌<◌, ◌≤◌}
+use Rattle.basics.specs.Words.{refl, ◌∙◌, ap, List, [], ℕ, suc, arith, mul-le-mul_right, mul-add-div_right, mul-add-mod_self_right, div-eq_of_lt, mod-eq_of_lt, mod-lt, div-lt_iff_lt-mul, suc-mul, mul-pos}
 use Rattle.product.specs.Nodes.{product, code_of, states_of, node_of, position_at, states_at}
 
 -- one state for each count, below it
@@ -22,6 +23,8 @@ product_positive (q ∷ qs) h = mul-pos h.0 (product_positive qs h.1)
 pub code_below : (qs ss : List ℕ) → Below qs ss → code_of qs ss < product qs
 unfolding product code_of
 code_below [] [] h = omega arith
+code_below [] (s ∷ ss) h = elim h [ ]
+code_below (q ∷ qs) [] h = elim h [ ]
 code_below (q ∷ qs) (s ∷ ss) h =
     let r = code_below qs ss h.1 in
     let m : suc s * product qs ≤ q * product qs = mul-le-mul_right (product qs) h.0 in
@@ -30,6 +33,8 @@ code_below (q ∷ qs) (s ∷ ss) h =
 pub states_of_code : (qs ss : List ℕ) → Below qs ss → states_of qs (code_of qs ss) ≡ ss
 unfolding code_of states_of
 states_of_code [] [] h = refl
+states_of_code [] (s ∷ ss) h = elim h [ ]
+states_of_code (q ∷ qs) [] h = elim h [ ]
 states_of_code (q ∷ qs) (s ∷ ss) h =
     let r = code_below qs ss h.1 in
     let b : 0 < product qs = omega arith in

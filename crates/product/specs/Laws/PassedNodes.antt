@@ -1,5 +1,6 @@
 -- A path of the product passes the nodes of its list of pairs, each by its number.
-use Rattle.basics.specs.Words.{◌≡◌, refl, sym, ◌∙◌, ap, subst, cond, List, [], ◌∷◌, map, some, ℕ, suc, ◌+◌, length, length-map, eqb}
+use Rattle.std.specs.Prelude.{◌≡◌, ◌∷◌, ◌+◌}
+use Rattle.basics.specs.Words.{refl, sym, ◌∙◌, ap, subst, cond, List, [], map, some, ℕ, suc, length, length-map, eqb}
 use Rattle.std.proofs.Common.{eq-eqb, ne_eqb}
 use Rattle.machine.specs.declared.Pair.{Pair}
 use Rattle.machine.specs.Symbols.{empty_symbol}

@@ -1,6 +1,7 @@
 -- The cost of a list of pairs from a node: it is there exactly when they are pairs that spell a word with one symbol from each set that is left and
 -- every machine takes them all and ends, and it is the price of the marks and of the number of pairs.
-use Rattle.basics.specs.Words.{◌≡◌, refl, sym, ◌∙◌, ap, Bool, true, false, ◌&&◌, and-false, List, [], ◌∷◌, map, Option, some, none, ℕ, suc, ◌+◌, ◌≤◌, arith, length, get_or, drop, eqb, all_of, member}
+use Rattle.std.specs.Prelude.{◌≡◌, ◌&&◌, ◌∷◌, ◌+◌, ◌≤◌}
+use Rattle.basics.specs.Words.{refl, sym, ◌∙◌, ap, Bool, true, false, and-false, List, [], map, Option, some, none, ℕ, suc, arith, length, get_or, drop, eqb, all_of, member}
 use borrow.Author.Tests.{eqb-true, eqb-false, eq-eqb, ne_eqb, le-leb}
 use Rattle.machine.specs.declared.Pair.{Pair}
 use Rattle.machine.specs.Symbols.{empty_symbol, is_pair}

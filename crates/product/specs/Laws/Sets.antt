@@ -1,5 +1,6 @@
 -- Laws of words with one symbol from each set, and of words as sets of one symbol each.
-use Rattle.basics.proofs.Words.{◌≡◌, refl, sym, ◌∙◌, true, false, ◌&&◌, List, [], ◌∷◌, ◌↔◌, ℕ, zero, suc, ◌+◌, ◌^◌, ◌<◌, ◌≤◌, arith, length, get_or, drop, length-map, dec_lt, member, clash, left_next, left_none, no_member, member_one}
+use Rattle.std.specs.Prelude.{◌≡◌, ◌&&◌, ◌∷◌, ◌↔◌, ◌+◌, ◌^◌, ◌<◌, ◌≤◌}
+use Rattle.basics.proofs.Words.{refl, sym, ◌∙◌, true, false, List, [], ℕ, zero, suc, arith, length, get_or, drop, length-map, dec_lt, member, clash, left_next, left_none, no_member, member_one}
 use Rattle.std.proofs.Common.{eqb-true, eq-eqb}
 use Rattle.machine.specs.Symbols.{empty_symbol}
 use Rattle.product.specs.Best.{same_word}

@@ -1,5 +1,6 @@
 -- How many nodes there are, and which position a node is at.
-use Rattle.basics.specs.Words.{◌≡◌, List, ℕ, suc, ◌+◌, ◌*◌, ◌-◌, ◌<◌, ◌≤◌, arith, length, mul-le-mul, mul-le-mul_right, suc-mul}
+use Rattle.std.specs.Prelude.{◌≡◌, ◌+◌, ◌*◌, ◌-◌, ◌<◌, ◌≤◌}
+use Rattle.basics.specs.Words.{List, ℕ, suc, arith, length, mul-le-mul, mul-le-mul_right, suc-mul}
 use Rattle.card.specs.Layout.{symbol_count}
 use Rattle.card.specs.Card.{machines_of}
 use Rattle.card.specs.Accepted.{accepted}

@@ -1,5 +1,6 @@
 -- What sound weights are.
-use Rattle.basics.proofs.Words.{◌≡◌, true, List, ℕ, length, eqb, leb, all_of, left, right}
+use Rattle.std.specs.Prelude.{◌≡◌}
+use Rattle.basics.proofs.Words.{true, List, ℕ, length, eqb, leb, all_of, left, right}
 use Rattle.std.proofs.Common.{eqb-true}
 use Rattle.product.specs.Weights.{sound_weights}
 

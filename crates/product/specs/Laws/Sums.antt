@@ -1,5 +1,6 @@
 -- Weighted sums: a sum over all machines is the same in card order and in ranked order; the sum of a merge; how large a sum is. Assumes nothing.
-use Rattle.basics.proofs.Words.{◌≡◌, refl, sym, ◌∙◌, ap, true, List, [], ◌∷◌, ℕ, zero, suc, ◌+◌, ◌*◌, ◌<◌, ◌≤◌, arith, length, get_or, leb, zero-mul, one-mul, mul-zero, suc-mul, mul-suc, mul-add, mul-le-mul, all_of, occurrences, left, right, occurs_none, occurs_here, occurs_later}
+use Rattle.std.specs.Prelude.{◌≡◌, ◌∷◌, ◌+◌, ◌*◌, ◌<◌, ◌≤◌}
+use Rattle.basics.proofs.Words.{refl, sym, ◌∙◌, ap, true, List, [], ℕ, zero, suc, arith, length, get_or, leb, zero-mul, one-mul, mul-zero, suc-mul, mul-suc, mul-add, mul-le-mul, all_of, occurrences, left, right, occurs_none, occurs_here, occurs_later}
 use Rattle.std.proofs.Common.{leb-true}
 use Rattle.ranking.specs.Profiles.{merge}
 use Rattle.ranking.specs.Rankings.{is_ranking}

@@ -1,5 +1,6 @@
 -- What accepted sets are known to be, and that sets of one symbol each pass the test of sets exactly where the word passes that of symbols.
-use Rattle.basics.proofs.Words.{◌≡◌, refl, true, not, ◌&&◌, and-false, List, [], ◌∷◌, ℕ, zero, suc, ◌+◌, ◌^◌, ◌<◌, ◌≤◌, arith, length, get_or, leb, ltb, eqb, lit<, dec_lt, all_of, member, left, right, clash, all_at, each_at, member_beyond, member_one}
+use Rattle.std.specs.Prelude.{◌≡◌, ◌&&◌, ◌∷◌, ◌+◌, ◌^◌, ◌<◌, ◌≤◌}
+use Rattle.basics.proofs.Words.{refl, true, not, and-false, List, [], ℕ, zero, suc, arith, length, get_or, leb, ltb, eqb, lit<, dec_lt, all_of, member, left, right, clash, all_at, each_at, member_beyond, member_one}
 use Rattle.std.proofs.Common.{pow_pos, pow_mono, leb-true, le-leb, ltb-true, lt-ltb, le-ltb, ne_eqb}
 use Rattle.std.proofs.Math.Pow.{pow-lt}
 use Rattle.std.proofs.lemmas.Bool.{lt-leb, not-true}

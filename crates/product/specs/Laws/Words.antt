@@ -1,5 +1,6 @@
 -- What an accepted word is known to be.
-use Rattle.basics.proofs.Words.{◌≡◌, true, ◌&&◌, List, ℕ, ◌≤◌, arith, length, get_or, leb, ltb, all_of, left, right, all_at, each_at}
+use Rattle.std.specs.Prelude.{◌≡◌, ◌&&◌, ◌≤◌}
+use Rattle.basics.proofs.Words.{true, List, ℕ, arith, length, get_or, leb, ltb, all_of, left, right, all_at, each_at}
 use Rattle.std.proofs.Common.{leb-true, lt-ltb}
 use Rattle.product.specs.Optimizing.{sound_word}
 

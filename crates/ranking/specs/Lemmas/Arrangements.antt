@@ -1,5 +1,6 @@
 -- The arrangements of a list of machines are its permutations. Assumes nothing.
-use Rattle.basics.proofs.Words.{◌≡◌, refl, sym, ◌∙◌, ap, Bool, true, not, List, [], ◌∷◌, map, List-as-Memᴰ, List·Memᴰ·head, List·Memᴰ·eq-of-singleton, ℕ, zero, suc, ◌+◌, ◌<◌, ◌≤◌, arith, length, eqb, ltb, those, numbers_below, occurrences, both, joined_member, member_joined, each_below, length_numbers, occurs_none, occurs_here, occurs_later, occurrences_append, its_place, member_occurs, occurs_member}
+use Rattle.std.specs.Prelude.{◌≡◌, ◌∷◌, ◌+◌, ◌<◌, ◌≤◌}
+use Rattle.basics.proofs.Words.{refl, sym, ◌∙◌, ap, Bool, true, not, List, [], map, List-as-Memᴰ, List·Memᴰ·head, List·Memᴰ·eq-of-singleton, ℕ, zero, suc, arith, length, eqb, ltb, those, numbers_below, occurrences, both, joined_member, member_joined, each_below, length_numbers, occurs_none, occurs_here, occurs_later, occurrences_append, its_place, member_occurs, occurs_member}
 use Rattle.std.proofs.Common.{eq-eqb, ne_eqb, ltb-true, ltb-false}
 use Rattle.ranking.specs.Rankings.{is_ranking, arrangements}
 use Rattle.ranking.specs.Lemmas.Rankings.{Ranking, ranking_facts}

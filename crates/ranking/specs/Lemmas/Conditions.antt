@@ -1,5 +1,6 @@
 -- How the set of the machines where one profile has fewer grows. Assumes nothing.
-use Rattle.basics.proofs.Words.{◌≡◌, List, ℕ, ◌+◌, ◌^◌, ◌<◌, ◌≤◌, get_or, ltb, add-one, set_start, set_bound, set_grows, set_stays}
+use Rattle.std.specs.Prelude.{◌≡◌, ◌+◌, ◌^◌, ◌<◌, ◌≤◌}
+use Rattle.basics.proofs.Words.{List, ℕ, get_or, ltb, add-one, set_start, set_bound, set_grows, set_stays}
 use Rattle.std.proofs.Common.{lt-ltb, le-ltb}
 use Rattle.ranking.specs.Conditions.{fewer_in}
 

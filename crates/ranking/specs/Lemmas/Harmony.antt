@@ -1,5 +1,6 @@
 -- How harmonic comparison goes down a ranking, from one machine to the next. Assumes nothing.
-use Rattle.basics.specs.Words.{◌≡◌, refl, Bool, true, false, List, [], ◌∷◌, ℕ, ◌<◌, ◌≤◌, arith, get_or, ltb, le_of_lt}
+use Rattle.std.specs.Prelude.{◌≡◌, ◌∷◌, ◌<◌, ◌≤◌}
+use Rattle.basics.specs.Words.{refl, Bool, true, false, List, [], ℕ, arith, get_or, ltb, le_of_lt}
 use borrow.Author.Tests.{lt-ltb, le-ltb, ltb-true, ltb-false}
 use Rattle.ranking.specs.declared.Order.TheVariants.{Better, Equal, Worse}
 use Rattle.ranking.specs.Harmony.{harmony}

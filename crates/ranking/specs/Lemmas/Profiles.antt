@@ -1,6 +1,7 @@
 -- How profiles merge, and which is the better of two: the laws of the violation semiring for what is finite in it. Profiles are lists of counts
 -- here. Assumes nothing.
-use Rattle.basics.specs.Words.{◌≡◌, refl, sym, ◌∙◌, ap, Bool, true, false, List, [], ◌∷◌, ℕ, zero, suc, ◌+◌, ◌≤◌, arith, length, take, replicate, ext_get_or}
+use Rattle.std.specs.Prelude.{◌≡◌, ◌∷◌, ◌+◌, ◌≤◌}
+use Rattle.basics.specs.Words.{refl, sym, ◌∙◌, ap, Bool, true, false, List, [], ℕ, zero, suc, arith, length, take, replicate, ext_get_or}
 use Rattle.ranking.specs.declared.Order.TheVariants.{Equal}
 use Rattle.ranking.specs.Profiles.{zero_profile, merge}
 use Rattle.ranking.specs.Rankings.{is_ranking}

@@ -1,5 +1,6 @@
 -- What a machine count and a ranking are known to be, and how the check of a ranking ends. Assumes nothing.
-use Rattle.basics.proofs.Words.{◌≡◌, refl, sym, ◌∙◌, Bool, true, false, and-false, List, [], ◌∷◌, ℕ, zero, suc, ◌+◌, ◌<◌, ◌≤◌, arith, length, get_or, eqb, leb, ltb, every_below, occurrences, left, right, both, every_at, one_below_fails, its_place, one_place}
+use Rattle.std.specs.Prelude.{◌≡◌, ◌∷◌, ◌+◌, ◌<◌, ◌≤◌}
+use Rattle.basics.proofs.Words.{refl, sym, ◌∙◌, Bool, true, false, and-false, List, [], ℕ, zero, suc, arith, length, get_or, eqb, leb, ltb, every_below, occurrences, left, right, both, every_at, one_below_fails, its_place, one_place}
 use Rattle.std.proofs.Common.{eqb-true, leb-true, ltb-true, ltb-false, eq-eqb, ne_eqb, le-ltb, lt-ltb}
 use Rattle.std.proofs.lemmas.Bool.{eqb-false}
 use Rattle.ranking.specs.Rankings.{is_machine_count, is_ranking}

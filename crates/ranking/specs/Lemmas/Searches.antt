@@ -1,5 +1,6 @@
 -- Laws of the searches over a list: in parts of it, along a function, one search in another. Assumes nothing.
-use Rattle.basics.proofs.Words.{◌≡◌, refl, sym, ◌∙◌, ap, ap₂, Bool, true, false, not, ◌&&◌, ◌||◌, and-false, List, [], ◌∷◌, ◌++◌, map, List-as-Memᴰ, List·Memᴰ·head, List·Memᴰ·tail, List·Memᴰ·not-nil, List·Memᴰ·cases-cons, some, none, Option·map, ⊎_elim, ℕ, zero, suc, ◌+◌, ◌<◌, arith, eqb, add-one, all_of, those, first_that, numbers_below, both, first_found, first_next, first_misses}
+use Rattle.std.specs.Prelude.{◌≡◌, ◌&&◌, ◌||◌, ◌∷◌, ◌++◌, ◌+◌, ◌<◌}
+use Rattle.basics.proofs.Words.{refl, sym, ◌∙◌, ap, ap₂, Bool, true, false, not, and-false, List, [], map, List-as-Memᴰ, List·Memᴰ·head, List·Memᴰ·tail, List·Memᴰ·not-nil, List·Memᴰ·cases-cons, some, none, Option·map, ⊎_elim, ℕ, zero, suc, arith, eqb, add-one, all_of, those, first_that, numbers_below, both, first_found, first_next, first_misses}
 use Rattle.std.proofs.Common.{eqb-true}
 use Rattle.std.proofs.lemmas.Bool.{eqb-false}
 
@@ -123,7 +124,7 @@ module _ {A B : Type 0} where
       ⊎_elim (λ (e : y ≡ h x). (x, List·Memᴰ·head refl, e)) (λ (w : List-as-Memᴰ y (map h xs)). let r = mem_map h xs w in (r.0, List·Memᴰ·tail r.1, r.2))
       (List·Memᴰ·cases-cons m)
 
-  pub map_mem : (h : A → B) {xs : List A} {x : A} → List-as-Memᴰ x xs → List-as-Memᴰ (h x) (map h xs)
+  pub map_mem : (h : A → B) {x : A} {xs : List A} → List-as-Memᴰ x xs → List-as-Memᴰ (h x) (map h xs)
   map_mem h (List·Memᴰ·head e) = List·Memᴰ·head (ap h e)
   map_mem h (List·Memᴰ·tail m) = List·Memᴰ·tail (map_mem h m)
 

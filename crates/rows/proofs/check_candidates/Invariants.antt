@@ -1,4 +1,5 @@
-use Rattle.basics.proofs.Words.{◌≡◌, sym, ap, ◌∙◌, true, ◌≤◌, ◌-◌, arith, every_below, rules, not-true, not-false, every_start, every_next, one_below_fails}
+use Rattle.std.specs.Prelude.{◌≡◌, ◌≤◌, ◌-◌}
+use Rattle.basics.proofs.Words.{sym, ap, ◌∙◌, true, arith, every_below, rules, not-true, not-false, every_start, every_next, one_below_fails}
 use Rattle.refusals.proofs.Refusals.{passes_with, refuses_with}
 use Rattle.layout.specs.LaidOut.{part_within}
 use Rattle.rows.specs.Tableau.{row_count, row_of}

@@ -1,5 +1,8 @@
-use Rattle.basics.proofs.Words.{◌≡◌, sym, ap, ap₂, ◌∙◌, true, List, ℕ, lit<, rules}
+use Rattle.std.specs.Prelude.{◌≡◌}
+use Rattle.basics.proofs.Words.{sym, ap, ap₂, ◌∙◌, true, List, ℕ, lit<}
 use Rattle.refusals.specs.Refusals.{refuse, checked_number}
+use Rattle.refusals.specs.declared.Checked.{Checked}
+use Rattle.refusals.specs.declared.Checked.TheVariants.{Passed}
 use Rattle.refusals.proofs.Refusals.{was_true, was_false}
 use Rattle.card.specs.Layout.{symbol_count}
 use Rattle.card.specs.Card.{machines_of}
@@ -12,41 +15,42 @@ use Rattle.rows.proofs.Rows.{candidate_bytes, not_sound, not_complete, word_deci
 use Rattle.rows.proofs.is_for_word.Goals as goal
 
 -- the tests of the candidate's bytes are those of the row's candidate
-sound-test : (c : goal.After-check_candidate-answer) → let a = c.before.before.before.before.before.before.args in
-    checked_number c.check-candidate.result ≡ refuse 13 (sound_candidate (symbol_count a.card.now) (candidate_of a.row.now))
-sound-test c =
-    c.check_candidate-answer.ensures ∙ ap₂ (λ (S : ℕ) (l : List ℕ). refuse 13 (sound_candidate S l)) c.symbol_count.ensures (candidate_bytes c.args.row.now)
+its_shape : (card row : List ℕ) {n S : ℕ} {l : List ℕ} → S ≡ symbol_count card → l ≡ candidate_of row → n ≡ refuse 13 (sound_candidate S l)
+    → n ≡ refuse 13 (sound_candidate (symbol_count card) (candidate_of row))
+its_shape card row s e n = n ∙ ap₂ (λ (S : ℕ) (l : List ℕ). refuse 13 (sound_candidate S l)) s e
 
-complete-test : (c : goal.After-score-scored) → let a = c.before.before.before.before.before.before.before.before.before.args in
-    checked_number c.score.result.checked ≡ refuse 14 (is_complete (machines_of a.card.now) (pairs_of (candidate_of a.row.now)))
-complete-test c =
-    c.score-scored.ensures.checked ∙ ap (λ (l : List ℕ). refuse 14 (is_complete (machines_of c.args.card.now) (pairs_of l))) (candidate_bytes c.args.row.now)
+is_sound : (card row : List ℕ) {answer : Checked} {S : ℕ} {l : List ℕ} → S ≡ symbol_count card → l ≡ candidate_of row → checked_number answer ≡ refuse 13 (sound_candidate S l) → answer ≡ Passed
+    → sound_candidate (symbol_count card) (candidate_of row) ≡ true
+is_sound card row s e n told = was_true told 13 (sound_candidate (symbol_count card) (candidate_of row)) (lit< tt) (n ∙ ap₂ (λ (S : ℕ) (l : List ℕ). refuse 13 (sound_candidate S l)) s e)
 
-is-sound : (c : goal.In-Passed) → let a = c.before.before.before.before.before.before.before.before.args in sound_candidate (symbol_count a.card.now) (candidate_of a.row.now) ≡ true
-is-sound c =
-    was_true c.enum_told-1.given.1 13 (sound_candidate (symbol_count c.args.card.now) (candidate_of c.args.row.now)) (lit< tt) (sound-test c.before.before)
+its_completeness : (card row : List ℕ) {l : List ℕ} {n : ℕ} → l ≡ candidate_of row → n ≡ refuse 14 (is_complete (machines_of card) (pairs_of l)) → n ≡ refuse 14 (is_complete (machines_of card) (pairs_of (candidate_of row)))
+its_completeness card row e n = n ∙ ap (λ (l : List ℕ). refuse 14 (is_complete (machines_of card) (pairs_of l))) e
 
 pub returns-in_default : goal.returns-in_default
 returns-in_default c =
-    sym (not_sound c.args.card.now c.args.word.now c.args.row.now
-    (was_false c.enum_told-in_default-1.given.1 13 (sound_candidate (symbol_count c.args.card.now) (candidate_of c.args.row.now)) (sound-test c.before.before)))
-
-pub score-scored-requires : goal.score-scored-requires
-score-scored-requires c =
-    (c.requires.0, rw (candidate_bytes c.args.row.now) (is-sound c))
+    let card = c.args.card.now in
+    let row = c.args.row.now in
+    sym (not_sound card c.args.word.now row
+    (was_false c.in_default.is 13 (sound_candidate (symbol_count card) (candidate_of row)) (its_shape card row c.symbol_count.ensures (candidate_bytes row) c.check_candidate-answer.ensures)))
 
 pub returns-in_default-answer : goal.returns-in_default-answer
 returns-in_default-answer c =
-    sym (not_complete c.args.card.now c.args.word.now c.args.row.now (is-sound c.before.before.before)
-    (was_false c.enum_told-in_default-answer-1.given.1 14 (is_complete (machines_of c.args.card.now) (pairs_of (candidate_of c.args.row.now))) (complete-test c.before.before)))
+    let card = c.args.card.now in
+    let row = c.args.row.now in
+    sym (not_complete card c.args.word.now row (is_sound card row c.symbol_count.ensures (candidate_bytes row) c.check_candidate-answer.ensures c.in-Passed.is)
+    (was_false c.in_default-answer.is 14 (is_complete (machines_of card) (pairs_of (candidate_of row))) (its_completeness card row (candidate_bytes row) c.score-scored.ensures.checked)))
 
 pub spells-requires : goal.spells-requires
 spells-requires c =
-    rw (candidate_bytes c.args.row.now) (sound_shape (symbol_count c.args.card.now) (candidate_of c.args.row.now) (is-sound c.before.before.before)).0
+    let card = c.args.card.now in
+    let row = c.args.row.now in
+    rw (candidate_bytes row) (sound_shape (symbol_count card) (candidate_of row) (is_sound card row c.symbol_count.ensures (candidate_bytes row) c.check_candidate-answer.ensures c.in-Passed.is)).0
 
-pub returns-in_default : goal.returns
-returns-in_default c =
+pub returns : goal.returns
+returns c =
+    let card = c.args.card.now in
+    let row = c.args.row.now in
     c.spells.ensures
-    ∙ ap (λ (l : List ℕ). same_word (spelled (pairs_of l)) c.args.word.now) (candidate_bytes c.args.row.now)
-    ∙ sym (word_decides c.args.card.now c.args.word.now c.args.row.now (is-sound c.before.before.before.before)
-    (was_true c.enum_told-in-Passed-answer-1.given.1 14 (is_complete (machines_of c.args.card.now) (pairs_of (candidate_of c.args.row.now))) (lit< tt) (complete-test c.before.before.before)))
+    ∙ ap (λ (l : List ℕ). same_word (spelled (pairs_of l)) c.args.word.now) (candidate_bytes row)
+    ∙ sym (word_decides card c.args.word.now row (is_sound card row c.symbol_count.ensures (candidate_bytes row) c.check_candidate-answer.ensures c.in-Passed.is)
+    (was_true c.in-Passed-answer.is 14 (is_complete (machines_of card) (pairs_of (candidate_of row))) (lit< tt) (its_completeness card row (candidate_bytes row) c.score-scored.ensures.checked)))

@@ -1,4 +1,5 @@
-use Rattle.basics.proofs.Words.{◌&&◌, eqb, every_below, rules}
+use Rattle.std.specs.Prelude.{◌&&◌}
+use Rattle.basics.proofs.Words.{eqb, every_below}
 use Rattle.rows.specs.Judging.{same_counts}
 use Rattle.rows.proofs.same_counts.Goals as goal
 

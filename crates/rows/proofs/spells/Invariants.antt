@@ -1,5 +1,6 @@
-use Rattle.basics.proofs.Words.{◌≡◌, sym, ap, ◌∙◌, ⊎_elim, ◌≤◌, ◌+◌, ◌-◌, ◌%◌, arith, length, rules}
-use Rattle.rows.proofs.Spelling.{rest_same, same_inserted, same_symbol, other_symbol, too_long, same_end}
+use Rattle.std.specs.Prelude.{◌≡◌, ◌≤◌, ◌-◌, ◌%◌}
+use Rattle.basics.proofs.Words.{length}
+use Rattle.rows.proofs.Spelling.{rest_same}
 use Rattle.rows.proofs.spells.Given as goal
 
 abbrev pub invariant-loop-at : goal.invariant-loop-at

@@ -1,4 +1,5 @@
-use Rattle.basics.proofs.Words.{◌≡◌, sym, ap, ◌∙◌, Bool, false, List, none, ℕ, ◌≤◌, ◌-◌, arith, rules}
+use Rattle.std.specs.Prelude.{◌≡◌, ◌≤◌, ◌-◌}
+use Rattle.basics.proofs.Words.{sym, ap, ◌∙◌, Bool, false, List, none, ℕ, arith, rules}
 use Rattle.rows.specs.Tableau.{row_count, claimed_row, row_of, counts_of}
 use Rattle.rows.specs.Judging.{same_counts}
 use Rattle.rows.proofs.Verdicts.{first_before, none_start, none_next, claim_wins, later_wins, no_row_wins}

@@ -1,24 +1,24 @@
-use Rattle.basics.proofs.Words.{◌≡◌, refl, true, false, not, arith, length, take, rules, left_fails, right_fails, not-false}
+use Rattle.std.specs.Prelude.{◌≡◌}
+use Rattle.basics.proofs.Words.{refl, true, false, not, arith, length, take, rules, left_fails, right_fails, not-false}
 use Rattle.session.specs.Output.{Reads}
 use Rattle.session.proofs.Reading.{reads_none, reads_more}
 use Rattle.session.proofs.answer_pieces.Goals as goal
 
 pub loop-turns-init : goal.loop-turns-init
-loop-turns-init c =
+loop-turns-init g c =
     (reads_none _ _ _ _ c.requires.0 c.requires.2, c.requires.1, search rules, c.requires.3, refl)
 
 pub answer_piece-progress-requires : goal.answer_piece-progress-requires
-answer_piece-progress-requires c =
+answer_piece-progress-requires g c =
     let i = c.loop-turns.invariant in (i.0.answers.few, i.1, i.0.answers.fits, i.3, omega (arith, i.4, c.requires.4))
 
 pub returns-then-after-progress : goal.returns-then-after-progress
-returns-then-after-progress c =
+returns-then-after-progress g c =
     let i = c.loop-turns.invariant in reads_more i.0 i.3 c.answer_piece-progress.ensures (λ w. w)
 
 pub loop-turns-preserved : goal.loop-turns-preserved
-loop-turns-preserved c =
-    let i = c.loop-turns.invariant in
-    (
+loop-turns-preserved g c =
+    let i = c.loop-turns.invariant in (
       reads_more i.0 i.3 c.answer_piece-progress.ensures (λ _. not-false c.answer_piece-progress.result.written (right_fails c.answer_piece-progress.result.tally.past (not c.answer_piece-progress.result.written) c.if-after-progress.false)),
       search rules,
       search rules,
@@ -27,8 +27,8 @@ loop-turns-preserved c =
     )
 
 pub returns-after-loop-turns : goal.returns-after-loop-turns
-returns-after-loop-turns c = c.loop-turns.invariant.0
+returns-after-loop-turns g c = c.loop-turns.invariant.0
 
 pub returns-then-n-eq0 : goal.returns-then-n-eq0
-returns-then-n-eq0 c =
+returns-then-n-eq0 g c =
     c.loop-turns.invariant.0

@@ -1,5 +1,4 @@
 use Rattle.settling.proofs.OpenCodes.{chosen_none, chosen_front, chosen_back}
-use borrow.Author.Rules.{rules}
 use Rattle.settling.proofs.choose.Goals as goal
 
 pub returns-then-back-eq0 : goal.returns-then-back-eq0
@@ -18,6 +17,6 @@ pub returns-then-is_before : goal.returns-then-is_before
 returns-then-is_before c =
     chosen_back _ c.requires _ c.choose_in-other.ensures
 
-pub returns-then-back-eq0 : goal.returns
-returns-then-back-eq0 c =
+pub returns : goal.returns
+returns c =
     chosen_front _ c.requires _ c.choose_in-best.ensures

@@ -1,7 +1,7 @@
-use Rattle.basics.proofs.Words.{refl, ⊎_elim, List, ℕ, ◌-◌, ◌≤◌, arith, rules}
-use Rattle.settling.specs.Insertions.{lists_of}
-use Rattle.settling.proofs.Settling.{Settling, settling_start, spread_ready, settling_same, settling_step, settling_end, height_of, height_less}
+use Rattle.basics.proofs.Words.{refl, arith}
+use Rattle.settling.proofs.Settling.{settling_start, spread_ready, settling_same, settling_step, settling_end, height_less}
 use Rattle.settling.proofs.settle.Goals as goal
+use Rattle.settling.proofs.settle.Goals.{else-is_open, then-is_open}
 
 pub loop-left-init : goal.loop-left-init
 loop-left-init c =
@@ -30,7 +30,7 @@ pub loop-next-preserved : goal.loop-next-preserved
 loop-next-preserved c =
     λ xs s.
     let t = c.loop-next.invariant xs s in
-    (elim c.if-is_open.branch [ then-is_open w ↦ settling_same (settling_step t w.3.ensures _ (λ w a n. a)) w.4 w.5 | else-is_open w ↦ settling_same t w.1 w.2 ])
+    (elim c.if-is_open.branch [ then-is_open w ↦ settling_same (settling_step t w.take_one-then-is_open.ensures _ (λ w a n. a)) w.own-is w.opened-is | else-is_open w ↦ settling_same t w.own-is w.opened-is ])
 
 pub choose-code-requires : goal.choose-code-requires
 choose-code-requires c =

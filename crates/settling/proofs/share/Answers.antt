@@ -1,4 +1,5 @@
-use Rattle.basics.proofs.Words.{◌≡◌, ap, ℕ, ◌*◌, ◌^◌, ◌≤◌, arith, mul-le-mul, rules}
+use Rattle.std.specs.Prelude.{◌≡◌, ◌*◌, ◌^◌, ◌≤◌}
+use Rattle.basics.proofs.Words.{ap, ℕ, arith, mul-le-mul}
 use Rattle.settling.proofs.share.Goals as goal
 
 -- the product is small

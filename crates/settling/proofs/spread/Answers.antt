@@ -1,6 +1,5 @@
-use Rattle.basics.proofs.Words.{◌*◌, ◌-◌, ◌≤◌, arith, get_or, rules}
-use Rattle.settling.specs.Insertions.{lists_of}
-use Rattle.settling.proofs.Spreading.{Spreading, spreading_start, spreading_step, spreading_end, its_label, no_label, try_ready, end_listed, beyond_useless}
+use Rattle.basics.proofs.Words.{arith}
+use Rattle.settling.proofs.Spreading.{spreading_start, spreading_step, spreading_end, its_label, no_label, try_ready, end_listed, beyond_useless}
 use Rattle.settling.proofs.spread.Goals as goal
 
 pub returns-then-high-ge-NOWHERE : goal.returns-then-high-ge-NOWHERE
@@ -27,6 +26,6 @@ pub loop-at-preserved : goal.loop-at-preserved
 loop-at-preserved c =
     (omega (arith, c.loop-at.invariant.0), spreading_step c.loop-at.invariant.1 (end_listed c.requires c.if-high-ge-NOWHERE.false _ c.last_list-last.ensures _ c.loop-at.invariant.0 (omega (arith, c.loop-at-test.true, c.place-end.ensures.0))) c.try_entry.ensures)
 
-pub returns-then-high-ge-NOWHERE : goal.returns
-returns-then-high-ge-NOWHERE c =
+pub returns : goal.returns
+returns c =
     spreading_end c.loop-at.invariant.1 (beyond_useless c.requires c.if-high-ge-NOWHERE.false _ c.last_list-last.ensures _ c.loop-at.invariant.1.fell (omega (arith, c.loop-at-test.false, c.place-end.ensures.0)))

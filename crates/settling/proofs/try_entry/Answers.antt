@@ -1,5 +1,4 @@
 use Rattle.settling.proofs.Trying.{entry_above, entry_kept, entry_lowered}
-use borrow.Author.Rules.{rules}
 use Rattle.settling.proofs.try_entry.Goals as goal
 
 pub returns-then-own-from : goal.returns-then-own-from
@@ -8,9 +7,8 @@ returns-then-own-from c =
 
 pub returns-then-is_less : goal.returns-then-is_less
 returns-then-is_less c =
-    let at_is_less = after_is_less.is_less_lem in
-    entry_lowered c.requires _ c.high_price.ensures.0 _ c.low_price.ensures.0 (at_is_less.ensures.less c.if-is_less.true) c.put.ensures
+    entry_lowered c.requires _ c.high_price.ensures.0 _ c.low_price.ensures.0 (c.is_less.ensures.less c.if-is_less.true) c.put.ensures
 
 pub returns-else-is_less : goal.returns-else-is_less
 returns-else-is_less c =
-    entry_kept c.requires _ c.high_price.ensures.0 _ c.low_price.ensures.0 (c.before.is_less_lem.ensures.upto c.if-is_less.false)
+    entry_kept c.requires _ c.high_price.ensures.0 _ c.low_price.ensures.0 (c.is_less.ensures.upto c.if-is_less.false)

@@ -1,5 +1,7 @@
-use Rattle.basics.proofs.Words.{◌≡◌, List, ⊎_elim, ℕ, ◌+◌, ◌*◌, ◌-◌, ◌<◌, ◌≤◌, arith, get_or, ℕ_discrete, rules}
+use Rattle.std.specs.Prelude.{◌≡◌, ◌+◌, ◌*◌, ◌<◌, ◌≤◌}
+use Rattle.basics.proofs.Words.{List, ℕ, arith, get_or, ℕ_discrete}
 use Rattle.settling.proofs.worst.Goals as goal
+use Rattle.settling.proofs.worst.Goals.{else-high-most, then-high-most}
 
 more : (own : List ℕ) (code most next : ℕ) → ((w : ℕ) → w < code → get_or own (2 * w) 0 ≤ most) → most ≤ next → get_or own (2 * code) 0 ≤ next → (w : ℕ) → w < code + 1 → get_or own (2 * w) 0 ≤ next
 more own code most next f a b w h = go (ℕ_discrete w code)

@@ -1,6 +1,5 @@
-use Rattle.basics.proofs.Words.{◌-◌, ◌≤◌, arith, rules}
-use Rattle.stage.specs.Relaxing.{no_counts}
-use Rattle.stage.proofs.StageWork.{KeptBelow, left_start, left_next, left_told, left_broken}
+use Rattle.basics.proofs.Words.{arith}
+use Rattle.stage.proofs.StageWork.{left_start, left_next, left_told, left_broken}
 use Rattle.stage.proofs.ending_left.Goals as goal
 
 pub loop-i-init : goal.loop-i-init
@@ -14,5 +13,5 @@ pub loop-i-preserved : goal.loop-i-preserved
 loop-i-preserved c =
     (omega arith, left_next c.loop-i.invariant.1 c.marks_at.ensures (omega (arith, c.if-work-node.false)))
 
-pub returns-then-work-node : goal.returns
-returns-then-work-node c = left_told c.loop-i.invariant.1 (omega arith)
+pub returns : goal.returns
+returns c = left_told c.loop-i.invariant.1 (omega arith)

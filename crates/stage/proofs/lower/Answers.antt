@@ -6,5 +6,5 @@ pub returns-then-improves : goal.returns-then-improves
 returns-then-improves c =
     lowered_written _ (c.improves.ensures.below c.if-improves.true) c.store.ensures (search rules) (search rules)
 
-pub returns-then-improves : goal.returns
-returns-then-improves c = lowered_kept _ (c.improves.ensures.upto c.if-improves.false)
+pub returns : goal.returns
+returns c = lowered_kept _ (c.improves.ensures.upto c.if-improves.false)

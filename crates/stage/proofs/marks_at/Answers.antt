@@ -1,4 +1,5 @@
-use Rattle.basics.proofs.Words.{◌≡◌, arith, rules}
+use Rattle.std.specs.Prelude.{◌≡◌}
+use Rattle.basics.proofs.Words.{arith}
 use Rattle.stage.proofs.Marks.{first_marks, second_marks, third_marks, fourth_marks, fifth_marks, sixth_marks}
 use Rattle.stage.proofs.marks_at.Goals as goal
 
@@ -17,6 +18,6 @@ returns-then-place-eq3 c = fourth_marks _ c.if-place-eq3.true
 pub returns-then-place-eq4 : goal.returns-then-place-eq4
 returns-then-place-eq4 c = fifth_marks _ c.if-place-eq4.true
 
-pub returns-then-place-eq0 : goal.returns
-returns-then-place-eq0 c =
+pub returns : goal.returns
+returns c =
     sixth_marks _ (let q : c.args.place ≡ 5 = omega arith in q)

@@ -1,4 +1,5 @@
-use Rattle.basics.proofs.Words.{refl, sym, ◌∙◌, ap, subst, some, ℕ, ◌<◌, arith, rules, not-true, not-false}
+use Rattle.std.specs.Prelude.{◌<◌}
+use Rattle.basics.proofs.Words.{refl, sym, ◌∙◌, ap, subst, some, ℕ, arith, rules, not-true, not-false}
 use Rattle.stage_entering.specs.Entering.{not_final, dropped_ending, lowered_ending}
 use Rattle.stage_entering.proofs.Lanes.{ending_none, ending_some, marks_small}
 use Rattle.stage_entering.proofs.try_ending.Goals as goal
@@ -8,21 +9,21 @@ returns-then-ending-ge-NOWHERE c = not_final (ending_none _ _ (omega (arith, c.i
 
 pub ending_left-requires : goal.ending_left-requires
 ending_left-requires c =
-    (c.requires.0.node, omega (arith, subst (λ (m : ℕ). m < 16777216) (sym c.before.marks_of_lem.ensures) (marks_small _ _)), c.requires.0.stage)
+    (c.requires.0.node, omega (arith, subst (λ (m : ℕ). m < 16777216) (sym c.marks_of-marks.ensures) (marks_small _ _)), c.requires.0.stage)
 
 pub returns-then-not-ending_left : goal.returns-then-not-ending_left
 returns-then-not-ending_left c =
-    dropped_ending after_marks_of.marks_of_lem.result (ending_some _ _ (omega (arith, c.if-ending-ge-NOWHERE.false)) ∙ ap some (sym after_marks_of.marks_of_lem.ensures)) _ c.ending_left.ensures (not-true _ c.if-not-ending_left.true) refl
+    dropped_ending c.marks_of-marks.result (ending_some _ _ (omega (arith, c.if-ending-ge-NOWHERE.false)) ∙ ap some (sym c.marks_of-marks.ensures)) _ c.ending_left.ensures c.if-not-ending_left.true refl
 
 pub marks_at-requires : goal.marks_at-requires
 marks_at-requires c =
-    (omega (arith, subst (λ (m : ℕ). m < 16777216) (sym after_marks_of.marks_of_lem.ensures) (marks_small _ _)), c.requires.0.stage)
+    (omega (arith, subst (λ (m : ℕ). m < 16777216) (sym c.marks_of-marks.ensures) (marks_small _ _)), c.requires.0.stage)
 
 pub lower-requires : goal.lower-requires
 lower-requires c =
     c.requires.0
 
-pub returns-then-ending-ge-NOWHERE : goal.returns
-returns-then-ending-ge-NOWHERE c =
-    let at_marks_of = after_marks_of.marks_of_lem in
-    lowered_ending at_marks_of.result (ending_some _ _ (omega (arith, c.if-ending-ge-NOWHERE.false)) ∙ ap some (sym at_marks_of.ensures)) _ c.ending_left.ensures (not-false _ c.if-not-ending_left.false) _ c.marks_at.ensures _ c.lower.ensures
+pub returns : goal.returns
+returns c =
+    let at_marks_of = c.marks_of-marks in
+    lowered_ending at_marks_of.result (ending_some _ _ (omega (arith, c.if-ending-ge-NOWHERE.false)) ∙ ap some (sym at_marks_of.ensures)) _ c.ending_left.ensures c.if-not-ending_left.false _ c.marks_at.ensures _ c.lower.ensures

@@ -1,4 +1,5 @@
-use Rattle.basics.proofs.Words.{sym, subst, ℕ, ◌<◌, arith, rules}
+use Rattle.std.specs.Prelude.{◌<◌}
+use Rattle.basics.proofs.Words.{sym, subst, ℕ, arith, rules}
 use Rattle.stage_entering.proofs.Front.{front_room}
 use Rattle.stage_entering.proofs.Lanes.{marks_small, lane_arc, lane_nothing, lane_passed, lane_tried}
 use Rattle.stage_entering.proofs.try_lane.Goals as goal
@@ -20,8 +21,8 @@ overflow_add-targets c =
 
 pub try_arc-requires : goal.try_arc-requires
 try_arc-requires c =
-    lane_arc c.requires (subst (λ (m : ℕ). m < 16777216) (sym c.marks_of_lem.ensures) (marks_small _ _))
+    lane_arc c.requires (subst (λ (m : ℕ). m < 16777216) (sym c.marks_of.ensures) (marks_small _ _))
 
-pub returns-then-step-ge-NOWHERE : goal.returns
-returns-then-step-ge-NOWHERE c =
-    lane_tried (omega (arith, c.if-step-ge-NOWHERE.false)) after_marks_of.marks_of_lem.ensures c.try_arc.ensures
+pub returns : goal.returns
+returns c =
+    lane_tried (omega (arith, c.if-step-ge-NOWHERE.false)) c.marks_of.ensures c.try_arc.ensures

@@ -45,6 +45,6 @@ pub returns-then-is_before : goal.returns-then-is_before
 returns-then-is_before c =
     chosen_back _ c.requires.0.bits _ c.choose_in-other.ensures
 
-pub returns-then-back-eq0 : goal.returns
-returns-then-back-eq0 c =
+pub returns : goal.returns
+returns c =
     chosen_front _ c.requires.0.bits _ c.choose_in-best.ensures

@@ -3,13 +3,14 @@ use Rattle.settling.proofs.OpenCodes.{one_in, one_same}
 use Rattle.settling.specs.OpenCodes.{OneIn}
 use Rattle.settling.proofs.OpenCodes.{PartOf, part_less}
 use Rattle.stage_settling.proofs.choose_in.Goals as goal
+use Rattle.stage_settling.proofs.choose_in.Goals.{then-is_before, else-is_before}
 
 pub loop-left-init : goal.loop-left-init
 loop-left-init c = (one_in _ _ _ _ c.least.ensures.1 c.least.ensures.2 refl, part_less _ _ _ _ (λ k h. h) c.without_least-left.ensures.1)
 
 pub loop-left-preserved : goal.loop-left-preserved
 loop-left-preserved c =
-    ((elim c.if-is_before.branch [ then-is_before w ↦ one_in _ _ _ _ c.least-in-loop-left.ensures.1 (c.loop-left.invariant.1 _ c.least-in-loop-left.ensures.2) w.1 | else-is_before w ↦ one_same _ _ _ _ c.loop-left.invariant.0 w.1 ]), part_less _ _ _ _ c.loop-left.invariant.1 c.without_least-left-in-loop-left.ensures.1)
+    ((elim c.if-is_before.branch [ then-is_before w ↦ one_in _ _ _ _ c.least-in-loop-left.ensures.1 (c.loop-left.invariant.1 _ c.least-in-loop-left.ensures.2) w.best-is | else-is_before w ↦ one_same _ _ _ _ c.loop-left.invariant.0 w.best-is ]), part_less _ _ _ _ c.loop-left.invariant.1 c.without_least-left-in-loop-left.ensures.1)
 
 pub overflow_add-base : goal.overflow_add-base
 overflow_add-base c =

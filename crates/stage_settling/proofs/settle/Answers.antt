@@ -1,8 +1,10 @@
-use Rattle.basics.proofs.Words.{refl, ⊎_elim, List, ℕ, ◌-◌, ◌≤◌, arith, rules}
+use Rattle.std.specs.Prelude.{◌-◌, ◌≤◌}
+use Rattle.basics.proofs.Words.{refl, ⊎_elim, List, ℕ, arith, rules}
 use Rattle.settling.proofs.OpenCodes.{none_open}
 use Rattle.stage_settling.specs.Settling.{turns}
 use Rattle.stage_settling.proofs.Spreading.{Settling, settling_start, settling_ready, settling_same, open_there, settling_step, settling_end, turn_less}
 use Rattle.stage_settling.proofs.settle.Goals as goal
+use Rattle.stage_settling.proofs.settle.Goals.{then-is_open, else-is_open}
 
 pub loop-left-init : goal.loop-left-init
 loop-left-init c = (omega arith, settling_start c.requires refl (none_open _ refl refl refl))
@@ -31,7 +33,7 @@ pub loop-next-preserved : goal.loop-next-preserved
 loop-next-preserved c =
     λ xs s.
     let t = c.loop-next.invariant xs s in
-    (elim c.if-is_open.branch [ then-is_open w ↦ settling_same (settling_step t (c.requires.from _) w.3.ensures _ (λ w a n. a)) w.6 w.7 | else-is_open w ↦ settling_same t w.1 w.2 ])
+    (elim c.if-is_open.branch [ then-is_open w ↦ settling_same (settling_step t (c.requires.from _) w.take_one-then-is_open.ensures _ (λ w a n. a)) w.work-is w.opened-is | else-is_open w ↦ settling_same t w.work-is w.opened-is ])
 
 pub choose-code-requires : goal.choose-code-requires
 choose-code-requires c =

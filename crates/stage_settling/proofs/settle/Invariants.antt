@@ -1,4 +1,5 @@
-use Rattle.basics.proofs.Words.{refl, ⊎_elim, List, ℕ, ◌-◌, ◌≤◌, arith, rules}
+use Rattle.std.specs.Prelude.{◌-◌, ◌≤◌}
+use Rattle.basics.proofs.Words.{refl, ⊎_elim, List, ℕ, arith, rules}
 use Rattle.settling.proofs.OpenCodes.{none_open}
 use Rattle.stage_settling.specs.Settling.{turns}
 use Rattle.stage_settling.proofs.Spreading.{Settling, settling_start, settling_ready, settling_same, open_there, settling_step, settling_end, turn_less}

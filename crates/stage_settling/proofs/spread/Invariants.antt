@@ -1,4 +1,5 @@
-use Rattle.basics.proofs.Words.{◌∙◌, ◌*◌, ◌-◌, ◌≤◌, arith, get_or, rules}
+use Rattle.std.specs.Prelude.{◌*◌, ◌-◌, ◌≤◌}
+use Rattle.basics.proofs.Words.{◌∙◌, arith, get_or, rules}
 use Rattle.settling.proofs.Insertions.{listed}
 use Rattle.stage_settling.proofs.Spreading.{Spreading, spreading_start, spreading_step, spreading_end, settle_kept, entry_ready}
 use Rattle.stage_settling.proofs.spread.Given as goal

@@ -1,5 +1,6 @@
 -- A set without a symbol, and the symbols of a set by kind. Assumes nothing.
-use Rattle.basics.proofs.Words.{◌≡◌, refl, ◌∙◌, ap, Bool, not, ◌&&◌, and_comm, ℕ, zero, suc, ◌/◌, ◌%◌, ◌^◌, ◌<◌, arith, eqb, member, member_one, member_and}
+use Rattle.std.specs.Prelude.{◌≡◌, ◌&&◌, ◌/◌, ◌%◌, ◌^◌, ◌<◌}
+use Rattle.basics.proofs.Words.{refl, ◌∙◌, ap, Bool, not, and_comm, ℕ, zero, suc, arith, eqb, member, member_one, member_and}
 use Rattle.std.specs.Int.Bits.{bit_and, bit_xor, differ, xor_step}
 use Rattle.std.proofs.lemmas.Nat.{xor_shr}
 use Rattle.symbols.specs.Symbols.{empty_symbol}

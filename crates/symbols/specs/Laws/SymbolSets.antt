@@ -1,5 +1,6 @@
 -- Sets of symbols: the set of one symbol, sets with no bit over S. Assumes nothing.
-use Rattle.basics.proofs.Words.{◌≡◌, refl, sym, ◌∙◌, ap, Bool, true, false, not, ◌&&◌, ℕ, zero, suc, ◌+◌, ◌-◌, ◌*◌, ◌/◌, ◌%◌, ◌^◌, ◌<◌, arith, eqb, ltb, div-one, pow-suc, add-one, member, ltb-true, lt-ltb, eqb-true, eqb-false, eq-eqb, ne_eqb, not-true, same, clash, both, left, right, has_member, its_member, member_one, member_and}
+use Rattle.std.specs.Prelude.{◌≡◌, ◌&&◌, ◌+◌, ◌-◌, ◌*◌, ◌/◌, ◌%◌, ◌^◌, ◌<◌}
+use Rattle.basics.proofs.Words.{refl, sym, ◌∙◌, ap, Bool, true, false, not, ℕ, zero, suc, arith, eqb, ltb, div-one, pow-suc, add-one, member, ltb-true, lt-ltb, eqb-true, eqb-false, eq-eqb, ne_eqb, not-true, same, clash, both, left, right, has_member, its_member, member_one, member_and}
 use Rattle.std.specs.Int.Bits.{bit_and}
 use Rattle.std.proofs.lemmas.Nat.{and_le_l}
 use Rattle.std.specs.Int.Count.{count_trailing_zeros, under}

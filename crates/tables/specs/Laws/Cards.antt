@@ -1,5 +1,6 @@
 -- What an accepted card promises of its machines, for the tables.
-use Rattle.basics.specs.Words.{◌≡◌, ◌∙◌, ap, List, map, ℕ, ◌<◌, ◌≤◌, arith, List·getD-eq-default, dec_lt}
+use Rattle.std.specs.Prelude.{◌≡◌, ◌<◌, ◌≤◌}
+use Rattle.basics.specs.Words.{◌∙◌, ap, List, map, ℕ, arith, List·getD-eq-default, dec_lt}
 use Rattle.machine.specs.Machine.{start_state}
 use Rattle.machine.specs.Part.{state_count}
 use Rattle.machine.specs.Accepted.{shape_facts, accepted as part_accepted}

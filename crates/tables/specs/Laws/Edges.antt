@@ -1,5 +1,6 @@
 -- The joint step by numbers is an edge of the product.
-use Rattle.basics.specs.Words.{◌≡◌, refl, sym, ◌∙◌, true, List, map, Option, some, none, Option·none-ne-some, ℕ, ◌+◌, ◌*◌, ◌<◌, ◌≤◌, length, get_or, member}
+use Rattle.std.specs.Prelude.{◌≡◌, ◌+◌, ◌*◌, ◌<◌, ◌≤◌}
+use Rattle.basics.specs.Words.{refl, sym, ◌∙◌, true, List, map, Option, some, none, Option·none-ne-some, ℕ, length, get_or, member}
 use Rattle.machine.specs.declared.Pair.{Pair}
 use Rattle.machine.specs.Symbols.{empty_symbol, is_pair}
 use Rattle.machine.specs.Machine.{Machine}

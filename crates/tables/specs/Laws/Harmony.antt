@@ -1,5 +1,6 @@
 -- Six places compare as the ranking does.
-use Rattle.basics.specs.Words.{◌≡◌, refl, sym, ◌∙◌, ap, true, List, [], ◌∷◌, ◌++◌, ℕ, zero, suc, ◌-◌, ◌<◌, ◌≤◌, arith, length, get_or, replicate, List·getD-eq-default, dec_lt}
+use Rattle.std.specs.Prelude.{◌≡◌, ◌∷◌, ◌++◌, ◌-◌, ◌<◌, ◌≤◌}
+use Rattle.basics.specs.Words.{refl, sym, ◌∙◌, ap, true, List, [], ℕ, zero, suc, arith, length, get_or, replicate, List·getD-eq-default, dec_lt}
 pub use Rattle.basics.proofs.Search.{any_default}
 use Rattle.ranking.specs.Harmony.{harmony}
 use Rattle.ranking.specs.Rankings.{is_ranking}

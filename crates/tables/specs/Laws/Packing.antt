@@ -1,5 +1,6 @@
 -- Marks as one number: what it stands for is their ranked cost.
-use Rattle.basics.specs.Words.{◌≡◌, List, [], ◌∷◌, ℕ, zero, suc, ◌+◌, ◌*◌, ◌^◌, ◌<◌, ◌≤◌, arith, length, get_or}
+use Rattle.std.specs.Prelude.{◌≡◌, ◌∷◌, ◌+◌, ◌*◌, ◌^◌, ◌<◌, ◌≤◌}
+use Rattle.basics.specs.Words.{List, [], ℕ, zero, suc, arith, length, get_or}
 use Rattle.paths.specs.Ranked.{count_at}
 use Rattle.paths.specs.ByRanking.{ranked, ranked_letters}
 use Rattle.tables.specs.Marks.{nibbles, from_nibbles, marks_cost}

@@ -1,4 +1,5 @@
-use Rattle.basics.proofs.Words.{sym, ◌∙◌, ap, Bool, ◌||◌, or-false, arith, get_or, eqb, member, fails, member_one, member_or}
+use Rattle.std.specs.Prelude.{◌||◌}
+use Rattle.basics.proofs.Words.{sym, ◌∙◌, ap, Bool, or-false, arith, get_or, eqb, member, fails, member_one, member_or}
 use Rattle.product.specs.Laws.Sets.{member_within}
 use Rattle.walk.proofs.inputs_at.Goals as goal
 

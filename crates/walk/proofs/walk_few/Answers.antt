@@ -1,4 +1,5 @@
-use Rattle.basics.proofs.Words.{refl, ℕ, ◌≤◌, arith}
+use Rattle.std.specs.Prelude.{◌≤◌}
+use Rattle.basics.proofs.Words.{refl, ℕ, arith}
 use Rattle.walk.proofs.Walking.{places_of_few, front_length, front_room}
 use Rattle.walk.proofs.walk_few.Goals as goal
 

@@ -1,80 +1,66 @@
-use Rattle.basics.proofs.Words.{sym, ◌∙◌, ◌-◌, ◌≤◌, arith, length-set, rules}
-use Rattle.entering.specs.Endings.{EndingsWritten}
-use Rattle.entering.proofs.LastPosition.{CodePlaces, code_places, written_start, written_next, written_end}
+use Rattle.basics.proofs.Words.{sym, ◌∙◌, arith, length-set}
+use Rattle.entering.proofs.LastPosition.{code_places, written_start, written_next, written_end}
 use Rattle.entering.proofs.endings.write_endings.Goals as goal
-
--- ---- the places on the way
-abbrev start : goal.In-loop-code → goal.Start
-start c = c.before.before.before.before.before
-
-abbrev looped : goal.After-ending_label-label → goal.In-loop-code
-looped c = c.before.before.before.before.before
-
--- the code that is written
-its-places : (c : goal.In-loop-code) → CodePlaces (start c).args.high.now (start c).args.low.now (start c).args.g.front (start c).args.g.back c.before.loop.code
-its-places c = code_places (start c).requires.0 (omega (arith, c.loop-code-test.true, (start c).requires.1))
 
 pub loop-code-init : goal.loop-code-init
 loop-code-init c =
     (omega arith, written_start c.requires.0)
 
 pub overflow_mul-a : goal.overflow_mul-a
-overflow_mul-a c = omega (arith, its-places c)
+overflow_mul-a c = omega (arith, code_places c.requires.0 {code = c.loop-code.code} (omega (arith, c.loop-code-test.true, c.requires.1)))
 
 pub overflow_add-b : goal.overflow_add-b
-overflow_add-b c = omega (arith, its-places c)
+overflow_add-b c = omega (arith, code_places c.requires.0 {code = c.loop-code.code} (omega (arith, c.loop-code-test.true, c.requires.1)))
 
 pub overflow_mul-b : goal.overflow_mul-b
-overflow_mul-b c = omega (arith, its-places c)
+overflow_mul-b c = omega (arith, code_places c.requires.0 {code = c.loop-code.code} (omega (arith, c.loop-code-test.true, c.requires.1)))
 
 pub offset_bounds-high-a : goal.offset_bounds-high-a
-offset_bounds-high-a c = omega (arith, its-places c)
+offset_bounds-high-a c = omega (arith, code_places c.requires.0 {code = c.loop-code.code} (omega (arith, c.loop-code-test.true, c.requires.1)))
 
 pub bounds-high-a : goal.bounds-high-a
-bounds-high-a c = (its-places c.before).in_high.0
+bounds-high-a c = (code_places c.requires.0 {code = c.loop-code.code} (omega (arith, c.loop-code-test.true, c.requires.1))).in_high.0
 
 pub offset_bounds-high-b : goal.offset_bounds-high-b
-offset_bounds-high-b c = omega (arith, its-places c.before)
+offset_bounds-high-b c = omega (arith, code_places c.requires.0 {code = c.loop-code.code} (omega (arith, c.loop-code-test.true, c.requires.1)))
 
 pub bounds-high-b : goal.bounds-high-b
-bounds-high-b c = (its-places c.before.before).in_high.1
+bounds-high-b c = (code_places c.requires.0 {code = c.loop-code.code} (omega (arith, c.loop-code-test.true, c.requires.1))).in_high.1
 
 pub overflow_add-high : goal.overflow_add-high
-overflow_add-high c = omega (arith, (its-places c.before.before).high_fits)
+overflow_add-high c = omega (arith, (code_places c.requires.0 {code = c.loop-code.code} (omega (arith, c.loop-code-test.true, c.requires.1))).high_fits)
 
 pub offset_bounds-low-a : goal.offset_bounds-low-a
-offset_bounds-low-a c = omega (arith, its-places c.before.before)
+offset_bounds-low-a c = omega (arith, code_places c.requires.0 {code = c.loop-code.code} (omega (arith, c.loop-code-test.true, c.requires.1)))
 
 pub bounds-low-a : goal.bounds-low-a
 bounds-low-a c =
-    (its-places c.before.before.before).in_low.0
+    (code_places c.requires.0 {code = c.loop-code.code} (omega (arith, c.loop-code-test.true, c.requires.1))).in_low.0
 
 pub offset_bounds-low-b : goal.offset_bounds-low-b
 offset_bounds-low-b c =
-    omega (arith, its-places c.before.before.before)
+    omega (arith, code_places c.requires.0 {code = c.loop-code.code} (omega (arith, c.loop-code-test.true, c.requires.1)))
 
 pub bounds-low-b : goal.bounds-low-b
 bounds-low-b c =
-    (its-places c.before.before.before.before).in_low.1
+    (code_places c.requires.0 {code = c.loop-code.code} (omega (arith, c.loop-code-test.true, c.requires.1))).in_low.1
 
 pub overflow_add-low : goal.overflow_add-low
 overflow_add-low c =
-    omega (arith, (its-places c.before.before.before.before).low_fits)
+    omega (arith, (code_places c.requires.0 {code = c.loop-code.code} (omega (arith, c.loop-code-test.true, c.requires.1))).low_fits)
 
 pub bounds-own-at : goal.bounds-own-at
-bounds-own-at c = omega (arith, (looped c).before.loop.invariant.1.size, (its-places (looped c)).code_few)
+bounds-own-at c = omega (arith, c.loop-code.invariant.1.size, (code_places c.requires.0 {code = c.loop-code.code} (omega (arith, c.loop-code-test.true, c.requires.1))).code_few)
 
 pub bounds-own-at-in-loop-code : goal.bounds-own-at-in-loop-code
-bounds-own-at-in-loop-code c = simp length-set (omega (arith, (looped c).before.loop.invariant.1.size, (its-places (looped c)).code_few))
+bounds-own-at-in-loop-code c = simp length-set (omega (arith, c.loop-code.invariant.1.size, (code_places c.requires.0 {code = c.loop-code.code} (omega (arith, c.loop-code-test.true, c.requires.1))).code_few))
 
 pub loop-code-smaller : goal.loop-code-smaller
-loop-code-smaller c = omega (arith, (looped c).loop-test.true)
+loop-code-smaller c = omega (arith, c.loop-code-test.true)
 
 pub loop-code-preserved : goal.loop-code-preserved
 loop-code-preserved c =
-    let i = looped c in
-    let h = i.loop-test.taken in
-    (omega arith, written_next (start i).pre.0 i.before.loop.inv.1 (omega (arith, h, (start i).pre.1)) c.ending_label-label.result c.ending_label-label.ensures)
+    (omega arith, written_next c.requires.0 c.loop-code.invariant.1 (omega (arith, c.loop-code-test.true, c.requires.1)) c.ending_label-label.result c.ending_label-label.ensures)
 
 pub shape_of-own : goal.shape_of-own
 shape_of-own c =

@@ -1,5 +1,5 @@
-use Rattle.basics.proofs.Words.{◌≡◌, refl, ap, ◌∙◌, ◌*◌, ◌-◌, ◌≤◌, arith, length, take, take-length, add-one, rules}
-use Rattle.layout.specs.Laws.Parts.{total_next}
+use Rattle.std.specs.Prelude.{◌≡◌, ◌*◌, ◌-◌, ◌≤◌}
+use Rattle.basics.proofs.Words.{length, take}
 use Rattle.layout.specs.Packing.{total}
 use Rattle.layout.proofs.packing.sum.Given as goal
 

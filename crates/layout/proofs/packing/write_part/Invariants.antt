@@ -1,5 +1,6 @@
-use Rattle.basics.proofs.Words.{◌≡◌, refl, ap, ◌∙◌, ◌-◌, ◌≤◌, arith, length, get_or, set, rules}
-use Rattle.layout.proofs.Writing.{written, written_length, written_next, written_whole}
+use Rattle.std.specs.Prelude.{◌≡◌, ◌-◌, ◌≤◌}
+use Rattle.basics.proofs.Words.{length}
+use Rattle.layout.proofs.Writing.{written}
 use Rattle.layout.proofs.packing.write_part.Given as goal
 
 abbrev pub invariant-loop-i : goal.invariant-loop-i

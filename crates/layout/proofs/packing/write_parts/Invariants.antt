@@ -1,7 +1,7 @@
-use Rattle.basics.proofs.Words.{◌≡◌, refl, ap, ◌∙◌, ◌++◌, ◌+◌, ◌*◌, ◌-◌, ◌≤◌, arith, length, get_or, take, length-take, length-drop, take-length, add-one, rules}
+use Rattle.std.specs.Prelude.{◌≡◌, ◌++◌, ◌+◌, ◌*◌, ◌-◌, ◌≤◌}
+use Rattle.basics.proofs.Words.{length, take}
 use Rattle.layout.specs.Packing.{total}
-use Rattle.layout.specs.Laws.Parts.{total_next, total_within, total_parted}
-use Rattle.layout.proofs.Writing.{written, parts_none, parts_next, parts_all, parts_length}
+use Rattle.layout.proofs.Writing.{written}
 use Rattle.layout.proofs.packing.write_parts.Given as goal
 
 abbrev pub invariant-loop-i : goal.invariant-loop-i

@@ -1,21 +1,9 @@
-use Rattle.basics.proofs.Words.{◌≡◌, refl, ap, ◌∙◌, [], ◌+◌, ◌*◌, ◌-◌, ◌≤◌, arith, length, set, take, length-set, add-one, rules}
+use Rattle.std.specs.Prelude.{◌≡◌, ◌+◌, ◌*◌}
+use Rattle.basics.proofs.Words.{refl, ap, ◌∙◌, [], ℕ, arith, length, set, length-set, add-one}
 use Rattle.layout.specs.Packing.{total, packed}
-use Rattle.layout.proofs.Writing.{written, written_length, written_two, places_next, table_written}
+use Rattle.layout.proofs.Writing.{written, written_two, places_next, table_written}
 use Rattle.layout.specs.Laws.Parts.{total_next, total_parted}
-use Rattle.layout.specs.Laws.Packed.{packed_length}
 use Rattle.layout.proofs.packing.write_table.Goals as goal
-
--- the target keeps its length
-at_loop : (c : goal.At-loop-i) → length c.loop.target ≡ length c.before.before.before.args.target.now
-at_loop c =
-    let t = set (set c.args.target.now 0 (length c.args.lengths.now)) 1 c.args.symbols in
-    let s : length t ≡ length c.args.target.now = simp length-set in
-    ap length c.loop-i.invariant.3
-    ∙ written_length (packed c.args.symbols c.args.lengths.now []) (2 + 4 * c.loop-i.i) t (omega (arith, packed_length c.args.symbols c.args.lengths.now [])) (omega arith)
-    ∙ s
-
-pub bounds-target-1 : goal.bounds-target-1
-bounds-target-1 c = simp length-set (omega arith)
 
 pub loop-i-init : goal.loop-i-init
 unfolding total packed
@@ -24,12 +12,7 @@ loop-i-init c =
 
 pub write_short-requires : goal.write_short-requires
 write_short-requires c =
-    let l = c.args.lengths.now in
-    (omega (arith, at_loop c.before.before.before.before), omega (arith, total_parted c.loop-i.i l))
-
-pub write_short-requires-in-loop-i : goal.write_short-requires-in-loop-i
-write_short-requires-in-loop-i c =
-    (omega (arith, at_loop c.before.before.before.before.before.before.before.before, c.write_short.kept), omega arith)
+    (omega (arith, c.loop-i.auto.target, length-set {A = ℕ}), omega (arith, total_parted c.loop-i.i c.args.lengths.now))
 
 pub overflow_add-start-in-loop-i : goal.overflow_add-start-in-loop-i
 overflow_add-start-in-loop-i c =
@@ -42,12 +25,9 @@ loop-i-preserved c =
       refl,
       omega arith,
       rw add-one (omega (arith, total_next l i (omega arith))),
-      places_next c.args.symbols l i c.loop-i.start c.wide-length.result (set (set c.args.target.now 0 (length l)) 1 c.args.symbols) c.loop-i.target c.write_short.last.0 c.write_short-in-loop-i.new.0
+      places_next c.args.symbols l i c.loop-i.start c.wide-length.result (set (set c.args.target.now 0 (length l)) 1 c.args.symbols) c.loop-i.target c.write_short.new.target c.write_short-in-loop-i.new.target
           (omega arith) (simp length-set (omega arith)) c.loop-i.invariant.2 c.wide-length.ensures.0 c.loop-i.invariant.3 c.write_short.ensures c.write_short-in-loop-i.ensures,
     )
-
-pub shape_of-target : goal.shape_of-target
-shape_of-target c = at_loop c.before
 
 pub returns : goal.returns
 returns c =

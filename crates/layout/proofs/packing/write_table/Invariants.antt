@@ -1,8 +1,7 @@
-use Rattle.basics.proofs.Words.{◌≡◌, refl, ap, ◌∙◌, [], ◌+◌, ◌*◌, ◌-◌, ◌≤◌, arith, length, set, take, length-set, add-one, rules}
+use Rattle.std.specs.Prelude.{◌≡◌, ◌+◌, ◌*◌, ◌-◌, ◌≤◌}
+use Rattle.basics.proofs.Words.{[], length, take}
 use Rattle.layout.specs.Packing.{total, packed}
-use Rattle.layout.proofs.Writing.{written, written_length, written_two, places_next, table_written}
-use Rattle.layout.specs.Laws.Parts.{total_next, total_parted}
-use Rattle.layout.specs.Laws.Packed.{packed_length}
+use Rattle.layout.proofs.Writing.{written}
 use Rattle.layout.proofs.packing.write_table.Given as goal
 
 abbrev pub invariant-loop-i : goal.invariant-loop-i

@@ -1,4 +1,5 @@
-use Rattle.basics.proofs.Words.{ap, Bool, ◌&&◌, length, leb, rules}
+use Rattle.std.specs.Prelude.{◌&&◌}
+use Rattle.basics.proofs.Words.{ap, Bool, length, leb, rules}
 use Rattle.lines.specs.Parsing.{is_ranking_text}
 use Rattle.lines.proofs.parsing.is_ranking_text.Goals as goal
 

@@ -1,4 +1,5 @@
-use Rattle.basics.proofs.Words.{◌≡◌, refl, ap, sym, ◌∙◌, ◌≤◌, arith, length, length-take, length-drop, length-take-le, all_of, rules, not-true, not-false, all_none}
+use Rattle.std.specs.Prelude.{◌≡◌, ◌≤◌}
+use Rattle.basics.proofs.Words.{refl, ap, sym, ◌∙◌, arith, length, length-take, length-drop, length-take-le, all_of, rules, not-true, not-false, all_none}
 use Rattle.writing.specs.Text.{comma, segments}
 use Rattle.lines.specs.Parsing.{is_symbol_text, is_word_text}
 use Rattle.writing.proofs.Lists.{all_next, all_fails, all_end}

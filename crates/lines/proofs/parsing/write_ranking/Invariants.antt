@@ -1,7 +1,6 @@
-use Rattle.basics.proofs.Words.{◌≡◌, refl, ap, ◌∙◌, true, map, ◌-◌, ◌≤◌, arith, length, drop, length-set, length-map, drop_of_length-le, sets, all_of, rules}
+use Rattle.std.specs.Prelude.{◌≡◌, ◌-◌, ◌≤◌}
+use Rattle.basics.proofs.Words.{true, map, length, drop, sets, all_of}
 use Rattle.writing.specs.Decimal.{is_digit, digit_value}
-use Rattle.writing.proofs.Lists.{rest_cons, all_first, all_rest, sets_next, sets_end, sets_front}
-use Rattle.writing.proofs.Decimals.{digit_facts}
 use Rattle.lines.proofs.parsing.write_ranking.Given as goal
 
 abbrev pub invariant-loop-at : goal.invariant-loop-at

@@ -1,4 +1,5 @@
-use Rattle.basics.proofs.Words.{◌≡◌, refl, ap, sym, ◌∙◌, true, List, ◌∷◌, map, ℕ, ◌+◌, ◌≤◌, arith, length, take, length-take, length-drop, length-set, length-map, length-take-le, sets, all_of, rules}
+use Rattle.std.specs.Prelude.{◌≡◌, ◌∷◌, ◌+◌, ◌≤◌}
+use Rattle.basics.proofs.Words.{refl, ap, sym, ◌∙◌, true, List, map, ℕ, arith, length, take, length-take, length-drop, length-set, length-map, length-take-le, sets, all_of, rules}
 use Rattle.writing.specs.Text.{comma, after, segments}
 use Rattle.writing.specs.Decimal.{value_of}
 use Rattle.lines.specs.Parsing.{is_symbol_text, symbols_in}

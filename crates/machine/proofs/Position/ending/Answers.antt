@@ -1,4 +1,4 @@
-use Rattle.basics.proofs.Words.{arith, rules}
+use Rattle.basics.proofs.Words.{arith}
 use Rattle.machine.specs.Accepted.{shape_facts}
 use Rattle.machine.specs.Laws.States.{not_final, final, no_state}
 use Rattle.machine.proofs.Position.ending.Goals as goal

@@ -1,7 +1,5 @@
-use Rattle.basics.proofs.Words.{◌≡◌, sym, ◌∙◌, ◌≤◌, ◌+◌, ◌*◌, ◌^◌, arith, length, rules}
-use Rattle.machine.specs.declared.Pair.{Pair}
-use Rattle.machine.specs.Machine.{step_among}
-use Rattle.machine.specs.Part.{arc_at, arcs_at, arcs_of, machine_of}
+use Rattle.basics.proofs.Words.{sym, ◌∙◌, arith, rules}
+use Rattle.machine.specs.Part.{arc_at, machine_of}
 use Rattle.machine.specs.Accepted.{shape_facts}
 use Rattle.machine.specs.Laws.Arcs.{step_go_on, step_stop, step_end}
 use Rattle.machine.proofs.Position.step.Goals as goal
@@ -22,14 +20,14 @@ pub returns-then-takes_from : goal.returns-then-takes_from
 unfolding arc_at machine_of
 returns-then-takes_from c =
     let pair = c.args.pair in
-    step_stop _ _ _ _ pair _ c.loop-left-test.true (sym (c.takes_from.ensures pair o.before.set_of_lem.ensures c.set_of-output.ensures) ∙ c.if-takes_from.true) (c.loop-left.invariant.1 pair o.before.set_of_lem.ensures c.set_of-output.ensures)
+    step_stop _ _ _ _ pair _ c.loop-left-test.true (sym (c.takes_from.ensures pair c.set_of-input.ensures c.set_of-output.ensures) ∙ c.if-takes_from.true) (c.loop-left.invariant.1 pair c.set_of-input.ensures c.set_of-output.ensures)
 
 pub loop-left-preserved : goal.loop-left-preserved
 loop-left-preserved c =
     (search rules, λ pair i o. step_go_on _ _ _ _ _ _ c.loop-left-test.true (sym (c.takes_from.ensures pair i o) ∙ c.if-takes_from.false) (c.loop-left.invariant.1 pair i o))
 
-pub returns-then-takes_from : goal.returns
+pub returns : goal.returns
 unfolding machine_of
-returns-then-takes_from c =
+returns c =
     let pair = c.args.pair in
-    step_end _ _ _ _ pair _ c.loop-left-test.false (c.loop-left.invariant.1 pair o.before.set_of_lem.ensures c.set_of-output.ensures)
+    step_end _ _ _ _ pair _ c.loop-left-test.false (c.loop-left.invariant.1 pair c.set_of-input.ensures c.set_of-output.ensures)

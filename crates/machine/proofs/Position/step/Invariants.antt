@@ -1,9 +1,8 @@
-use Rattle.basics.proofs.Words.{◌≡◌, sym, ◌∙◌, ◌≤◌, ◌+◌, ◌*◌, ◌^◌, arith, length, rules}
+use Rattle.std.specs.Prelude.{◌≡◌, ◌≤◌, ◌+◌, ◌*◌, ◌^◌}
+use Rattle.basics.proofs.Words.{length}
 use Rattle.machine.specs.declared.Pair.{Pair}
 use Rattle.machine.specs.Machine.{step_among}
-use Rattle.machine.specs.Part.{arc_at, arcs_at, arcs_of, machine_of}
-use Rattle.machine.specs.Accepted.{shape_facts}
-use Rattle.machine.specs.Laws.Arcs.{step_go_on, step_stop, step_end}
+use Rattle.machine.specs.Part.{arcs_at, arcs_of}
 use Rattle.machine.proofs.Position.step.Given as goal
 
 abbrev pub invariant-loop-left : goal.invariant-loop-left

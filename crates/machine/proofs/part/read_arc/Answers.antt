@@ -1,4 +1,3 @@
-use borrow.Author.Rules.{rules}
 use Rattle.machine.specs.Part.{arc_at}
 use Rattle.machine.proofs.part.read_arc.Goals as goal
 

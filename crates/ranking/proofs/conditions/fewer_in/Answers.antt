@@ -1,8 +1,9 @@
-use Rattle.basics.proofs.Words.{◌≡◌, sym, ⊎_elim, ◌≤◌, ◌+◌, ◌-◌, ◌*◌, ◌^◌, arith, pow-suc, add-one, rules}
+use Rattle.std.specs.Prelude.{◌≡◌, ◌+◌, ◌*◌, ◌^◌}
+use Rattle.basics.proofs.Words.{sym, arith, pow-suc, add-one}
 use lib.Pow.{pow_mono}
-use Rattle.ranking.specs.Conditions.{fewer_in}
 use Rattle.ranking.specs.Lemmas.Conditions.{fewer_none, fewer_bound, fewer_grows, fewer_stays}
 use Rattle.ranking.proofs.conditions.fewer_in.Goals as goal
+use Rattle.ranking.proofs.conditions.fewer_in.Goals.{then-count, else-count}
 
 pub loop-machine-init : goal.loop-machine-init
 loop-machine-init c = (omega arith, omega arith, sym (fewer_none c.args.first.counts c.args.second.counts))

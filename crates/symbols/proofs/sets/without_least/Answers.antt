@@ -1,4 +1,5 @@
-use Rattle.basics.proofs.Words.{◌-◌, arith, rules}
+use Rattle.std.specs.Prelude.{◌-◌}
+use Rattle.basics.proofs.Words.{arith, rules}
 use lib.Bits.{and_le_r}
 use Rattle.symbols.specs.Laws.SymbolSets.{without_least}
 use Rattle.symbols.proofs.sets.without_least.Goals as goal

@@ -1,6 +1,5 @@
 use mathlib.Core.Path.{refl}
 use Rattle.tally.specs.Tally.{is_full}
-use borrow.Author.Rules.{rules}
 use Rattle.tally.proofs.Tally.is_full.Goals as goal
 
 pub returns : goal.returns

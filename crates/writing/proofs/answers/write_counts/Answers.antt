@@ -1,4 +1,4 @@
-use Rattle.basics.proofs.Words.{arith, rules}
+use Rattle.basics.proofs.Words.{arith}
 use Rattle.writing.proofs.Writes.{written_nil, written_append, written_length}
 use Rattle.writing.proofs.Texts.{counts_first_length, counts_none, counts_first}
 use Rattle.writing.proofs.answers.write_counts.Goals as goal
@@ -15,6 +15,6 @@ write_next_counts-requires c =
     let w = c.write_number-next.ensures in
     omega (arith, counts_first_length c.args.counts.now c.if-counts-eq0.false, w.place, written_length w)
 
-pub returns-then-counts-eq0 : goal.returns
-returns-then-counts-eq0 c =
+pub returns : goal.returns
+returns c =
     rw (counts_first c.args.counts.now c.if-counts-eq0.false) (written_append c.write_number-next.ensures c.write_next_counts.ensures)

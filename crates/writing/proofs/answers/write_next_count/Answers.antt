@@ -1,4 +1,4 @@
-use Rattle.basics.proofs.Words.{arith, rules}
+use Rattle.basics.proofs.Words.{arith}
 use Rattle.writing.specs.Writing.{next_count}
 use Rattle.writing.proofs.Writes.{written_append, written_length}
 use Rattle.writing.proofs.Texts.{next_count_length}

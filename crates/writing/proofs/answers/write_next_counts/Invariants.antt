@@ -1,7 +1,7 @@
-use Rattle.basics.proofs.Words.{◌-◌, ◌≤◌, arith, length, drop, joined, rules}
+use Rattle.std.specs.Prelude.{◌-◌, ◌≤◌}
+use Rattle.basics.proofs.Words.{length, drop, joined}
 use Rattle.writing.specs.Writing.{next_count}
-use Rattle.writing.proofs.Writes.{Ahead, ahead_start, ahead_end, ahead_length, ahead_next}
-use Rattle.writing.proofs.Texts.{counts_room, counts_next, counts_end}
+use Rattle.writing.proofs.Writes.{Ahead}
 use Rattle.writing.proofs.answers.write_next_counts.Given as goal
 
 abbrev pub invariant-loop-i : goal.invariant-loop-i

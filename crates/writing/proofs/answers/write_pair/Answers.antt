@@ -1,4 +1,4 @@
-use Rattle.basics.proofs.Words.{arith, rules}
+use Rattle.basics.proofs.Words.{arith}
 use Rattle.writing.specs.Writing.{pair_text}
 use Rattle.writing.proofs.Writes.{written_append, written_length}
 use Rattle.writing.proofs.Texts.{pair_length}

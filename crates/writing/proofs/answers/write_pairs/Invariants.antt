@@ -1,7 +1,7 @@
-use Rattle.basics.proofs.Words.{◌-◌, ◌≤◌, arith, length, drop, rules}
+use Rattle.std.specs.Prelude.{◌-◌, ◌≤◌}
+use Rattle.basics.proofs.Words.{length, drop}
 use Rattle.writing.specs.Writing.{pairs_text}
-use Rattle.writing.proofs.Writes.{Ahead, ahead_start, ahead_end, ahead_length, ahead_next}
-use Rattle.writing.proofs.Texts.{pairs_room, pairs_next, pairs_end}
+use Rattle.writing.proofs.Writes.{Ahead}
 use Rattle.writing.proofs.answers.write_pairs.Given as goal
 
 abbrev pub invariant-loop-i : goal.invariant-loop-i

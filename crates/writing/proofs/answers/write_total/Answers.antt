@@ -1,4 +1,4 @@
-use Rattle.basics.proofs.Words.{arith, rules}
+use Rattle.basics.proofs.Words.{arith}
 use Rattle.writing.proofs.Writes.{written_append, written_length}
 use Rattle.writing.proofs.Texts.{total_none, total_some, total_none_length, total_some_length, total_least}
 use Rattle.writing.proofs.answers.write_total.Goals as goal
@@ -36,7 +36,7 @@ write_byte-requires-2 c =
     let w = c.write_counts-next.ensures in
     omega (arith, total_some_length c.args.totals.now c.if-totals-eq0.false, u.place, written_length u, v.place, written_length v, w.place, written_length w, c.requires)
 
-pub returns-then-totals-eq0 : goal.returns
-returns-then-totals-eq0 c =
+pub returns : goal.returns
+returns c =
     rw (total_some c.args.totals.now c.if-totals-eq0.false)
     (written_append (written_append (written_append c.write_text-next.ensures c.write_byte-next.ensures) c.write_counts-next.ensures) c.write_byte-2.ensures)

@@ -1,6 +1,6 @@
-use Rattle.basics.proofs.Words.{sym, ◌≡◌, ◌∙◌, ◌-◌, ◌≤◌, length, drop, drop_of_length-le, all_of, rules, not-true, not-false}
+use Rattle.std.specs.Prelude.{◌≡◌, ◌-◌, ◌≤◌}
+use Rattle.basics.proofs.Words.{length, drop, all_of}
 use Rattle.writing.specs.Decimal.{is_digit}
-use Rattle.writing.proofs.Lists.{rest_cons, all_next, all_fails, all_end}
 use Rattle.writing.proofs.decimal.are_digits.Given as goal
 
 abbrev pub invariant-loop-at : goal.invariant-loop-at

@@ -1,7 +1,6 @@
-use Rattle.basics.proofs.Words.{◌≡◌, refl, true, ◌-◌, ◌^◌, ◌<◌, ◌≤◌, arith, length, get_or, drop, lit<, all_of, rules}
+use Rattle.std.specs.Prelude.{◌≡◌, ◌-◌, ◌^◌, ◌<◌, ◌≤◌}
+use Rattle.basics.proofs.Words.{true, length, drop, all_of}
 use Rattle.writing.specs.Decimal.{is_digit, value_from, value_of}
-use Rattle.writing.proofs.Lists.{rest_cons, all_first, all_rest}
-use Rattle.writing.proofs.Decimals.{Digit, digit_facts, value_next, value_end, power_next, power_small}
 use Rattle.writing.proofs.decimal.value.Given as goal
 
 abbrev pub invariant-loop-at : goal.invariant-loop-at

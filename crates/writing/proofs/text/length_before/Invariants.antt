@@ -1,6 +1,6 @@
-use Rattle.basics.proofs.Words.{◌≡◌, ◌+◌, ◌-◌, ◌≤◌, length, drop, rules}
+use Rattle.std.specs.Prelude.{◌≡◌, ◌+◌, ◌-◌, ◌≤◌}
+use Rattle.basics.proofs.Words.{length, drop}
 use Rattle.writing.specs.Text.{before}
-use Rattle.writing.proofs.Cutting.{before_here, before_on, before_end}
 use Rattle.writing.proofs.text.length_before.Given as goal
 
 abbrev pub invariant-loop-at : goal.invariant-loop-at

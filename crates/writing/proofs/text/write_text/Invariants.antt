@@ -1,5 +1,5 @@
-use Rattle.basics.proofs.Words.{◌≡◌, ◌+◌, ◌-◌, ◌≤◌, arith, length, drop, length-set, drop_of_length-le, sets, rules}
-use Rattle.writing.proofs.Lists.{rest_cons, sets_next, sets_end}
+use Rattle.std.specs.Prelude.{◌≡◌, ◌+◌, ◌-◌, ◌≤◌}
+use Rattle.basics.proofs.Words.{length, drop, sets}
 use Rattle.writing.proofs.text.write_text.Given as goal
 
 abbrev pub invariant-loop-i : goal.invariant-loop-i
