@@ -1,4 +1,5 @@
-use Rattle.basics.proofs.Words.{◌≡◌, sym, subst, true, List, [], ℕ, ◌*◌, ◌<◌, arith, length, take, rules}
+use Rattle.std.specs.Prelude.{◌≡◌, ◌*◌, ◌<◌}
+use Rattle.basics.proofs.Words.{sym, subst, true, List, [], ℕ, arith, length, take, rules}
 use Rattle.ranking.specs.Rankings.{is_ranking}
 use Rattle.card.specs.Card.{machines_of}
 use Rattle.product.specs.Nodes.{state_counts}

@@ -1,4 +1,5 @@
-use Rattle.basics.proofs.Words.{◌≡◌, ap, ℕ, ◌-◌, ◌*◌, ◌≤◌, arith, length, rules}
+use Rattle.std.specs.Prelude.{◌≡◌, ◌-◌, ◌*◌, ◌≤◌}
+use Rattle.basics.proofs.Words.{ap, ℕ, arith, length, rules}
 use Rattle.weighted.specs.WeighsBy.{HighsWritten}
 use Rattle.weighted.proofs.Numbers.{highs_start, highs_next}
 use Rattle.weighted.proofs.write_highs.Goals as goal
@@ -22,11 +23,10 @@ bounds-numbers-m c =
     omega (arith, c.requires.0, c.loop-m.invariant.0.size, c.loop-m-test.true)
 
 pub loop-m-preserved : goal.loop-m-preserved
-loop-m-preserved c =
-    (
-      highs_next c.loop-m.invariant.0 (omega (arith, c.requires.0, c.loop-m.invariant.0.size, c.loop-m-test.true)) (256 * c.wide.result) (ap (λ (n : ℕ). 256 * n) c.wide.ensures.0),
-      omega (arith, c.loop-m-test.true),
-    )
+loop-m-preserved c = (
+  highs_next c.loop-m.invariant.0 (omega (arith, c.requires.0, c.loop-m.invariant.0.size, c.loop-m-test.true)) (256 * c.wide.result) (ap (λ (n : ℕ). 256 * n) c.wide.ensures.0),
+  omega (arith, c.loop-m-test.true),
+)
 
 pub shape_of-numbers : goal.shape_of-numbers
 shape_of-numbers c = c.loop-m.invariant.0.size

@@ -2,7 +2,7 @@ use Rattle.std.specs.Prelude.{◌≡◌, ◌+◌, ◌<◌, ◌≤◌}
 use Rattle.basics.proofs.Words.{ap, ◌∙◌, List, map, ℕ, arith, length, get_or, length-map}
 use Rattle.machine.specs.Part.{state_count, state_bytes}
 use Rattle.joined.specs.Writing.{placed, joined_byte, PartsJoin}
-use Rattle.joined.proofs.Rest.{Rest, rest_start, rest_room, rest_next, rest_end}
+use Rattle.joined.proofs.Rest.{Rest, rest_room, rest_next, rest_end}
 use Rattle.joined.proofs.Parts.{states_length, state_byte_few, first_accepted, second_accepted}
 use Rattle.joined.proofs.writing.write_endings.Invariants.{row}
 use Rattle.joined.proofs.writing.write_endings.Goals as goal
