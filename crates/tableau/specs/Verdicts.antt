@@ -8,7 +8,7 @@ use Rattle.card.specs.Card.{machines_of}
 use Rattle.candidate.specs.Candidates.{pairs_of, IsCandidate}
 use Rattle.product.specs.Best.{Contender, best}
 use Rattle.product.specs.Optimizing.{input_refusal}
-use Rattle.product.specs.BestTheorem.{best_is_best_of_all}
+use Rattle.product.proofs.BestTheorem.{best_is_best_of_all}
 use Rattle.input.specs.AcceptedInput.{AcceptedInput, accepted_input}
 use Rattle.tableau.specs.declared.Judged.{Judged}
 use Rattle.rows.specs.declared.Verdict.{Verdict}

@@ -1,4 +1,5 @@
-use Rattle.basics.proofs.Words.{◌≡◌, sym, ap, ◌∙◌, [], ◌∷◌, arith}
+use Rattle.std.specs.Prelude.{◌≡◌, ◌∷◌}
+use Rattle.basics.proofs.Words.{sym, ap, ◌∙◌, [], arith}
 use Rattle.card.specs.Card.{card_refusal}
 use Rattle.refusals.specs.Refusals.{refuse, checked_number}
 use Rattle.refusals.proofs.Refusals.{passed_number, goes_up, first_on, last_one}

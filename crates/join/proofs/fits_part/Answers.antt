@@ -1,4 +1,5 @@
-use Rattle.basics.specs.Words.{◌≡◌, sym, ap, ap₂, ◌∙◌, ◌&&◌, List, ℕ, ◌*◌, length, leb}
+use Rattle.std.specs.Prelude.{◌≡◌, ◌&&◌, ◌*◌}
+use Rattle.basics.specs.Words.{sym, ap, ap₂, ◌∙◌, List, ℕ, length, leb}
 use Rattle.machine.specs.Machine.{state_count_of}
 use Rattle.machine.specs.Part.{state_count, arcs_of, machine_of}
 use Rattle.machine.specs.Accepted.{state_count_lem}

@@ -1,4 +1,5 @@
-use Rattle.basics.proofs.Words.{◌≡◌, sym, ap, ap₂, subst, ◌∙◌, Bool, false, ◌||◌, List, ℕ, eqb, leb}
+use Rattle.std.specs.Prelude.{◌≡◌, ◌||◌}
+use Rattle.basics.proofs.Words.{sym, ap, ap₂, subst, ◌∙◌, Bool, false, List, ℕ, eqb, leb}
 use Rattle.machine.specs.Machine.{no_machine}
 use Rattle.machine.specs.Part.{machine_of}
 use Rattle.card.specs.Layout.{machine_count}

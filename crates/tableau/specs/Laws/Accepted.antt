@@ -13,7 +13,8 @@ use Rattle.candidate.specs.Candidates.{pairs_of, spelled, is_complete, profile_o
 use Rattle.candidate.specs.Evaluating.{sound_pair, sound_candidate}
 use Rattle.product.specs.Best.{Contender, same_word, best}
 use Rattle.product.specs.Optimizing.{input_refusal}
-use Rattle.product.specs.BestTheorem.{BestOfAll, best_is_best_of_all}
+use Rattle.product.specs.BestTheorem.{BestOfAll}
+use Rattle.product.proofs.BestTheorem.{best_is_best_of_all}
 use Rattle.product.specs.Laws.Accepted.{accepted_machines}
 use Rattle.product.specs.Laws.BestCandidate.{profile_length}
 use Rattle.product.specs.Laws.Candidates.{same_word_lem}

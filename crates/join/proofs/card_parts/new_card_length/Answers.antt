@@ -1,4 +1,5 @@
-use Rattle.basics.proofs.Words.{◌≡◌, sym, ap, ◌∙◌, List, map, ℕ, ◌-◌, ◌<◌, ◌≤◌, arith, length, take, length-take-le}
+use Rattle.std.specs.Prelude.{◌≡◌, ◌-◌, ◌<◌, ◌≤◌}
+use Rattle.basics.proofs.Words.{sym, ap, ◌∙◌, List, map, ℕ, arith, length, take, length-take-le}
 use Rattle.card.specs.Layout.{machine_count, parts_of}
 use Rattle.join.specs.JoinedCard.{joined_parts}
 use Rattle.join.specs.Writing.{CardJoins}

@@ -1,4 +1,5 @@
-use Rattle.basics.specs.Words.{◌≡◌, sym, ap, ap₂, ◌∙◌, List, [], ℕ, ◌+◌, ◌*◌, ◌<◌, ◌≤◌, arith, length, get_or}
+use Rattle.std.specs.Prelude.{◌≡◌, ◌+◌, ◌*◌, ◌<◌, ◌≤◌}
+use Rattle.basics.specs.Words.{sym, ap, ap₂, ◌∙◌, List, [], ℕ, arith, length, get_or}
 use Rattle.machine.specs.Part.{state_count}
 use Rattle.layout.specs.Layout.{part_of}
 use Rattle.card.specs.Layout.{machine_count, parts_of}

@@ -1,4 +1,5 @@
-use Rattle.basics.specs.Words.{◌≡◌, sym, ap, ◌∙◌, List, ◌++◌, map, ℕ, ◌+◌, ◌*◌, ◌-◌, ◌<◌, ◌≤◌, arith, length, take, drop, length-take-le}
+use Rattle.std.specs.Prelude.{◌≡◌, ◌++◌, ◌+◌, ◌*◌, ◌-◌, ◌<◌, ◌≤◌}
+use Rattle.basics.specs.Words.{sym, ap, ◌∙◌, List, map, ℕ, arith, length, take, drop, length-take-le}
 use Rattle.card.specs.Layout.{machine_count, parts_of}
 use Rattle.card.specs.Packing.{table}
 use Rattle.join.specs.JoinedCard.{joined_parts}

@@ -1,4 +1,5 @@
-use Rattle.basics.specs.Words.{◌≡◌, sym, ap, ap₂, ◌∙◌, List, [], ℕ, ◌+◌, ◌<◌, arith, length, get_or}
+use Rattle.std.specs.Prelude.{◌≡◌, ◌+◌, ◌<◌}
+use Rattle.basics.specs.Words.{sym, ap, ap₂, ◌∙◌, List, [], ℕ, arith, length, get_or}
 use Rattle.layout.specs.Layout.{part_of}
 use Rattle.card.specs.Layout.{machine_count, parts_of}
 use Rattle.join.specs.JoinedCard.{joined_part, joined_parts}
