@@ -1,4 +1,4 @@
-/* What the proved program needs of the machine that it runs on: five functions, with 64-bit lengths on every processor. The keypad is its
+/* What the proved program needs of the machine that it runs on: six functions, with 64-bit lengths on every processor. The keypad is its
  * standard input, the display its standard output, the card in the slot its file. */
 #include "port.h"
 
@@ -6,7 +6,8 @@ enum { KEYPAD = 0, DISPLAY = 1, CARD = 3 };
 enum { NO_SUCH_FILE = -1 };
 
 int main(void); /* the proved program */
-int32_t rattle_open_to_read(const uint8_t *path);
+int32_t open(const uint8_t *path, int32_t how, ...);
+int32_t rattle_errno(void);
 void rattle_set_errno(int32_t number);
 int32_t close(int32_t file);
 int64_t read(int32_t file, uint8_t *to, uint64_t length);
@@ -24,13 +25,15 @@ static uint32_t length_in_slot(void) {
 }
 
 /* The program opens its card and nothing else. */
-int32_t rattle_open_to_read(const uint8_t *path) {
-    (void)path;
+int32_t open(const uint8_t *path, int32_t how, ...) {
+    (void)path, (void)how;
     card_length = length_in_slot();
     card_read = 0;
     return card_length > 0 ? CARD : NO_SUCH_FILE;
 }
 
+/* Why something failed makes no difference to the program. */
+int32_t rattle_errno(void) { return 0; }
 void rattle_set_errno(int32_t number) { (void)number; }
 
 int32_t close(int32_t file) { return file == CARD ? 0 : NO_SUCH_FILE; }

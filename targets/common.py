@@ -15,7 +15,8 @@ import portable
 
 ROOT = pathlib.Path(__file__).resolve().parent.parent
 KEPT = ROOT / "target" / "module"  # where modules are kept
-LIBRARY = "pastaspur"  # the crate that is the static library
+PASSED = ROOT / "target" / "passed"  # what `rt ci` has passed on
+LIBRARY = "pastaspur_c"  # the crate that is the static library
 STACK_BYTES = 131_072  # in the memory of a module for wasm32
 
 Target = collections.namedtuple("Target", "triple flags level what")
@@ -62,21 +63,20 @@ def run(*words, **more):
 
 # The kit
 
-Kit = collections.namedtuple("Kit", "home own clang linker archiver")
+Kit = collections.namedtuple("Kit", "home clang linker archiver")
 
 
 def find_kit():
-    """The Rattle kit: its folder, the part for this machine, and its compiler, linker and archiver."""
+    """The Rattle kit: its folder, and its compiler, linker and archiver."""
     rt = shutil.which("rt")
     if not rt:
         raise Wrong("there is no `rt`: unpack the Rattle kit and link its bin/rt into a folder of PATH")
-    home = pathlib.Path(os.environ.get("RATTLE_HOME") or pathlib.Path(rt).resolve().parent.parent)
-    own = home / "on" / os.uname().machine
-    tools = [own / "toolchain" / "bin" / name for name in ("clang", "ld.lld", "llvm-ar")]
+    home = pathlib.Path(rt).resolve().parent.parent
+    tools = [home / "toolchain" / "bin" / name for name in ("clang", "ld.lld", "llvm-ar")]
     for tool in tools:
         if not os.access(tool, os.X_OK):
-            raise Wrong(f"the Rattle kit in {home} has no {tool.name} for {os.uname().machine}: unpack the kit for this machine")
-    return Kit(home, own, *tools)
+            raise Wrong(f"the Rattle kit in {home} has no {tool.name}: unpack the kit anew")
+    return Kit(home, *tools)
 
 
 def link_all(folder, target, *without):
@@ -89,20 +89,24 @@ def link_all(folder, target, *without):
 
 # A clang that leaves a copy of the module that it is given.
 KEEPING_CLANG = """#!/bin/sh
-cp module.bc "{kept}"
+for word; do case $word in *.bc) cp "$word" "{kept}" ;; esac; done
 exec "{clang}" "$@"
 """
 
 
 def linked_kit(kit, folder, kept):
-    """A kit made of links, whose clang keeps the module. Nothing of the kit is copied."""
-    machine = os.uname().machine
-    link_all(kit.home, folder, "on")
-    own = folder / "on" / machine
-    link_all(kit.own, own, "toolchain")
-    tools = own / "toolchain"
-    link_all(kit.own / "toolchain", tools, "bin")
-    link_all(kit.own / "toolchain" / "bin", tools / "bin", "clang")
+    """A kit made of links, whose clang keeps the module. The scripts in bin/ find the kit by their own place, so they alone are copied, for the time of a run."""
+    link_all(kit.home, folder, "bin", "toolchain")
+    own = folder / "bin"
+    own.mkdir()
+    for entry in (kit.home / "bin").iterdir():
+        if entry.read_bytes()[:4] == b"\x7fELF":
+            (own / entry.name).symlink_to(entry)
+        else:
+            shutil.copy(entry, own)
+    tools = folder / "toolchain"
+    link_all(kit.home / "toolchain", tools, "bin")
+    link_all(kit.home / "toolchain" / "bin", tools / "bin", "clang")
     clang = tools / "bin" / "clang"
     clang.write_text(KEEPING_CLANG.format(kept=kept, clang=kit.clang))
     clang.chmod(0o755)
@@ -113,7 +117,7 @@ def linked_kit(kit, folder, kept):
 def dependencies():
     """What crates.txt has: for each crate those that it depends on."""
     lines = (line.split("#")[0].split(":") for line in (ROOT / "crates.txt").read_text().splitlines())
-    return {line[0].strip(): line[1].split() for line in lines if len(line) == 2}
+    return {line[0].split()[0]: line[1].split() for line in lines if len(line) == 2}
 
 
 def reached(name, crates):
@@ -129,7 +133,7 @@ def reached(name, crates):
 
 def source_key(kit, name, crates):
     """A number for all that the module of a crate is made from: the kit, and the crates that it rests on."""
-    key = hashlib.sha256((kit.home / "KIT-ID").read_bytes() + os.uname().machine.encode())
+    key = hashlib.sha256((kit.home / "KIT-ID").read_bytes())
     for crate in reached(name, crates):
         key.update(f"{crate}: {crates[crate]}\n".encode())
         for part in ("src", "specs", "proofs"):
@@ -150,26 +154,49 @@ def locked(name):
         yield
 
 
-def prove(kit, name, crates):
+def all_sources(kit):
+    """A number for what anything is made from: the kit, and all crates."""
+    crates = dependencies()
+    return hashlib.sha256("".join(source_key(kit, name, {name: crates[name]}) for name in sorted(crates)).encode()).hexdigest()
+
+
+def passed(key):
+    """Whether `rt ci` has passed on these sources, so that the libraries in the crates' folders are what it proved."""
+    return PASSED.exists() and PASSED.read_text() == key
+
+
+def build(kit, name, to, toolchain):
+    """Proves a crate over the libraries that `rt ci` left, and compiles it into the file `to`."""
+    sys.path.insert(0, str(kit.home / "bin"))
+    import rtlib  # the kit's own
+    folder = ROOT / "crates" / name
+    words = rtlib.Crate(str(folder), str(ROOT), {}).words(["--jobs", "2"], keeps=False)
+    run(kit.home / "bin" / "rattle", "build", *words, "--toolchain", toolchain, "--backend", "llvm", "-o", to, cwd=folder, errors="replace")
+
+
+def prove(kit, name):
     """Proves a crate, and gives the module that the kit compiles for it, as text."""
-    below = [crate for crate in crates[name] if crate in crates]
-    if below:
-        with locked("rt"):
-            run("rt", "check", *below, cwd=ROOT)
-    with tempfile.TemporaryDirectory() as place:
-        # The crate is proved in a folder of links to the repository, so that nothing is taken from under a program that runs in it.
+    folder = ROOT / "crates" / name
+    is_program = (folder / "src" / "main.rt").exists()
+    with tempfile.TemporaryDirectory() as place, made_alone():
         place = pathlib.Path(place)
-        place.chmod(0o755)  # `rt` runs a program as nobody
         linked_kit(kit, place / "kit", place / "module.bc")
-        shadow = place / "shadow"
-        (shadow / "target" / "log").mkdir(parents=True)
-        (shadow / "crates").symlink_to(ROOT / "crates")
-        (shadow / "crates.txt").symlink_to(ROOT / "crates.txt")
-        link_all(ROOT / "target" / "rlib", shadow / "target" / "rlib", f"{name}.rlib")
-        link_all(ROOT / "target" / "stamp", shadow / "target" / "stamp", name)
-        command = "check" if (ROOT / "crates" / name / "src" / "main.rt").exists() else "staticlib"
-        run("rt", command, name, cwd=shadow, env={**os.environ, "RATTLE_HOME": str(place / "kit")})
+        if passed(all_sources(kit)):
+            build(kit, name, place / "made", place / "kit" / "toolchain")
+            return run(kit.clang, "-w", "-S", "-emit-llvm", "-Xclang", "-disable-llvm-passes", "-x", "ir", "module.bc", "-o", "-", cwd=place)
+        if is_program:
+            (folder / "out" / f"{name}.stamp").unlink(missing_ok=True)  # what it names would not be compiled again
+        run(place / "kit" / "bin" / "rt", "run" if is_program else "lib", cwd=folder, stdin=subprocess.DEVNULL, errors="replace")
         return run(kit.clang, "-w", "-S", "-emit-llvm", "-Xclang", "-disable-llvm-passes", "-x", "ir", "module.bc", "-o", "-", cwd=place)
+
+
+@contextlib.contextmanager
+def made_alone():
+    """Nothing else proves and compiles at the same time: the lock of .ci/make."""
+    (ROOT / "target").mkdir(exist_ok=True)
+    with open(ROOT / "target" / "make.lock", "w") as lock:
+        fcntl.flock(lock, fcntl.LOCK_EX)
+        yield
 
 
 def made_by_kit(kit, name):
@@ -180,7 +207,7 @@ def made_by_kit(kit, name):
     with locked(name):
         file = KEPT / f"{name}-{source_key(kit, name, crates)}.ll"
         if not file.exists():
-            text = prove(kit, name, crates)
+            text = prove(kit, name)
             for old in KEPT.glob(f"{name}-*.ll"):
                 old.unlink()
             write(file, text.encode())

@@ -7,6 +7,7 @@ a later kit lowers otherwise is refused:
 - Numbers have 1, 8, 16, 32 or 64 bits. Every load and store says its alignment, and none asks for more than its type has.
 - A pointer has eight bytes in memory, of which a processor with shorter ones uses the first. So a variable that is one pointer is read and
   written as a pointer alone, and no number is read or written where a pointer stands.
+- Two values together are a pointer or a number of 8 or 64 bits, and a number of 64 bits, which stands eight bytes on.
 - Calls go to a function by its name: one of the module, the four intrinsics below, or those that a program has of its surroundings.
 - Nothing of x86-64 is left: no layout of data, no triple, no processor, no feature, no assembly."""
 import pathlib
@@ -25,37 +26,43 @@ SURROUNDINGS = {
     "read": "i64 (i32, ptr, i64)",
     "write": "i64 (i32, ptr, i64)",
     "close": "i32 (i32)",
-    "rattle_open_to_read": "i32 (ptr)",
+    "open": "i32 (ptr, i32, ...)",
+    "rattle_errno": "i32 ()",
     "rattle_set_errno": "void (i32)",
 }
 
 VARIABLE = r'%(?:"[^"]*"|[\w.]+)'
+TEXT = r"@static\.\d+"  # bytes that nothing writes
+PAIR = r"\{ (?:ptr|i8|i64), i64 \}"
 FUNCTION = r'@(?:"[^"]*"|[\w.]+)'
 NUMBER = r"(?:i1|i8|i16|i32|i64)"
 TYPE = rf"(?:{NUMBER}|ptr)"
-VALUE = rf"(?:{VARIABLE}|-?\d+|true|false)"
+VALUE = rf"(?:{VARIABLE}|{TEXT}|-?\d+|true|false)"
 ARGUMENTS = rf"(?:{TYPE} (?:align \d+ )?{VALUE}(?:, )?)*"
 
 MEMORY = re.compile(rf"(?:(?P<to>{VARIABLE}) = load (?P<loaded>{TYPE})|store (?P<stored>{TYPE}) (?P<value>{VALUE})), ptr (?P<at>{VARIABLE}), align (?P<align>\d+)(?:, !\w+ !\d+)*")
 ADDRESS = re.compile(rf"(?P<to>{VARIABLE}) = getelementptr (?:inbounds nuw )?i8, ptr (?P<base>{VARIABLE}), i64 (?P<offset>{VALUE})")
-CALL = re.compile(rf"(?:{VARIABLE} = )?call (?P<result>{NUMBER}|void) (?P<name>{FUNCTION})\((?P<arguments>{ARGUMENTS})\)")
+PAIR_READ = re.compile(rf"{VARIABLE} = load \{{ (?P<first>ptr|i8|i64), i64 \}}, ptr (?P<at>{VARIABLE}), align 8")
+CALL = re.compile(rf"(?:{VARIABLE} = )?call (?P<result>{TYPE}|{PAIR}|void)(?: \(ptr, i32, \.\.\.\))? (?P<name>{FUNCTION})\((?P<arguments>{ARGUMENTS})\)")
 SLOT = re.compile(rf"(?P<to>{VARIABLE}) = alloca (?P<type>{TYPE}|\[\d+ x i8\]), align [1248]")
 OTHERS = [re.compile(shape) for shape in (
     rf"{VARIABLE} = (?:add|sub|mul)(?: nuw)? {NUMBER} {VALUE}, {VALUE}",
     rf"{VARIABLE} = (?:udiv|urem|and|or|xor|shl|lshr) {NUMBER} {VALUE}, {VALUE}",
-    rf"{VARIABLE} = icmp (?:eq|ne|ult|ule|slt) {NUMBER} {VALUE}, {VALUE}",
+    rf"{VARIABLE} = icmp (?:eq|ne|ult|ule|slt|sle) {NUMBER} {VALUE}, {VALUE}",
+    rf"{VARIABLE} = extractvalue {PAIR} {VARIABLE}, [01]",
     rf"{VARIABLE} = (?:zext|trunc(?: nuw)?) {NUMBER} {VALUE} to {NUMBER}",
     rf"br label {VARIABLE}|br i1 {VALUE}, label {VARIABLE}, label {VARIABLE}",
-    rf"switch i8 {VALUE}, label {VARIABLE} \[|  i8 \d+, label {VARIABLE}|\]",
-    rf"ret void|ret {NUMBER} {VALUE}|unreachable",
+    rf"switch (?:i8|i32) {VALUE}, label {VARIABLE} \[|  (?:i8|i32) \d+, label {VARIABLE}|\]",
+    rf"ret void|ret {TYPE} {VALUE}|ret {PAIR} {VARIABLE}|unreachable",
 )]
 
-DEFINITION = re.compile(rf"define (?:internal )?(?:noundef )?(?:zeroext )?(?P<result>{NUMBER}|void) (?P<name>{FUNCTION})\((?:{TYPE} noundef (?:zeroext )?{VARIABLE}(?:, )?)*\) #\d+ \{{")
-DECLARATION = re.compile(rf"declare (?:noundef )?(?P<result>{NUMBER}|void) (?P<name>{FUNCTION})\((?P<parameters>[^)]*(?:\(none\)[^)]*)*)\) #\d+")
+DEFINITION = re.compile(rf"define (?:internal )?(?:noundef )?(?:zeroext )?(?P<result>{TYPE}|{PAIR}|void) (?P<name>{FUNCTION})\((?:{TYPE} noundef (?:zeroext )?{VARIABLE}(?:, )?)*\) #\d+ \{{")
+DECLARATION = re.compile(rf"declare (?:noundef )?(?P<result>{TYPE}|{PAIR}|void) (?P<name>{FUNCTION})\((?P<parameters>[^)]*(?:\(none\)[^)]*)*)\) #\d+")
 ATTRIBUTE = r"(?:nounwind|nobuiltin|nocallback|nofree|nosync|noreturn|willreturn|speculatable|cold|memory\([\w: ,]+\))"
 OUTSIDE = [re.compile(shape) for shape in (
     r"; Function Attrs: .*",
     rf"attributes #\d+ = \{{(?: {ATTRIBUTE})+ \}}",
+    rf'{TEXT} = private unnamed_addr constant \[\d+ x i8\] c"[^"]*", align 1',
     r'!llvm\.ident = !\{!\d+\}|!\d+ = !\{!"rattle logic=[0-9a-f]+"\}|!\d+ = !\{\}|!\d+ = !\{i8 0, i8 \d+\}',
 )]
 LABEL = re.compile(r'(?:"[^"]*"|[\w.]+):(?: +; (?:preds = .*|No predecessors!))?')
@@ -69,7 +76,11 @@ class NotPortable(Exception):
 def without_machine(text):
     """The module without what the kit says of x86-64: the layout of data, the triple, the processor, the stack probes; and without its file's name."""
     text = re.sub(r"^(?:target (?:datalayout|triple) = .*|source_filename = .*|; ModuleID = .*)\n", "", text, flags=re.M)
-    return re.sub(r' ?"(?:probe-stack"="inline-asm|target-cpu"="x86-64)"', "", text)
+    # A program starts by looking at its processor, which must have what x86-64-v2 has, and at how Linux takes a closed pipe.
+    text = re.sub(r"^(define i32 @main\(\) #\d+ \{\n)start:\n  %r0 = call i64 @__sysv_signal\(i32 13, i64 1\)\n.*?(  (%r\d+) = call i32 @\"[\w:]+\+start\"\(\)\n  ret i32 \3\n).*?^\}\n",
+                  r"\1start:\n\2}\n", text, flags=re.M | re.S)
+    text = re.sub(r"^(?:; Function Attrs: .*\n)?declare .* @(?:__sysv_signal|__x86_get_cpuid_feature_leaf|__write)\(.*\n", "", text, flags=re.M)
+    return re.sub(r' ?"(?:probe-stack"="inline-asm|stack-probe-size"="\d+|target-cpu"="x86-64(?:-v2)?)"', "", text)
 
 
 def bits(kind):
@@ -112,6 +123,17 @@ class Function:
             if at.setdefault(byte, kind == "ptr") != (kind == "ptr"):
                 raise NotPortable("a number where a pointer stands")
 
+    def pair(self, found):
+        """Two values at once, the second eight bytes on."""
+        if found["at"] in self.pointer_slots:
+            raise NotPortable("a variable that is one pointer, as two values")
+        base, offset = self.place(found["at"])
+        at = self.seen.setdefault(base, {})
+        for start, kind in ((offset, found["first"]), (offset + 8, "i64")):
+            for byte in range(start, start + bits(kind) // 8):
+                if at.setdefault(byte, kind == "ptr") != (kind == "ptr"):
+                    raise NotPortable("a number where a pointer stands")
+
     def call(self, found, known):
         name = found["name"][1:]
         if name.startswith("llvm.") and name not in INTRINSICS:
@@ -122,13 +144,16 @@ class Function:
             if value in self.pointer_slots:
                 raise NotPortable("a variable that is one pointer, handed on")
         signature = {**INTRINSICS, **SURROUNDINGS}.get(name)
-        if signature and signature != f"{found['result']} ({', '.join(re.findall(rf'(?:^|, )({TYPE})', found['arguments']))})":
+        given = ", ".join(re.findall(rf"(?:^|, )({TYPE})", found["arguments"]))
+        if signature and name == "open":
+            given = re.sub("^ptr, i32(?:, i32)?$", "ptr, i32, ...", given)
+        if signature and signature != f"{found['result']} ({given})":
             raise NotPortable(f"{name} is {signature}")
 
 
 def check_line(line, function, known):
     """One line within a function."""
-    for shape, take in ((SLOT, function.slot), (ADDRESS, function.address), (MEMORY, function.memory)):
+    for shape, take in ((SLOT, function.slot), (ADDRESS, function.address), (MEMORY, function.memory), (PAIR_READ, function.pair)):
         found = shape.fullmatch(line)
         if found:
             return take(found)
@@ -158,7 +183,7 @@ def check(text):
             elif DEFINITION.fullmatch(line):
                 function = Function()
             elif found:
-                signature = f"{found['result']} ({', '.join(re.findall(rf'(?:^|, )({TYPE})', found['parameters']))})"
+                signature = f"{found['result']} ({', '.join(re.findall(rf'(?:^|, )({TYPE}|[.]{{3}})', found['parameters']))})"
                 name = found["name"][1:]
                 if {**INTRINSICS, **SURROUNDINGS}.get(name) != signature:
                     raise NotPortable(f"{name} is not known as {signature}")

@@ -38,7 +38,7 @@ def cards():
         pairs = [re.match(r"((?:[0-9a-f]{2}(?: +|$))+)", line)[1] for line in block.splitlines()]
         hexes[name] = bytes.fromhex("".join(pairs))
     must(hexes.get("B") == pathlib.Path("demo/card_b/card.bin").read_bytes(), "docs/FORMAT.md: card B is not demo/card_b/card.bin")
-    definition = re.search(r"^cardA = (.*)$", read("crates/examples/specs/Cards.antt"), re.M)
+    definition = re.search(r"^card_a = (.*)$", read("crates/examples/specs/Cards.antt"), re.M)
     must(hexes.get("A") == bytes(int(n) for n in re.findall(r"\d+", definition[1])), "docs/FORMAT.md: card A is not that of crate examples")
 
 
@@ -103,8 +103,8 @@ def architecture():
     text = read("docs/ARCHITECTURE.md").split("## The crates")[1].split("## Beside the crates")[0]
     shown = re.findall(r"^\*\*([^*]+)\*\*$|^\| `(\w+)` \|", text, re.M)
     listed, tests = read("crates.txt").split("# Test programs\n")
-    due = re.findall(r"^# (?!Crates)(.+)$|^(\w+):", listed, re.M)
-    must([a or b for a, b in shown] == [a or b.replace(LIBRARY, "pastaspur") for a, b in due], "docs/ARCHITECTURE.md: other crates, sections or order than crates.txt's")
+    due = re.findall(r"^# (?!Crates)(.+)$|^(\w+)(?: staticlib)?:", listed, re.M)
+    must([a or b for a, b in shown] == [a or b for a, b in due], "docs/ARCHITECTURE.md: other crates, sections or order than crates.txt's")
     for name in re.findall(r"^(\w+):", tests, re.M):
         must("test" in name or "board" in name or f"`{name}`" in text, f"docs/ARCHITECTURE.md: no test program `{name}`")
 

@@ -26,7 +26,7 @@ def without_comments(text):
 def exported():
     """The exported functions of the crate: for each its parameters as C has them (name, type, is it const, elements of a fixed size or None, '*')."""
     calls = {}
-    for name, parameters, result in re.findall(r'#\[no_mangle\]\s*pub extern "C" fn (\w+)\((.*?)\)\s*->\s*(\w+)', without_comments(pathlib.Path(source).read_text()), re.S):
+    for name, parameters, result in re.findall(r'#\[unsafe\(no_mangle\)\]\s*pub extern "C" fn (\w+)\((.*?)\)\s*->\s*(\w+)', without_comments(pathlib.Path(source).read_text()), re.S):
         assert result == "u32", name
         calls[name] = []
         for parameter in filter(None, (p.strip() for p in parameters.split(","))):
@@ -106,7 +106,7 @@ def check_names(header):
         wrong.append(f"refusals other than those of crate refusals: {sorted(set(named) ^ set(due))}")
 
     in_header = refusal_lists(header, IN_HEADER, DECLARATION)
-    in_source = refusal_lists(pathlib.Path(source).read_text(), r"(?://[^\n]*\n)+", r'#\[no_mangle\]\s*pub extern "C" fn (\w+)\(')
+    in_source = refusal_lists(pathlib.Path(source).read_text(), r"(?://[^\n]*\n)+", r'#\[unsafe\(no_mangle\)\]\s*pub extern "C" fn (\w+)\(')
     in_format = {}
     for calls, listed in re.findall(r"^\| (`pastaspur[^|]*) \|.*\| ([^|]*) \|$", pathlib.Path("docs/FORMAT.md").read_text(), re.M):
         in_format.update({name: numbers(listed) for name in re.findall(r"`(\w+)`", calls)})

@@ -5,7 +5,7 @@
 
 The promises are the fields of crates/promises/specs/Promises.antt; a field `f.statement M` is the contract of f, which stands in src/. A promise
 rests on each definition that its statement names, and on each that those name. A definition is a record, a data type, a struct, an enum, or what is
-marked `abbrev` or `unfoldable`. Of anything else a statement sees the type alone: it is a proof, and so are marked ones with a hyphen in their name.
+marked `abbrev` or `unfoldable`. Of anything else a statement sees the type alone: it is a proof, and so are marked ones that PROOFS names.
 A name means what the file declares or its `use` lines bring in, unless the clause that it stands in binds it."""
 import difflib
 import pathlib
@@ -18,8 +18,10 @@ USE = re.compile(r"(pub |unfoldable pub |ghost )?use (\S+?)(?:\.\{(.*)\}| as (\S
 NAME = r"«[^»]+»|[^\s(){}.;,@\"«»]+"
 DECLARATION = re.compile(rf"((?:abbrev |unfoldable |pub )*)(?:(record|data) ({NAME})|({NAME})(?: \{{[^}}:]*\}})? :(?: |$))")
 FIELD = re.compile(rf"^ +(?:pub )?({NAME}) :", re.M)
+# Marked, and proofs all the same.
+PROOFS = set("""before_total left_bytes less_total lex_compare lex_head lex_rest lex_total numbers_of on_of on_total same_of the_joined then_first then_second then_total""".split())
 BINDERS = [r"[({]([^(){}:=]*?) : ", r"[λ∀] ([^.]*)\.", r"\blet (\S+)", r"[\[|]\s*([^\[|↦]*?)\s*↦", r"^ *open .* using \((.*)\)"]
-MODULE = re.compile(r"Rattle·(\w+)(?:·\w+)?\.(specs|proofs)\.(.+)")
+MODULE = re.compile(r"Rattle\.(\w+)\.(specs|proofs)\.(.+)")
 
 
 def bound(text):
@@ -33,11 +35,14 @@ class Declaration:
 
     def shown(self):
         """Its text with the comment above it, from the margin."""
-        first = self.line
+        above = self.line
+        while above and self.file.whole[above - 1].startswith("#["):  # what a type derives
+            above -= 1
+        first = above
         while first and re.match(r" *(--|//) (?!----)", self.file.whole[first - 1]):
             first -= 1
         margin = len(self.file.whole[self.line]) - len(self.file.whole[self.line].lstrip())
-        return [line[margin:] for line in self.file.whole[first:self.end + 1]]
+        return [line[margin:] for line in self.file.whole[first:above] + self.file.whole[self.line:self.end + 1]]
 
     def parts(self):
         """The signature and each clause, with the names that are bound there."""
@@ -72,7 +77,7 @@ class File:
         found = USE.match(line.strip())
         for path, names, name in re.findall(r"^use (\w+)(?:::\w+)*::(?:\{(.*)\}|(\w+));$", line):
             for name in re.findall(r"\b[A-Z]\w*[a-z]\w*", names or name):  # structs and enums of another crate
-                self.imported[name] = f"Rattle·{path}.specs.declared.{name}", name
+                self.imported[name] = f"Rattle.{path}.specs.declared.{name}", name
         if found:
             how, module, names, alias = found.groups()
             if alias:
@@ -102,7 +107,7 @@ class File:
             elif DECLARATION.match(start):
                 marks, kind, typed, other = DECLARATION.match(start).groups()
                 sections = [one for one in sections if one[0] < margin]
-                marked = re.search("abbrev|unfoldable", marks) and "-" not in (typed or other).strip("_")
+                marked = re.search("abbrev|unfoldable", marks) and (typed or other) not in PROOFS
                 current = Declaration(self, at, kind, typed or other, bool(kind or marked), [text for _, text in sections])
                 current.margin = margin
                 self.declared.setdefault(current.name, current)
@@ -115,11 +120,11 @@ class File:
     def read_code(self):
         for at, line in enumerate(self.lines):
             self.read_use(line)
-            found = re.match(r"(?:#\[no_mangle\] )?(?:pub )?(?:extern \"C\" )?(struct|enum|fn) (\w+)", line)
+            found = re.match(r"(?:pub )?(?:extern \"C\" )?(struct|enum|fn) (\w+)", line)
             if found:
                 kind, name = found.groups()
                 one = self.declared[name if kind != "fn" else f"fn {name}"] = Declaration(self, at, kind, name, kind != "fn")
-                last = r"\{|[^⌜]* \{$" if kind == "fn" else r"\}"
+                last = r"\{|.* \{$" if kind == "fn" else r"\}"
                 one.end = next(i for i in range(at, len(self.lines)) if re.match(last, self.lines[i])) - (kind == "fn")
 
     def look_up(self, name):
@@ -134,7 +139,7 @@ class File:
 
     def named(self, text, hidden):
         words, found = WORD.findall(text), []
-        operators = {part: name for name in [*self.imported, *self.declared] if "_" in name for part in name.split("_") if part}
+        operators = {part: name for name in [*self.imported, *self.declared] if "◌" in name for part in name.split("◌") if part}
         for at, word in enumerate(words):
             name = operators.get(word, word)
             if word in self.aliases and words[at + 1:at + 2] == ["."]:
@@ -222,8 +227,8 @@ pub long-word : (w : Word) → long w ≡ true → Word
 long-word w h = w
 """
 HIGH = """
-use Rattle·low.specs.Words.{Word, long, brief as short, long-word}
-use Rattle·low.specs.Words as words
+use Rattle.low.specs.Words.{Word, long, brief as short, long-word}
+use Rattle.low.specs.Words as words
 
 module _ (w : Word)
     (h : short w ≡ true)
@@ -253,22 +258,22 @@ def check_itself():
 LINE = [
     ("A pair", "A candidate is a list of pairs `in:out`. In and out are symbols, numbers from 1 on, or the empty symbol, 0. The ins spell the word; an insertion "
      "spells nothing. A candidate's byte string is its pairs' bytes, one pair after another.",
-     "machine/Symbols.isPair candidate/Candidates.spelled candidate/Candidates.bytesOf"),
+     "machine/Symbols.is_pair candidate/Candidates.spelled candidate/Candidates.bytes_of"),
     ("A machine", "A constraint is a machine. An arc takes a pair in a state, moves on to a state, and gives marks. In a final state the machine may end, with marks of "
      "the ending.",
-     "machine/Machine.startState machine/Machine.stepOf machine/Machine.endingOf"),
+     "machine/Machine.start_state machine/Machine.step_of machine/Machine.ending_of"),
     ("A candidate and its profile", "A candidate is complete if every machine takes every pair in turn and ends. Its profile has one count for each machine, the marks of "
      "the arcs taken and of the ending.",
-     "candidate/Candidates.profileOf candidate/Candidates.IsCandidate"),
+     "candidate/Candidates.profile_of candidate/Candidates.IsCandidate"),
     ("The better of two", "A ranking lists the machines, highest first. Of two profiles the one is worse that has more marks at the highest ranked machine where they "
      "differ. Between equal profiles fewer pairs decide, then the smaller byte string.",
      "product/BestCandidate.Beats"),
     ("The best candidate", "The best beats every other candidate for the word, however long.",
      "product/BestCandidate.IsBestCandidate"),
     ("A card", "A card is a byte string. Its parts are its machines, written down.",
-     "card/Card.machinesOf"),
+     "card/Card.machines_of"),
     ("What is refused", "Before the search a call checks the card (1 to 6), the ranking (7), the word (8) and the work slice (9). It answers the first refusal met.",
-     "product/Optimizing.inputRefusal"),
+     "product/Optimizing.input_refusal"),
     ("What a call answers", "The best as a definition that computes: of the candidates with fewer pairs than there are nodes, the one that is preferred to all others. "
      "That longer lists change nothing is a theorem. The result and the answer slice at exit follow from it: 10 where there is none, 12 where the answer slice is too "
      "short for it.",
@@ -276,7 +281,7 @@ LINE = [
     ("Demand 3", "What is promised of an answer, for every card, ranking and word that the checks accept, and every answer slice.",
      "optimizer/Demand3.Demand3"),
 ]
-LINE_PROMISES = ["optimize", "demand-3"]
+LINE_PROMISES = ["optimize", "demand_3"]
 LINE_PAGES, PAGE = 10, 66  # ten pages of 66 lines
 
 HEAD = """# Statements
@@ -362,7 +367,7 @@ def document():
     made.lines += ["## 1. From a pair to demand 3", ""]
     for at, (title, text, heads) in enumerate(LINE, 1):
         made.lines += [f"### 1.{at} {title}", "", text, ""]
-        found = [find("Rattle·{}.specs.{}".format(*head.split(".")[0].split("/")), head.split(".")[1]) for head in heads.split()]
+        found = [find("Rattle.{}.specs.{}".format(*head.split(".")[0].split("/")), head.split(".")[1]) for head in heads.split()]
         assert all(one in whole for one in found), f"{title}: demand 3 does not rest on all of {heads}"
         made.show(found, f"1.{at}")
     made.say(first, f"1.{len(LINE)}")

@@ -36,7 +36,8 @@ enum { WORKING_FOLDER = -100, READ_ONLY = 0 };
 int64_t read(int32_t file, uint8_t *to, uint64_t length);
 int64_t write(int32_t file, const uint8_t *from, uint64_t length);
 int32_t close(int32_t file);
-int32_t rattle_open_to_read(const uint8_t *path);
+int32_t open(const uint8_t *path, int32_t how, ...);
+int32_t rattle_errno(void);
 void rattle_set_errno(int32_t number);
 _Noreturn void exit(int status);
 int main(int count, char **words);
@@ -46,11 +47,14 @@ int64_t read(int32_t file, uint8_t *to, uint64_t length) { return linux_call(REA
 int64_t write(int32_t file, const uint8_t *from, uint64_t length) { return linux_call(WRITE, file, (word)from, (word)length, 0); }
 int32_t close(int32_t file) { return (int32_t)linux_call(CLOSE, file, 0, 0, 0); }
 
-int32_t rattle_open_to_read(const uint8_t *path) {
+int32_t open(const uint8_t *path, int32_t how, ...) {
+    (void)how;
     word file = linux_call(OPEN_AT, WORKING_FOLDER, (word)path, READ_ONLY, 0);
     return file < 0 ? -1 : (int32_t)file;
 }
 
+/* The program does the same whatever it was that failed. */
+int32_t rattle_errno(void) { return 0; }
 void rattle_set_errno(int32_t number) { (void)number; }
 
 _Noreturn void exit(int status) {

@@ -21,7 +21,8 @@ const env = {
     read: (file, to, length) => BigInt(fs.readSync(file, bytes(to, length))),
     write: (file, from, length) => BigInt(fs.writeSync(file, bytes(from, length))),
     close: (file) => (fs.closeSync(file), 0),
-    rattle_open_to_read: open,
+    open,
+    rattle_errno: () => 0,
     rattle_set_errno: () => {},
     exit: (status) => process.exit(status),
 };

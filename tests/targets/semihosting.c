@@ -14,7 +14,8 @@ enum { UNALIGNED_FAULTS = 8 };
 int64_t read(int32_t file, uint8_t *to, uint64_t length);
 int64_t write(int32_t file, const uint8_t *from, uint64_t length);
 int32_t close(int32_t file);
-int32_t rattle_open_to_read(const uint8_t *path);
+int32_t open(const uint8_t *path, int32_t how, ...);
+int32_t rattle_errno(void);
 void rattle_set_errno(int32_t number);
 _Noreturn void exit(int status);
 int main(int count, char **words);
@@ -26,7 +27,7 @@ static int32_t ask(int32_t what, const void *with) {
     return asked;
 }
 
-static int32_t open(const char *path, int32_t how) {
+static int32_t open_file(const char *path, int32_t how) {
     uint32_t length = 0;
     while (path[length]) length++;
     const uint32_t block[] = {(uint32_t)path, (uint32_t)how, length};
@@ -43,7 +44,7 @@ int64_t read(int32_t file, uint8_t *to, uint64_t length) {
 
 int64_t write(int32_t file, const uint8_t *from, uint64_t length) {
     (void)file;
-    if (display < 0) display = open(":tt", WRITE_BYTES);
+    if (display < 0) display = open_file(":tt", WRITE_BYTES);
     const uint32_t block[] = {(uint32_t)display, (uint32_t)from, (uint32_t)length};
     return (int64_t)length - ask(WRITE, block);
 }
@@ -53,7 +54,12 @@ int32_t close(int32_t file) {
     return ask(CLOSE, block);
 }
 
-int32_t rattle_open_to_read(const uint8_t *path) { return open((const char *)path, READ_BYTES); }
+int32_t open(const uint8_t *path, int32_t how, ...) {
+    (void)how;
+    return open_file((const char *)path, READ_BYTES);
+}
+
+int32_t rattle_errno(void) { return 0; }
 void rattle_set_errno(int32_t number) { (void)number; }
 
 _Noreturn void exit(int status) {

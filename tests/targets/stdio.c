@@ -8,7 +8,9 @@
 int64_t read(int32_t file, uint8_t *to, uint64_t length);
 int64_t write(int32_t file, const uint8_t *from, uint64_t length);
 int32_t close(int32_t file);
-int32_t rattle_open_to_read(const uint8_t *path);
+int32_t open(const uint8_t *path, int32_t how, ...);
+
+enum { READ_ONLY = 0 };
 
 struct file {
     int32_t number;
@@ -18,7 +20,7 @@ FILE *const stderr = &errors;
 
 FILE *fopen(const char *path, const char *mode) {
     (void)mode;
-    opened.number = rattle_open_to_read((const uint8_t *)path);
+    opened.number = open((const uint8_t *)path, READ_ONLY);
     return opened.number < 0 ? NULL : &opened;
 }
 

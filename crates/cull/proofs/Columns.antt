@@ -1,5 +1,6 @@
 -- The front of a new array of columns. Assumes nothing.
-use Rattle.basics.specs.Words.{◌≡◌, List, [], ◌∷◌, ℕ, zero, suc, ◌<◌, ◌≤◌, arith, length, get_or, take, replicate, length-replicate, get_or-replicate, List·getD-eq-default, length-take-le, dec_lt}
+use Rattle.std.specs.Prelude.{◌≡◌, ◌∷◌, ◌<◌, ◌≤◌}
+use Rattle.basics.specs.Words.{List, [], ℕ, zero, suc, arith, length, get_or, take, replicate, length-replicate, get_or-replicate, List·getD-eq-default, length-take-le, dec_lt}
 use Rattle.columns.specs.Filling.{Small}
 
 small_take : (n : ℕ) (l : List ℕ) → Small l → Small (take n l)

@@ -1,5 +1,6 @@
 -- The loops over the positions of a stage, and over the stages.
-use Rattle.basics.proofs.Words.{◌≡◌, refl, sym, ◌∙◌, ap, subst, true, not, ◌&&◌, List, Option, none, some, Option·map, inr, ◌≢◌, ℕ, zero, suc, ◌+◌, ◌*◌, ◌-◌, ◌≤◌, ◌<◌, arith, length, get_or, set, length-set, length-map, List·getD-eq-default, eqb, get_or-set_same, get_or-set_other, ℕ_discrete, dec_lt, member, left as left-passes}
+use Rattle.std.specs.Prelude.{◌≡◌, ◌&&◌, ◌≢◌, ◌+◌, ◌*◌, ◌-◌, ◌≤◌, ◌<◌}
+use Rattle.basics.proofs.Words.{refl, sym, ◌∙◌, ap, subst, true, not, List, Option, none, some, Option·map, inr, ℕ, zero, suc, arith, length, get_or, set, length-set, length-map, List·getD-eq-default, eqb, get_or-set_same, get_or-set_other, ℕ_discrete, dec_lt, member, left as left-passes}
 use Rattle.card.specs.Card.{machines_of}
 use Rattle.tables.specs.Work.{state_of}
 use Rattle.paths.specs.Labels.{Closed}

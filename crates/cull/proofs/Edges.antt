@@ -1,5 +1,6 @@
 -- What the theory of paths asks of the engine's graph, and its edges by position and code.
-use Rattle.basics.specs.Words.{◌≡◌, true, List, ℕ, ◌+◌, ◌*◌, ◌<◌, arith, length, get_or, member}
+use Rattle.std.specs.Prelude.{◌≡◌, ◌+◌, ◌*◌, ◌<◌}
+use Rattle.basics.specs.Words.{true, List, ℕ, arith, length, get_or, member}
 use Rattle.card.specs.Card.{machines_of}
 use Rattle.paths.specs.Graph.{Within}
 use Rattle.product.specs.Prices.{by_ranking}

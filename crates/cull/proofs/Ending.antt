@@ -1,5 +1,6 @@
 -- Trying the endings of the last position in a stage.
-use Rattle.basics.specs.Words.{◌≡◌, refl, sym, ◌∙◌, ap, subst, Bool, true, false, List, [], ◌∷◌, Option, none, some, ℕ, zero, suc, ◌+◌, ◌*◌, ◌/◌, ◌%◌, ◌≤◌, ◌<◌, arith, length, get_or, mod-lt, div-lt_iff_lt-mul, div-add-mod', mul-le-mul_right}
+use Rattle.std.specs.Prelude.{◌≡◌, ◌∷◌, ◌+◌, ◌*◌, ◌/◌, ◌%◌, ◌≤◌, ◌<◌}
+use Rattle.basics.specs.Words.{refl, sym, ◌∙◌, ap, subst, Bool, true, false, List, [], Option, none, some, ℕ, zero, suc, arith, length, get_or, mod-lt, div-lt_iff_lt-mul, div-add-mod', mul-le-mul_right}
 use Rattle.machine.specs.Machine.{Machine, ending_of}
 use Rattle.card.specs.Layout.{symbol_count}
 use Rattle.card.specs.Card.{machines_of}

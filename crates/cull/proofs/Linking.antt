@@ -1,5 +1,6 @@
 -- The arcs and the endings that the tests on the counts keep are those of the stage's graph.
-use Rattle.basics.proofs.Words.{◌≡◌, refl, sym, ◌∙◌, ap, subst, true, false, List, [], ◌∷◌, Option, none, some, map-eq-some_iff, ℕ, zero, suc, ◌+◌, ◌<◌, arith, ne_eqb}
+use Rattle.std.specs.Prelude.{◌≡◌, ◌∷◌, ◌+◌, ◌<◌}
+use Rattle.basics.proofs.Words.{refl, sym, ◌∙◌, ap, subst, true, false, List, [], Option, none, some, map-eq-some_iff, ℕ, zero, suc, arith, ne_eqb}
 use Rattle.machine.specs.declared.Pair.{Pair}
 use Rattle.paths.specs.Bounds.{Sized}
 use Rattle.paths.specs.Ranked.{Ranked, letter_count, count_at, ranked_costs, count_at_add}

@@ -1,5 +1,6 @@
 -- What listing the insertions and the stages are given.
-use Rattle.basics.specs.Words.{◌≡◌, refl, sym, ◌∙◌, ap, subst, List, ℕ, ◌+◌, ◌*◌, arith, length, length-map}
+use Rattle.std.specs.Prelude.{◌≡◌, ◌+◌, ◌*◌}
+use Rattle.basics.specs.Words.{refl, sym, ◌∙◌, ap, subst, List, ℕ, arith, length, length-map}
 use Rattle.ranking.specs.Lemmas.Rankings.{ranking_facts}
 use Rattle.card.specs.Layout.{machine_count}
 use Rattle.card.specs.Card.{machines_of}

@@ -1,5 +1,6 @@
 -- From stage to stage, and from the last one to the labels for the whole cost.
-use Rattle.basics.specs.Words.{◌≡◌, refl, sym, ◌∙◌, ap, subst, List, Option, none, some, Option·none-ne-some, Option·map, ℕ, zero, suc, ◌+◌, ◌*◌, ◌<◌, arith, get_or, ℕ_discrete}
+use Rattle.std.specs.Prelude.{◌≡◌, ◌+◌, ◌*◌, ◌<◌}
+use Rattle.basics.specs.Words.{refl, sym, ◌∙◌, ap, subst, List, Option, none, some, Option·none-ne-some, Option·map, ℕ, zero, suc, arith, get_or, ℕ_discrete}
 use Rattle.paths.specs.Costs.{atmost_none}
 use Rattle.paths.specs.Bounds.{Sized}
 use Rattle.paths.specs.Ranked.{Ranked, letter_count, count_at, ranked_costs, count_at_add}

@@ -1,5 +1,6 @@
 -- A position in a stage: its symbol's arcs are tried, its insertions until nothing changes, and it is done.
-use Rattle.basics.proofs.Words.{◌≡◌, refl, sym, ◌∙◌, ap, subst, subst₂, Bool, true, false, not, ◌&&◌, List, Option, none, some, Option·none-ne-some, ◌⊎◌, inl, inr, ◌≢◌, ℕ, zero, suc, ◌+◌, ◌-◌, ◌*◌, ◌≤◌, ◌<◌, arith, length, get_or, eqb, mul-le-mul_right, suc-mul, ℕ_discrete, dec_lt, member, eqb-true, ne_eqb, clash}
+use Rattle.std.specs.Prelude.{◌≡◌, ◌&&◌, ◌⊎◌, ◌≢◌, ◌+◌, ◌-◌, ◌*◌, ◌≤◌, ◌<◌}
+use Rattle.basics.proofs.Words.{refl, sym, ◌∙◌, ap, subst, subst₂, Bool, true, false, not, List, Option, none, some, Option·none-ne-some, inl, inr, ℕ, zero, suc, arith, length, get_or, eqb, mul-le-mul_right, suc-mul, ℕ_discrete, dec_lt, member, eqb-true, ne_eqb, clash}
 use Rattle.machine.specs.declared.Pair.{Pair}
 use Rattle.card.specs.Card.{machines_of}
 use Rattle.paths.specs.Costs.{Labels, AtMost}

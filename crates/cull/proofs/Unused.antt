@@ -1,5 +1,6 @@
 -- The places of the ranking past its last machine: no way has a mark there.
-use Rattle.basics.specs.Words.{◌≡◌, refl, sym, ◌∙◌, ap, List, [], ◌∷◌, Option, some, none, Option·none-ne-some, ℕ, zero, suc, ◌≤◌, ◌<◌, arith, length, get_or, length-map, List·getD-eq-default}
+use Rattle.std.specs.Prelude.{◌≡◌, ◌∷◌, ◌≤◌, ◌<◌}
+use Rattle.basics.specs.Words.{refl, sym, ◌∙◌, ap, List, [], Option, some, none, Option·none-ne-some, ℕ, zero, suc, arith, length, get_or, length-map, List·getD-eq-default}
 use Rattle.machine.specs.declared.Pair.{Pair}
 use Rattle.machine.specs.Machine.{Machine, ending_of, step_of}
 use Rattle.card.specs.Card.{machines_of}

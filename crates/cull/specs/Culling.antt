@@ -1,5 +1,6 @@
 -- The stages of the cull on a card: what holds in one, position by position, and between them.
-use Rattle.basics.specs.Words.{◌≡◌, List, Option, some, ℕ, suc, ◌+◌, ◌*◌, ◌≤◌, ◌<◌, length, get_or}
+use Rattle.std.specs.Prelude.{◌≡◌, ◌+◌, ◌*◌, ◌≤◌, ◌<◌}
+use Rattle.basics.specs.Words.{List, Option, some, ℕ, suc, length, get_or}
 use Rattle.card.specs.Card.{machines_of}
 use Rattle.paths.specs.Bounds.{Sized}
 use Rattle.paths.specs.Graph.{Graph}

@@ -1,5 +1,6 @@
 -- A constraint of which no way has a mark: for its stage the labels of the stage before do, with no marks in them.
-use Rattle.basics.specs.Words.{◌≡◌, sym, ◌∙◌, ap, List, Option, some, Option·map, map-eq-some_iff, inl, inr, ◌↔◌, ℕ, suc, arith}
+use Rattle.std.specs.Prelude.{◌≡◌, ◌↔◌}
+use Rattle.basics.specs.Words.{sym, ◌∙◌, ap, List, Option, some, Option·map, map-eq-some_iff, inl, inr, ℕ, suc, arith}
 use Rattle.paths.specs.Total.{Upto}
 use Rattle.paths.specs.Costs.{Labels, AtMost}
 use Rattle.paths.specs.Ranked.{Ranked, Less, count_at, ranked_costs, count_at_add}

@@ -1,5 +1,6 @@
 -- What is left after the first k constraints, told by the graph's own edges and endings and the labels of the k stages alone.
-use Rattle.basics.specs.Words.{◌≡◌, refl, ap, subst, Bool, true, false, Option, none, some, ◌↔◌, ℕ, zero, suc, ◌<◌, arith}
+use Rattle.std.specs.Prelude.{◌≡◌, ◌↔◌, ◌<◌}
+use Rattle.basics.specs.Words.{refl, ap, subst, Bool, true, false, Option, none, some, ℕ, zero, suc, arith}
 use Rattle.paths.specs.Costs.{Costs}
 use Rattle.paths.specs.Graph.{Alphabet, Edge, Graph}
 use Rattle.stage.specs.Below.{Below, below_none, below_next}

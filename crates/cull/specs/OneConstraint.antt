@@ -1,5 +1,6 @@
 -- A ranked graph as the stage of one constraint sees it: of each cost the marks of the constraint k and the number of letters, and no more.
-use Rattle.basics.specs.Words.{◌≡◌, refl, sym, ◌∙◌, ap, List, Option, some, Option·map, map-eq-some_iff, inl, inr, ℕ, suc, ◌≤◌, ◌<◌, arith}
+use Rattle.std.specs.Prelude.{◌≡◌, ◌≤◌, ◌<◌}
+use Rattle.basics.specs.Words.{refl, sym, ◌∙◌, ap, List, Option, some, Option·map, map-eq-some_iff, inl, inr, ℕ, suc, arith}
 use Rattle.paths.specs.Total.{Upto}
 use Rattle.paths.specs.Costs.{Labels, AtMost}
 use Rattle.paths.specs.Ranked.{Ranked, add, Less, letter_count, count_at, ranked_costs, letter_count_add, count_at_add}

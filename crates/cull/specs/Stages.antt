@@ -1,6 +1,7 @@
 -- The cull of a ranked graph, as an engine does it: constraint by constraint it labels what is left by the marks of that constraint, and then
 -- the number of letters; and it walks along the labels of the last.
-use Rattle.basics.specs.Words.{◌≡◌, ap, true, false, Option, none, some, Option·map, ℕ, suc, ◌<◌}
+use Rattle.std.specs.Prelude.{◌≡◌, ◌<◌}
+use Rattle.basics.specs.Words.{ap, true, false, Option, none, some, Option·map, ℕ, suc}
 use Rattle.paths.specs.Costs.{Labels}
 use Rattle.paths.specs.Ranked.{Ranked, letter_count, count_at, ranked_costs}
 use Rattle.paths.specs.Graph.{Alphabet, Edge, Graph, Within}

@@ -3,7 +3,8 @@
 -- so far, the stage's own among them. A way is a list of pairs of any length, so that loops of free insertions are among them. What is left is told by
 -- the slice alone: a stage drops the arcs and the endings whose marks, with the count of the node that they lead to, are more than the count of their
 -- own node.
-use Rattle.basics.specs.Words.{◌≡◌, refl, sym, ◌∙◌, ap, subst, Bool, true, false, true≢false, List, Option, none, some, ◌↔◌, ℕ, suc, ◌≤◌, ◌<◌, arith, length}
+use Rattle.std.specs.Prelude.{◌≡◌, ◌↔◌, ◌≤◌, ◌<◌}
+use Rattle.basics.specs.Words.{refl, sym, ◌∙◌, ap, subst, Bool, true, false, true≢false, List, Option, none, some, ℕ, suc, arith, length}
 use Rattle.machine.specs.declared.Pair.{Pair}
 use Rattle.card.specs.Card.{machines_of, card_refusal}
 use Rattle.candidate.specs.Candidates.{profile_of}

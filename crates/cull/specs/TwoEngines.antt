@@ -1,7 +1,8 @@
 -- Theorem: for every input the cull and the optimizer give the same result and the same answer slice. Both calls have the contract `Optimizes`, so what
 -- `Demand3.demand-3` says of the one it says of the other. The work slices may differ: at entry in their contents, and in their length where both pass 9
 -- (`TwoCalls.two-calls`, which also says what holds where they do not); at exit in any way.
-use Rattle.basics.specs.Words.{◌≡◌, List, ℕ, length}
+use Rattle.std.specs.Prelude.{◌≡◌}
+use Rattle.basics.specs.Words.{List, ℕ, length}
 use Rattle.candidate.specs.declared.Evaluation.{Evaluation}
 use Rattle.optimizer.specs.Optimizes.{Optimizes, OptimizesSets}
 use Rattle.optimizer.specs.TwoCalls.{two_calls, two_calls_sets}

@@ -1,5 +1,6 @@
 -- The ways from a node to an end, and what the stages of the cull leave of them: those that no other way beats on the constraints gone down so far (S-7).
-use Rattle.basics.specs.Words.{◌≡◌, Bool, true, false, ◌&&◌, List, [], ◌∷◌, Option, none, some, ◌↔◌, ℕ, suc, ◌<◌, length, get_or, drop, take, all_of, every_below}
+use Rattle.std.specs.Prelude.{◌≡◌, ◌&&◌, ◌∷◌, ◌↔◌, ◌<◌}
+use Rattle.basics.specs.Words.{Bool, true, false, List, [], Option, none, some, ℕ, suc, length, get_or, drop, take, all_of, every_below}
 use Rattle.machine.specs.declared.Pair.{Pair}
 use Rattle.machine.specs.Symbols.{is_pair}
 use Rattle.machine.specs.Machine.{Machine}

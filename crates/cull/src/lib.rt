@@ -2,7 +2,8 @@
 // cost more are dropped.
 #![tactic(auto)]
 
-ghost use Rattle.basics.specs.Words.{List, ℕ, ◌<◌};
+ghost use Rattle.std.specs.Prelude.{◌<◌};
+ghost use Rattle.basics.specs.Words.{List, ℕ};
 ghost use Rattle.tables.specs.Work.{HasNodes};
 ghost use Rattle.labelling.specs.Labelling.{LabelPre, PositionsDone};
 ghost use Rattle.optimizer.specs.Optimizes.{Optimizes, OptimizesSets};

@@ -1,5 +1,6 @@
 -- The cards of the worked examples, as bytes.
-use Rattle.basics.specs.Words.{List, [], ◌∷◌, ◌++◌, ℕ}
+use Rattle.std.specs.Prelude.{◌∷◌, ◌++◌}
+use Rattle.basics.specs.Words.{List, [], ℕ}
 
 -- a set of symbols 0 to 7 as eight bytes, and an arc as twenty
 abbrev pub set_bytes : ℕ → List ℕ

@@ -1,5 +1,6 @@
 -- The ten examples, in one joint proof from the definitions alone; and those of the change requests.
-use Rattle.basics.specs.Words.{◌≡◌, refl, List, [], ◌∷◌, ℕ, all_of, pairwise, those, first_that, joined, every_below, some_below, numbers_below, occurrences, set_of, product}
+use Rattle.std.specs.Prelude.{◌≡◌, ◌∷◌}
+use Rattle.basics.specs.Words.{refl, List, [], ℕ, all_of, pairwise, those, first_that, joined, every_below, some_below, numbers_below, occurrences, set_of, product}
 use Rattle.machine.specs.Machine.{of_kind, takes, step_among, ending_of, take_one_pair, clash}
 use Rattle.machine.specs.Part.{arc_at, arcs_at, machine_of, sound_arc, shaped, part_refusal}
 use Rattle.layout.specs.Layout.{due_offset, laid_out, parts_in}

@@ -1,5 +1,6 @@
 -- The program on card B: what it prints for a line, and its whole output for an input.
-use Rattle.basics.specs.Words.{◌≡◌, refl, [], all_of, pairwise, those, joined, every_below, some_below, numbers_below, occurrences, set_of, product}
+use Rattle.std.specs.Prelude.{◌≡◌}
+use Rattle.basics.specs.Words.{refl, [], all_of, pairwise, those, joined, every_below, some_below, numbers_below, occurrences, set_of, product}
 use Rattle.machine.specs.Machine.{of_kind, takes, step_among, ending_of, take_one_pair, clash}
 use Rattle.machine.specs.Part.{arc_at, arcs_at, machine_of, sound_arc, shaped, part_refusal}
 use Rattle.layout.specs.Layout.{due_offset, laid_out, parts_in}

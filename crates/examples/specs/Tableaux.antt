@@ -1,5 +1,6 @@
 -- Tableaux of card B under ranking 021, word 2, judged by the definition: example 4's answer claimed, not claimed, and lacking.
-use Rattle.basics.specs.Words.{◌≡◌, refl, List, [], ◌∷◌, ◌++◌, ℕ, all_of, pairwise, those, first_that, joined, every_below, some_below, numbers_below, occurrences, product}
+use Rattle.std.specs.Prelude.{◌≡◌, ◌∷◌, ◌++◌}
+use Rattle.basics.specs.Words.{refl, List, [], ℕ, all_of, pairwise, those, first_that, joined, every_below, some_below, numbers_below, occurrences, product}
 use Rattle.machine.specs.Machine.{of_kind, takes, step_among, ending_of, take_one_pair, clash}
 use Rattle.machine.specs.Part.{arc_at, arcs_at, machine_of, sound_arc, shaped, part_refusal}
 use Rattle.layout.specs.Layout.{due_offset, laid_out, parts_in}

@@ -1,5 +1,6 @@
 -- The sizes of an accepted card: what every search goes by.
-use Rattle.basics.specs.Words.{◌≡◌, List, ℕ, take}
+use Rattle.std.specs.Prelude.{◌≡◌}
+use Rattle.basics.specs.Words.{List, ℕ, take}
 use Rattle.card.specs.Layout.{machine_count, symbol_count}
 use Rattle.card.specs.Card.{machines_of}
 use Rattle.product.specs.Nodes.{state_counts, product}

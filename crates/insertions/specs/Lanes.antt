@@ -1,6 +1,6 @@
 -- Joint steps one after the other, each with the code that it leads from, a lane each: which are listed, in which list, as which entry.
 use Rattle.std.specs.Prelude.{◌&&◌, ◌+◌, ◌*◌, ◌/◌, ◌%◌}
-use Rattle.basics.specs.Words.{Bool, cond, not, List, [], ℕ, zero, suc, min, get_or, set, eqb, ltb}
+use Rattle.basics.specs.Words.{Bool, cond, not, List, ℕ, zero, suc, min, get_or, set, eqb, ltb}
 use Rattle.cells.specs.Cells.{nowhere}
 
 -- the code that a step leads from, and its two numbers

@@ -1,5 +1,6 @@
 -- The checks of joining and its answer, by their numbers. Assumes nothing.
-use Rattle.basics.proofs.Words.{◌≡◌, refl, ap, ap₂, sym, ◌∙◌, Bool, true, false, not, ◌&&◌, ◌||◌, List, [], ◌∷◌, ◌⊎◌, inl, inr, ℕ, zero, suc, ◌<◌, ◌≤◌, min, max, arith, length, eqb, ltb, leb, lit<, eqb-false, ne_eqb, lt-ltb, le-ltb, le-leb, leb-true, leb-false, either, left_fails, right_fails}
+use Rattle.std.specs.Prelude.{◌≡◌, ◌&&◌, ◌||◌, ◌∷◌, ◌⊎◌, ◌<◌, ◌≤◌}
+use Rattle.basics.proofs.Words.{refl, ap, ap₂, sym, ◌∙◌, Bool, true, false, not, List, [], inl, inr, ℕ, zero, suc, min, max, arith, length, eqb, ltb, leb, lit<, eqb-false, ne_eqb, lt-ltb, le-ltb, le-leb, leb-true, leb-false, either, left_fails, right_fails}
 use Rattle.refusals.specs.Refusals.{refuse, first_of}
 use Rattle.refusals.proofs.Refusals.{passed, first_up, first_on, last_one}
 use Rattle.card.specs.declared.Packed.{Packed}

@@ -1,5 +1,6 @@
 -- The new card's parts: which old parts they are, how long they are, and the card that they make. Assumes nothing.
-use Rattle.basics.proofs.Words.{◌≡◌, refl, ap, ap₂, sym, subst, ◌∙◌, Bool, true, false, cond, List, [], ◌++◌, map, ◌⊎◌, inl, inr, ℕ, suc, ◌+◌, ◌*◌, ◌-◌, ◌<◌, ◌≤◌, arith, length, get_or, take, drop, length-map, ltb, ext_get_or, get_or-take, length-take-le, joined, ltb-true, ltb-false, lt-ltb, le-ltb, map_at}
+use Rattle.std.specs.Prelude.{◌≡◌, ◌++◌, ◌⊎◌, ◌+◌, ◌*◌, ◌-◌, ◌<◌, ◌≤◌}
+use Rattle.basics.proofs.Words.{refl, ap, ap₂, sym, subst, ◌∙◌, Bool, true, false, cond, List, [], map, inl, inr, ℕ, suc, arith, length, get_or, take, drop, length-map, ltb, ext_get_or, get_or-take, length-take-le, joined, ltb-true, ltb-false, lt-ltb, le-ltb, map_at}
 use Rattle.machine.specs.Machine.{Machine, no_machine}
 use Rattle.machine.specs.Part.{state_count, arcs_of, machine_of, shaped}
 use Rattle.machine.specs.Accepted.{accepted as part_accepted}

@@ -1,5 +1,6 @@
 -- A list that is written element by element. Assumes nothing.
-use Rattle.basics.specs.Words.{◌≡◌, ◌∙◌, List, ℕ, suc, ◌<◌, arith, length, get_or, set, ℕ_discrete, get_or-set_same, get_or-set_other}
+use Rattle.std.specs.Prelude.{◌≡◌, ◌<◌}
+use Rattle.basics.specs.Words.{◌∙◌, List, ℕ, suc, arith, length, get_or, set, ℕ_discrete, get_or-set_same, get_or-set_other}
 
 -- a list that agrees below i, with element i stored
 pub stored : (l : List ℕ) (i v : ℕ) (f : ℕ → ℕ) → i < length l → ((k : ℕ) → k < i → get_or l k 0 ≡ f k) → v ≡ f i → (k : ℕ) → k < suc i → get_or (set l i v) k 0 ≡ f k

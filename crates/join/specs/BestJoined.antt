@@ -1,6 +1,7 @@
 -- The best candidate with two machines joined, one of them without marks: it is the best candidate of the old card, under the ranking in which the
 -- joined machine stands in the place of the one with marks. Assumes nothing.
-use Rattle.basics.proofs.Words.{◌≡◌, refl, sym, ap, ◌∙◌, Bool, true, false, List, Option, some, none, ◌⊎◌, inl, inr, ◌↔◌, ℕ, suc, ◌+◌, ◌*◌, ◌<◌, arith, length, get_or, eqb, ext_get_or, map_at}
+use Rattle.std.specs.Prelude.{◌≡◌, ◌⊎◌, ◌↔◌, ◌+◌, ◌*◌, ◌<◌}
+use Rattle.basics.proofs.Words.{refl, sym, ap, ◌∙◌, Bool, true, false, List, Option, some, none, inl, inr, ℕ, suc, arith, length, get_or, eqb, ext_get_or, map_at}
 use Rattle.std.proofs.Common.{eqb-true}
 use Rattle.std.proofs.lemmas.Bool.{eqb-false}
 use Rattle.machine.specs.declared.Pair.{Pair}

@@ -1,6 +1,7 @@
 -- The theorem on joined machines, over decoded machines: a candidate is complete with the two joined exactly when it was, and its profile is the
 -- old one with the two counts added; and the joined machines are sound, with as many joint states. Assumes nothing.
-use Rattle.basics.proofs.Words.{◌≡◌, refl, sym, ap, ◌∙◌, true, ◌&&◌, List, Option, some, none, ◌↔◌, ℕ, ◌+◌, ◌*◌, ◌<◌, arith, length, length-map, all_of, clash, all_at}
+use Rattle.std.specs.Prelude.{◌≡◌, ◌&&◌, ◌↔◌, ◌+◌, ◌*◌, ◌<◌}
+use Rattle.basics.proofs.Words.{refl, sym, ap, ◌∙◌, true, List, Option, some, none, ℕ, arith, length, length-map, all_of, clash, all_at}
 use Rattle.machine.specs.declared.Pair.{Pair}
 use Rattle.machine.specs.Symbols.{is_pair}
 use Rattle.machine.specs.Machine.{Machine}

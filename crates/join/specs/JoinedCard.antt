@@ -1,5 +1,6 @@
 -- The card with two of its machines joined.
-use Rattle.basics.specs.Words.{◌≡◌, Bool, true, not, ◌&&◌, ◌||◌, List, [], ◌∷◌, ◌++◌, ◌⊎◌, ℕ, ◌<◌, min, max, length, drop, eqb, ltb, leb}
+use Rattle.std.specs.Prelude.{◌≡◌, ◌&&◌, ◌||◌, ◌∷◌, ◌++◌, ◌⊎◌, ◌<◌}
+use Rattle.basics.specs.Words.{Bool, true, not, List, [], ℕ, min, max, length, drop, eqb, ltb, leb}
 use Rattle.refusals.specs.Refusals.{refuse, first_of, unless_refused}
 use Rattle.machine.specs.Machine.{Machine}
 use Rattle.card.specs.declared.Packed.{Packed}

@@ -1,6 +1,7 @@
 -- The card with two of its machines joined is accepted; its machines are the old ones with the two joined; and so candidates, profiles and the
 -- best candidate are what the change promises. Assumes nothing.
-use Rattle.basics.proofs.Words.{◌≡◌, refl, sym, ap, ap₂, subst, ◌∙◌, true, List, [], ◌∷◌, ◌++◌, map, ◌⊎◌, inl, inr, ℕ, zero, suc, ◌<◌, ◌≤◌, arith, length, get_or, take, drop, length-map, leb, lit<, take_at, all_of, both, left, right, all_at, map_at}
+use Rattle.std.specs.Prelude.{◌≡◌, ◌∷◌, ◌++◌, ◌⊎◌, ◌<◌, ◌≤◌}
+use Rattle.basics.proofs.Words.{refl, sym, ap, ap₂, subst, ◌∙◌, true, List, [], map, inl, inr, ℕ, zero, suc, arith, length, get_or, take, drop, length-map, leb, lit<, take_at, all_of, both, left, right, all_at, map_at}
 use Rattle.std.proofs.Common.{eqb-true, leb-true, eq-eqb}
 use Rattle.refusals.specs.Refusals.{refuse, first_of}
 use Rattle.refusals.proofs.Refusals.{passed, none_first, last_one}
@@ -21,7 +22,7 @@ use Rattle.candidate.specs.Candidates.{is_complete, profile_of}
 use Rattle.candidate.specs.Evaluating.{evaluating}
 use Rattle.product.specs.Best.{best}
 use Rattle.product.specs.Sets.{are64_bits, best_of_sets}
-use Rattle.product.specs.Searches.{of_word, of_sets}
+use Rattle.product.proofs.Searches.{of_word, of_sets}
 use Rattle.product.specs.Nodes.{state_count_of, state_counts, product}
 use Rattle.product.specs.Laws.Accepted.{part_states}
 use Rattle.join.specs.Merged.{merged_counts}

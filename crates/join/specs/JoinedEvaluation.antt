@@ -1,5 +1,6 @@
 -- Evaluation of a candidate, given as bytes, on a card and on the one with two of its machines joined. Assumes nothing.
-use Rattle.basics.proofs.Words.{◌≡◌, refl, sym, ap, ◌∙◌, Bool, true, false, ◌&&◌, List, ◌++◌, append_assoc, ℕ, suc, ◌+◌, ◌-◌, ◌*◌, ◌%◌, ◌<◌, ◌≤◌, arith, length, replicate, length-append, length-replicate, replicate-append-replicate, eqb, leb, all_of, left, right, all_at, each_at}
+use Rattle.std.specs.Prelude.{◌≡◌, ◌&&◌, ◌++◌, ◌+◌, ◌-◌, ◌*◌, ◌%◌, ◌<◌, ◌≤◌}
+use Rattle.basics.proofs.Words.{refl, sym, ap, ◌∙◌, Bool, true, false, List, append_assoc, ℕ, suc, arith, length, replicate, length-append, length-replicate, replicate-append-replicate, eqb, leb, all_of, left, right, all_at, each_at}
 use Rattle.machine.specs.declared.Pair.{Pair}
 use Rattle.machine.specs.Symbols.{is_pair}
 use Rattle.ranking.specs.declared.Profile.{Profile}

@@ -1,5 +1,6 @@
 -- Lists in which one place takes in another: for machines, parts, state counts and profile counts alike.
-use Rattle.basics.specs.Words.{List, [], ◌∷◌, ℕ, zero, suc, ◌+◌, get_or, without}
+use Rattle.std.specs.Prelude.{◌∷◌, ◌+◌}
+use Rattle.basics.specs.Words.{List, [], ℕ, zero, suc, get_or, without}
 
 module _ {A : Type 0} where
   -- place i holds what f makes of the places i and j, for i < j, and place j is gone

@@ -1,6 +1,7 @@
 -- Both engines answer alike on a card and on the one with two of its machines joined, one of them without marks. It is said of the calls' contracts,
 -- `Optimizes` for a word and `OptimizesSets` for sets, which both engines have: either call may be either engine's. Assumes nothing.
-use Rattle.basics.specs.Words.{◌≡◌, sym, ap, subst, ◌∙◌, true, List, Option, some, ◌↔◌, ℕ, ◌*◌, arith, length, lit<, ℕ_discrete}
+use Rattle.std.specs.Prelude.{◌≡◌, ◌↔◌, ◌*◌}
+use Rattle.basics.specs.Words.{sym, ap, subst, ◌∙◌, true, List, Option, some, ℕ, arith, length, lit<, ℕ_discrete}
 use Rattle.refusals.specs.Refusals.{refuse}
 use Rattle.refusals.proofs.Refusals.{passed, passes_with}
 use Rattle.machine.specs.declared.Pair.{Pair}
@@ -16,7 +17,8 @@ use Rattle.product.specs.Answering.{before_search}
 use Rattle.product.specs.Optimizing.{sound_word, input_refusal}
 use Rattle.product.specs.OptimizingSets.{sets_refusal, sets_input_refusal}
 use Rattle.product.specs.BestCandidate.{IsBestBy, Beats, IsBestCandidate, IsBestOfSets}
-use Rattle.product.specs.Searches.{Searches, of_word, of_sets}
+use Rattle.product.specs.Searches.{Searches}
+use Rattle.product.proofs.Searches.{of_word, of_sets}
 use Rattle.product.specs.Laws.Accepted.{accepted_machines}
 use Rattle.input.specs.AcceptedInput.{Passes, passes, passes_all, accepted_input, accepted_sets_input, accepted_bits}
 use Rattle.optimizer.specs.Optimizes.{Optimizes, OptimizesSets}

@@ -1,5 +1,6 @@
 -- The new card: what the functions that write it put where.
-use Rattle.basics.specs.Words.{◌≡◌, cond, List, ℕ, ◌+◌, ◌*◌, ◌-◌, length, ltb, joined}
+use Rattle.std.specs.Prelude.{◌≡◌, ◌+◌, ◌*◌, ◌-◌}
+use Rattle.basics.specs.Words.{cond, List, ℕ, length, ltb, joined}
 use Rattle.machine.specs.Part.{state_count, arcs_of}
 use Rattle.layout.specs.Layout.{part_of}
 use Rattle.card.specs.Layout.{machine_count, parts_of}

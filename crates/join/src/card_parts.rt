@@ -1,5 +1,6 @@
 // The parts of the new card: their lengths, and the writing of the card.
-ghost use Rattle.basics.specs.Words.{◌≡◌, [], map, ◌+◌, ◌-◌, ◌<◌, ◌≤◌, length, get_or, take};
+ghost use Rattle.std.specs.Prelude.{◌≡◌, ◌+◌, ◌-◌, ◌<◌, ◌≤◌};
+ghost use Rattle.basics.specs.Words.{[], map, length, get_or, take};
 ghost use Rattle.card.specs.Layout.{machine_count, parts_of};
 ghost use Rattle.join.specs.JoinedCard.{joined_parts, joined_card};
 ghost use Rattle.join.specs.Writing.{placed, table_length, joined_bytes, old_number, CardJoins, JoinedArcCount};

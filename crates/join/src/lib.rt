@@ -1,7 +1,8 @@
 // Joining two machines of a card, by Ellison's product.
 #![tactic(auto)]
 
-ghost use Rattle.basics.specs.Words.{◌≡◌, ◌<◌, min, max, length};
+ghost use Rattle.std.specs.Prelude.{◌≡◌, ◌<◌};
+ghost use Rattle.basics.specs.Words.{min, max, length};
 ghost use Rattle.refusals.specs.Refusals.{checked_number};
 ghost use Rattle.layout.specs.Layout.{part_of};
 ghost use Rattle.machine.specs.Part.{machine_of};

@@ -1,5 +1,6 @@
 -- Two parts that may be joined: their state bytes and arcs, and what fits. Assumes nothing.
-use Rattle.basics.proofs.Words.{◌≡◌, refl, ap, ap₂, sym, subst, ◌∙◌, true, false, ◌&&◌, List, [], ◌∷◌, ◌++◌, map, ℕ, zero, suc, ◌+◌, ◌*◌, ◌<◌, ◌≤◌, arith, length, get_or, take, set, length-append, length-set, eqb, leb, get_or-drop, get_or-take, length-slice, suc-mul, mul-le-mul_right, all_of, leb-true, ne_eqb, left, right, all_at}
+use Rattle.std.specs.Prelude.{◌≡◌, ◌&&◌, ◌∷◌, ◌++◌, ◌+◌, ◌*◌, ◌<◌, ◌≤◌}
+use Rattle.basics.proofs.Words.{refl, ap, ap₂, sym, subst, ◌∙◌, true, false, List, [], map, ℕ, zero, suc, arith, length, get_or, take, set, length-append, length-set, eqb, leb, get_or-drop, get_or-take, length-slice, suc-mul, mul-le-mul_right, all_of, leb-true, ne_eqb, left, right, all_at}
 use Rattle.machine.specs.declared.Arc.{Arc}
 use Rattle.machine.specs.Machine.{state_count_of}
 use Rattle.machine.specs.Part.{state_count, arc_count, state_bytes, ending_byte, arcs_of, machine_of, shaped, sound_arc, sound_states}

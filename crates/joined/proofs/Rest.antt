@@ -1,5 +1,6 @@
 -- How loops over a list go on: a test of all that is left, and bytes that are still to be written. Assumes nothing.
-use Rattle.basics.proofs.Words.{◌≡◌, refl, ap, sym, ◌∙◌, Bool, true, false, List, [], ◌∷◌, map, ℕ, ◌+◌, ◌-◌, ◌/◌, ◌%◌, ◌<◌, ◌≤◌, arith, length, get_or, drop, set, length-append, all_of, joined, left_at, left_none, all_none, all_next, all_fails}
+use Rattle.std.specs.Prelude.{◌≡◌, ◌∷◌, ◌+◌, ◌-◌, ◌/◌, ◌%◌, ◌<◌, ◌≤◌}
+use Rattle.basics.proofs.Words.{refl, ap, sym, ◌∙◌, Bool, true, false, List, [], map, ℕ, arith, length, get_or, drop, set, length-append, all_of, joined, left_at, left_none, all_none, all_next, all_fails}
 use Rattle.joined.specs.MachineBytes.{little_endian}
 use Rattle.joined.specs.Writing.{placed}
 use Rattle.joined.specs.Laws.Placed.{placed_none, placed_length, placed_next, placed_step}

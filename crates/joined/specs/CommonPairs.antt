@@ -1,5 +1,6 @@
 -- Pairs that two arcs have in common, by their kinds and by the sets that they share.
-use Rattle.basics.specs.Words.{◌≡◌, Bool, true, ◌&&◌, ◌||◌, ℕ, ◌<◌, eqb, ltb, member}
+use Rattle.std.specs.Prelude.{◌≡◌, ◌&&◌, ◌||◌, ◌<◌}
+use Rattle.basics.specs.Words.{Bool, true, ℕ, eqb, ltb, member}
 use Rattle.machine.specs.declared.Pair.{Pair}
 use Rattle.machine.specs.Symbols.{is_pair}
 use Rattle.machine.specs.Machine.{of_kind}

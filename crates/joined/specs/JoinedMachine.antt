@@ -1,5 +1,6 @@
 -- Two machines joined to one by Ellison's product.
-use Rattle.basics.specs.Words.{Bool, true, ◌&&◌, List, map, Option, some, none, ℕ, zero, suc, ◌+◌, ◌*◌, eqb, all_of, those, joined}
+use Rattle.std.specs.Prelude.{◌&&◌, ◌+◌, ◌*◌}
+use Rattle.basics.specs.Words.{Bool, true, List, map, Option, some, none, ℕ, zero, suc, eqb, all_of, those, joined}
 use Rattle.std.specs.Int.Bits.{bit_and}
 use Rattle.machine.specs.declared.Arc.{Arc}
 use Rattle.machine.specs.Machine.{Machine, state_count_of, take_one_pair}

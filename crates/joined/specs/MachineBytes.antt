@@ -1,5 +1,6 @@
 -- The bytes of a machine as a part, and two parts as one.
-use Rattle.basics.specs.Words.{Bool, ◌&&◌, List, [], ◌∷◌, ◌++◌, map, Option, some, none, ℕ, zero, suc, ◌/◌, ◌%◌, length, leb, joined}
+use Rattle.std.specs.Prelude.{◌&&◌, ◌∷◌, ◌++◌, ◌/◌, ◌%◌}
+use Rattle.basics.specs.Words.{Bool, List, [], map, Option, some, none, ℕ, zero, suc, length, leb, joined}
 use Rattle.machine.specs.declared.Arc.{Arc}
 use Rattle.machine.specs.Machine.{Machine, state_count_of}
 use Rattle.machine.specs.Part.{machine_of}

@@ -1,5 +1,6 @@
 -- The joined part byte by byte: what the functions that write it put where.
-use Rattle.basics.specs.Words.{◌≡◌, true, cond, List, [], ◌++◌, ◌⊎◌, ℕ, ◌+◌, ◌<◌, length, get_or, take, drop, joined}
+use Rattle.std.specs.Prelude.{◌≡◌, ◌++◌, ◌⊎◌, ◌+◌, ◌<◌}
+use Rattle.basics.specs.Words.{true, cond, List, [], ℕ, length, get_or, take, drop, joined}
 use Rattle.machine.specs.declared.Arc.{Arc}
 use Rattle.machine.specs.Machine.{take_one_pair}
 use Rattle.machine.specs.Part.{state_count, arc_count, ending_byte, arcs_of, machine_of, shaped, part_refusal}

@@ -1,7 +1,8 @@
 // What two arcs and two parts have in common, and what they are as one, by Ellison's product.
 #![tactic(auto)]
 
-ghost use Rattle.basics.specs.Words.{◌≡◌, true, ◌+◌, ◌*◌, ◌<◌, ◌≤◌, length, get_or, eqb, all_of};
+ghost use Rattle.std.specs.Prelude.{◌≡◌, ◌+◌, ◌*◌, ◌<◌, ◌≤◌};
+ghost use Rattle.basics.specs.Words.{true, length, get_or, eqb, all_of};
 ghost use Rattle.machine.specs.Machine.{take_one_pair};
 ghost use Rattle.machine.specs.Part.{state_count, state_bytes, ending_byte, arcs_of, machine_of, shaped};
 ghost use Rattle.joined.specs.JoinedMachine.{joined_kind, joined_arc, arcs_with, joined_arcs, ends_free, markless};

@@ -1,5 +1,6 @@
 // The writing of the joined part.
-ghost use Rattle.basics.specs.Words.{◌≡◌, true, map, ◌+◌, ◌≤◌, length};
+ghost use Rattle.std.specs.Prelude.{◌≡◌, ◌+◌, ◌≤◌};
+ghost use Rattle.basics.specs.Words.{true, map, length};
 ghost use Rattle.machine.specs.Part.{state_count, state_bytes, arcs_of, shaped, sound_states};
 ghost use Rattle.joined.specs.JoinedMachine.{joined_arcs, crossed};
 ghost use Rattle.joined.specs.MachineBytes.{little_endian, arc_bytes, joined_part};

@@ -1,5 +1,6 @@
 -- A position closed in counts, or in numbers, is closed in the slice that is there. Assumes nothing.
-use Rattle.basics.specs.Words.{◌≡◌, refl, sym, ◌∙◌, List, ℕ, length}
+use Rattle.std.specs.Prelude.{◌≡◌}
+use Rattle.basics.specs.Words.{refl, sym, ◌∙◌, List, ℕ, length}
 use Rattle.closing.specs.Closing.{CountsClosed, SumsClosed, AllPassed, ClosedAt}
 
 module _ {ranked sums own own' next next' : List ℕ} {base P : ℕ} where

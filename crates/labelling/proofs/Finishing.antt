@@ -1,5 +1,6 @@
 -- A position that was entered, settled and closed: one position more is labelled.
-use Rattle.basics.proofs.Words.{◌≡◌, sym, ◌∙◌, subst, Bool, List, ℕ, suc, ◌+◌, ◌*◌, ◌/◌, ◌%◌, ◌<◌, ◌≤◌, arith, length, suc-mul, mul-le-mul_right, eq-eqb, ne_eqb}
+use Rattle.std.specs.Prelude.{◌≡◌, ◌+◌, ◌*◌, ◌/◌, ◌%◌, ◌<◌, ◌≤◌}
+use Rattle.basics.proofs.Words.{sym, ◌∙◌, subst, Bool, List, ℕ, suc, arith, length, suc-mul, mul-le-mul_right, eq-eqb, ne_eqb}
 use Rattle.machine.specs.Symbols.{empty_symbol}
 use Rattle.card.specs.Card.{machines_of}
 use Rattle.paths.specs.Costs.{Labels}

@@ -1,5 +1,6 @@
 -- The labels of the positions that are done, as the work slices and the labels of the next position have them.
-use Rattle.basics.specs.Words.{◌≡◌, refl, sym, ◌∙◌, ap, subst, List, Option, none, Option·none-ne-some, inr, ℕ, suc, ◌+◌, ◌*◌, ◌-◌, ◌<◌, ◌≤◌, arith, length, List·getD-eq-default, suc-mul, mul-le-mul_right, ℕ_discrete}
+use Rattle.std.specs.Prelude.{◌≡◌, ◌+◌, ◌*◌, ◌-◌, ◌<◌, ◌≤◌}
+use Rattle.basics.specs.Words.{refl, sym, ◌∙◌, ap, subst, List, Option, none, Option·none-ne-some, inr, ℕ, suc, arith, length, List·getD-eq-default, suc-mul, mul-le-mul_right, ℕ_discrete}
 use Rattle.paths.specs.Costs.{Labels}
 use Rattle.paths.specs.Ranked.{Ranked, ranked_costs}
 use Rattle.paths.specs.Positions.{Done, done_start}

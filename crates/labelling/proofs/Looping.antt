@@ -1,5 +1,6 @@
 -- One position after the other.
-use Rattle.basics.specs.Words.{◌≡◌, refl, sym, ◌∙◌, ap, subst, List, none, ℕ, suc, ◌+◌, ◌-◌, ◌*◌, ◌<◌, ◌≤◌, arith, length, get_or, take, replicate, get_or-replicate, length-replicate, List·getD-eq-default, eqb, mul-le-mul_right, dec_lt}
+use Rattle.std.specs.Prelude.{◌≡◌, ◌+◌, ◌-◌, ◌*◌, ◌<◌, ◌≤◌}
+use Rattle.basics.specs.Words.{refl, sym, ◌∙◌, ap, subst, List, none, ℕ, suc, arith, length, get_or, take, replicate, get_or-replicate, length-replicate, List·getD-eq-default, eqb, mul-le-mul_right, dec_lt}
 use Rattle.card.specs.Card.{machines_of}
 use Rattle.paths.specs.Positions.{Entered}
 use Rattle.product.specs.Nodes.{state_counts, product}

@@ -1,5 +1,6 @@
 -- What the search is given, from the call's parts: the order, columns and lists.
-use Rattle.basics.specs.Words.{◌≡◌, refl, sym, ◌∙◌, subst, true, true≢false, List, [], ℕ, zero, suc, ◌+◌, ◌*◌, ◌<◌, ◌≤◌, arith, length, take, replicate, length-replicate, length-take-le, mul-le-mul_left, mul-zero, suc-mul}
+use Rattle.std.specs.Prelude.{◌≡◌, ◌+◌, ◌*◌, ◌<◌, ◌≤◌}
+use Rattle.basics.specs.Words.{refl, sym, ◌∙◌, subst, true, true≢false, List, [], ℕ, zero, suc, arith, length, take, replicate, length-replicate, length-take-le, mul-le-mul_left, mul-zero, suc-mul}
 use Rattle.ranking.specs.Rankings.{is_ranking}
 use Rattle.machine.specs.Symbols.{empty_symbol}
 use Rattle.card.specs.Layout.{symbol_count}

@@ -1,5 +1,6 @@
 -- The sizes of an accepted card: the state counts of its machines stand in front of six numbers. Assumes nothing.
-use Rattle.basics.specs.Words.{◌≡◌, sym, ◌∙◌, ap, subst, List, ℕ, ◌*◌, ◌≤◌, arith, length, take, length-take-le}
+use Rattle.std.specs.Prelude.{◌≡◌, ◌*◌, ◌≤◌}
+use Rattle.basics.specs.Words.{sym, ◌∙◌, ap, subst, List, ℕ, arith, length, take, length-take-le}
 use Rattle.card.specs.Card.{machines_of, card_refusal}
 use Rattle.product.specs.Nodes.{state_counts, product}
 use Rattle.tables.specs.Tables.{CountsOfSome}

@@ -1,5 +1,6 @@
 -- Labelling all nodes, position by position, from the last to the first.
-use Rattle.basics.specs.Words.{◌≡◌, Bool, true, false, List, some, ◌≢◌, ℕ, ◌+◌, ◌*◌, ◌^◌, ◌<◌, ◌≤◌, length}
+use Rattle.std.specs.Prelude.{◌≡◌, ◌≢◌, ◌+◌, ◌*◌, ◌^◌, ◌<◌, ◌≤◌}
+use Rattle.basics.specs.Words.{Bool, true, false, List, some, ℕ, length}
 use Rattle.ranking.specs.Rankings.{is_ranking}
 use Rattle.machine.specs.Symbols.{empty_symbol}
 use Rattle.card.specs.Layout.{machine_count}

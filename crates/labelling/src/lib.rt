@@ -2,7 +2,8 @@
 // of two work slices, the other being empty: as ranked counts, or as one number by weights.
 #![tactic(auto)]
 
-ghost use Rattle.basics.specs.Words.{◌+◌, ◌*◌, ◌≤◌, length, take};
+ghost use Rattle.std.specs.Prelude.{◌+◌, ◌*◌, ◌≤◌};
+ghost use Rattle.basics.specs.Words.{length, take};
 ghost use Rattle.cells.specs.Groups.{GroupsOf};
 ghost use Rattle.grid.specs.Grids.{GridOf};
 ghost use Rattle.labelling.specs.Labelling.{LabelPre, PositionsDone, FinishPre, Finished, PositionsPre, SearchPre, JointRoom, AllLabelled};

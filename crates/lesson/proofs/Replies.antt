@@ -1,5 +1,6 @@
 -- How a line's reply follows from what parsing and the optimizer answer. Assumes nothing.
-use Rattle.basics.proofs.Words.{◌≡◌, refl, ap, ◌∙◌, Bool, List, ◌++◌, Option, some, none, ℕ, zero, suc, arith, length, take, drop, replicate, length-append, length-drop, eqb, take-append_seam, suc-ne-zero, ne_eqb}
+use Rattle.std.specs.Prelude.{◌≡◌, ◌++◌}
+use Rattle.basics.proofs.Words.{refl, ap, ◌∙◌, Bool, List, Option, some, none, ℕ, zero, suc, arith, length, take, drop, replicate, length-append, length-drop, eqb, take-append_seam, suc-ne-zero, ne_eqb}
 use Rattle.candidate.specs.declared.Evaluation.{Evaluation}
 use Rattle.card.specs.Layout.{machine_count}
 use Rattle.product.specs.Optimizing.{optimized, optimized_answer}

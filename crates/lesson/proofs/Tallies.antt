@@ -1,5 +1,6 @@
 -- A lesson that is not full, and how many totals are shown. Assumes nothing.
-use Rattle.basics.proofs.Words.{◌≡◌, refl, false, List, ℕ, zero, suc, ◌+◌, ◌<◌, arith, leb-false}
+use Rattle.std.specs.Prelude.{◌≡◌, ◌+◌, ◌<◌}
+use Rattle.basics.proofs.Words.{refl, false, List, ℕ, zero, suc, arith, leb-false}
 use Rattle.card.specs.Layout.{machine_count}
 use Rattle.card.specs.Card.{card_refusal}
 use Rattle.tally.specs.declared.Tally.{Tally}

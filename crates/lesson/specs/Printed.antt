@@ -1,5 +1,6 @@
 -- What the program prints for a line.
-use Rattle.basics.specs.Words.{◌≡◌, List, Option, some, none, ℕ, ◌≤◌, length, replicate}
+use Rattle.std.specs.Prelude.{◌≡◌, ◌≤◌}
+use Rattle.basics.specs.Words.{List, Option, some, none, ℕ, length, replicate}
 use Rattle.card.specs.Layout.{machine_count}
 use Rattle.product.specs.Optimizing.{optimized, optimized_answer}
 use Rattle.writing.specs.Buffers.{at_front}

@@ -1,5 +1,6 @@
 -- A lesson's lines counted one after another, and what is then printed.
-use Rattle.basics.specs.Words.{Bool, true, false, List, [], ◌∷◌, ◌++◌, Option, some, none, ℕ, zero, suc, take}
+use Rattle.std.specs.Prelude.{◌∷◌, ◌++◌}
+use Rattle.basics.specs.Words.{Bool, true, false, List, [], Option, some, none, ℕ, zero, suc, take}
 use Rattle.card.specs.Layout.{machine_count}
 use Rattle.card.specs.Card.{card_refusal}
 use Rattle.candidate.specs.declared.Evaluation.{Evaluation}

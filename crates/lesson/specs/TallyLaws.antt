@@ -1,5 +1,6 @@
 -- Laws of the tally after lines: a lesson that is full and one that is not, and what comes after the first line past the thousandth.
-use Rattle.basics.proofs.Words.{◌≡◌, refl, ap, sym, ◌∙◌, Bool, true, false, List, [], ◌∷◌, ◌++◌, ℕ, zero, suc, ◌≤◌, zero-le, clash}
+use Rattle.std.specs.Prelude.{◌≡◌, ◌∷◌, ◌++◌, ◌≤◌}
+use Rattle.basics.proofs.Words.{refl, ap, sym, ◌∙◌, Bool, true, false, List, [], ℕ, zero, suc, zero-le, clash}
 use Rattle.card.specs.Layout.{machine_count}
 use Rattle.card.specs.Card.{card_refusal}
 use Rattle.card.specs.Accepted.{accepted}

@@ -1,7 +1,8 @@
 // One line's answer: what is printed for a line, what it adds to the lesson's tally, and what is printed after the last one.
 #![tactic(auto)]
 
-ghost use Rattle.basics.specs.Words.{◌≡◌, false, ◌≤◌, length};
+ghost use Rattle.std.specs.Prelude.{◌≡◌, ◌≤◌};
+ghost use Rattle.basics.specs.Words.{false, length};
 ghost use Rattle.card.specs.Layout.{machine_count};
 ghost use Rattle.lesson.specs.Printed.{best_line, printed, Prints};
 ghost use Rattle.lesson.specs.Tally.{best_counts, line_counts, told, line_tally, line_text, shown_machines, closing_text, Fits};

@@ -1,5 +1,6 @@
 -- What the numbers of the checks say, and how they make up the number of a call. Assumes nothing.
-use Rattle.basics.proofs.Words.{◌≡◌, refl, sym, ◌∙◌, Bool, true, List, [], ◌∷◌, ℕ, zero, suc, ◌<◌, ◌≤◌, arith, length, lit<, leb, ltb, leb-true, ltb-true, left, right}
+use Rattle.std.specs.Prelude.{◌≡◌, ◌∷◌, ◌<◌, ◌≤◌}
+use Rattle.basics.proofs.Words.{refl, sym, ◌∙◌, Bool, true, List, [], ℕ, zero, suc, arith, length, lit<, leb, ltb, leb-true, ltb-true, left, right}
 use Rattle.refusals.specs.Refusals.{refuse, first_of, checked_number}
 use Rattle.refusals.proofs.Refusals.{passed, none_first, last_one, passed_number, refused_number}
 use Rattle.ranking.specs.Rankings.{is_machine_count, is_ranking}

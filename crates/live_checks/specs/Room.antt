@@ -1,5 +1,6 @@
 -- Refusal 23: the row counts that a list of records can have.
-use Rattle.basics.specs.Words.{Bool, ◌&&◌, ℕ, leb, ltb}
+use Rattle.std.specs.Prelude.{◌&&◌}
+use Rattle.basics.specs.Words.{Bool, ℕ, leb, ltb}
 
 -- 23: a row count that a list can have; on an add, one more fits
 abbrev pub fits : ℕ → ℕ → Bool

@@ -1,7 +1,8 @@
 // The checks of the live tableau's calls, and whether a row takes the lead.
 #![tactic(auto)]
 
-ghost use Rattle.basics.specs.Words.{◌≡◌, true, not, [], ◌∷◌, ◌≤◌, length, eqb};
+ghost use Rattle.std.specs.Prelude.{◌≡◌, ◌∷◌, ◌≤◌};
+ghost use Rattle.basics.specs.Words.{true, not, [], length, eqb};
 ghost use Rattle.refusals.specs.Refusals.{checked_number, refuse, first_of};
 ghost use Rattle.ranking.specs.Rankings.{is_machine_count, is_ranking};
 ghost use Rattle.ranking.specs.Harmony.{better};

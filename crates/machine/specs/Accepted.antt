@@ -56,9 +56,15 @@ verdict false b d e h = absurd (omega arith)
 
 pub accepted : (S : ℕ) (part : List ℕ) → part_refusal S part ≡ 0 → Accepted S part
 unfolding part_refusal
-accepted S l h =
-    let v = verdict (shaped l) (sound_states l) (sound_arcs S l) (no_clash l) h in
-    record { shape = v.0; states = v.1; arcs = v.2; clashes = v.3 }
+accepted S l h = go (shaped l) (sound_states l) (sound_arcs S l) (no_clash l) refl refl refl refl
+  where
+    go : (a b d e : Bool) → shaped l ≡ a → sound_states l ≡ b → sound_arcs S l ≡ d → no_clash l ≡ e → Accepted S l
+    go true true true true p q r s = record { shape = p; states = q; arcs = r; clashes = s }
+    go true true true false p q r s = absurd (let z = simp (p, q, r, s) at h in omega (arith, z))
+    go true true false true p q r s = absurd (let z = simp (p, q, r, s) at h in omega (arith, z))
+    go true true false false p q r s = absurd (let z = simp (p, q, r, s) at h in omega (arith, z))
+    go true false d e p q r s = absurd (let z = simp (p, q) at h in omega (arith, z))
+    go false b d e p q r s = absurd (let z = simp p at h in omega (arith, z))
 
 -- an arc of an accepted part, on a card of S symbols, in a machine of Q states
 pub record SoundArc (S Q : ℕ) (a : Arc) : Type 0 where

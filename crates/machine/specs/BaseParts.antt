@@ -1,13 +1,13 @@
 -- Parts from before ending marks and kinds, as the base read them: a state byte is 1, final, or 0, not; an arc takes by its sets alone, and its fourth
 -- byte is a zero. Assumes nothing.
 use Rattle.std.specs.Prelude.{◌≡◌, ◌&&◌, ◌∷◌}
-use Rattle.basics.proofs.Words.{refl, sym, ◌∙◌, ap, Bool, true, List, [], ℕ, ltb, leb, all_of, pairwise, both, left, right}
+use Rattle.basics.proofs.Words.{refl, sym, ◌∙◌, ap, ap₂, Bool, true, List, [], ℕ, ltb, leb, all_of, pairwise, both, left, right}
 use Rattle.refusals.specs.Refusals.{refuse, first_of}
 use Rattle.machine.specs.declared.Arc.{Arc}
-use Rattle.machine.specs.Part.{state_count, arcs_of, shaped, sound_set, part_refusal}
+use Rattle.machine.specs.Part.{state_count, arcs_of, shaped, sound_set, sound_states, part_refusal}
 use Rattle.machine.specs.Accepted.{verdict}
 use Rattle.machine.specs.OldStates.{old_states, states_pass}
-use Rattle.machine.specs.OldArcs.{sound_by_sets, free_by_sets, refusal_by_sets, old_arc, old_arcs, same_refusal}
+use Rattle.machine.specs.OldArcs.{sound_by_sets, free_by_sets, old_arc, old_arcs, same_sound_arcs, same_no_clash}
 
 -- 0 where the base accepts the part on a card of S symbols, else the first refusal that applies
 unfoldable pub base_refusal : ℕ → List ℕ → ℕ
@@ -20,10 +20,11 @@ base_part part = old_states part && old_arcs part
 
 -- such a part is refused or accepted as in the base
 pub refused_as_in_base : (S : ℕ) (part : List ℕ) → base_part part ≡ true → part_refusal S part ≡ base_refusal S part
-unfolding refusal_by_sets base_refusal
+unfolding part_refusal base_refusal
 refused_as_in_base S part t =
     let states = left (old_states part) (old_arcs part) t in
-    same_refusal S part (right (old_states part) (old_arcs part) t)
+    let arcs = right (old_states part) (old_arcs part) t in
+    ap₂ (λ (b d : Bool). first_of (refuse 3 (shaped part) ∷ refuse 4 (sound_states part) ∷ refuse 4 b ∷ refuse 5 d ∷ [])) (same_sound_arcs S part arcs) (same_no_clash part arcs)
     ∙ ap (λ (b : Bool). first_of (refuse 3 (shaped part) ∷ refuse 4 b ∷ refuse 4 (all_of (sound_by_sets S (state_count part)) (arcs_of part)) ∷ refuse 5 (pairwise free_by_sets (arcs_of part)) ∷ []))
     (states_pass part states ∙ sym states)
 

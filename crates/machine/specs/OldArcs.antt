@@ -7,7 +7,7 @@ use Rattle.machine.specs.declared.Arc.{Arc}
 use Rattle.machine.specs.declared.Pair.{Pair}
 use Rattle.machine.specs.Symbols.{is_pair, pair_of}
 use Rattle.machine.specs.Machine.{of_kind, takes, step_among, take_one_pair, clash}
-use Rattle.machine.specs.Part.{state_count, arcs_of, shaped, sound_set, sound_arc, sound_states, clash_free, part_refusal}
+use Rattle.machine.specs.Part.{state_count, arcs_of, shaped, sound_set, sound_arc, sound_states, sound_arcs, clash_free, no_clash, part_refusal}
 
 -- an arc takes a pair if in and out are in its sets
 abbrev pub takes_by_sets : Arc → Pair → Bool
@@ -86,10 +86,15 @@ same_free a b s t =
     let r : takes b ≡ takes_by_sets b = λ i q. same_takes b q t i in
     ap₂ (λ (f g : Pair → Bool). not (eqb a.from b.from && some_below (λ x. some_below (λ y. is_pair (pair_of x y) && f (pair_of x y) && g (pair_of x y)) 64) 64)) p r
 
--- and so is the part's refusal
+-- and so are the tests of refusals 4 and 5
+pub same_sound_arcs : (S : ℕ) (part : List ℕ) → old_arcs part ≡ true → sound_arcs S part ≡ all_of (sound_by_sets S (state_count part)) (arcs_of part)
+same_sound_arcs S part t = all_same (sound_arc S (state_count part)) (sound_by_sets S (state_count part)) (same_sound S (state_count part)) (arcs_of part) t
+
+pub same_no_clash : (part : List ℕ) → old_arcs part ≡ true → no_clash part ≡ pairwise free_by_sets (arcs_of part)
+same_no_clash part t = pairwise_same clash_free free_by_sets same_free (arcs_of part) t
+
+-- and the part's refusal
 pub same_refusal : (S : ℕ) (part : List ℕ) → old_arcs part ≡ true → part_refusal S part ≡ refusal_by_sets S part
 unfolding part_refusal refusal_by_sets
 same_refusal S part t =
-    ap₂ (λ (b d : Bool). first_of (refuse 3 (shaped part) ∷ refuse 4 (sound_states part) ∷ refuse 4 b ∷ refuse 5 d ∷ []))
-    (all_same (sound_arc S (state_count part)) (sound_by_sets S (state_count part)) (same_sound S (state_count part)) (arcs_of part) t)
-    (pairwise_same clash_free free_by_sets same_free (arcs_of part) t)
+    ap₂ (λ (b d : Bool). first_of (refuse 3 (shaped part) ∷ refuse 4 (sound_states part) ∷ refuse 4 b ∷ refuse 5 d ∷ [])) (same_sound_arcs S part t) (same_no_clash part t)

@@ -1,5 +1,6 @@
 -- The weights of machines in ranked order. Assumes nothing.
-use Rattle.basics.proofs.Words.{◌≡◌, refl, sym, ◌∙◌, ap, Bool, true, false, cond, List, [], ◌∷◌, ◌++◌, ◌≢◌, ℕ, zero, suc, ◌+◌, ◌-◌, ◌*◌, ◌%◌, ◌^◌, ◌<◌, ◌≤◌, arith, length, get_or, take, drop, set, replicate, length-set, drop_of_length-le, List·getD-eq-default, eqb, drop-cons, get_or-take, length-take-le, get_or-set_same, get_or-set_other, mul_comm, dec_lt, ℕ_discrete, add-one, occurrences, product, eq-eqb, ne_eqb, its_place, occurs_here, occurs_later, occurrences_append}
+use Rattle.std.specs.Prelude.{◌≡◌, ◌∷◌, ◌++◌, ◌≢◌, ◌+◌, ◌-◌, ◌*◌, ◌%◌, ◌^◌, ◌<◌, ◌≤◌}
+use Rattle.basics.proofs.Words.{refl, sym, ◌∙◌, ap, Bool, true, false, cond, List, [], ℕ, zero, suc, arith, length, get_or, take, drop, set, replicate, length-set, drop_of_length-le, List·getD-eq-default, eqb, drop-cons, get_or-take, length-take-le, get_or-set_same, get_or-set_other, mul_comm, dec_lt, ℕ_discrete, add-one, occurrences, product, eq-eqb, ne_eqb, its_place, occurs_here, occurs_later, occurrences_append}
 use Rattle.ranking.specs.Rankings.{is_ranking}
 use Rattle.ranking.specs.Lemmas.Rankings.{Ranking, ranking_facts}
 use Rattle.tables.specs.Tables.{CountsOfSome}

@@ -1,5 +1,6 @@
 -- What marks count in high.
-use Rattle.basics.specs.Words.{List, [], ◌∷◌, ℕ}
+use Rattle.std.specs.Prelude.{◌∷◌}
+use Rattle.basics.specs.Words.{List, [], ℕ}
 use Rattle.cells.specs.Cells.{high_of}
 
 -- what a mark counts in high, for six machines in card order

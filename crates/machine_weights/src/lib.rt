@@ -1,7 +1,8 @@
 // What states and marks count in the numbers of joint steps and labels.
 #![tactic(auto)]
 
-ghost use Rattle.basics.specs.Words.{◌≡◌, true, ◌*◌, ◌<◌, length, take};
+ghost use Rattle.std.specs.Prelude.{◌≡◌, ◌*◌, ◌<◌};
+ghost use Rattle.basics.specs.Words.{true, length, take};
 ghost use Rattle.ranking.specs.Rankings.{is_ranking};
 ghost use Rattle.tables.specs.Tables.{CountsOfSome};
 ghost use Rattle.tables.specs.Places.{six_places};

@@ -1,5 +1,6 @@
 -- What the calls answer, by the checks that the input passes and by the best candidate: for every order, a word or sets. Assumes nothing.
-use Rattle.basics.specs.Words.{◌≡◌, refl, ◌∙◌, ap, List, [], ◌∷◌, ◌++◌, Option, some, ◌≢◌, ℕ, zero, suc, ◌<◌, ◌≤◌, arith, length, take, drop, length-append, length-drop}
+use Rattle.std.specs.Prelude.{◌≡◌, ◌∷◌, ◌++◌, ◌≢◌, ◌<◌, ◌≤◌}
+use Rattle.basics.specs.Words.{refl, ◌∙◌, ap, List, [], Option, some, ℕ, zero, suc, arith, length, take, drop, length-append, length-drop}
 use Rattle.card.specs.Layout.{symbol_count}
 use Rattle.candidate.specs.declared.Evaluation.{Evaluation}
 use Rattle.candidate.specs.Evaluating.{refused}
@@ -9,7 +10,8 @@ use Rattle.product.specs.Prices.{ranking_agrees}
 use Rattle.product.specs.Answering.{answered, answered_slice}
 use Rattle.product.specs.Optimizing.{input_refusal}
 use Rattle.product.specs.OptimizingSets.{sets_input_refusal}
-use Rattle.product.specs.CountsFit.{SmallBest, best_in_is_small, best_of_sets_is_small}
+use Rattle.product.specs.CountsFit.{SmallBest}
+use Rattle.product.proofs.CountsFit.{best_in_is_small, best_of_sets_is_small}
 use Rattle.input.specs.AcceptedInput.{accepted_input, short_word, accepted_sets_input}
 use Rattle.optimizer.specs.SmallAnswers.{small_answer}
 use Rattle.optimizer.specs.Optimizes.{Answers}

@@ -1,5 +1,6 @@
 -- Counts in ranked order put in card order, place by place. Assumes nothing.
-use Rattle.basics.specs.Words.{◌≡◌, refl, sym, ◌∙◌, ap, List, [], ◌∷◌, ◌++◌, ℕ, zero, suc, ◌+◌, ◌-◌, ◌<◌, ◌≤◌, arith, length, get_or, set, replicate, length-set, length-append, length-replicate, get_or-replicate, List·getD-append, List·getD-eq-default, ext_get_or, get_or-append-add, get_or-set_same, get_or-set_other, dec_lt, ℕ_discrete}
+use Rattle.std.specs.Prelude.{◌≡◌, ◌∷◌, ◌++◌, ◌+◌, ◌-◌, ◌<◌, ◌≤◌}
+use Rattle.basics.specs.Words.{refl, sym, ◌∙◌, ap, List, [], ℕ, zero, suc, arith, length, get_or, set, replicate, length-set, length-append, length-replicate, get_or-replicate, List·getD-append, List·getD-eq-default, ext_get_or, get_or-append-add, get_or-set_same, get_or-set_other, dec_lt, ℕ_discrete}
 use Rattle.ranking.specs.Profiles.{zero_profile}
 use Rattle.ranking.specs.Lemmas.Rankings.{Ranking, ranking_facts, place_of, place_unique}
 use Rattle.paths.specs.Ranked.{count_at}

@@ -1,5 +1,6 @@
 -- What the label of the start tells of the best candidate's profile. Assumes nothing.
-use Rattle.basics.specs.Words.{◌≡◌, refl, sym, ◌∙◌, ap, true, false≢true, List, Option, some, none, ℕ, arith, length}
+use Rattle.std.specs.Prelude.{◌≡◌}
+use Rattle.basics.specs.Words.{refl, sym, ◌∙◌, ap, true, false≢true, List, Option, some, none, ℕ, arith, length}
 use Rattle.ranking.specs.declared.Profile.{Profile}
 use Rattle.ranking.specs.Lemmas.Rankings.{ranking_facts}
 use Rattle.card.specs.Layout.{machine_count}
@@ -8,7 +9,7 @@ use Rattle.card.specs.Accepted.{accepted}
 use Rattle.candidate.specs.Candidates.{is_some}
 use Rattle.product.specs.Best.{best}
 use Rattle.product.specs.Sets.{singletons, best_of_sets}
-use Rattle.product.specs.SetsTheorem.{best_of_one_word}
+use Rattle.product.proofs.SetsTheorem.{best_of_one_word}
 use Rattle.paths.specs.Ranked.{Ranked}
 use Rattle.paths.specs.Labels.{Closed, Attained}
 use Rattle.tables.specs.Work.{label_of, cost_at}

@@ -1,5 +1,6 @@
 -- S-8, of what the calls under a ranking answer: how far the counts go. It is said of the same contract as demand 3, for the same input.
-use Rattle.basics.specs.Words.{◌≡◌, List, Option, ℕ, length}
+use Rattle.std.specs.Prelude.{◌≡◌}
+use Rattle.basics.specs.Words.{List, Option, ℕ, length}
 use Rattle.machine.specs.declared.Pair.{Pair}
 use Rattle.machine.specs.Machine.{Machine}
 use Rattle.card.specs.Layout.{symbol_count}
@@ -13,7 +14,8 @@ use Rattle.product.specs.Prices.{Price, Agrees, ranking_agrees}
 use Rattle.product.specs.Optimizing.{input_refusal}
 use Rattle.product.specs.OptimizingSets.{sets_input_refusal}
 use Rattle.product.specs.BestCandidate.{IsBestBy, BeatsOn, IsUnbeatenIn, IsBestCandidate, IsBestOfSets}
-use Rattle.product.specs.CountsFit.{CountsFit, unbeaten_fit, unbeaten_of_sets_fit}
+use Rattle.product.specs.CountsFit.{CountsFit}
+use Rattle.product.proofs.CountsFit.{unbeaten_fit, unbeaten_of_sets_fit}
 use Rattle.product.specs.Laws.BestCandidate.{beats_harmonic, best_by, best_unbeaten}
 use Rattle.input.specs.AcceptedInput.{accepted_input, short_word, accepted_sets_input}
 use Rattle.optimizer.specs.SmallAnswers.{SmallAnswer}

@@ -1,6 +1,7 @@
 -- Demand 3, of what the calls under a ranking answer: for every card, ranking, word or list of sets, and work slice that the checks before the search
 -- accept, and every answer slice. With sets the rivals are all lists of pairs, however long, that spell one of the words with one symbol from each set.
-use Rattle.basics.specs.Words.{◌≡◌, true, List, ◌↔◌, ℕ, length}
+use Rattle.std.specs.Prelude.{◌≡◌, ◌↔◌}
+use Rattle.basics.specs.Words.{true, List, ℕ, length}
 use Rattle.machine.specs.declared.Pair.{Pair}
 use Rattle.card.specs.Card.{machines_of}
 use Rattle.candidate.specs.declared.Evaluation.{Evaluation}
@@ -9,8 +10,8 @@ use Rattle.product.specs.Sets.{fits_sets, IsCandidateOf}
 use Rattle.product.specs.Optimizing.{input_refusal}
 use Rattle.product.specs.OptimizingSets.{sets_input_refusal}
 use Rattle.product.specs.BestCandidate.{IsBestCandidate, IsBestOfSets}
-use Rattle.product.specs.BestTheorem.{best_is_best_of_all}
-use Rattle.product.specs.SetsTheorem.{best_is_best_of_all_words}
+use Rattle.product.proofs.BestTheorem.{best_is_best_of_all}
+use Rattle.product.proofs.SetsTheorem.{best_is_best_of_all_words}
 use Rattle.input.specs.AcceptedInput.{accepted_input, accepted_sets_input, accepted_bits}
 use Rattle.optimizer.specs.Optimizes.{Optimizes, OptimizesSets}
 use Rattle.optimizer.specs.Demands.{Demands, demanded}

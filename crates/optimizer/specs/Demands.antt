@@ -1,5 +1,6 @@
 -- What demand 3 says of an answer, by which candidates are meant and by what it is for one to be the best; and that what a call answers meets it.
-use Rattle.basics.specs.Words.{◌≡◌, refl, sym, ◌∙◌, ap, List, ◌++◌, Option, some, none, ◌⊎◌, inl, inr, ◌↔◌, ◌≢◌, ℕ, zero, suc, ◌*◌, ◌<◌, ◌≤◌, arith, length, drop, dec_lt}
+use Rattle.std.specs.Prelude.{◌≡◌, ◌++◌, ◌⊎◌, ◌↔◌, ◌≢◌, ◌*◌, ◌<◌, ◌≤◌}
+use Rattle.basics.specs.Words.{refl, sym, ◌∙◌, ap, List, Option, some, none, inl, inr, ℕ, zero, suc, arith, length, drop, dec_lt}
 use Rattle.std.proofs.Common.{le-leb}
 use Rattle.std.proofs.lemmas.Bool.{lt-leb}
 use Rattle.machine.specs.declared.Pair.{Pair}

@@ -1,10 +1,12 @@
 -- Theorem on the calls for words heard only in part, of their contract, which every engine has.
-use Rattle.basics.specs.Words.{◌≡◌, sym, ◌∙◌, ap, true, false, List, ℕ, length}
+use Rattle.std.specs.Prelude.{◌≡◌}
+use Rattle.basics.specs.Words.{sym, ◌∙◌, ap, true, false, List, ℕ, length}
 use Rattle.candidate.specs.declared.Evaluation.{Evaluation}
 use Rattle.candidate.specs.Evaluating.{refused}
 use Rattle.product.specs.Sets.{singletons}
 use Rattle.product.specs.Optimizing.{optimized, optimized_answer}
-use Rattle.product.specs.OneSymbolEach.{symbol_out_of_range, one_symbol_result, one_symbol_refused, one_symbol_answer}
+use Rattle.product.specs.OneSymbolEach.{symbol_out_of_range}
+use Rattle.product.proofs.OneSymbolEach.{one_symbol_result, one_symbol_refused, one_symbol_answer}
 use Rattle.optimizer.specs.Optimizes.{Optimizes, OptimizesSets}
 
 -- sets of one symbol each, with the word: one answer slice, and one result; or 25 against 8, exactly where the checks before the symbol test pass and a

@@ -1,5 +1,6 @@
 -- How far the counts of an answer go, by how far those of the best candidate go.
-use Rattle.basics.proofs.Words.{◌≡◌, refl, Bool, true, false, List, [], ◌∷◌, ◌++◌, Option, some, none, ℕ, zero, suc, ◌*◌, ◌-◌, ◌≤◌, arith, length, replicate, leb, all_of, both, left, right}
+use Rattle.std.specs.Prelude.{◌≡◌, ◌∷◌, ◌++◌, ◌*◌, ◌-◌, ◌≤◌}
+use Rattle.basics.proofs.Words.{refl, Bool, true, false, List, [], Option, some, none, ℕ, zero, suc, arith, length, replicate, leb, all_of, both, left, right}
 use Rattle.std.proofs.Common.{le-leb}
 use Rattle.refusals.specs.Refusals.{refuse, first_of, unless_refused}
 use Rattle.candidate.specs.declared.Evaluation.{Evaluation}

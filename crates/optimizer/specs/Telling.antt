@@ -1,5 +1,6 @@
 -- What the search says of the best candidate without handing it back: its profile.
-use Rattle.basics.specs.Words.{◌≡◌, true, List, Option, some, none, ℕ, ◌≤◌, length}
+use Rattle.std.specs.Prelude.{◌≡◌, ◌≤◌}
+use Rattle.basics.specs.Words.{true, List, Option, some, none, ℕ, length}
 use Rattle.ranking.specs.declared.Profile.{Profile}
 use Rattle.ranking.specs.Rankings.{is_ranking}
 use Rattle.candidate.specs.Evaluating.{profile_with}

@@ -1,7 +1,8 @@
 -- Theorems on two calls with one card, ranking, word and answer slice and with work slices of their own, of any length and contents. They are of the
 -- calls' contract, so either call may be any engine's that has it. What the checks before 9 refuse is refused by both; otherwise 9 is each call's alone,
 -- by the length of its work slice; and two calls that pass 9 give one result and one answer slice.
-use Rattle.basics.specs.Words.{◌≡◌, refl, sym, ◌∙◌, ap, Bool, true, false, List, [], ◌∷◌, ◌++◌, Option, some, none, ◌≢◌, ℕ, zero, suc, ◌*◌, ◌<◌, ◌≤◌, arith, length, leb}
+use Rattle.std.specs.Prelude.{◌≡◌, ◌∷◌, ◌++◌, ◌≢◌, ◌*◌, ◌<◌, ◌≤◌}
+use Rattle.basics.specs.Words.{refl, sym, ◌∙◌, ap, Bool, true, false, List, [], Option, some, none, ℕ, zero, suc, arith, length, leb}
 use Rattle.std.proofs.Common.{le-leb}
 use Rattle.std.proofs.lemmas.Bool.{lt-leb}
 use Rattle.refusals.specs.Refusals.{refuse, first_of, unless_refused}

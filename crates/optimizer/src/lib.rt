@@ -1,7 +1,8 @@
 // The optimizer: from card, ranking and word to the best candidate.
 #![tactic(auto)]
 
-ghost use Rattle.basics.specs.Words.{◌≡◌, true, length};
+ghost use Rattle.std.specs.Prelude.{◌≡◌};
+ghost use Rattle.basics.specs.Words.{true, length};
 ghost use Rattle.product.specs.Best.{best};
 ghost use Rattle.product.specs.Sets.{best_of_sets};
 ghost use Rattle.candidate.specs.Candidates.{is_some};

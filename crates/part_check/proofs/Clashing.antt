@@ -1,5 +1,6 @@
 -- Refusal 5, a state at a time: the pairs noted, and what the checks of all states say of all arcs. Assumes nothing.
-use Rattle.basics.proofs.Words.{◌≡◌, refl, sym, ap, ◌∙◌, subst, Bool, true, false, not, ◌&&◌, ◌||◌, cond, and-true, and-false, and_assoc, or-false, List, [], ◌∷◌, ℕ, zero, suc, ◌+◌, ◌*◌, ◌^◌, ◌<◌, ◌≤◌, arith, length, get_or, set, drop, replicate, get_or-replicate, drop_of_length-le, eqb, ltb, drop-cons, get_or-set_same, get_or-set_other, ℕ_discrete, all_of, pairwise, member, eqb-true, eq-eqb, ne_eqb, lt-ltb, ltb-true, clash as never, both, left, right, fails, left_fails, right_fails, pairwise_next, pairwise_fails, no_member, its_member, member_and, member_or}
+use Rattle.std.specs.Prelude.{◌≡◌, ◌&&◌, ◌||◌, ◌∷◌, ◌+◌, ◌*◌, ◌^◌, ◌<◌, ◌≤◌}
+use Rattle.basics.proofs.Words.{refl, sym, ap, ◌∙◌, subst, Bool, true, false, not, cond, and-true, and-false, and_assoc, or-false, List, [], ℕ, zero, suc, arith, length, get_or, set, drop, replicate, get_or-replicate, drop_of_length-le, eqb, ltb, drop-cons, get_or-set_same, get_or-set_other, ℕ_discrete, all_of, pairwise, member, eqb-true, eq-eqb, ne_eqb, lt-ltb, ltb-true, clash as never, both, left, right, fails, left_fails, right_fails, pairwise_next, pairwise_fails, no_member, its_member, member_and, member_or}
 use lib.Bits.{bit_and, bit_or}
 use Rattle.machine.specs.declared.Arc.{Arc}
 use Rattle.machine.specs.declared.Pair.{Pair}

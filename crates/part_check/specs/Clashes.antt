@@ -1,5 +1,6 @@
 -- Refusal 5, a state at a time: what the check of a state notes and answers.
-use Rattle.basics.specs.Words.{◌≡◌, Bool, true, false, not, ◌&&◌, ◌||◌, cond, List, [], ◌∷◌, ℕ, ◌<◌, get_or, eqb, ltb, all_of, member}
+use Rattle.std.specs.Prelude.{◌≡◌, ◌&&◌, ◌||◌, ◌∷◌, ◌<◌}
+use Rattle.basics.specs.Words.{Bool, true, false, not, cond, List, [], ℕ, get_or, eqb, ltb, all_of, member}
 use Rattle.machine.specs.declared.Arc.{Arc}
 use Rattle.machine.specs.declared.Pair.{Pair}
 use Rattle.machine.specs.Symbols.{empty_symbol, is_pair}

@@ -1,5 +1,6 @@
 // Refusal 5: no two arcs of a state of a machine take one pair.
-ghost use Rattle.basics.specs.Words.{◌≡◌, true, ◌+◌, ◌<◌, ◌≤◌, length, pairwise};
+ghost use Rattle.std.specs.Prelude.{◌≡◌, ◌+◌, ◌<◌, ◌≤◌};
+ghost use Rattle.basics.specs.Words.{true, length, pairwise};
 ghost use Rattle.refusals.specs.Refusals.{refuse, checked_number};
 ghost use Rattle.machine.specs.Machine.{takes, takes_from};
 ghost use Rattle.machine.specs.Part.{state_count, arc_at, arcs_of, shaped, no_clash};

@@ -1,7 +1,8 @@
 // The check of a machine part.
 #![tactic(auto)]
 
-ghost use Rattle.basics.specs.Words.{◌≡◌, true, ◌<◌};
+ghost use Rattle.std.specs.Prelude.{◌≡◌, ◌<◌};
+ghost use Rattle.basics.specs.Words.{true};
 ghost use Rattle.refusals.specs.Refusals.{refuse, checked_number};
 ghost use Rattle.machine.specs.Part.{shaped, sound_states, sound_arcs, part_refusal};
 

@@ -1,5 +1,6 @@
 -- The marks of the machines' endings, machine by machine. Assumes nothing.
-use Rattle.basics.specs.Words.{◌≡◌, refl, sym, ◌∙◌, ap, List, [], ◌∷◌, Option, some, none, Option·none-ne-some, ℕ, zero, suc, ◌+◌, ◌<◌, ◌≤◌, arith, length, get_or, set, length-set, List·getD-eq-default, get_or-set_same, get_or-set_other, ℕ_discrete, dec_lt}
+use Rattle.std.specs.Prelude.{◌≡◌, ◌∷◌, ◌+◌, ◌<◌, ◌≤◌}
+use Rattle.basics.specs.Words.{refl, sym, ◌∙◌, ap, List, [], Option, some, none, Option·none-ne-some, ℕ, zero, suc, arith, length, get_or, set, length-set, List·getD-eq-default, get_or-set_same, get_or-set_other, ℕ_discrete, dec_lt}
 use Rattle.machine.specs.Machine.{Machine, ending_of}
 use Rattle.ranking.specs.declared.Profile.{Profile}
 use Rattle.card.specs.Layout.{machine_count}

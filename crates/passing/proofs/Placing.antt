@@ -1,5 +1,6 @@
 -- The places of states, the states moved on to and the marks passed, machine by machine. Assumes nothing.
-use Rattle.basics.proofs.Words.{◌≡◌, refl, sym, ◌∙◌, ap, List, [], ◌∷◌, ℕ, zero, suc, ◌+◌, ◌*◌, ◌/◌, ◌%◌, ◌<◌, ◌≤◌, arith, length, get_or, take, set, length-set, length-map, List·getD-eq-default, ext_get_or, get_or-take, get_or-set_same, get_or-set_other, length-take-le, mul-le-mul_right, ℕ_discrete, dec_lt, map_at}
+use Rattle.std.specs.Prelude.{◌≡◌, ◌∷◌, ◌+◌, ◌*◌, ◌/◌, ◌%◌, ◌<◌, ◌≤◌}
+use Rattle.basics.proofs.Words.{refl, sym, ◌∙◌, ap, List, [], ℕ, zero, suc, arith, length, get_or, take, set, length-set, length-map, List·getD-eq-default, ext_get_or, get_or-take, get_or-set_same, get_or-set_other, length-take-le, mul-le-mul_right, ℕ_discrete, dec_lt, map_at}
 use Rattle.cells.specs.Cells.{places, step_at}
 use Rattle.cells.specs.Laws.Sums.{places_next, places_few, places_none}
 use Rattle.passing.specs.Places.{places_from, marks_at, states_at, PlacesPre, Placed, ColumnsPre, MarksPre, MarksAdded, MovedPre, Moved}

@@ -1,5 +1,6 @@
 -- Going on by a pair, and the ending.
-use Rattle.basics.specs.Words.{◌≡◌, List, some, ℕ, ◌+◌, ◌*◌, ◌<◌, ◌≤◌, length, get_or, set}
+use Rattle.std.specs.Prelude.{◌≡◌, ◌+◌, ◌*◌, ◌<◌, ◌≤◌}
+use Rattle.basics.specs.Words.{List, some, ℕ, length, get_or, set}
 use Rattle.ranking.specs.declared.Profile.{Profile}
 use Rattle.card.specs.Card.{machines_of, card_refusal}
 use Rattle.product.specs.JointStep.{joint_ending}

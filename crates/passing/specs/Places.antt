@@ -1,5 +1,6 @@
 -- Places of a column, one for each machine, and what stands there: the marks, the states moved on to.
-use Rattle.basics.specs.Words.{◌≡◌, List, [], ◌∷◌, map, ℕ, ◌+◌, ◌*◌, ◌/◌, ◌%◌, ◌<◌, ◌≤◌, length, get_or, take}
+use Rattle.std.specs.Prelude.{◌≡◌, ◌∷◌, ◌+◌, ◌*◌, ◌/◌, ◌%◌, ◌<◌, ◌≤◌}
+use Rattle.basics.specs.Words.{List, [], map, ℕ, length, get_or, take}
 use Rattle.cells.specs.Cells.{step_at, places}
 
 -- the places of some states: those of machines with these state counts start at a place

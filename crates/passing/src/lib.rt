@@ -1,7 +1,8 @@
 // Passing a pair: the places of the states at hand, the states that its steps lead to, their marks added, the pair written; the ending's marks.
 #![tactic(auto)]
 
-ghost use Rattle.basics.specs.Words.{◌≡◌, true, some, ℕ, ◌<◌, length};
+ghost use Rattle.std.specs.Prelude.{◌≡◌, ◌<◌};
+ghost use Rattle.basics.specs.Words.{true, some, ℕ, length};
 ghost use Rattle.machine.specs.Machine.{ending_of};
 ghost use Rattle.machine.specs.Part.{shaped, machine_of};
 ghost use Rattle.passing.specs.Places.{PlacesPre, Placed, MarksPre, MarksAdded, MovedPre, Moved};

@@ -8,7 +8,8 @@ use Rattle.paths.specs.Costs.{Costs}
 use Rattle.paths.specs.Pigeonhole.{Distinct}
 use Rattle.paths.specs.Graph.{Alphabet, Graph, path_cost, nodes, Within, run→cost, cost→run}
 use Rattle.paths.specs.Bounds.{distinct_short}
-use Rattle.paths.specs.Cut.{Cheaper, cut, Short, shortened}
+use Rattle.paths.specs.Costly.{Costly}
+use Rattle.paths.specs.Cut.{Cheaper, cut_of, Short, shortened_of}
 
 module _ (costs : Costs) (alphabet : Alphabet) where
   open costs use {Cost, ◌≺◌, total}
@@ -65,50 +66,70 @@ module _ {costs : Costs} {alphabet : Alphabet} (G : Graph costs alphabet) where
   answer_unique u (some ps) none a b = let k = a.best ps refl in absurd (none-ne-some k.cost (sym (b.no_path refl ps) ∙ k.is))
   answer_unique u (some ps) (some qs) a b = ap {B = Option (List Letter)} some (best_unique u ps qs (a.best ps refl) (b.best qs refl))
 
+  -- where every edge costs something
+  module _ (costly : Costly G) where
+    pub cheapest_distinct_of : (u : ℕ) (ps : List Letter) → IsCheapest u ps → Distinct (nodes G u ps)
+    cheapest_distinct_of u ps a = go (cut_of G costly (cost→run G u ps a.cost a.is))
+      where
+        go : Distinct (nodes G u ps) ⊎ Cheaper G u (length ps) a.cost → Distinct (nodes G u ps)
+        go (inl k) = k
+        go (inr k) = absurd (a.none_cheaper k.letters k.cost (run→cost G k.run) k.cheaper)
+
+    module _ {N : ℕ} (W : Within G N) (u : ℕ) (b : u < N) where
+      pub cheapest_short_of : (ps : List Letter) → IsCheapest u ps → length ps < N
+      cheapest_short_of ps a = distinct_short G W u ps a.cost b a.is (cheapest_distinct_of u ps a)
+
+      pub best_below→best_of : (ps : List Letter) → IsBestBelow N u ps → IsBest u ps
+      best_below→best_of ps a = record { cost = a.cost; is = a.is; first = first }
+        where
+          first : (qs : List Letter) (d : Cost) → qs ≢ ps → path_cost G u qs ≡ some d → Before costs alphabet (a.cost, ps) (d, qs)
+          first qs d n h = go k.better (same? (lex_total ◌◃◌ letters-total) k.letters ps)
+            where
+              k : Short G N u qs d
+              k = shortened_of G costly W u b qs d (cost→run G u qs d h)
+
+              is : path_cost G u k.letters ≡ some k.cost
+              is = run→cost G k.run
+
+              go : (k.cost ≺ d) ⊎ ((k.cost ≡ d) × (k.letters ≡ qs)) → Dec (k.letters ≡ ps) → Before costs alphabet (a.cost, ps) (d, qs)
+              go (inl l) (yes e) = let q : k.cost ≡ a.cost = cc (is, a.is, e) in inl (rw q at l)
+              go (inl l) (no m) = (before_total costs alphabet).trans (a.cost, ps) (k.cost, k.letters) (d, qs) (a.first k.letters k.cost k.fewer m is) (inl l)
+              go (inr l) (yes e) = absurd (n (sym l.1 ∙ e))
+              go (inr l) (no m) = rw (l.0, l.1) at (a.first k.letters k.cost k.fewer m is)
+
+      pub none_below→none_of : ((ps : List Letter) → length ps < N → path_cost G u ps ≡ none) → (ps : List Letter) → path_cost G u ps ≡ none
+      none_below→none_of f ps = go (path_cost G u ps) refl
+        where
+          go : (o : Option Cost) → path_cost G u ps ≡ o → o ≡ none
+          go none h = refl
+          go (some c) h =
+              let k = shortened_of G costly W u b ps c (cost→run G u ps c h) in
+              absurd (none-ne-some k.cost (sym (f k.letters k.fewer) ∙ run→cost G k.run))
+
+      pub answer_below_of : (o : Option (List Letter)) → ((ps : List Letter) → o ≡ some ps → IsBestBelow N u ps) → (o ≡ none → (ps : List Letter) → length ps < N → path_cost G u ps ≡ none) → Answers u o
+      answer_below_of o f g = record { best = λ ps e. best_below→best_of ps (f ps e); no_path = λ e. none_below→none_of (g e) }
+
+  open G use {positive}
+
   -- ---- a cheapest path passes no node twice: it would be cut to a cheaper one
 
   pub cheapest_distinct : (u : ℕ) (ps : List Letter) → IsCheapest u ps → Distinct (nodes G u ps)
-  cheapest_distinct u ps a = go (cut G (cost→run G u ps a.cost a.is))
-    where
-      go : Distinct (nodes G u ps) ⊎ Cheaper G u (length ps) a.cost → Distinct (nodes G u ps)
-      go (inl k) = k
-      go (inr k) = absurd (a.none_cheaper k.letters k.cost (run→cost G k.run) k.cheaper)
+  cheapest_distinct u ps a = cheapest_distinct_of positive u ps a
 
   module _ {N : ℕ} (W : Within G N) (u : ℕ) (b : u < N) where
     -- so it has fewer than N letters
     pub cheapest_short : (ps : List Letter) → IsCheapest u ps → length ps < N
-    cheapest_short ps a = distinct_short G W u ps a.cost b a.is (cheapest_distinct u ps a)
+    cheapest_short ps a = cheapest_short_of positive W u b ps a
 
     -- ---- Theorem 4, for the best: the best of the paths of fewer than N letters is the best of all
 
     pub best_below→best : (ps : List Letter) → IsBestBelow N u ps → IsBest u ps
-    best_below→best ps a = record { cost = a.cost; is = a.is; first = first }
-      where
-        first : (qs : List Letter) (d : Cost) → qs ≢ ps → path_cost G u qs ≡ some d → Before costs alphabet (a.cost, ps) (d, qs)
-        first qs d n h = go k.better (same? (lex_total ◌◃◌ letters-total) k.letters ps)
-          where
-            k : Short G N u qs d
-            k = shortened G W u b qs d (cost→run G u qs d h)
-
-            is : path_cost G u k.letters ≡ some k.cost
-            is = run→cost G k.run
-
-            go : (k.cost ≺ d) ⊎ ((k.cost ≡ d) × (k.letters ≡ qs)) → Dec (k.letters ≡ ps) → Before costs alphabet (a.cost, ps) (d, qs)
-            go (inl l) (yes e) = let q : k.cost ≡ a.cost = cc (is, a.is, e) in inl (rw q at l)
-            go (inl l) (no m) = (before_total costs alphabet).trans (a.cost, ps) (k.cost, k.letters) (d, qs) (a.first k.letters k.cost k.fewer m is) (inl l)
-            go (inr l) (yes e) = absurd (n (sym l.1 ∙ e))
-            go (inr l) (no m) = rw (l.0, l.1) at (a.first k.letters k.cost k.fewer m is)
+    best_below→best ps a = best_below→best_of positive W u b ps a
 
     -- and where no list of fewer than N letters is a path, none is
     pub none_below→none : ((ps : List Letter) → length ps < N → path_cost G u ps ≡ none) → (ps : List Letter) → path_cost G u ps ≡ none
-    none_below→none f ps = go (path_cost G u ps) refl
-      where
-        go : (o : Option Cost) → path_cost G u ps ≡ o → o ≡ none
-        go none h = refl
-        go (some c) h =
-            let k = shortened G W u b ps c (cost→run G u ps c h) in
-            absurd (none-ne-some k.cost (sym (f k.letters k.fewer) ∙ run→cost G k.run))
+    none_below→none f ps = none_below→none_of positive W u b f ps
 
     -- both together: an answer among the lists of fewer than N letters is the answer
     pub answer_below : (o : Option (List Letter)) → ((ps : List Letter) → o ≡ some ps → IsBestBelow N u ps) → (o ≡ none → (ps : List Letter) → length ps < N → path_cost G u ps ≡ none) → Answers u o
-    answer_below o f g = record { best = λ ps e. best_below→best ps (f ps e); no_path = λ e. none_below→none (g e) }
+    answer_below o f g = answer_below_of positive W u b o f g

@@ -7,6 +7,7 @@ use Rattle.paths.specs.Total.{Total}
 use Rattle.paths.specs.Costs.{Costs, Labels, AtMost, Above, Lowers, kept, lowered, atmost_is, atmost_not_above, lowers_upto, lowers_falls}
 use Rattle.paths.specs.Pigeonhole.{NotIn}
 use Rattle.paths.specs.Graph.{Alphabet, Edge, Graph, nodes}
+use Rattle.paths.specs.Costly.{Costly}
 use Rattle.paths.specs.Labels.{Held, Attains, Attained}
 
 module _ {A : Type 0} (R : A → A → Type 0) where
@@ -43,12 +44,17 @@ module _ {costs : Costs} {alphabet : Alphabet} (G : Graph costs alphabet) where
   held_falls f (Held.halt {u} {c} h m) = Held.halt h (f u c m)
   held_falls f (Held.step {u} {c = c} e d h r q m) = Held.step e d h (held_falls f r) q (f u c m)
 
+  -- where every edge costs something
+  module _ (costly : Costly G) where
+    pub held_avoids_of : {L : Labels costs} (w : ℕ) (c : Cost) → Above ◌≺◌ (L w) c → {u : ℕ} {ps : List Letter} {d : Cost} → Held G L u ps d → d ≺ c → NotIn w (nodes G u ps)
+    unfolding nodes
+    held_avoids_of w c a (Held.halt h m) k = (λ q. atmost_not_above total m k (rw q at a), tt)
+    held_avoids_of w c a (Held.step {u} {p} {ps} {c = d} e f h r q m) k =
+        rw h ((λ z. atmost_not_above total m k (rw z at a)), held_avoids_of w c a r (total.trans f d c (rw q (costly u p e h f)) k))
+
   -- a node whose label is missing, or above c, is on no held path that costs less than c: from there on it would cost less than the label
   pub held_avoids : {L : Labels costs} (w : ℕ) (c : Cost) → Above ◌≺◌ (L w) c → {u : ℕ} {ps : List Letter} {d : Cost} → Held G L u ps d → d ≺ c → NotIn w (nodes G u ps)
-  unfolding nodes
-  held_avoids w c a (Held.halt h m) k = (λ q. atmost_not_above total m k (rw q at a), tt)
-  held_avoids w c a (Held.step {u} {p} {ps} {c = d} e f h r q m) k =
-      rw h ((λ z. atmost_not_above total m k (rw z at a)), held_avoids w c a r (total.trans f d c (rw q (positive u p e h f)) k))
+  held_avoids w c a k l = held_avoids_of positive w c a k l
 
   -- ---- Theorem 2: attained labels stay attained when a node is improved by its ending, or by an edge and its target's label
 
@@ -74,12 +80,16 @@ module _ {costs : Costs} {alphabet : Alphabet} (G : Graph costs alphabet) where
     improve_end h = keep_attained I.here (λ a e. record { letters = []; held = Held.halt h (atmost_is e); distinct = (tt, tt) })
 
     -- by an edge and its target's label: u is not on the target's path, which would cost less from u on than u's label
+    module _ (costly : Costly G) where
+      pub improve_edge_of : (p : Letter) (e : Edge Cost) (d : Cost) → edge u p ≡ some e → L e.target ≡ some d → c ≡ e.cost ⊕ d → Attained G M
+      unfolding nodes
+      improve_edge_of p e d h l q = keep_attained I.here extended
+        where
+          extended : Above ◌≺◌ (L u) c → M u ≡ some c → Attains G M u c
+          extended a m =
+              let k = A e.target d l in
+              let n : NotIn u (nodes G e.target k.letters) = held_avoids_of costly u c a k.held (rw q (costly u p e h d)) in
+              record { letters = p ∷ k.letters; held = Held.step e d h (held_falls falls k.held) q (atmost_is m); distinct = rw h (n, k.distinct) }
+
     pub improve_edge : (p : Letter) (e : Edge Cost) (d : Cost) → edge u p ≡ some e → L e.target ≡ some d → c ≡ e.cost ⊕ d → Attained G M
-    unfolding nodes
-    improve_edge p e d h l q = keep_attained I.here extended
-      where
-        extended : Above ◌≺◌ (L u) c → M u ≡ some c → Attains G M u c
-        extended a m =
-            let k = A e.target d l in
-            let n : NotIn u (nodes G e.target k.letters) = held_avoids u c a k.held (rw q (positive u p e h d)) in
-            record { letters = p ∷ k.letters; held = Held.step e d h (held_falls falls k.held) q (atmost_is m); distinct = rw h (n, k.distinct) }
+    improve_edge p e d h l q = improve_edge_of positive p e d h l q

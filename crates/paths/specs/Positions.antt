@@ -6,8 +6,9 @@ use Rattle.std.proofs.Math.Decide.{ℕ_discrete}
 use Rattle.paths.specs.Total.{Upto}
 use Rattle.paths.specs.Costs.{Costs, Labels, AtMost, atmost_upto, shift_right_upto}
 use Rattle.paths.specs.Graph.{Alphabet, Edge, Graph, EdgeTo}
+use Rattle.paths.specs.Costly.{Costly}
 use Rattle.paths.specs.Labels.{ClosedAt, Attained, attained_none}
-use Rattle.paths.specs.Improvement.{Improves, Falls, improves_upto, improves_falls, improve_edge, improve_end}
+use Rattle.paths.specs.Improvement.{Improves, Falls, improves_upto, improves_falls, improve_edge_of, improve_end}
 use Rattle.paths.specs.Settling.{Settling, AllSettled, settling_end}
 
 -- an edge stays at its position or goes to the next one, n is the last position, and a path ends only there
@@ -17,7 +18,7 @@ pub record Positioned {costs : Costs} {alphabet : Alphabet} (G : Graph costs alp
 
 module _ {costs : Costs} {alphabet : Alphabet} (G : Graph costs alphabet) (pos : ℕ → ℕ) where
   infixl 65 ◌⊕◌
-  open G use {edge, ending}
+  open G use {edge, ending, positive}
   open costs use {Cost, ◌⊕◌, ◌≺◌, total}
   open alphabet use {Letter}
 
@@ -87,38 +88,48 @@ module _ {costs : Costs} {alphabet : Alphabet} (G : Graph costs alphabet) (pos :
         ends w d b k (inl x) = improves_falls total I w d (S.ends w d b x k)
         ends w d b k (inr q) = let z : c ≡ d = cc (h, k, q) in rw (q, ← z) (improves_upto total I)
 
+    -- where every edge costs something
+    module _ (costly : Costly G) where
+      pub entering_step_of : {M : Labels costs} (Did' : ℕ → Letter → Type 0) (u v : ℕ) (e d : Cost) → pos u ≡ i → EdgeTo G u v e → L v ≡ some d → Improves ◌≺◌ L u (e ⊕ d) M
+          → MoreLeaving i Did Did' (λ w q f. (w ≡ u) × (f.target ≡ v) × Upto ◌≺◌ e f.cost) → Entering K M i Ended Did'
+      entering_step_of {M} Did' u v e d a E l I more = record {
+        attained = improve_edge_of G S.attained I costly E.letter E.to d E.edge_is (ap L E.target_is ∙ l) (ap (λ (x : Cost). x ⊕ d) (sym E.cost_is));
+        others = λ w b. same w b ∙ S.others w b;
+        falls = λ w c m. improves_falls total I w c (S.falls w c m);
+        ends = λ w c b x k. improves_falls total I w c (S.ends w c b x k);
+        leaving = λ w q f c b t x k m. leaving w q f c b t k m (more w q f b t x k);
+      }
+        where
+          same : (w : ℕ) → pos w ≢ i → M w ≡ L w
+          same w b = I.others w (λ q. b (ap pos q ∙ a))
+
+          leaving : (w : ℕ) (q : Letter) (f : Edge Cost) (c : Cost) → pos w ≡ i → pos f.target ≢ i → edge w q ≡ some f → M f.target ≡ some c
+              → Did w q ⊎ ((w ≡ u) × (f.target ≡ v) × Upto ◌≺◌ e f.cost) → AtMost ◌≺◌ (M w) (f.cost ⊕ c)
+          leaving w q f c b t k m (inl x) = improves_falls total I w (f.cost ⊕ c) (S.leaving w q f c b t x k (sym (same f.target t) ∙ m))
+          leaving w q f c b t k m (inr x) =
+              let z : d ≡ c = cc (l, m, same f.target t, ap L x.1) in
+              rw (x.0, ← z) (atmost_upto total (improves_upto total I) (shift_right_upto costs d x.2))
+
+      pub entering_letter_of : {M : Labels costs} (Did' : ℕ → Letter → Type 0) (u : ℕ) (p : Letter) (e : Edge Cost) (d : Cost) → pos u ≡ i → edge u p ≡ some e → L e.target ≡ some d → Improves ◌≺◌ L u (e.cost ⊕ d) M
+          → MoreLeaving i Did Did' (λ w q f. (w ≡ u) × (q ≡ p)) → Entering K M i Ended Did'
+      entering_letter_of Did' u p e d a h l I more =
+          entering_step_of Did' u e.target e.cost d a (record { letter = p; to = e; edge_is = h; target_is = refl; cost_is = refl }) l I (λ w q f b t x k. go w q f k (more w q f b t x k))
+        where
+          go : (w : ℕ) (q : Letter) (f : Edge Cost) → edge w q ≡ some f → Did w q ⊎ ((w ≡ u) × (q ≡ p)) → Did w q ⊎ ((w ≡ u) × (f.target ≡ e.target) × Upto ◌≺◌ e.cost f.cost)
+          go w q f k (inl x) = inl x
+          go w q f k (inr x) =
+              let z : e ≡ f = cc (h, k, x.0, x.1) in
+              inr (x.0, ap (λ (y : Edge Cost). y.target) (sym z), inr (ap (λ (y : Edge Cost). y.cost) z))
+
     -- u is improved by an edge to v that costs e, with v's label d: this serves for every edge from u to v that costs no less
     pub entering_step : {M : Labels costs} (Did' : ℕ → Letter → Type 0) (u v : ℕ) (e d : Cost) → pos u ≡ i → EdgeTo G u v e → L v ≡ some d → Improves ◌≺◌ L u (e ⊕ d) M
         → MoreLeaving i Did Did' (λ w q f. (w ≡ u) × (f.target ≡ v) × Upto ◌≺◌ e f.cost) → Entering K M i Ended Did'
-    entering_step {M} Did' u v e d a E l I more = record {
-      attained = improve_edge G S.attained I E.letter E.to d E.edge_is (ap L E.target_is ∙ l) (ap (λ (x : Cost). x ⊕ d) (sym E.cost_is));
-      others = λ w b. same w b ∙ S.others w b;
-      falls = λ w c m. improves_falls total I w c (S.falls w c m);
-      ends = λ w c b x k. improves_falls total I w c (S.ends w c b x k);
-      leaving = λ w q f c b t x k m. leaving w q f c b t k m (more w q f b t x k);
-    }
-      where
-        same : (w : ℕ) → pos w ≢ i → M w ≡ L w
-        same w b = I.others w (λ q. b (ap pos q ∙ a))
-
-        leaving : (w : ℕ) (q : Letter) (f : Edge Cost) (c : Cost) → pos w ≡ i → pos f.target ≢ i → edge w q ≡ some f → M f.target ≡ some c
-            → Did w q ⊎ ((w ≡ u) × (f.target ≡ v) × Upto ◌≺◌ e f.cost) → AtMost ◌≺◌ (M w) (f.cost ⊕ c)
-        leaving w q f c b t k m (inl x) = improves_falls total I w (f.cost ⊕ c) (S.leaving w q f c b t x k (sym (same f.target t) ∙ m))
-        leaving w q f c b t k m (inr x) =
-            let z : d ≡ c = cc (l, m, same f.target t, ap L x.1) in
-            rw (x.0, ← z) (atmost_upto total (improves_upto total I) (shift_right_upto costs d x.2))
+    entering_step Did' u v e d a E l I more = entering_step_of positive Did' u v e d a E l I more
 
     -- by one letter
     pub entering_letter : {M : Labels costs} (Did' : ℕ → Letter → Type 0) (u : ℕ) (p : Letter) (e : Edge Cost) (d : Cost) → pos u ≡ i → edge u p ≡ some e → L e.target ≡ some d → Improves ◌≺◌ L u (e.cost ⊕ d) M
         → MoreLeaving i Did Did' (λ w q f. (w ≡ u) × (q ≡ p)) → Entering K M i Ended Did'
-    entering_letter Did' u p e d a h l I more =
-        entering_step Did' u e.target e.cost d a (record { letter = p; to = e; edge_is = h; target_is = refl; cost_is = refl }) l I (λ w q f b t x k. go w q f k (more w q f b t x k))
-      where
-        go : (w : ℕ) (q : Letter) (f : Edge Cost) → edge w q ≡ some f → Did w q ⊎ ((w ≡ u) × (q ≡ p)) → Did w q ⊎ ((w ≡ u) × (f.target ≡ e.target) × Upto ◌≺◌ e.cost f.cost)
-        go w q f k (inl x) = inl x
-        go w q f k (inr x) =
-            let z : e ≡ f = cc (h, k, x.0, x.1) in
-            inr (x.0, ap (λ (y : Edge Cost). y.target) (sym z), inr (ap (λ (y : Edge Cost). y.cost) z))
+    entering_letter Did' u p e d a h l I more = entering_letter_of positive Did' u p e d a h l I more
 
     -- u has no edge for the letter
     pub entering_no_edge : (Did' : ℕ → Letter → Type 0) (u : ℕ) (p : Letter) → edge u p ≡ none → MoreLeaving i Did Did' (λ w q f. (w ≡ u) × (q ≡ p)) → Entering K L i Ended Did'

@@ -1,5 +1,6 @@
 -- What is printed after the last piece, and the buffer that it is written to. Assumes nothing.
-use Rattle.basics.proofs.Words.{◌≡◌, refl, ap, sym, ◌∙◌, Bool, true, false, not, ◌||◌, List, [], ◌∷◌, ◌++◌, append_assoc, append-nil, ◌⊎◌, inl, inr, ℕ, suc, ◌+◌, ◌-◌, ◌≤◌, arith, length, take, drop, take-append-drop, length-append, length-take, length-drop, eqb, drop-drop, take_at, drop_at, take-length, drop-length, drop-append-le, length-take-le, suc-ne-zero, ne_eqb, clash, either}
+use Rattle.std.specs.Prelude.{◌≡◌, ◌||◌, ◌∷◌, ◌++◌, ◌⊎◌, ◌+◌, ◌-◌, ◌≤◌}
+use Rattle.basics.proofs.Words.{refl, ap, sym, ◌∙◌, Bool, true, false, not, List, [], append_assoc, append-nil, inl, inr, ℕ, suc, arith, length, take, drop, take-append-drop, length-append, length-take, length-drop, eqb, drop-drop, take_at, drop_at, take-length, drop-length, drop-append-le, length-take-le, suc-ne-zero, ne_eqb, clash, either}
 use Rattle.writing.specs.Buffers.{at_front}
 use Rattle.tally.specs.declared.Tally.{Tally}
 use Rattle.lesson.specs.Printed.{Prints}

@@ -1,5 +1,6 @@
 -- What ends in a piece of the input, and what is held after it, by the lines that are found in it. Assumes nothing.
-use Rattle.basics.specs.Words.{◌≡◌, refl, ap, sym, ◌∙◌, List, [], ◌∷◌, ◌++◌, Option, some, none, ℕ, ◌+◌, ◌≤◌, arith, length, drop, take, length-take, drop-drop, take_at}
+use Rattle.std.specs.Prelude.{◌≡◌, ◌∷◌, ◌++◌, ◌+◌, ◌≤◌}
+use Rattle.basics.specs.Words.{refl, ap, sym, ◌∙◌, List, [], Option, some, none, ℕ, arith, length, drop, take, length-take, drop-drop, take_at}
 use Rattle.lines.specs.declared.Next.TheVariants as next
 use Rattle.writing.specs.Text.{line_end, before, after}
 use Rattle.lines.specs.Input.{kept, next_of}

@@ -1,5 +1,6 @@
 -- What is printed for the pieces of an input, and what a piece leaves.
-use Rattle.basics.specs.Words.{◌≡◌, Bool, true, false, List, [], ◌∷◌, ◌++◌, ℕ, ◌≤◌, take}
+use Rattle.std.specs.Prelude.{◌≡◌, ◌∷◌, ◌++◌, ◌≤◌}
+use Rattle.basics.specs.Words.{Bool, true, false, List, [], ℕ, take}
 use Rattle.lines.specs.Taking.{ended_lines, held_after, last_line}
 use Rattle.tally.specs.declared.Tally.{Tally}
 use Rattle.lesson.specs.Tally.{lines_tally, lines_text, closing_text, Fits}

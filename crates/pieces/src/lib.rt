@@ -2,7 +2,8 @@
 // lesson's closing lines. No contract can speak of what is written to standard output.
 #![tactic(auto)]
 
-ghost use Rattle.basics.specs.Words.{◌≡◌, true, false, [], ◌≤◌, length, take};
+ghost use Rattle.std.specs.Prelude.{◌≡◌, ◌≤◌};
+ghost use Rattle.basics.specs.Words.{true, false, [], length, take};
 ghost use Rattle.writing.specs.Buffers.{at_front};
 ghost use Rattle.lesson.specs.Printed.{Prints};
 ghost use Rattle.lesson.specs.Tally.{is_full, line_tally, line_text, Fits};

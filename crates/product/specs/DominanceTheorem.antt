@@ -37,25 +37,27 @@ module _ (c : ℕ) (weights : List ℕ) where
   at_most [] v h = omega arith
   at_most (m ∷ r) v h = omega (arith, at_most r v h, mul-le-mul_left (get_or weights m 0) (h m), mul_comm (get_or weights m 0) c, mul-add c (get_or weights m 0) (sum_over (λ i. get_or weights i 0) r))
 
-  -- so fewer marks at the highest ranked machine make the smaller sum, whatever stands below
-  head_decides : (m : ℕ) (r v w : List ℕ) → Outweighs c weights (m ∷ r) → ((m : ℕ) → get_or v m 0 ≤ c) → get_or v m 0 < get_or w m 0 → sum_by (m ∷ r) v < sum_by (m ∷ r) w
-  unfolding sum_over
-  head_decides m r v w d h k =
-      let step : suc (get_or v m 0) ≤ get_or w m 0 = omega arith in
-      omega (arith, d.0, at_most r v h, mul-suc (get_or weights m 0) (get_or v m 0), mul-le-mul_left (get_or weights m 0) step)
-
-  by_ranking_lem : (r v w : List ℕ) → Outweighs c weights r → ((m : ℕ) → get_or v m 0 ≤ c) → ((m : ℕ) → get_or w m 0 ≤ c) → harmonic r v w ≡ ltb (sum_by r v) (sum_by r w)
-  unfolding sum_over
-  by_ranking_lem [] v w d hv hw = ap is_better (harmony_end v w refl) ∙ sym (le-ltb (sum_by [] v) (sum_by [] w) (omega arith))
-  by_ranking_lem (m ∷ r) v w d hv hw = go (standing (get_or v m 0) (get_or w m 0)) (by_ranking_lem r v w d.1 hv hw)
-    where
-      go : Standing (get_or v m 0) (get_or w m 0) → harmonic r v w ≡ ltb (sum_by r v) (sum_by r w) → harmonic (m ∷ r) v w ≡ ltb (sum_by (m ∷ r) v) (sum_by (m ∷ r) w)
-      go (fewer h) rec = ap is_better (at_fewer m r v w h) ∙ sym (lt-ltb (sum_by (m ∷ r) v) (sum_by (m ∷ r) w) (head_decides m r v w d hv h))
-      go (same h) rec = ap is_better (at_same m r v w h) ∙ rec ∙ sym (less_added (get_or weights m 0 * get_or v m 0) (get_or weights m 0 * get_or w m 0) (sum_by r v) (sum_by r w) (ap (λ n. get_or weights m 0 * n) h))
-      go (more h) rec =
-          let k = head_decides m r w v d hw h in
-          ap is_better (at_more m r v w h) ∙ sym (le-ltb (sum_by (m ∷ r) v) (sum_by (m ∷ r) w) (omega arith))
-
 pub dominance : (c : ℕ) (weights r v w : List ℕ) → is_ranking (length weights) r ≡ true → Outweighs c weights r
     → all_of (λ n. leb n c) v ≡ true → all_of (λ n. leb n c) w ≡ true → harmonic r v w ≡ by_sum weights v w
-dominance c weights r v w is d hv hw = rw (sum_by_ranking weights r v is, sum_by_ranking weights r w is) (by_ranking_lem c weights r v w d (counts_at c v hv) (counts_at c w hw))
+unfolding sum_over
+dominance c weights r v w is d hv hw = rw (sum_by_ranking weights r v is, sum_by_ranking weights r w is) (by_ranking r v w d (counts_at c v hv) (counts_at c w hw))
+  where
+    -- fewer marks at the highest ranked machine make the smaller sum, whatever stands below
+    head_decides : (m : ℕ) (r v w : List ℕ) → Outweighs c weights (m ∷ r) → ((m : ℕ) → get_or v m 0 ≤ c) → get_or v m 0 < get_or w m 0 → sum_by c weights (m ∷ r) v < sum_by c weights (m ∷ r) w
+    head_decides m r v w d h k =
+        let step : suc (get_or v m 0) ≤ get_or w m 0 = omega arith in
+        omega (arith, d.0, at_most c weights r v h, mul-suc (get_or weights m 0) (get_or v m 0), mul-le-mul_left (get_or weights m 0) step)
+
+    next : (m : ℕ) (r v w : List ℕ) → Outweighs c weights (m ∷ r) → ((m : ℕ) → get_or v m 0 ≤ c) → ((m : ℕ) → get_or w m 0 ≤ c) → Standing (get_or v m 0) (get_or w m 0)
+        → harmonic r v w ≡ ltb (sum_by c weights r v) (sum_by c weights r w) → harmonic (m ∷ r) v w ≡ ltb (sum_by c weights (m ∷ r) v) (sum_by c weights (m ∷ r) w)
+    next m r v w d hv hw (fewer h) rec = ap is_better (at_fewer m r v w h) ∙ sym (lt-ltb (sum_by c weights (m ∷ r) v) (sum_by c weights (m ∷ r) w) (head_decides m r v w d hv h))
+    next m r v w d hv hw (same h) rec =
+        ap is_better (at_same m r v w h) ∙ rec
+        ∙ sym (less_added (get_or weights m 0 * get_or v m 0) (get_or weights m 0 * get_or w m 0) (sum_by c weights r v) (sum_by c weights r w) (ap (λ n. get_or weights m 0 * n) h))
+    next m r v w d hv hw (more h) rec =
+        let k = head_decides m r w v d hw h in
+        ap is_better (at_more m r v w h) ∙ sym (le-ltb (sum_by c weights (m ∷ r) v) (sum_by c weights (m ∷ r) w) (omega arith))
+
+    by_ranking : (r v w : List ℕ) → Outweighs c weights r → ((m : ℕ) → get_or v m 0 ≤ c) → ((m : ℕ) → get_or w m 0 ≤ c) → harmonic r v w ≡ ltb (sum_by c weights r v) (sum_by c weights r w)
+    by_ranking [] v w d hv hw = ap is_better (harmony_end v w refl) ∙ sym (le-ltb (sum_by c weights [] v) (sum_by c weights [] w) (omega arith))
+    by_ranking (m ∷ r) v w d hv hw = next m r v w d hv hw (standing (get_or v m 0) (get_or w m 0)) (by_ranking r v w d.1 hv hw)

@@ -20,7 +20,6 @@ pub mod Preference
 pub mod Following
 pub mod Listing
 pub mod Counts
-pub mod Best
 pub mod BestCandidate
 pub mod BestOfSets
 pub mod SymbolSets

@@ -6,12 +6,9 @@ use Rattle.machine.specs.Machine.{Machine}
 use Rattle.card.specs.Card.{machines_of, card_refusal}
 use Rattle.candidate.specs.Candidates.{is_complete, IsCandidate}
 use Rattle.paths.specs.Costs.{Costs}
-use Rattle.product.specs.Best.{Contender, ProfileOrder, best_in}
-use Rattle.product.specs.Sets.{are64_bits, IsCandidateOf, best_of_sets_in}
+use Rattle.product.specs.Best.{Contender, ProfileOrder}
 use Rattle.product.specs.Prices.{Price, Agrees}
 use Rattle.product.specs.BestCandidate.{BeatsOn, BestOf}
-use Rattle.product.specs.BestTheorem.{best_in_is_best_of_all}
-use Rattle.product.specs.SetsTheorem.{best_in_is_best_of_all_words}
 
 pub record Searches (Meant : List Machine → List Pair → Type 0) (best : ProfileOrder → List ℕ → Option Contender) : Type 1 where
   -- a list that is meant is a candidate for some word
@@ -20,17 +17,3 @@ pub record Searches (Meant : List Machine → List Pair → Type 0) (best : Prof
   pub complete_too : {ms ms' : List Machine} {c : List Pair} → Meant ms c → is_complete ms' c ≡ true → Meant ms' c
   -- on an accepted card the best is the best of all of them
   pub best_of_all : {costs : Costs} {price : Price costs} {better : ProfileOrder} → Agrees price better → (card : List ℕ) → card_refusal card ≡ 0 → BestOf (machines_of card) (BeatsOn better (machines_of card)) (Meant (machines_of card)) (best better card)
-
-pub of_word : (word : List ℕ) → Searches (λ ms. IsCandidate ms word) (λ better card. best_in better card word)
-of_word word = record {
-  candidate = λ h. (word, h);
-  complete_too = λ h t. record { pairs = h.pairs; spells = h.spells; complete = t };
-  best_of_all = λ agrees card ok. best_in_is_best_of_all agrees card word ok;
-}
-
-pub of_sets : (sets : List ℕ) → are64_bits sets ≡ true → Searches (λ ms. IsCandidateOf ms sets) (λ better card. best_of_sets_in better card sets)
-of_sets sets bits = record {
-  candidate = λ h. (h.word, h.is);
-  complete_too = λ h t. record { word = h.word; fits = h.fits; is = record { pairs = h.is.pairs; spells = h.is.spells; complete = t } };
-  best_of_all = λ agrees card ok. best_in_is_best_of_all_words agrees card sets ok bits;
-}

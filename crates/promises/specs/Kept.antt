@@ -54,8 +54,8 @@ use Rattle.candidate.specs.OldCards as old_cards
 use Rattle.candidate.specs.OldArcs as old-arcs
 use Rattle.candidate.specs.BaseCards as base-cards
 use Rattle.candidate.specs.EmptyWord as empty_word
-use Rattle.product.specs.BestTheorem as best-theorem
-use Rattle.product.specs.SetsTheorem as sets-theorem
+use Rattle.product.proofs.BestTheorem as best-theorem
+use Rattle.product.proofs.SetsTheorem as sets-theorem
 use Rattle.product.specs.DominanceTheorem as dominance-theorem
 use Rattle.optimizer.specs.Demand3 as demand3
 use Rattle.optimizer.specs.CountsThatFit as counts

@@ -3,7 +3,8 @@
 --
 -- `f.statement M` is what Rattle makes of the contract of f in src/: for every input f returns, traps nowhere, reads and writes nothing but what it was lent,
 -- and meets its `ensures`. No public call has a `requires`. M is the logic's, and says nothing of the call.
-use Rattle.basics.specs.Words.{◌≡◌, true, false, List, List-as-Memᴰ, [], ◌∷◌, ◌++◌, map, some, none, ◌⊎◌, ◌↔◌, ℕ, suc, ◌+◌, ◌*◌, ◌-◌, ◌<◌, ◌≤◌, min, max, length, get_or, take, replicate, leb, ltb, all_of, pairwise, joined}
+use Rattle.std.specs.Prelude.{◌≡◌, ◌∷◌, ◌++◌, ◌⊎◌, ◌↔◌, ◌+◌, ◌*◌, ◌-◌, ◌<◌, ◌≤◌}
+use Rattle.basics.specs.Words.{true, false, List, List-as-Memᴰ, [], map, some, none, ℕ, suc, min, max, length, get_or, take, replicate, leb, ltb, all_of, pairwise, joined}
 -- the contracts of the public calls
 use Rattle.ranking.proofs.harmony.compare.Statement as compare
 use Rattle.ranking.proofs.conditions.derive.Statement as derive

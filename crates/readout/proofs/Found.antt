@@ -1,5 +1,6 @@
 -- What a label of the start says of the best candidate. Assumes nothing.
-use Rattle.basics.specs.Words.{◌≡◌, sym, ◌∙◌, ap, true, List, some, none, ℕ, ◌≤◌, arith, length}
+use Rattle.std.specs.Prelude.{◌≡◌, ◌≤◌}
+use Rattle.basics.specs.Words.{sym, ◌∙◌, ap, true, List, some, none, ℕ, arith, length}
 use Rattle.machine.specs.declared.Pair.{Pair}
 use Rattle.ranking.specs.Rankings.{is_ranking}
 use Rattle.ranking.specs.Lemmas.Rankings.{ranking_facts}
@@ -17,8 +18,8 @@ use Rattle.product.specs.Best.{Contender, harmonic}
 use Rattle.product.specs.Sets.{are64_bits, best_of_sets_in, best_of_sets}
 use Rattle.product.specs.Prices.{ranking_agrees}
 use Rattle.product.specs.ProductGraph.{card_start}
-use Rattle.product.specs.SetsTheorem.{same_order}
-use Rattle.product.specs.LabelTheorem.{no_label_no_best, label_best}
+use Rattle.product.proofs.SetsTheorem.{same_order}
+use Rattle.product.proofs.LabelTheorem.{no_label_no_best, label_best}
 use Rattle.product.specs.Laws.Accepted.{accepted_machines}
 use Rattle.product.specs.Laws.BestCandidate.{profile_length}
 use Rattle.tables.specs.Engine.{engine_graph}

@@ -1,5 +1,6 @@
 -- The checks 10 and 12 by the label of the start. Assumes nothing.
-use Rattle.basics.proofs.Words.{◌≡◌, refl, sym, ◌∙◌, ap, subst, List, Option, some, none, ℕ, ◌*◌, ◌<◌, ◌≤◌, arith, leb, lit<, leb-true}
+use Rattle.std.specs.Prelude.{◌≡◌, ◌*◌, ◌<◌, ◌≤◌}
+use Rattle.basics.proofs.Words.{refl, sym, ◌∙◌, ap, subst, List, Option, some, none, ℕ, arith, leb, lit<, leb-true}
 use Rattle.refusals.specs.Refusals.{refuse}
 use Rattle.refusals.proofs.Refusals.{passed}
 use Rattle.candidate.specs.Candidates.{is_some}

@@ -1,5 +1,6 @@
 -- The search: what the labels say, and what is answered. Assumes nothing.
-use Rattle.basics.specs.Words.{◌≡◌, refl, sym, ◌∙◌, ap, List, ◌++◌, Option, some, none, ℕ, ◌+◌, ◌*◌, ◌<◌, ◌≤◌, arith, length, drop, leb}
+use Rattle.std.specs.Prelude.{◌≡◌, ◌++◌, ◌+◌, ◌*◌, ◌<◌, ◌≤◌}
+use Rattle.basics.specs.Words.{refl, sym, ◌∙◌, ap, List, Option, some, none, ℕ, arith, length, drop, leb}
 use Rattle.refusals.specs.Refusals.{refuse}
 use Rattle.refusals.proofs.Refusals.{last_one}
 use Rattle.machine.specs.declared.Pair.{Pair}
@@ -16,7 +17,7 @@ use Rattle.paths.specs.Labels.{Closed, Attained}
 use Rattle.tables.specs.Work.{HasNode, label_of, cost_at}
 use Rattle.product.specs.ProductGraph.{card_start}
 use Rattle.product.specs.Prices.{ranking_agrees}
-use Rattle.product.specs.CountsFit.{best_of_sets_is_small}
+use Rattle.product.proofs.CountsFit.{best_of_sets_is_small}
 use Rattle.product.specs.Laws.CardGraph.{start_within}
 use Rattle.tables.specs.Engine.{engine_graph}
 use Rattle.tables.specs.Places.{six_places}

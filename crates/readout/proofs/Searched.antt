@@ -1,5 +1,6 @@
 -- What a search answers: a refusal, 10 or 12, or the best. Assumes nothing.
-use Rattle.basics.specs.Words.{◌≡◌, sym, ◌∙◌, ap, List, Option, some, ℕ, ◌<◌, length}
+use Rattle.std.specs.Prelude.{◌≡◌, ◌<◌}
+use Rattle.basics.specs.Words.{sym, ◌∙◌, ap, List, Option, some, ℕ, length}
 use Rattle.refusals.specs.Refusals.{unless_refused}
 use Rattle.refusals.proofs.Refusals.{accepted as taken, not_accepted}
 use Rattle.candidate.specs.declared.Evaluation.{Evaluation}

@@ -1,5 +1,6 @@
 -- What accepted sets give a search over sets. It serves every engine whose search is `Searched`. Assumes nothing.
-use Rattle.basics.specs.Words.{◌≡◌, List, ℕ, ◌+◌, ◌*◌, ◌≤◌, arith, length}
+use Rattle.std.specs.Prelude.{◌≡◌, ◌+◌, ◌*◌, ◌≤◌}
+use Rattle.basics.specs.Words.{List, ℕ, arith, length}
 use Rattle.card.specs.Layout.{symbol_count}
 use Rattle.card.specs.Card.{machines_of}
 use Rattle.product.specs.Nodes.{product, state_counts}

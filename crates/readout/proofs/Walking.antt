@@ -1,5 +1,6 @@
 -- What the walk of the best candidate is given, and what it writes. Assumes nothing.
-use Rattle.basics.specs.Words.{◌≡◌, sym, ◌∙◌, ap, subst, List, ℕ, ◌+◌, ◌*◌, ◌≤◌, arith, length, take, length-take-le}
+use Rattle.std.specs.Prelude.{◌≡◌, ◌+◌, ◌*◌, ◌≤◌}
+use Rattle.basics.specs.Words.{sym, ◌∙◌, ap, subst, List, ℕ, arith, length, take, length-take-le}
 use Rattle.card.specs.Layout.{machine_count}
 use Rattle.card.specs.Card.{machines_of}
 use Rattle.card.specs.Accepted.{accepted}

@@ -1,5 +1,6 @@
 -- What the search for a word's sets of one symbol each says of the word. Assumes nothing.
-use Rattle.basics.specs.Words.{◌≡◌, ◌∙◌, ap, true, List, Option, ℕ, ◌≤◌, arith, length, ltb, all_of}
+use Rattle.std.specs.Prelude.{◌≡◌, ◌≤◌}
+use Rattle.basics.specs.Words.{◌∙◌, ap, true, List, Option, ℕ, arith, length, ltb, all_of}
 use Rattle.refusals.specs.Refusals.{unless_refused}
 use Rattle.card.specs.Layout.{symbol_count}
 use Rattle.candidate.specs.declared.Evaluation.{Evaluation}
@@ -7,7 +8,7 @@ use Rattle.candidate.specs.Evaluating.{refused}
 use Rattle.product.specs.Best.{Contender, best}
 use Rattle.product.specs.Sets.{singletons, best_of_sets}
 use Rattle.product.specs.Answering.{call_refusal, answered}
-use Rattle.product.specs.SetsTheorem.{best_of_one_word}
+use Rattle.product.proofs.SetsTheorem.{best_of_one_word}
 use Rattle.product.specs.OneSymbolEach.{evaluated_alike}
 use Rattle.product.specs.Laws.Words.{accepted_word}
 use Rattle.product.specs.Laws.Sets.{as_many}

@@ -1,5 +1,6 @@
 -- The search, for input that passed the checks 1 to 9.
-use Rattle.basics.specs.Words.{◌≡◌, true, List, Option, some, none, ℕ, ◌+◌, ◌*◌, ◌≤◌, length, leb}
+use Rattle.std.specs.Prelude.{◌≡◌, ◌+◌, ◌*◌, ◌≤◌}
+use Rattle.basics.specs.Words.{true, List, Option, some, none, ℕ, length, leb}
 use Rattle.refusals.specs.Refusals.{refuse}
 use Rattle.ranking.specs.Rankings.{is_ranking}
 use Rattle.card.specs.Layout.{machine_count, symbol_count}

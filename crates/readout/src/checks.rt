@@ -1,5 +1,6 @@
 // The checks of the best candidate after the search, 10 and 12.
-ghost use Rattle.basics.specs.Words.{◌≡◌, ◌*◌, leb};
+ghost use Rattle.std.specs.Prelude.{◌≡◌, ◌*◌};
+ghost use Rattle.basics.specs.Words.{leb};
 ghost use Rattle.refusals.specs.Refusals.{refuse, checked_number};
 ghost use Rattle.candidate.specs.Candidates.{is_some};
 ghost use Rattle.tables.specs.Work.{HasNode, label_of};

@@ -1,7 +1,8 @@
 // Reading the answer off the labels of all nodes: the checks 10 and 12, the walk, the result. Every engine that labels in ranked order ends with it.
 #![tactic(auto)]
 
-ghost use Rattle.basics.specs.Words.{◌≡◌, List, ℕ, ◌≤◌, length};
+ghost use Rattle.std.specs.Prelude.{◌≡◌, ◌≤◌};
+ghost use Rattle.basics.specs.Words.{List, ℕ, length};
 ghost use Rattle.product.specs.Sets.{best_of_sets};
 ghost use Rattle.product.specs.ProductGraph.{card_start};
 ghost use Rattle.tables.specs.Work.{cost_at};

@@ -1,5 +1,6 @@
 -- What is read piece by piece, and what is printed after it. Assumes nothing.
-use Rattle.basics.proofs.Words.{◌≡◌, refl, ap, sym, ◌∙◌, Bool, true, false, List, [], ◌∷◌, ◌++◌, ℕ, ◌≤◌, take, clash}
+use Rattle.std.specs.Prelude.{◌≡◌, ◌∷◌, ◌++◌, ◌≤◌}
+use Rattle.basics.proofs.Words.{refl, ap, sym, ◌∙◌, Bool, true, false, List, [], ℕ, take, clash}
 use Rattle.lines.specs.Taking.{ended_lines, held_after}
 use Rattle.lines.specs.LinesOfPieces.{ended_append}
 use Rattle.tally.specs.declared.Tally.{Tally}

@@ -1,5 +1,6 @@
 -- What the program prints for an input.
-use Rattle.basics.specs.Words.{◌≡◌, Bool, not, List, [], ◌∷◌, ◌++◌, map, Option, some, none, ℕ, ◌+◌, ◌<◌, ◌≤◌, length, get_or, take, drop, joined, those, numbers_below}
+use Rattle.std.specs.Prelude.{◌≡◌, ◌∷◌, ◌++◌, ◌+◌, ◌<◌, ◌≤◌}
+use Rattle.basics.specs.Words.{Bool, not, List, [], map, Option, some, none, ℕ, length, get_or, take, drop, joined, those, numbers_below}
 use Rattle.candidate.specs.Candidates.{is_some}
 use Rattle.lines.specs.Input.{lines_of}
 use Rattle.lines.specs.Taking.{ended_lines, held_after}

@@ -1,5 +1,6 @@
 -- A lesson's totals, for every list of lines; and that the output is the same however the input is cut into pieces.
-use Rattle.basics.proofs.Words.{◌≡◌, refl, ap, sym, ◌∙◌, Bool, true, false, not, List, [], ◌∷◌, ◌++◌, map, append_assoc, append-nil, Option, some, none, ℕ, zero, suc, ◌+◌, ◌<◌, ◌≤◌, arith, length, get_or, take, drop, length-map, length-take, ext_get_or, get_or-take, add-zero, min, leb-true, leb-false, joined, those, numbers_below, map_at, length_numbers, number_at}
+use Rattle.std.specs.Prelude.{◌≡◌, ◌∷◌, ◌++◌, ◌+◌, ◌<◌, ◌≤◌}
+use Rattle.basics.proofs.Words.{refl, ap, sym, ◌∙◌, Bool, true, false, not, List, [], map, append_assoc, append-nil, Option, some, none, ℕ, zero, suc, arith, length, get_or, take, drop, length-map, length-take, ext_get_or, get_or-take, add-zero, min, leb-true, leb-false, joined, those, numbers_below, map_at, length_numbers, number_at}
 use Rattle.lines.specs.Parsing.{Request, parsed_line}
 use Rattle.writing.specs.Writing.{refused_line, closing_lines}
 use Rattle.lines.specs.Input.{lines_of, kept}

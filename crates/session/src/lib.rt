@@ -4,7 +4,8 @@
 // No contract can speak of what is read and written.
 #![tactic(auto)]
 
-ghost use Rattle.basics.specs.Words.{◌≡◌, false, ◌≤◌, length, take};
+ghost use Rattle.std.specs.Prelude.{◌≡◌, ◌≤◌};
+ghost use Rattle.basics.specs.Words.{false, length, take};
 ghost use Rattle.lesson.specs.Tally.{Fits};
 ghost use Rattle.session.specs.Output.{Reads, Finishes};
 

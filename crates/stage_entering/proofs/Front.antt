@@ -1,5 +1,6 @@
 -- The first look at an arc: where its marks of the first constraints, with its target's counts, are more than its node's, it was dropped or gives no less.
-use Rattle.basics.specs.Words.{◌≡◌, refl, sym, ◌∙◌, ap, subst, false, List, Option, none, some, ◌⊎◌, inl, inr, ℕ, zero, suc, ◌+◌, ◌*◌, ◌/◌, ◌%◌, ◌^◌, ◌≤◌, ◌<◌, arith, length, get_or, set, get_or-set_same, get_or-set_other, div-le_self, ℕ_discrete}
+use Rattle.std.specs.Prelude.{◌≡◌, ◌⊎◌, ◌+◌, ◌*◌, ◌/◌, ◌%◌, ◌^◌, ◌≤◌, ◌<◌}
+use Rattle.basics.specs.Words.{refl, sym, ◌∙◌, ap, subst, false, List, Option, none, some, inl, inr, ℕ, zero, suc, arith, length, get_or, set, get_or-set_same, get_or-set_other, div-le_self, ℕ_discrete}
 use Rattle.paths.specs.Costs.{AtMost}
 use Rattle.paths.specs.Ranked.{Ranked, Less, count_at}
 use Rattle.tables.specs.Marks.{marks_cost}

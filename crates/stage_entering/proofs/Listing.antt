@@ -1,5 +1,6 @@
 -- The insertions of a card in lists: what listing them needs, and what it gives.
-use Rattle.basics.specs.Words.{refl, List, ℕ, ◌≤◌}
+use Rattle.std.specs.Prelude.{◌≤◌}
+use Rattle.basics.specs.Words.{refl, List, ℕ}
 use Rattle.machine.specs.Symbols.{empty_symbol}
 use Rattle.card.specs.Layout.{symbol_count}
 use Rattle.card.specs.Card.{machines_of}

@@ -1,5 +1,6 @@
 -- Laws of trying one joint step.
-use Rattle.basics.specs.Words.{◌≡◌, sym, subst, Bool, List, Option, some, ℕ, ◌+◌, ◌<◌, arith}
+use Rattle.std.specs.Prelude.{◌≡◌, ◌+◌, ◌<◌}
+use Rattle.basics.specs.Words.{sym, subst, Bool, List, Option, some, ℕ, arith}
 use Rattle.machine.specs.declared.Pair.{Pair}
 use Rattle.paths.specs.Ranked.{Ranked, Less, count_at, ranked_costs}
 use Rattle.paths.specs.Graph.{Graph, path_cost, run→cost}

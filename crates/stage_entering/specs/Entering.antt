@@ -1,5 +1,6 @@
 -- Entering a position in a stage by joint steps: from its codes, four outputs at a time, and by endings.
-use Rattle.basics.specs.Words.{◌≡◌, Bool, true, false, cond, List, Option, none, some, ◌⊎◌, ◌≢◌, ℕ, ◌+◌, ◌*◌, ◌/◌, ◌%◌, ◌^◌, ◌≤◌, ◌<◌, length, get_or, ltb}
+use Rattle.std.specs.Prelude.{◌≡◌, ◌⊎◌, ◌≢◌, ◌+◌, ◌*◌, ◌/◌, ◌%◌, ◌^◌, ◌≤◌, ◌<◌}
+use Rattle.basics.specs.Words.{Bool, true, false, cond, List, Option, none, some, ℕ, length, get_or, ltb}
 use Rattle.machine.specs.declared.Pair.{Pair}
 use Rattle.paths.specs.Ranked.{Ranked, Less, count_at, ranked_costs}
 use Rattle.paths.specs.Improvement.{Falls}

@@ -1,5 +1,6 @@
 -- Trying the nodes of a position in a stage by the pairs with one input.
-use Rattle.basics.specs.Words.{◌≡◌, List, ◌⊎◌, ℕ, ◌+◌, ◌≤◌, ◌<◌, length}
+use Rattle.std.specs.Prelude.{◌≡◌, ◌⊎◌, ◌+◌, ◌≤◌, ◌<◌}
+use Rattle.basics.specs.Words.{List, ℕ, length}
 use Rattle.machine.specs.declared.Pair.{Pair}
 use Rattle.card.specs.Card.{machines_of}
 use Rattle.paths.specs.Ranked.{ranked_costs}

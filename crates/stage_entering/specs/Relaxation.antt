@@ -1,5 +1,6 @@
 -- Trying edges one after the other, in any order: each gives its node the lesser of its label and what the edge costs with its target's label.
-use Rattle.basics.specs.Words.{◌≡◌, refl, sym, ◌∙◌, ap, none, some, Option·none-ne-some, ◌⊎◌, inl, inr, ℕ}
+use Rattle.std.specs.Prelude.{◌≡◌, ◌⊎◌}
+use Rattle.basics.specs.Words.{refl, sym, ◌∙◌, ap, none, some, Option·none-ne-some, inl, inr, ℕ}
 use Rattle.paths.specs.Costs.{Costs, Labels, AtMost, atmost_is, atmost_upto, shift_left_upto}
 use Rattle.paths.specs.Graph.{Alphabet, Edge, Graph}
 use Rattle.paths.specs.Labels.{Attained}

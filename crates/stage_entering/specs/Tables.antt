@@ -1,5 +1,6 @@
 -- What is written down of a card's machines for every stage.
-use Rattle.basics.specs.Words.{◌≡◌, List, ℕ, ◌+◌, ◌*◌, ◌≤◌, length}
+use Rattle.std.specs.Prelude.{◌≡◌, ◌+◌, ◌*◌, ◌≤◌}
+use Rattle.basics.specs.Words.{List, ℕ, length}
 use Rattle.machine.specs.Symbols.{empty_symbol}
 use Rattle.card.specs.Card.{machines_of, card_refusal}
 use Rattle.product.specs.Nodes.{state_counts}

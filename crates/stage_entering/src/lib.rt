@@ -1,7 +1,8 @@
 // Entering a position in a stage of the cull: trying its nodes by joint steps, four outputs at a time, and a node by its ending.
 #![tactic(auto)]
 
-ghost use Rattle.basics.specs.Words.{◌≡◌, ◌+◌, ◌*◌, ◌≤◌, ◌<◌, length};
+ghost use Rattle.std.specs.Prelude.{◌≡◌, ◌+◌, ◌*◌, ◌≤◌, ◌<◌};
+ghost use Rattle.basics.specs.Words.{length};
 ghost use Rattle.tables.specs.Work.{HasNodes};
 ghost use Rattle.stage.specs.Relaxing.{NodePre};
 ghost use Rattle.stage.specs.StageLabels.{count_of, stage_label};
@@ -22,7 +23,7 @@ fn long(x: u16) -> u64
 }
 
 // A node's count of the constraint at a place.
-fn count_at_lem(work: &[u16], node: usize, place: usize) -> u64
+fn count_at(work: &[u16], node: usize, place: usize) -> u64
     requires { NodePre work.now node place }
     ensures { (result ≡ count_of work.now place node) × (result < 65536) }
 {
@@ -37,7 +38,7 @@ fn own_count(work: &[u16], node: usize, stage: usize) -> u64
     if work[node * 8] == 0 {
         return 65535;
     }
-    count_at_lem(work, node, stage)
+    count_at(work, node, stage)
 }
 
 // A node's counts of the first three constraints, or of those up to the stage, as one number.
@@ -49,15 +50,15 @@ fn front_counts(work: &[u16], node: usize, stage: usize) -> u64
     if stage == 0 {
         return own;
     }
-    let first = count_at_lem(work, node, 0) * 65536;
+    let first = count_at(work, node, 0) * 65536;
     if stage == 1 {
         return first + own;
     }
-    let second = (first + count_at_lem(work, node, 1)) * 65536;
+    let second = (first + count_at(work, node, 1)) * 65536;
     if stage == 2 {
         return second + own;
     }
-    second + count_at_lem(work, node, 2)
+    second + count_at(work, node, 2)
 }
 
 // What stands behind the marks of those constraints in the first number of a joint step, in bits.

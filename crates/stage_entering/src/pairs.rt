@@ -1,5 +1,6 @@
 // The pairs of a card in a stage of the cull: the nodes of a position tried by those with one input, the insertions in lists.
-ghost use Rattle.basics.specs.Words.{◌≡◌, List, ℕ, ◌≤◌, length};
+ghost use Rattle.std.specs.Prelude.{◌≡◌, ◌≤◌};
+ghost use Rattle.basics.specs.Words.{List, ℕ, length};
 ghost use Rattle.tables.specs.Places.{six_places, SixPlaces};
 ghost use Rattle.insertions.specs.RankedWeights.{RankedWeights};
 ghost use Rattle.stage_entering.specs.Entering.{codes_at};

@@ -1,5 +1,6 @@
 -- What the call answers, by the checks that input and tableau pass and by the best candidate. Assumes nothing.
-use Rattle.basics.specs.Words.{◌≡◌, sym, ap, ◌∙◌, true, List, [], ◌∷◌, Option, some, none, Option·none-ne-some, ℕ, zero, suc, ◌<◌, arith, lit<}
+use Rattle.std.specs.Prelude.{◌≡◌, ◌∷◌, ◌<◌}
+use Rattle.basics.specs.Words.{sym, ap, ◌∙◌, true, List, [], Option, some, none, Option·none-ne-some, ℕ, zero, suc, arith, lit<}
 use Rattle.refusals.specs.Refusals.{refuse, first_of}
 use Rattle.refusals.proofs.Refusals.{passed, none_first, accepted}
 use Rattle.ranking.specs.declared.Profile.{Profile}

@@ -1,5 +1,6 @@
 -- The contract of the call.
-use Rattle.basics.specs.Words.{◌≡◌, List, ◌≢◌, ℕ, length}
+use Rattle.std.specs.Prelude.{◌≡◌, ◌≢◌}
+use Rattle.basics.specs.Words.{List, ℕ, length}
 use Rattle.product.specs.Optimizing.{input_refusal}
 use Rattle.tableau.specs.declared.Judged.{Judged}
 use Rattle.tableau.specs.Judging.{judging}

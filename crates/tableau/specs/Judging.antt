@@ -1,5 +1,6 @@
 -- What judging a tableau answers.
-use Rattle.basics.specs.Words.{Bool, false, List, [], ◌∷◌, Option, some, none, ℕ}
+use Rattle.std.specs.Prelude.{◌∷◌}
+use Rattle.basics.specs.Words.{Bool, false, List, [], Option, some, none, ℕ}
 use Rattle.refusals.specs.Refusals.{refuse, first_of, unless_refused}
 use Rattle.card.specs.Layout.{machine_count}
 use Rattle.candidate.specs.Evaluating.{profile_with}

@@ -1,5 +1,6 @@
 -- What the verdict means, in the words of the request: for every card, ranking, word, work slice and tableau of which nothing is refused. Assumes nothing.
-use Rattle.basics.proofs.Words.{◌≡◌, refl, sym, ◌∙◌, ap, subst, Bool, true, false, List, [], ◌∷◌, Option, some, none, ◌⊎◌, inl, inr, ◌↔◌, ◌≢◌, ℕ, zero, suc, ◌<◌, arith, length, clash, every_at}
+use Rattle.std.specs.Prelude.{◌≡◌, ◌∷◌, ◌⊎◌, ◌↔◌, ◌≢◌, ◌<◌}
+use Rattle.basics.proofs.Words.{refl, sym, ◌∙◌, ap, subst, Bool, true, false, List, [], Option, some, none, inl, inr, ℕ, zero, suc, arith, length, clash, every_at}
 use Rattle.refusals.specs.Refusals.{refuse, first_of, unless_refused}
 use Rattle.refusals.proofs.Refusals.{accepted}
 use Rattle.card.specs.Layout.{machine_count}
@@ -7,7 +8,7 @@ use Rattle.card.specs.Card.{machines_of}
 use Rattle.candidate.specs.Candidates.{pairs_of, IsCandidate}
 use Rattle.product.specs.Best.{Contender, best}
 use Rattle.product.specs.Optimizing.{input_refusal}
-use Rattle.product.specs.BestTheorem.{best_is_best_of_all}
+use Rattle.product.proofs.BestTheorem.{best_is_best_of_all}
 use Rattle.input.specs.AcceptedInput.{AcceptedInput, accepted_input}
 use Rattle.tableau.specs.declared.Judged.{Judged}
 use Rattle.rows.specs.declared.Verdict.{Verdict}

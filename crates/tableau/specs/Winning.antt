@@ -1,5 +1,6 @@
 -- What it is to win.
-use Rattle.basics.specs.Words.{◌≡◌, true, List, ℕ}
+use Rattle.std.specs.Prelude.{◌≡◌}
+use Rattle.basics.specs.Words.{true, List, ℕ}
 use Rattle.machine.specs.declared.Pair.{Pair}
 use Rattle.machine.specs.Machine.{Machine}
 use Rattle.ranking.specs.Harmony.{better}

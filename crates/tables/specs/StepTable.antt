@@ -1,6 +1,6 @@
 -- A machine's step as one number: where it goes, and its marks.
 use Rattle.std.specs.Prelude.{◌+◌, ◌*◌}
-use Rattle.basics.specs.Words.{List, [], Option, some, none, ℕ, get_or}
+use Rattle.basics.specs.Words.{List, Option, some, none, ℕ, get_or}
 use Rattle.machine.specs.Machine.{Machine}
 pub use Rattle.machine.specs.Machine.{no_machine}
 

@@ -1,5 +1,6 @@
 -- The joint step of a column at some places, machine by machine. Assumes nothing.
-use Rattle.basics.proofs.Words.{◌≡◌, sym, ◌∙◌, ap, List, ℕ, suc, ◌+◌, ◌*◌, ◌^◌, ◌<◌, ◌≤◌, arith, length, get_or, drop, drop-cons, suc-mul, left_none}
+use Rattle.std.specs.Prelude.{◌≡◌, ◌+◌, ◌*◌, ◌^◌, ◌<◌, ◌≤◌}
+use Rattle.basics.proofs.Words.{sym, ◌∙◌, ap, List, ℕ, suc, arith, length, get_or, drop, drop-cons, suc-mul, left_none}
 use Rattle.cells.specs.Cells.{nowhere, high_cell, low_cell, scale_of, high_of, low_of, high_at, low_at}
 use Rattle.cells.specs.Laws.Joint.{cell_of_none}
 use Rattle.cells.specs.Laws.Numbers.{marks_low, high_small}

@@ -1,5 +1,6 @@
 -- Whether a step keeps to the labels, as the test finds out; the least output. Assumes nothing.
-use Rattle.basics.proofs.Words.{◌≡◌, refl, sym, ◌∙◌, ap, Bool, true, false, ◌&&◌, not, List, ℕ, ◌+◌, ◌%◌, ◌<◌, ◌≤◌, arith, eqb, member, eqb-true, eq-eqb, left, right, both, clash, no_member}
+use Rattle.std.specs.Prelude.{◌≡◌, ◌&&◌, ◌+◌, ◌%◌, ◌<◌, ◌≤◌}
+use Rattle.basics.proofs.Words.{refl, sym, ◌∙◌, ap, Bool, true, false, not, List, ℕ, arith, eqb, member, eqb-true, eq-eqb, left, right, both, clash, no_member}
 use Rattle.machine.specs.SymbolSets.{least_symbol}
 use Rattle.machine.specs.Laws.SymbolSets.{below_least}
 use Rattle.machine.specs.Laws.SetLoops.{with_true}

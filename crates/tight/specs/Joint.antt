@@ -1,5 +1,6 @@
 -- The joint step at places of a column, one for each machine: the sums of the cells that stand there.
-use Rattle.basics.specs.Words.{◌≡◌, List, [], ◌∷◌, ℕ, suc, ◌+◌, ◌*◌, ◌^◌, ◌<◌, ◌≤◌, length}
+use Rattle.std.specs.Prelude.{◌≡◌, ◌∷◌, ◌+◌, ◌*◌, ◌^◌, ◌<◌, ◌≤◌}
+use Rattle.basics.specs.Words.{List, [], ℕ, suc, length}
 use Rattle.cells.specs.declared.Cell.{Cell}
 use Rattle.cells.specs.Cells.{nowhere, scale_of, high_of, low_of, high_at, low_at}
 

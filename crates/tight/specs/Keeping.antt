@@ -1,5 +1,6 @@
 -- Whether a joint step keeps to the labels, by the numbers, and the least output that does.
-use Rattle.basics.specs.Words.{◌≡◌, true, List, ℕ, ◌+◌, ◌-◌, ◌%◌, ◌^◌, ◌<◌, ◌≤◌, length, member}
+use Rattle.std.specs.Prelude.{◌≡◌, ◌+◌, ◌-◌, ◌%◌, ◌^◌, ◌<◌, ◌≤◌}
+use Rattle.basics.specs.Words.{true, List, ℕ, length, member}
 use Rattle.cells.specs.declared.Cell.{Cell}
 use Rattle.cells.specs.Cells.{nowhere}
 use Rattle.cells.specs.Labels.{no_label}

@@ -1,6 +1,7 @@
 -- The labels that the walk keeps to, as cells. In ranked order they are counts, eight 16-bit numbers to a node; by weights they are sums, one 64-bit
 -- number to a node. One of the two slices has them, and the other is empty.
-use Rattle.basics.specs.Words.{◌≡◌, cond, List, ◌≢◌, ℕ, ◌+◌, ◌*◌, ◌/◌, ◌%◌, ◌<◌, length, get_or, eqb, ltb}
+use Rattle.std.specs.Prelude.{◌≡◌, ◌≢◌, ◌+◌, ◌*◌, ◌/◌, ◌%◌, ◌<◌}
+use Rattle.basics.specs.Words.{cond, List, ℕ, length, get_or, eqb, ltb}
 use Rattle.tables.specs.Work.{HasNode, state_of, cost_at}
 use Rattle.cells.specs.declared.Cell.{Cell}
 use Rattle.cells.specs.Labels.{no_label}

@@ -2,7 +2,8 @@
 // they lead to.
 #![tactic(auto)]
 
-ghost use Rattle.basics.specs.Words.{◌≡◌, true, false, ℕ, ◌*◌, ◌+◌, ◌^◌, ◌<◌, ◌≤◌, length};
+ghost use Rattle.std.specs.Prelude.{◌≡◌, ◌*◌, ◌+◌, ◌^◌, ◌<◌, ◌≤◌};
+ghost use Rattle.basics.specs.Words.{true, false, ℕ, length};
 ghost use Rattle.columns.specs.Filling.{Small};
 ghost use Rattle.tables.specs.Work.{HasNode};
 ghost use Rattle.tight.specs.Labels.{counts_cell, sum_cell, cell_of, HasLabel};

@@ -1,5 +1,6 @@
 -- Of every arc of an accepted card there is an accepted card that lacks it and nothing else: its counts and its other parts are those of the card.
-use Rattle.basics.specs.Words.{◌≡◌, refl, sym, ◌∙◌, ap, List, [], ◌∷◌, map, ℕ, zero, suc, ◌+◌, ◌*◌, ◌<◌, arith, length, get_or, set, length-set, map-set_same, get_or-set_same, get_or-set_other, ℕ_discrete, product}
+use Rattle.std.specs.Prelude.{◌≡◌, ◌∷◌, ◌+◌, ◌*◌, ◌<◌}
+use Rattle.basics.specs.Words.{refl, sym, ◌∙◌, ap, List, [], map, ℕ, zero, suc, arith, length, get_or, set, length-set, map-set_same, get_or-set_same, get_or-set_other, ℕ_discrete, product}
 use Rattle.refusals.proofs.Refusals.{none_first}
 use Rattle.machine.specs.Machine.{Machine, no_machine, state_count_of}
 use Rattle.machine.specs.Part.{state_count, machine_of, part_refusal}

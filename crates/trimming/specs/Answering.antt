@@ -1,5 +1,6 @@
 -- What a call wrote, and when a second call answers the same.
-use Rattle.basics.specs.Words.{◌≡◌, List, ◌++◌, ℕ, ◌*◌, take, drop}
+use Rattle.std.specs.Prelude.{◌≡◌, ◌++◌, ◌*◌}
+use Rattle.basics.specs.Words.{List, ℕ, take, drop}
 use Rattle.machine.specs.declared.Pair.{Pair}
 use Rattle.candidate.specs.declared.Evaluation.{Evaluation}
 use Rattle.candidate.specs.Candidates.{pairs_of}

@@ -1,5 +1,6 @@
 -- The best candidate on a card that lacks one arc which it does not travel: it is the same. From the theorem on the best alone.
-use Rattle.basics.proofs.Words.{◌≡◌, refl, sym, ◌∙◌, ap, true, false, false≢true, List, Option, some, none, ◌≢◌, ℕ, ◌<◌, arith, get_or, length-set, map-set_same, get_or-set_same, all_of, all_at}
+use Rattle.std.specs.Prelude.{◌≡◌, ◌≢◌, ◌<◌}
+use Rattle.basics.proofs.Words.{refl, sym, ◌∙◌, ap, true, false, false≢true, List, Option, some, none, ℕ, arith, get_or, length-set, map-set_same, get_or-set_same, all_of, all_at}
 use Rattle.machine.specs.declared.Pair.{Pair}
 use Rattle.machine.specs.Symbols.{is_pair}
 use Rattle.machine.specs.Machine.{Machine, no_machine, start_state}

@@ -1,5 +1,6 @@
 -- Machines that lack one arc, and the arcs that a candidate travels.
-use Rattle.basics.specs.Words.{Bool, false, ◌||◌, List, [], ◌∷◌, some, none, ℕ, zero, suc, get_or, set, without}
+use Rattle.std.specs.Prelude.{◌||◌, ◌∷◌}
+use Rattle.basics.specs.Words.{Bool, false, List, [], some, none, ℕ, zero, suc, get_or, set, without}
 use Rattle.machine.specs.declared.Arc.{Arc}
 use Rattle.machine.specs.declared.Pair.{Pair}
 use Rattle.machine.specs.Machine.{Machine, no_machine, start_state, takes_from, step_of}

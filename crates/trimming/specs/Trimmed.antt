@@ -1,5 +1,6 @@
 -- Cards that lack one arc of another, and the bytes of one of them.
-use Rattle.basics.specs.Words.{◌≡◌, List, ◌++◌, map, ℕ, ◌+◌, ◌*◌, ◌-◌, ◌<◌, length, take, drop, set, joined}
+use Rattle.std.specs.Prelude.{◌≡◌, ◌++◌, ◌+◌, ◌*◌, ◌-◌, ◌<◌}
+use Rattle.basics.specs.Words.{List, map, ℕ, length, take, drop, set, joined}
 use Rattle.machine.specs.Part.{state_count, arc_count}
 use Rattle.card.specs.Layout.{machine_count, symbol_count, parts_of, part_of}
 use Rattle.card.specs.Card.{machines_of}

@@ -1,6 +1,7 @@
 -- S-12 in the request's words, over the calls: the card trimmed of one arc that a word's answer does not travel gives that word the same answer and
 -- profile under the same ranking, provided the second call's slices are long enough.
-use Rattle.basics.specs.Words.{◌≡◌, subst, false, List, ℕ, ◌*◌, ◌≤◌, length}
+use Rattle.std.specs.Prelude.{◌≡◌, ◌*◌, ◌≤◌}
+use Rattle.basics.specs.Words.{subst, false, List, ℕ, length}
 use Rattle.card.specs.Card.{card_refusal, machines_of}
 use Rattle.candidate.specs.declared.Evaluation.{Evaluation}
 use Rattle.product.specs.Nodes.{node_count}

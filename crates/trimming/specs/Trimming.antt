@@ -1,6 +1,7 @@
 -- Arcs that the answer does not use, over the calls as they are: both engines have the contracts `Optimizes` and `OptimizesSets`, so each of the two
 -- calls may be either engine's.
-use Rattle.basics.specs.Words.{◌≡◌, sym, ◌∙◌, ap, subst, true, false, List, Option, ℕ, ◌*◌, ◌≤◌, length}
+use Rattle.std.specs.Prelude.{◌≡◌, ◌*◌, ◌≤◌}
+use Rattle.basics.specs.Words.{sym, ◌∙◌, ap, subst, true, false, List, Option, ℕ, length}
 use Rattle.refusals.specs.Refusals.{refuse}
 use Rattle.machine.specs.declared.Pair.{Pair}
 use Rattle.machine.specs.Machine.{Machine}
@@ -16,7 +17,8 @@ use Rattle.product.specs.Prices.{Price, Agrees, ranking_agrees}
 use Rattle.product.specs.Answering.{before_search}
 use Rattle.product.specs.Optimizing.{sound_word, input_refusal}
 use Rattle.product.specs.OptimizingSets.{sets_refusal, sets_input_refusal}
-use Rattle.product.specs.Searches.{Searches, of_word, of_sets}
+use Rattle.product.specs.Searches.{Searches}
+use Rattle.product.proofs.Searches.{of_word, of_sets}
 use Rattle.input.specs.AcceptedInput.{Passes, passes, passes_all, accepted_input, AcceptedSetsInput, accepted_sets_input, accepted_bits}
 use Rattle.optimizer.specs.Optimizes.{Answers, Optimizes, OptimizesSets}
 use Rattle.optimizer.specs.Demands.{answered_accepts}

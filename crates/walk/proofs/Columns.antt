@@ -1,5 +1,6 @@
 -- The columns of an input at the places of the states at hand: the joint step there, its marks, and the states that it leads to. Assumes nothing.
-use Rattle.basics.specs.Words.{◌≡◌, refl, sym, ◌∙◌, ap, subst, true, false, List, [], ◌∷◌, map, Option, some, none, Option·none-ne-some, ◌⊎◌, ℕ, zero, suc, ◌+◌, ◌*◌, ◌/◌, ◌%◌, ◌^◌, ◌<◌, ◌≤◌, arith, length, get_or, drop, List·getD-eq-default, suc-mul, mul-le-mul_right, mul-le-mul_left, dec_lt, member}
+use Rattle.std.specs.Prelude.{◌≡◌, ◌∷◌, ◌⊎◌, ◌+◌, ◌*◌, ◌/◌, ◌%◌, ◌^◌, ◌<◌, ◌≤◌}
+use Rattle.basics.specs.Words.{refl, sym, ◌∙◌, ap, subst, true, false, List, [], map, Option, some, none, Option·none-ne-some, ℕ, zero, suc, arith, length, get_or, drop, List·getD-eq-default, suc-mul, mul-le-mul_right, mul-le-mul_left, dec_lt, member}
 use Rattle.machine.specs.declared.Pair.{Pair}
 use Rattle.machine.specs.Symbols.{empty_symbol}
 use Rattle.machine.specs.Machine.{Machine, state_count_of, step_of}

@@ -1,5 +1,6 @@
 -- The start of the walk and its end. Assumes nothing.
-use Rattle.basics.specs.Words.{◌≡◌, refl, sym, ◌∙◌, ap, subst, List, [], ◌∷◌, ◌++◌, append-nil, map, Option, some, none, Option·none-ne-some, ◌⊎◌, inl, inr, ℕ, zero, suc, ◌+◌, ◌*◌, ◌-◌, ◌%◌, ◌<◌, ◌≤◌, arith, length, get_or, take, replicate, length-map, length-append, length-replicate, List·getD-append, List·getD-eq-default, ext_get_or, get_or-append-add, dec_lt}
+use Rattle.std.specs.Prelude.{◌≡◌, ◌∷◌, ◌++◌, ◌⊎◌, ◌+◌, ◌*◌, ◌-◌, ◌%◌, ◌<◌, ◌≤◌}
+use Rattle.basics.specs.Words.{refl, sym, ◌∙◌, ap, subst, List, [], append-nil, map, Option, some, none, Option·none-ne-some, inl, inr, ℕ, zero, suc, arith, length, get_or, take, replicate, length-map, length-append, length-replicate, List·getD-append, List·getD-eq-default, ext_get_or, get_or-append-add, dec_lt}
 use Rattle.machine.specs.declared.Pair.{Pair}
 use Rattle.machine.specs.Machine.{Machine, start_state}
 use Rattle.ranking.specs.Profiles.{merge}

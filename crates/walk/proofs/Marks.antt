@@ -1,5 +1,6 @@
 -- The marks of a list of pairs from a code's states: those of the first one, and those of the rest. Assumes nothing.
-use Rattle.basics.specs.Words.{◌≡◌, sym, ◌∙◌, ap, List, ◌∷◌, map, Option, some, ℕ, ◌≤◌, arith, get_or}
+use Rattle.std.specs.Prelude.{◌≡◌, ◌∷◌, ◌≤◌}
+use Rattle.basics.specs.Words.{sym, ◌∙◌, ap, List, map, Option, some, ℕ, arith, get_or}
 use Rattle.machine.specs.declared.Pair.{Pair}
 use Rattle.machine.specs.Machine.{Machine}
 use Rattle.ranking.specs.Profiles.{merge}

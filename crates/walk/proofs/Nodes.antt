@@ -1,5 +1,6 @@
 -- The pairs with an input at the node that the walk has reached: which keep to the labels, and where the walk is after one. Assumes nothing.
-use Rattle.basics.proofs.Words.{◌≡◌, sym, ◌∙◌, ap, subst, true, and-false, List, [], ◌∷◌, ◌++◌, append_assoc, Option, some, none, ◌⊎◌, inl, inr, ℕ, ◌+◌, ◌*◌, ◌%◌, ◌<◌, ◌≤◌, arith, length, get_or, take, length-set, length-append, ℕ_discrete, member, eq-eqb, ne_eqb, clash}
+use Rattle.std.specs.Prelude.{◌≡◌, ◌∷◌, ◌++◌, ◌⊎◌, ◌+◌, ◌*◌, ◌%◌, ◌<◌, ◌≤◌}
+use Rattle.basics.proofs.Words.{sym, ◌∙◌, ap, subst, true, and-false, List, [], append_assoc, Option, some, none, inl, inr, ℕ, arith, length, get_or, take, length-set, length-append, ℕ_discrete, member, eq-eqb, ne_eqb, clash}
 use Rattle.machine.specs.declared.Pair.{Pair}
 use Rattle.machine.specs.Symbols.{empty_symbol, is_pair}
 use Rattle.ranking.specs.Profiles.{merge}

@@ -1,6 +1,7 @@
 -- The two kinds of ways on from a node: by an insertion, whose columns have the steps of all states, and by a symbol of the set there, whose columns have
 -- those of the states at hand. Assumes nothing.
-use Rattle.basics.specs.Words.{◌≡◌, refl, sym, ◌∙◌, ap, subst, Bool, true, false, not, ◌&&◌, ◌||◌, List, [], ◌∷◌, Option, some, none, ◌⊎◌, inl, inr, ◌≢◌, ℕ, zero, suc, ◌+◌, ◌*◌, ◌%◌, ◌<◌, ◌≤◌, arith, length, get_or, take, eqb, get_or-take, length-take-le, member}
+use Rattle.std.specs.Prelude.{◌≡◌, ◌&&◌, ◌||◌, ◌∷◌, ◌⊎◌, ◌≢◌, ◌+◌, ◌*◌, ◌%◌, ◌<◌, ◌≤◌}
+use Rattle.basics.specs.Words.{refl, sym, ◌∙◌, ap, subst, Bool, true, false, not, List, [], Option, some, none, inl, inr, ℕ, zero, suc, arith, length, get_or, take, eqb, get_or-take, length-take-le, member}
 use Rattle.machine.specs.declared.Pair.{Pair}
 use Rattle.machine.specs.Symbols.{empty_symbol, is_pair}
 use Rattle.machine.specs.SymbolSets.{least_symbol}

@@ -1,5 +1,6 @@
 -- The pairs of a label are told by the last 16 bits of its low number. Assumes nothing.
-use Rattle.basics.specs.Words.{◌≡◌, refl, ◌∙◌, ap, List, [], ◌∷◌, some, ℕ, suc, ◌+◌, ◌*◌, ◌/◌, ◌%◌, ◌<◌, arith, length, mul_left_comm}
+use Rattle.std.specs.Prelude.{◌≡◌, ◌∷◌, ◌+◌, ◌*◌, ◌/◌, ◌%◌, ◌<◌}
+use Rattle.basics.specs.Words.{refl, ◌∙◌, ap, List, [], some, ℕ, suc, arith, length, mul_left_comm}
 use Rattle.machine.specs.declared.Pair.{Pair}
 use Rattle.card.specs.Card.{machines_of}
 use Rattle.paths.specs.Costs.{Labels}

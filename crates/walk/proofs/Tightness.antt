@@ -1,5 +1,6 @@
 -- A step keeps to the labels by its numbers exactly if its edge does. Assumes nothing.
-use Rattle.basics.specs.Words.{◌≡◌, refl, sym, ◌∙◌, ap, List, Option, some, none, Option·none-ne-some, ℕ, ◌+◌, ◌/◌, ◌%◌, ◌<◌, arith, dec_lt}
+use Rattle.std.specs.Prelude.{◌≡◌, ◌+◌, ◌/◌, ◌%◌, ◌<◌}
+use Rattle.basics.specs.Words.{refl, sym, ◌∙◌, ap, List, Option, some, none, Option·none-ne-some, ℕ, arith, dec_lt}
 use Rattle.machine.specs.declared.Pair.{Pair}
 use Rattle.paths.specs.Costs.{Labels}
 use Rattle.paths.specs.Ranked.{Ranked, add, ranked_costs}

@@ -1,5 +1,6 @@
 -- What the walk's requires says, for every node on the way. Assumes nothing.
-use Rattle.basics.specs.Words.{◌≡◌, sym, ◌∙◌, ap, subst, List, ℕ, ◌+◌, ◌*◌, ◌<◌, ◌≤◌, arith, length, take, replicate, length-replicate, length-take-le, mul-le-mul_right}
+use Rattle.std.specs.Prelude.{◌≡◌, ◌+◌, ◌*◌, ◌<◌, ◌≤◌}
+use Rattle.basics.specs.Words.{sym, ◌∙◌, ap, subst, List, ℕ, arith, length, take, replicate, length-replicate, length-take-le, mul-le-mul_right}
 use Rattle.ranking.specs.declared.Profile.{Profile}
 use Rattle.ranking.specs.Profiles.{zero_profile}
 use Rattle.machine.specs.Symbols.{empty_symbol}

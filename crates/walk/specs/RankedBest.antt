@@ -1,5 +1,6 @@
 -- The walk along ranked labels: as two numbers they are what the walk asks for, and the path that it writes is the best in ranked order.
-use Rattle.basics.specs.Words.{◌≡◌, refl, sym, ◌∙◌, ap, subst, Bool, true, false, cond, List, [], ◌∷◌, ◌++◌, Option, some, none, inl, inr, ◌≢◌, ℕ, zero, suc, ◌+◌, ◌*◌, ◌/◌, ◌%◌, ◌^◌, ◌<◌, ◌≤◌, arith, length, get_or, drop, List·getD-eq-default, eqb, dec_lt}
+use Rattle.std.specs.Prelude.{◌≡◌, ◌∷◌, ◌++◌, ◌≢◌, ◌+◌, ◌*◌, ◌/◌, ◌%◌, ◌^◌, ◌<◌, ◌≤◌}
+use Rattle.basics.specs.Words.{refl, sym, ◌∙◌, ap, subst, Bool, true, false, cond, List, [], Option, some, none, inl, inr, ℕ, zero, suc, arith, length, get_or, drop, List·getD-eq-default, eqb, dec_lt}
 use Rattle.machine.specs.declared.Pair.{Pair}
 use Rattle.card.specs.Card.{machines_of}
 use Rattle.candidate.specs.Candidates.{bytes_of, profile_of}

@@ -1,5 +1,6 @@
 -- What the walk asks of the labels, whatever the order.
-use Rattle.basics.specs.Words.{◌≡◌, List, some, ℕ, ◌+◌, ◌*◌, ◌%◌, ◌<◌, ◌≤◌, length}
+use Rattle.std.specs.Prelude.{◌≡◌, ◌+◌, ◌*◌, ◌%◌, ◌<◌, ◌≤◌}
+use Rattle.basics.specs.Words.{List, some, ℕ, length}
 use Rattle.card.specs.Card.{machines_of}
 use Rattle.paths.specs.Costs.{Labels}
 use Rattle.paths.specs.Ranked.{Ranked, ranked_costs}

@@ -1,5 +1,6 @@
 -- What the walk writes, whatever the order: the best path, and its profile.
-use Rattle.basics.specs.Words.{◌≡◌, List, ◌++◌, ℕ, ◌*◌, length, drop}
+use Rattle.std.specs.Prelude.{◌≡◌, ◌++◌, ◌*◌}
+use Rattle.basics.specs.Words.{List, ℕ, length, drop}
 use Rattle.machine.specs.declared.Pair.{Pair}
 use Rattle.card.specs.Card.{machines_of}
 use Rattle.candidate.specs.Candidates.{bytes_of, profile_of}

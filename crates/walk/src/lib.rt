@@ -2,7 +2,8 @@
 // are for every order.
 #![tactic(auto)]
 
-ghost use Rattle.basics.specs.Words.{◌≡◌, ◌||◌, ℕ, ◌*◌, ◌<◌, ◌≤◌, length, get_or, eqb, member};
+ghost use Rattle.std.specs.Prelude.{◌≡◌, ◌||◌, ◌*◌, ◌<◌, ◌≤◌};
+ghost use Rattle.basics.specs.Words.{ℕ, length, get_or, eqb, member};
 ghost use Rattle.machine.specs.Symbols.{empty_symbol};
 ghost use Rattle.paths.specs.Costs.{Labels};
 ghost use Rattle.paths.specs.Ranked.{ranked_costs};

@@ -1,5 +1,6 @@
 -- Writing the numbers of machines by their weights. Assumes nothing.
-use Rattle.basics.specs.Words.{◌≡◌, refl, ◌∙◌, List, ◌⊎◌, inl, inr, ◌≢◌, ℕ, zero, suc, ◌+◌, ◌*◌, ◌%◌, ◌<◌, ◌≤◌, arith, length, get_or, set, take, replicate, length-set, length-replicate, List·getD-eq-default, get_or-set_same, get_or-set_other, get_or-take, length-take-le, ℕ_discrete, dec_lt}
+use Rattle.std.specs.Prelude.{◌≡◌, ◌⊎◌, ◌≢◌, ◌+◌, ◌*◌, ◌%◌, ◌<◌, ◌≤◌}
+use Rattle.basics.specs.Words.{refl, ◌∙◌, List, inl, inr, ℕ, zero, suc, arith, length, get_or, set, take, replicate, length-set, length-replicate, List·getD-eq-default, get_or-set_same, get_or-set_other, get_or-take, length-take-le, ℕ_discrete, dec_lt}
 use Rattle.tables.specs.Tables.{CountsOfSome}
 use Rattle.tables.proofs.Counts.{few_counts}
 use Rattle.cells.specs.Cells.{high_of, low_of}

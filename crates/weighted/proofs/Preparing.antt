@@ -1,5 +1,6 @@
 -- What the search is given, from the call's parts: the order of the weights, with the marks of one machine first. Assumes nothing.
-use Rattle.basics.proofs.Words.{◌≡◌, refl, sym, ◌∙◌, ap, subst, Bool, true, false, false≢true, List, [], ℕ, ◌+◌, ◌*◌, ◌<◌, ◌≤◌, arith, length, get_or, set, take, length-set, length-take-le, mul-le-mul_right, ne_eqb}
+use Rattle.std.specs.Prelude.{◌≡◌, ◌+◌, ◌*◌, ◌<◌, ◌≤◌}
+use Rattle.basics.proofs.Words.{refl, sym, ◌∙◌, ap, subst, Bool, true, false, false≢true, List, [], ℕ, arith, length, get_or, set, take, length-set, length-take-le, mul-le-mul_right, ne_eqb}
 use Rattle.ranking.specs.Rankings.{is_ranking}
 use Rattle.card.specs.Layout.{machine_count}
 use Rattle.card.specs.Card.{machines_of}

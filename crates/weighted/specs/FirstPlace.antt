@@ -1,5 +1,6 @@
 -- The places by which the lists have marks: card order, but a machine and the first one change places.
-use Rattle.basics.specs.Words.{List, [], ◌∷◌, ℕ, get_or, set}
+use Rattle.std.specs.Prelude.{◌∷◌}
+use Rattle.basics.specs.Words.{List, [], ℕ, get_or, set}
 
 abbrev pub card_places : List ℕ
 card_places = 0 ∷ 1 ∷ 2 ∷ 3 ∷ 4 ∷ 5 ∷ []

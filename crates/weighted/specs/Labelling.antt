@@ -1,5 +1,6 @@
 -- Labelling all nodes by weights.
-use Rattle.basics.specs.Words.{◌≡◌, true, List, ℕ, ◌+◌, ◌*◌, length}
+use Rattle.std.specs.Prelude.{◌≡◌, ◌+◌, ◌*◌}
+use Rattle.basics.specs.Words.{true, List, ℕ, length}
 use Rattle.card.specs.Layout.{machine_count}
 use Rattle.product.specs.Setting.{Setting}
 use Rattle.product.specs.Weights.{sound_weights}

@@ -1,5 +1,6 @@
 -- The numbers of machines by their weights.
-use Rattle.basics.specs.Words.{◌≡◌, List, ◌⊎◌, ◌≢◌, ℕ, ◌*◌, ◌%◌, ◌<◌, ◌≤◌, length, get_or}
+use Rattle.std.specs.Prelude.{◌≡◌, ◌⊎◌, ◌≢◌, ◌*◌, ◌%◌, ◌<◌, ◌≤◌}
+use Rattle.basics.specs.Words.{List, ℕ, length, get_or}
 use Rattle.cells.specs.Cells.{high_of, low_of}
 
 -- a mark counts 256 times its machine's weight in high, and nothing in low

@@ -1,7 +1,8 @@
 // The weighted order, in which sums of weights are compared, on the same search as the ranked one.
 #![tactic(auto)]
 
-ghost use Rattle.basics.specs.Words.{◌≡◌, true, ◌*◌, ◌^◌, ◌<◌, ◌≤◌, length, take};
+ghost use Rattle.std.specs.Prelude.{◌≡◌, ◌*◌, ◌^◌, ◌<◌, ◌≤◌};
+ghost use Rattle.basics.specs.Words.{true, length, take};
 ghost use Rattle.tables.specs.Tables.{CountsOfSome};
 ghost use Rattle.cells.specs.Columns.{WeightsOf};
 ghost use Rattle.product.specs.Weights.{sound_weights};

@@ -1,10 +1,11 @@
 -- The search for a word by its sets, and what the call answers. Assumes nothing.
-use Rattle.basics.specs.Words.{◌≡◌, ◌∙◌, ap, true, List, some, ℕ, zero, suc, ◌<◌, ◌≤◌, arith, length, ltb, all_of}
+use Rattle.std.specs.Prelude.{◌≡◌, ◌<◌, ◌≤◌}
+use Rattle.basics.specs.Words.{◌∙◌, ap, true, List, some, ℕ, zero, suc, arith, length, ltb, all_of}
 use Rattle.card.specs.Layout.{symbol_count}
 use Rattle.product.specs.Best.{Contender}
 use Rattle.product.specs.Sets.{singletons, best_of_sets_in}
 use Rattle.product.specs.CountsFit.{SmallBest}
-use Rattle.product.specs.SetsTheorem.{best_in_of_one_word}
+use Rattle.product.proofs.SetsTheorem.{best_in_of_one_word}
 use Rattle.product.specs.Laws.Words.{accepted_word}
 use Rattle.product.specs.Laws.Sets.{as_many}
 use Rattle.product.specs.Laws.BestOfSets.{singletons_64}

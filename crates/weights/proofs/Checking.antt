@@ -1,5 +1,6 @@
 -- What the checks find out. Assumes nothing.
-use Rattle.basics.proofs.Words.{◌≡◌, sym, ◌∙◌, ap, true, false, List, ◌≢◌, ℕ, ◌+◌, ◌*◌, ◌<◌, ◌≤◌, arith, length, get_or, drop, leb, all_of, eq-eqb, ne_eqb, le-leb, lt-leb, left_next, left_none, all_none, all_next, all_fails}
+use Rattle.std.specs.Prelude.{◌≡◌, ◌≢◌, ◌+◌, ◌*◌, ◌<◌, ◌≤◌}
+use Rattle.basics.proofs.Words.{sym, ◌∙◌, ap, true, false, List, ℕ, arith, length, get_or, drop, leb, all_of, eq-eqb, ne_eqb, le-leb, lt-leb, left_next, left_none, all_none, all_next, all_fails}
 use Rattle.card.specs.Layout.{symbol_count}
 use Rattle.card.specs.Card.{machines_of}
 use Rattle.product.specs.Nodes.{node_count}

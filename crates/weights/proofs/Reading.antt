@@ -1,5 +1,6 @@
 -- Reading the answer off the labels. Assumes nothing.
-use Rattle.basics.proofs.Words.{◌≡◌, refl, sym, ◌∙◌, ap, subst, Bool, List, [], ◌∷◌, Option, some, ℕ, ◌+◌, ◌*◌, ◌/◌, ◌%◌, ◌<◌, ◌≤◌, arith, length, get_or, leb, ltb, dec_lt, lt-ltb, le-ltb, leb-true, ltb-true}
+use Rattle.std.specs.Prelude.{◌≡◌, ◌∷◌, ◌+◌, ◌*◌, ◌/◌, ◌%◌, ◌<◌, ◌≤◌}
+use Rattle.basics.proofs.Words.{refl, sym, ◌∙◌, ap, subst, Bool, List, [], Option, some, ℕ, arith, length, get_or, leb, ltb, dec_lt, lt-ltb, le-ltb, leb-true, ltb-true}
 use Rattle.refusals.specs.Refusals.{refuse, first_of, unless_refused}
 use Rattle.refusals.proofs.Refusals.{accepted as taken, not_accepted, passed, none_first}
 use Rattle.machine.specs.declared.Pair.{Pair}
@@ -17,8 +18,9 @@ use Rattle.product.specs.Sets.{best_of_sets_in}
 use Rattle.product.specs.Setting.{position_of, Setting}
 use Rattle.product.specs.Answering.{call_refusal, evaluation_of}
 use Rattle.product.specs.ProductGraph.{card_start}
-use Rattle.product.specs.LabelTheorem.{BestAt, no_label_no_best, label_best}
-use Rattle.product.specs.SetsTheorem.{best_path_is_best_of_sets}
+use Rattle.product.specs.LabelTheorem.{BestAt}
+use Rattle.product.proofs.LabelTheorem.{no_label_no_best, label_best}
+use Rattle.product.proofs.SetsTheorem.{best_path_is_best_of_sets}
 use Rattle.product.specs.Laws.Accepted.{accepted_machines}
 use Rattle.product.specs.Laws.BestCandidate.{path_best_of_sets}
 use Rattle.product.specs.Laws.Candidates.{fitting_cost}

@@ -1,5 +1,6 @@
 -- What input promises that the checks before the search accept.
-use Rattle.basics.specs.Words.{◌≡◌, true, List, ℕ, ◌*◌, ◌≤◌, length, lit<}
+use Rattle.std.specs.Prelude.{◌≡◌, ◌*◌, ◌≤◌}
+use Rattle.basics.specs.Words.{true, List, ℕ, length, lit<}
 use Rattle.refusals.specs.Refusals.{refuse}
 use Rattle.refusals.proofs.Refusals.{passed}
 use Rattle.card.specs.Layout.{machine_count, symbol_count}

@@ -1,13 +1,14 @@
 -- Where the engine of rankings and the engine of weights both answer for one card and word, all weights are above zero and each is more than c times
 -- the sum of those ranked below it, c being the largest count in the two profiles, the two give the same candidate and profile.
-use Rattle.basics.proofs.Words.{◌≡◌, refl, true, List, [], ◌∷◌, some, ℕ, max, ◌≤◌, arith, length, leb, le-max_left, le-max_right, all_of, both, all_member, each_member}
+use Rattle.std.specs.Prelude.{◌≡◌, ◌∷◌, ◌≤◌}
+use Rattle.basics.proofs.Words.{refl, true, List, [], some, ℕ, max, arith, length, leb, le-max_left, le-max_right, all_of, both, all_member, each_member}
 use Rattle.std.proofs.Common.{leb-true, le-leb}
 use Rattle.ranking.specs.Rankings.{is_ranking}
 use Rattle.card.specs.Layout.{machine_count}
 use Rattle.card.specs.Card.{card_refusal}
 use Rattle.product.specs.Best.{Contender, best}
 use Rattle.product.specs.Prices.{ranking_agrees}
-use Rattle.product.specs.BestTheorem.{same_best}
+use Rattle.product.proofs.BestTheorem.{same_best}
 use Rattle.product.specs.Weights.{best_by_weights}
 use Rattle.product.specs.Dominance.{Outweighs}
 use Rattle.product.specs.DominanceTheorem.{dominance}

@@ -1,9 +1,10 @@
 -- S-8, of what the call with weights answers, for the same input as demand 3.
-use Rattle.basics.specs.Words.{◌≡◌, List, ℕ, length}
+use Rattle.std.specs.Prelude.{◌≡◌}
+use Rattle.basics.specs.Words.{List, ℕ, length}
 use Rattle.card.specs.Layout.{symbol_count}
 use Rattle.card.specs.Card.{machines_of}
 use Rattle.candidate.specs.Candidates.{IsCandidate}
-use Rattle.product.specs.CountsFit.{unbeaten_fit}
+use Rattle.product.proofs.CountsFit.{unbeaten_fit}
 use Rattle.product.specs.Weights.{by_sum}
 use Rattle.product.specs.WeightedPaths.{weights_agree}
 use Rattle.input.specs.AcceptedInput.{short_word}

@@ -1,6 +1,7 @@
 -- Demand 3, of what the call with weights answers: for every card, weights, word and work slice that the checks 1 to 6, 26, 8 and 9 accept, and every
 -- answer slice.
-use Rattle.basics.specs.Words.{◌≡◌, ◌∙◌, ap, ap₂, List, Option, some, ℕ, ◌*◌, ◌≤◌, arith, length}
+use Rattle.std.specs.Prelude.{◌≡◌, ◌*◌, ◌≤◌}
+use Rattle.basics.specs.Words.{◌∙◌, ap, ap₂, List, Option, some, ℕ, arith, length}
 use Rattle.std.proofs.Common.{le-leb}
 use Rattle.machine.specs.declared.Pair.{Pair}
 use Rattle.card.specs.Card.{machines_of}

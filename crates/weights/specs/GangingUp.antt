@@ -2,7 +2,8 @@
 -- three marks where it is kept and one where it is weakened; faithfulness three where it is dropped and one where it is weakened. With equal weights
 -- three marks of either gang up against one of each, and the sound is weakened; a ranking takes any number of marks of the lower constraint to save
 -- one of the higher, and drops or keeps it.
-use Rattle.basics.proofs.Words.{◌≡◌, refl, sym, ◌∙◌, ap, true, List, [], ◌∷◌, ◌++◌, List-as-Memᴰ, List·Memᴰ·head, List·Memᴰ·tail, List·Memᴰ·not-nil, Option, some, none, ◌⊎◌, inl, inr, ⊎_elim, ℕ, arith, get_or, all_of, pairwise, those, first_that, joined, every_below, some_below, numbers_below, occurrences, product, length_numbers}
+use Rattle.std.specs.Prelude.{◌≡◌, ◌∷◌, ◌++◌, ◌⊎◌}
+use Rattle.basics.proofs.Words.{refl, sym, ◌∙◌, ap, true, List, [], List-as-Memᴰ, List·Memᴰ·head, List·Memᴰ·tail, List·Memᴰ·not-nil, Option, some, none, inl, inr, ⊎_elim, ℕ, arith, get_or, all_of, pairwise, those, first_that, joined, every_below, some_below, numbers_below, occurrences, product, length_numbers}
 use Rattle.machine.specs.Machine.{of_kind, takes, step_among, ending_of, take_one_pair, clash}
 use Rattle.machine.specs.Part.{arc_at, arcs_at, machine_of, sound_arc, shaped, part_refusal}
 use Rattle.layout.specs.Layout.{due_offset, laid_out, parts_in}

@@ -1,5 +1,6 @@
 -- The search, for input that passed the checks before it.
-use Rattle.basics.specs.Words.{◌≡◌, true, List, [], ◌∷◌, Option, ℕ, ◌+◌, ◌*◌, ◌%◌, length, leb, ltb}
+use Rattle.std.specs.Prelude.{◌≡◌, ◌∷◌, ◌+◌, ◌*◌, ◌%◌}
+use Rattle.basics.specs.Words.{true, List, [], Option, ℕ, length, leb, ltb}
 use Rattle.refusals.specs.Refusals.{refuse, first_of}
 use Rattle.card.specs.Layout.{machine_count, symbol_count}
 use Rattle.card.specs.Card.{card_refusal, machines_of}

@@ -1,6 +1,7 @@
 -- Two calls with weights, on one card, weights, word and answer slice and with work slices of their own, of any length and contents: what is refused
 -- before 9 is refused by both; otherwise 9 is each call's alone; and two calls that pass 9 give one result and one answer slice.
-use Rattle.basics.specs.Words.{refl, ap, List, [], ◌∷◌, ℕ, ◌*◌, length}
+use Rattle.std.specs.Prelude.{◌∷◌, ◌*◌}
+use Rattle.basics.specs.Words.{refl, ap, List, [], ℕ, length}
 use Rattle.refusals.specs.Refusals.{refuse, first_of}
 use Rattle.card.specs.Layout.{machine_count, symbol_count}
 use Rattle.card.specs.Card.{card_refusal, machines_of}

@@ -1,7 +1,8 @@
 -- The two engines, of what their calls answer: where both answer for one card and word, all weights are above zero and each is more than c times the
 -- sum of those ranked below it, c being the largest count in the two profiles, they give the same candidate and profile. (That all weights are above
 -- zero follows from the rest.)
-use Rattle.basics.specs.Words.{◌≡◌, refl, sym, ◌∙◌, ap, ap₂, List, [], ◌∷◌, ◌++◌, some, ℕ, zero, suc, ◌*◌, ◌-◌, max, length, take, drop, replicate, take_at}
+use Rattle.std.specs.Prelude.{◌≡◌, ◌∷◌, ◌++◌, ◌*◌, ◌-◌}
+use Rattle.basics.specs.Words.{refl, sym, ◌∙◌, ap, ap₂, List, [], some, ℕ, zero, suc, max, length, take, drop, replicate, take_at}
 use Rattle.machine.specs.declared.Pair.{Pair}
 use Rattle.ranking.specs.declared.Profile.{Profile}
 use Rattle.card.specs.Layout.{machine_count}
@@ -10,7 +11,7 @@ use Rattle.candidate.specs.declared.Evaluation.{Evaluation}
 use Rattle.candidate.specs.Candidates.{bytes_of, profile_of}
 use Rattle.candidate.specs.Evaluating.{profile_with}
 use Rattle.product.specs.Best.{Contender, contender_of, best}
-use Rattle.product.specs.BestTheorem.{best_is_best_of_all}
+use Rattle.product.proofs.BestTheorem.{best_is_best_of_all}
 use Rattle.product.specs.BestCandidate.{IsBestCandidate}
 use Rattle.product.specs.Laws.Preference.{length_bytes}
 use Rattle.input.specs.AcceptedInput.{AcceptedInput, accepted_input}

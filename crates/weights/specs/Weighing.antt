@@ -1,5 +1,6 @@
 -- What the call with weights answers: the whole result, and the answer slice at exit.
-use Rattle.basics.specs.Words.{List, Option, some, none, ℕ, ◌*◌, length}
+use Rattle.std.specs.Prelude.{◌*◌}
+use Rattle.basics.specs.Words.{List, Option, some, none, ℕ, length}
 use Rattle.refusals.specs.Refusals.{refuse, unless_refused}
 use Rattle.card.specs.Layout.{machine_count, symbol_count}
 use Rattle.card.specs.Card.{machines_of}

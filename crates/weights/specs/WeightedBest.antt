@@ -1,6 +1,7 @@
 -- The theorem on the best candidate, for weights: what the definition finds among the lists of fewer pairs than there are nodes is the best of the
 -- lists of any length. It holds for every accepted card, all weights, zero too, and every word.
-use Rattle.basics.specs.Words.{◌≡◌, true, List, some, ℕ, ◌<◌, ◌≤◌, arith, length}
+use Rattle.std.specs.Prelude.{◌≡◌, ◌<◌, ◌≤◌}
+use Rattle.basics.specs.Words.{true, List, some, ℕ, arith, length}
 use Rattle.std.proofs.Common.{ltb-true, ltb-false, lt-ltb, le-ltb}
 use Rattle.machine.specs.declared.Pair.{Pair}
 use Rattle.machine.specs.Machine.{Machine}
@@ -14,8 +15,9 @@ use Rattle.paths.specs.Total.{lex_total, same?}
 use Rattle.product.specs.ProductGraph.{pairs}
 use Rattle.product.specs.Prices.{Alike}
 use Rattle.product.specs.BestCandidate.{IsBestBy, by_profile, by_pairs, by_bytes, BeatsOn, BestOf}
-use Rattle.product.specs.BestTheorem.{best_in_is_best_of_all}
-use Rattle.product.specs.CountsFit.{SmallBest, best_in_is_small}
+use Rattle.product.proofs.BestTheorem.{best_in_is_best_of_all}
+use Rattle.product.specs.CountsFit.{SmallBest}
+use Rattle.product.proofs.CountsFit.{best_in_is_small}
 use Rattle.product.specs.Laws.BestCandidate.{best_of_by}
 use Rattle.product.specs.Weights.{sound_weights, weighted_sum, by_sum, best_by_weights}
 use Rattle.product.specs.Laws.Sums.{sum_bound}

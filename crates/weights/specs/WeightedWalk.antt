@@ -1,5 +1,6 @@
 -- The walk by weights: the sums in the work slice are the labels that it asks for, and the list that it writes is the best by weights.
-use Rattle.basics.specs.Words.{◌≡◌, refl, sym, ◌∙◌, ap, subst, true, List, [], Option, some, ℕ, ◌+◌, ◌*◌, ◌/◌, ◌%◌, ◌^◌, ◌<◌, ◌≤◌, arith, length, get_or, dec_lt}
+use Rattle.std.specs.Prelude.{◌≡◌, ◌+◌, ◌*◌, ◌/◌, ◌%◌, ◌^◌, ◌<◌, ◌≤◌}
+use Rattle.basics.specs.Words.{refl, sym, ◌∙◌, ap, subst, true, List, [], Option, some, ℕ, arith, length, get_or, dec_lt}
 use Rattle.std.proofs.Common.{ne_eqb, lt-ltb, le-ltb}
 use Rattle.card.specs.Layout.{machine_count}
 use Rattle.card.specs.Card.{machines_of}

@@ -1,5 +1,6 @@
 // The checks of the call: of card, weights, word and work slice, which make the card's sizes, and of the best candidate.
-ghost use Rattle.basics.specs.Words.{◌≡◌, [], ◌∷◌, ◌+◌, ◌*◌, length, leb};
+ghost use Rattle.std.specs.Prelude.{◌≡◌, ◌∷◌, ◌+◌, ◌*◌};
+ghost use Rattle.basics.specs.Words.{[], length, leb};
 ghost use Rattle.refusals.specs.Refusals.{refuse, first_of, checked_number};
 ghost use Rattle.product.specs.Optimizing.{sound_word};
 ghost use Rattle.input.specs.Readiness.{Readies, FewSizes};

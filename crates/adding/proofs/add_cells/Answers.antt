@@ -1,4 +1,4 @@
-use Rattle.basics.proofs.Words.{arith, length-set, rules}
+use Rattle.basics.proofs.Words.{arith, length-set}
 use Rattle.adding.proofs.Rows.{cells_added, fits_first}
 use Rattle.adding.proofs.add_cells.Goals as goal
 

@@ -1,7 +1,7 @@
-use Rattle.std.specs.Prelude.{◌≡◌, ◌+◌, ◌-◌, ◌≤◌}
-use Rattle.basics.proofs.Words.{refl, arith, length, get_or, rules}
+use Rattle.std.specs.Prelude.{◌≡◌, ◌+◌, ◌≤◌}
+use Rattle.basics.proofs.Words.{length, get_or}
 use Rattle.adding.specs.Cells.{high_cell, low_cell, step_at}
-use Rattle.adding.proofs.Rows.{StatesTo, states_start, state_last, states_pre, states_next, states_end, highs_small, lows_small}
+use Rattle.adding.proofs.Rows.{StatesTo}
 use Rattle.adding.proofs.add_machine.Given as goal
 
 abbrev pub invariant-loop-state : goal.invariant-loop-state

@@ -1,8 +1,8 @@
 use Rattle.std.specs.Prelude.{◌≡◌, ◌-◌}
-use Rattle.basics.proofs.Words.{refl, ◌∙◌, suc, arith, length, mul_comm, rules}
+use Rattle.basics.proofs.Words.{refl, ◌∙◌, suc, arith, mul_comm}
 use Rattle.product.specs.Laws.Nodes.{product_positive}
 use Rattle.adding.specs.Cells.{high_at, low_at}
-use Rattle.adding.proofs.Filling.{Reached, SumsFrom, reached_start, machine_below, place_enough, reached_next, sums_start, sums_next, sums_end, codes_few, machine_pre}
+use Rattle.adding.proofs.Filling.{reached_start, machine_below, place_enough, reached_next, sums_start, sums_next, sums_end, codes_few, machine_pre}
 use Rattle.adding.proofs.add_machines.Goals as goal
 
 pub begin-requires : goal.begin-requires

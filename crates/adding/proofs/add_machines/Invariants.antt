@@ -1,8 +1,7 @@
-use Rattle.std.specs.Prelude.{◌≡◌, ◌-◌}
-use Rattle.basics.proofs.Words.{refl, ◌∙◌, suc, arith, length, mul_comm, rules}
-use Rattle.product.specs.Laws.Nodes.{product_positive}
+use Rattle.std.specs.Prelude.{◌≡◌}
+use Rattle.basics.proofs.Words.{length}
 use Rattle.adding.specs.Cells.{high_at, low_at}
-use Rattle.adding.proofs.Filling.{Reached, SumsFrom, reached_start, machine_below, place_enough, reached_next, sums_start, sums_next, sums_end, codes_few, machine_pre}
+use Rattle.adding.proofs.Filling.{Reached, SumsFrom}
 use Rattle.adding.proofs.add_machines.Given as goal
 
 abbrev pub invariant-loop-m : goal.invariant-loop-m

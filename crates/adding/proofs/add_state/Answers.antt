@@ -1,6 +1,5 @@
-use Rattle.std.specs.Prelude.{◌-◌}
-use Rattle.basics.proofs.Words.{arith, rules}
-use Rattle.adding.proofs.Rows.{StateTo, state_start, state_code_pre, state_next, state_end}
+use Rattle.basics.proofs.Words.{arith}
+use Rattle.adding.proofs.Rows.{state_start, state_code_pre, state_next, state_end}
 use Rattle.adding.proofs.add_state.Goals as goal
 
 pub loop-code-init : goal.loop-code-init

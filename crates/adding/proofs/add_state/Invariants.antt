@@ -1,6 +1,5 @@
 use Rattle.std.specs.Prelude.{◌-◌}
-use Rattle.basics.proofs.Words.{arith, rules}
-use Rattle.adding.proofs.Rows.{StateTo, state_start, state_code_pre, state_next, state_end}
+use Rattle.adding.proofs.Rows.{StateTo}
 use Rattle.adding.proofs.add_state.Given as goal
 
 abbrev pub invariant-loop-code : goal.invariant-loop-code

@@ -1,6 +1,5 @@
-use Rattle.std.specs.Prelude.{◌≡◌, ◌-◌}
-use Rattle.basics.proofs.Words.{refl, arith, length, length-set, rules}
-use Rattle.tables.proofs.JointRows.{RowTo, row_start, row_next}
+use Rattle.basics.proofs.Words.{refl, arith, length-set}
+use Rattle.tables.proofs.JointRows.{row_start, row_next}
 use Rattle.adding.proofs.begin.Goals as goal
 
 pub loop-j-init : goal.loop-j-init

@@ -1,6 +1,6 @@
 use Rattle.std.specs.Prelude.{◌≡◌, ◌-◌}
-use Rattle.basics.proofs.Words.{refl, arith, length, length-set, rules}
-use Rattle.tables.proofs.JointRows.{RowTo, row_start, row_next}
+use Rattle.basics.proofs.Words.{length}
+use Rattle.tables.proofs.JointRows.{RowTo}
 use Rattle.adding.proofs.begin.Given as goal
 
 abbrev pub invariant-loop-j : goal.invariant-loop-j

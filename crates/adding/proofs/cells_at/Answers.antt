@@ -1,6 +1,5 @@
-use Rattle.std.specs.Prelude.{◌≡◌, ◌-◌}
-use Rattle.basics.proofs.Words.{refl, ◌∙◌, ap, ℕ, arith, length, get_or, length-set, rules}
-use Rattle.tables.proofs.JointRows.{RowTo, row_start, row_next}
+use Rattle.basics.proofs.Words.{refl, ◌∙◌, ap, ℕ, arith, length-set}
+use Rattle.tables.proofs.JointRows.{row_start, row_next}
 use Rattle.adding.specs.Cells.{high_cell, low_cell, step_at}
 use Rattle.adding.specs.Laws.Numbers.{column_few, column_in}
 use Rattle.adding.proofs.cells_at.Goals as goal

@@ -1,8 +1,7 @@
 use Rattle.std.specs.Prelude.{◌≡◌, ◌-◌}
-use Rattle.basics.proofs.Words.{refl, ◌∙◌, ap, ℕ, arith, length, get_or, length-set, rules}
-use Rattle.tables.proofs.JointRows.{RowTo, row_start, row_next}
+use Rattle.basics.proofs.Words.{ℕ, length, get_or}
+use Rattle.tables.proofs.JointRows.{RowTo}
 use Rattle.adding.specs.Cells.{high_cell, low_cell, step_at}
-use Rattle.adding.specs.Laws.Numbers.{column_few, column_in}
 use Rattle.adding.proofs.cells_at.Given as goal
 
 abbrev pub invariant-loop-j : goal.invariant-loop-j

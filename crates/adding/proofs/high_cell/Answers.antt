@@ -1,4 +1,4 @@
-use Rattle.basics.proofs.Words.{sym, arith, rules, eq-eqb}
+use Rattle.basics.proofs.Words.{sym, arith, eq-eqb}
 use Rattle.adding.specs.Cells.{high_cell}
 use Rattle.adding.specs.Laws.Numbers.{scaled_few, marks_high, some_step}
 use Rattle.adding.proofs.high_cell.Goals as goal

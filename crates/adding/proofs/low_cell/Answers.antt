@@ -1,4 +1,4 @@
-use Rattle.basics.proofs.Words.{arith, rules}
+use Rattle.basics.proofs.Words.{arith}
 use Rattle.adding.specs.Laws.Numbers.{marks_low}
 use Rattle.adding.proofs.low_cell.Goals as goal
 

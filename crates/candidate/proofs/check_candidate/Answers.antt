@@ -1,7 +1,5 @@
-use Rattle.std.specs.Prelude.{◌≡◌, ◌≤◌, ◌-◌, ◌%◌}
-use Rattle.basics.proofs.Words.{sym, ◌∙◌, arith, length, drop, all_of, rules, all_none, all_next, all_fails}
+use Rattle.basics.proofs.Words.{sym, ◌∙◌, arith, all_none, all_next, all_fails}
 use Rattle.refusals.proofs.Refusals.{passes_with, refuses_with}
-use Rattle.candidate.specs.Candidates.{pairs_of}
 use Rattle.candidate.specs.Evaluating.{sound_pair}
 use Rattle.candidate.specs.Laws.Pairs.{pairs_next, pairs_end, odd_refused, long_refused, sound_is}
 use Rattle.candidate.proofs.check_candidate.Goals as goal

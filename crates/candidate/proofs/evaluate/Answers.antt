@@ -1,5 +1,5 @@
-use Rattle.std.specs.Prelude.{◌≡◌, ◌≤◌, ◌%◌}
-use Rattle.basics.proofs.Words.{sym, ap, ◌∙◌, true, false, List, ℕ, arith, length, lit<, rules}
+use Rattle.std.specs.Prelude.{◌≡◌}
+use Rattle.basics.proofs.Words.{sym, ap, ◌∙◌, true, false, List, ℕ, arith, lit<}
 use Rattle.refusals.specs.declared.Checked.{Checked}
 use Rattle.refusals.specs.declared.Checked.TheVariants.{Passed}
 use Rattle.refusals.specs.Refusals.{refuse, checked_number}

@@ -1,12 +1,12 @@
-use Rattle.std.specs.Prelude.{◌≡◌, ◌≤◌, ◌<◌, ◌-◌, ◌+◌, ◌*◌, ◌%◌}
-use Rattle.basics.proofs.Words.{sym, ap, ◌∙◌, true, Option, some, none, ℕ, arith, length, drop, all_of, rules}
+use Rattle.std.specs.Prelude.{◌≡◌, ◌≤◌, ◌<◌, ◌+◌, ◌*◌, ◌%◌}
+use Rattle.basics.proofs.Words.{sym, ap, ◌∙◌, Option, some, none, ℕ, arith, length}
 use Rattle.machine.specs.declared.Pair.{Pair}
 use Rattle.machine.specs.Machine.{step_of, stepped, ending_of, ended}
 use Rattle.machine.specs.Part.{machine_of}
 use Rattle.machine.specs.Accepted.{accepted}
-use Rattle.machine.specs.Steps.{step_bounds, ending_bounds}
+use Rattle.machine.specs.Steps.{step_bounds}
 use Rattle.candidate.specs.Evaluating.{sound_pair}
-use Rattle.candidate.specs.Candidates.{pair_at, pairs_of, add_marks, marks_from, marks_of}
+use Rattle.candidate.specs.Candidates.{pair_at, add_marks}
 use Rattle.candidate.specs.Laws.Pairs.{pairs_next, pairs_end, pair_here, pairs_after, sound_facts}
 use Rattle.candidate.proofs.Running.{marks_next, marks_stuck, marks_end}
 use Rattle.candidate.proofs.run.Goals as goal

@@ -1,4 +1,4 @@
-use Rattle.std.specs.Prelude.{◌≡◌, ◌≤◌, ◌<◌, ◌-◌}
+use Rattle.std.specs.Prelude.{◌≡◌, ◌<◌}
 use Rattle.basics.proofs.Words.{sym, ap, ◌∙◌, List, ℕ, arith, rules, clash}
 use Rattle.machine.specs.Part.{machine_of}
 use Rattle.card.specs.Layout.{machine_count, symbol_count}

@@ -1,6 +1,4 @@
-use Rattle.std.specs.Prelude.{◌≡◌, ◌≤◌, ◌-◌, ◌+◌, ◌*◌, ◌%◌}
-use Rattle.basics.proofs.Words.{sym, ◌∙◌, arith, length, drop, rules}
-use Rattle.candidate.specs.Candidates.{pairs_of, spelled}
+use Rattle.basics.proofs.Words.{sym, ◌∙◌, arith}
 use Rattle.candidate.specs.Laws.Pairs.{spelled_next, spelled_same, spelled_end}
 use Rattle.candidate.proofs.spelled_length.Goals.{then-not-inserts_at, else-not-inserts_at}
 use Rattle.candidate.proofs.spelled_length.Goals as goal

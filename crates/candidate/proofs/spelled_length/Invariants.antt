@@ -1,7 +1,6 @@
 use Rattle.std.specs.Prelude.{◌≡◌, ◌≤◌, ◌-◌, ◌+◌, ◌*◌, ◌%◌}
-use Rattle.basics.proofs.Words.{sym, ◌∙◌, ⊎_elim, arith, length, drop, rules, not-true, not-false}
+use Rattle.basics.proofs.Words.{length, drop}
 use Rattle.candidate.specs.Candidates.{pairs_of, spelled}
-use Rattle.candidate.specs.Laws.Pairs.{spelled_next, spelled_same, spelled_end}
 use Rattle.candidate.proofs.spelled_length.Given as goal
 
 abbrev pub invariant-loop-at : goal.invariant-loop-at

@@ -1,5 +1,5 @@
 use Rattle.std.specs.Prelude.{◌≡◌, ◌∷◌}
-use Rattle.basics.proofs.Words.{sym, ◌∙◌, true, [], lit<, rules}
+use Rattle.basics.proofs.Words.{sym, ◌∙◌, true, [], lit<}
 use Rattle.refusals.specs.Refusals.{refuse}
 use Rattle.layout.specs.Layout.{laid_out}
 use Rattle.card.specs.Layout.{machine_count, symbol_count, counted, parts_of}

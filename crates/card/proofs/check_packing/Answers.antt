@@ -1,6 +1,6 @@
 use Rattle.std.specs.Prelude.{◌≡◌, ◌∷◌}
-use Rattle.basics.proofs.Words.{ap, sym, ◌∙◌, true, [], arith, length, eqb, leb, lit<, rules, eqb-true, eq-eqb}
-use Rattle.refusals.specs.Refusals.{refuse, checked_number}
+use Rattle.basics.proofs.Words.{ap, sym, ◌∙◌, true, [], length, eqb, leb, lit<}
+use Rattle.refusals.specs.Refusals.{refuse}
 use Rattle.refusals.proofs.Refusals.{first_on, last_one, passed_number, was_true, goes_up}
 use Rattle.card.specs.Layout.{sound_counts}
 use Rattle.card.specs.Card.{machines_refusal}

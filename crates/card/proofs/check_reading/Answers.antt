@@ -1,4 +1,4 @@
-use Rattle.basics.proofs.Words.{arith, rules}
+use Rattle.basics.proofs.Words.{arith}
 use Rattle.refusals.proofs.Refusals.{passed_number}
 use Rattle.card.specs.Accepted.{accepted}
 use Rattle.card.proofs.check_reading.Goals as goal

@@ -1,4 +1,4 @@
-use Rattle.basics.proofs.Words.{arith, rules}
+use Rattle.basics.proofs.Words.{arith}
 use Rattle.card.specs.Accepted.{accepted}
 use Rattle.card.proofs.machine_count.Goals as goal
 

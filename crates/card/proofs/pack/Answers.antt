@@ -1,10 +1,10 @@
-use Rattle.std.specs.Prelude.{◌≡◌, ◌+◌, ◌*◌, ◌<◌, ◌≤◌}
-use Rattle.basics.proofs.Words.{sym, ◌∙◌, arith, length, rules}
+use Rattle.std.specs.Prelude.{◌≡◌, ◌<◌}
+use Rattle.basics.proofs.Words.{sym, ◌∙◌, arith, length}
 use Rattle.layout.specs.Layout.{Bytes}
 use Rattle.card.specs.Packing.{packing_refusal}
-use Rattle.card.specs.Laws.Layout.{Counted, counts_told}
+use Rattle.card.specs.Laws.Layout.{counts_told}
 use Rattle.card.specs.Laws.Packed.{packed_length}
-use Rattle.card.specs.Laws.Packable.{Packable, packable}
+use Rattle.card.specs.Laws.Packable.{packable}
 use Rattle.card.specs.Laws.Checked.{parts_small}
 use Rattle.refusals.proofs.Refusals.{passed_number, refused_number}
 use Rattle.card.proofs.Answers.{pack_refused, target_kept, pack_accepted, target_packed}

@@ -1,5 +1,4 @@
 use Rattle.card.specs.Accepted.{accepted}
-use borrow.Author.Rules.{rules}
 use Rattle.card.proofs.part.Goals as goal
 
 pub part-requires : goal.part-requires

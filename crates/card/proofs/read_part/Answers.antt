@@ -1,5 +1,5 @@
 use Rattle.std.specs.Prelude.{◌≡◌, ◌∷◌, ◌+◌, ◌*◌, ◌<◌, ◌≤◌}
-use Rattle.basics.proofs.Words.{sym, ◌∙◌, [], List, ℕ, arith, length, ltb, lit<, rules, ltb-true}
+use Rattle.basics.proofs.Words.{sym, ◌∙◌, [], List, ℕ, arith, length, ltb, lit<, ltb-true}
 use Rattle.refusals.specs.Refusals.{refuse}
 use Rattle.refusals.proofs.Refusals.{passed, passed_number, refused_number}
 use Rattle.card.specs.Layout.{machine_count}

@@ -1,6 +1,5 @@
-use Rattle.std.specs.Prelude.{◌+◌, ◌-◌, ◌*◌, ◌≤◌}
-use Rattle.basics.proofs.Words.{arith, length, rules}
-use Rattle.cells.proofs.Grouping.{Adding, Group, group, codes_few, group_pre, high_long, low_long, goes_on, adding_start, adding_next, adding_end}
+use Rattle.std.specs.Prelude.{◌-◌}
+use Rattle.cells.proofs.Grouping.{Adding}
 use Rattle.cells.proofs.add_four.Given as goal
 
 abbrev pub invariant-loop-at : goal.invariant-loop-at

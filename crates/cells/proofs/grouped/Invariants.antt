@@ -1,7 +1,6 @@
 use Rattle.std.specs.Prelude.{◌-◌}
-use Rattle.basics.proofs.Words.{arith, length, rules}
-use Rattle.tables.proofs.Counts.{few_states_lem}
-use Rattle.cells.proofs.Choosing.{Choosing, choosing_start, places_fit, codes_fit, codes_some, rest_few, choosing_next, choosing_end}
+use Rattle.basics.proofs.Words.{length}
+use Rattle.cells.proofs.Choosing.{Choosing}
 use Rattle.cells.proofs.grouped.Given as goal
 
 abbrev pub invariant-loop-m : goal.invariant-loop-m

@@ -1,4 +1,4 @@
-use Rattle.basics.proofs.Words.{refl, inl, inr, arith, rules}
+use Rattle.basics.proofs.Words.{refl, inl, inr, arith}
 use Rattle.cells.proofs.nearer.Goals as goal
 
 pub returns-then-a-b : goal.returns-then-a-b

@@ -1,4 +1,4 @@
-use Rattle.std.specs.Prelude.{◌≡◌, ◌++◌, ◌-◌, ◌≤◌}
+use Rattle.std.specs.Prelude.{◌≡◌, ◌++◌}
 use Rattle.basics.proofs.Words.{ap, ◌∙◌, append-nil, arith, length, set, length-set, drop, replicate, drop_of_length-le, rules}
 use borrow.Author.Fill.{fill_more}
 use Rattle.columns.proofs.clear.Goals as goal

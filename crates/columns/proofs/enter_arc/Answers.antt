@@ -1,5 +1,5 @@
 use Rattle.std.specs.Prelude.{◌+◌}
-use Rattle.basics.proofs.Words.{arith, rules}
+use Rattle.basics.proofs.Words.{arith}
 use Rattle.columns.proofs.Arcs.{enter_pre, arc_entered}
 use Rattle.columns.proofs.enter_arc.Goals as goal
 

@@ -1,5 +1,5 @@
 use Rattle.std.specs.Prelude.{◌≡◌}
-use Rattle.basics.proofs.Words.{arith, rules}
+use Rattle.basics.proofs.Words.{arith}
 use Rattle.columns.proofs.AtHand.{from_pre, from_another, from_entered}
 use Rattle.columns.proofs.enter_from.Goals as goal
 

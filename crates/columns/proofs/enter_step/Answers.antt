@@ -1,7 +1,7 @@
 use Rattle.std.specs.Prelude.{◌&&◌}
-use Rattle.basics.proofs.Words.{sym, ap, ◌∙◌, not, ℕ, arith, eqb, member, rules}
+use Rattle.basics.proofs.Words.{sym, ap, ◌∙◌, not, ℕ, arith, eqb, member}
 use Rattle.cells.specs.Laws.Numbers.{column_few}
-use Rattle.columns.proofs.Entering.{EnterTo, enter_start, enter_in, enter_next, enter_end}
+use Rattle.columns.proofs.Entering.{enter_start, enter_in, enter_next, enter_end}
 use Rattle.columns.proofs.enter_step.Goals as goal
 
 pub loop-left-init : goal.loop-left-init

@@ -1,11 +1,10 @@
-use Rattle.std.specs.Prelude.{◌-◌}
-use Rattle.basics.proofs.Words.{arith, length, rules}
+use Rattle.basics.proofs.Words.{arith}
 use Rattle.card.specs.Card.{machines_of}
 use Rattle.card.specs.Laws.Machines.{machine_at_lem}
 use Rattle.machine.specs.Machine.{no_machine}
 use Rattle.tables.specs.StepTable.{machine_at}
 use Rattle.columns.specs.Endings.{PartEndings}
-use Rattle.columns.proofs.Endings.{EndingsTo, endings_start, machine_below, places_there, endings_pre, endings_next, endings_end}
+use Rattle.columns.proofs.Endings.{endings_start, machine_below, places_there, endings_pre, endings_next, endings_end}
 use Rattle.columns.proofs.fill_endings.Goals as goal
 
 pub loop-m-init : goal.loop-m-init

@@ -1,9 +1,9 @@
-use Rattle.std.specs.Prelude.{◌≡◌, ◌≤◌, ◌-◌, ◌+◌, ◌^◌}
-use Rattle.basics.proofs.Words.{refl, ◌∙◌, ℕ, arith, length, rules}
+use Rattle.std.specs.Prelude.{◌-◌, ◌+◌}
+use Rattle.basics.proofs.Words.{refl, ◌∙◌, arith}
 use Rattle.machine.specs.Part.{state_count, arc_count, arcs_of}
 use Rattle.machine.specs.Accepted.{accepted}
 use Rattle.machine.specs.Laws.Arcs.{arcs_count}
-use Rattle.columns.proofs.Arcs.{arc_pre, arc_from, ArcsIn, arcs_none, arcs_next, arcs_all}
+use Rattle.columns.proofs.Arcs.{arc_pre, arc_from, arcs_none, arcs_next, arcs_all}
 use Rattle.columns.proofs.fill_machine.Goals as goal
 
 pub arc_count-left-requires : goal.arc_count-left-requires

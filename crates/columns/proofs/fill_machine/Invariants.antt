@@ -1,9 +1,7 @@
-use Rattle.std.specs.Prelude.{◌≡◌, ◌≤◌, ◌-◌, ◌+◌, ◌^◌}
-use Rattle.basics.proofs.Words.{refl, ◌∙◌, ℕ, arith, length, rules}
+use Rattle.std.specs.Prelude.{◌≡◌, ◌≤◌, ◌^◌}
+use Rattle.basics.proofs.Words.{ℕ, length}
 use Rattle.machine.specs.Part.{state_count, arc_count, arcs_of}
-use Rattle.machine.specs.Accepted.{accepted}
-use Rattle.machine.specs.Laws.Arcs.{arcs_count}
-use Rattle.columns.proofs.Arcs.{arc_pre, arc_from, ArcsIn, arcs_none, arcs_next, arcs_all}
+use Rattle.columns.proofs.Arcs.{ArcsIn}
 use Rattle.columns.proofs.fill_machine.Given as goal
 
 abbrev pub invariant-loop-left : goal.invariant-loop-left

@@ -1,7 +1,6 @@
-use Rattle.std.specs.Prelude.{◌-◌}
-use Rattle.basics.proofs.Words.{arith, rules}
+use Rattle.basics.proofs.Words.{arith}
 use Rattle.machine.specs.Accepted.{accepted, shape_facts}
-use Rattle.columns.proofs.Endings.{PartTo, part_start, part_next, part_end}
+use Rattle.columns.proofs.Endings.{part_start, part_next, part_end}
 use Rattle.columns.proofs.fill_part_endings.Goals as goal
 
 pub loop-state-init : goal.loop-state-init

@@ -1,7 +1,5 @@
 use Rattle.std.specs.Prelude.{◌-◌}
-use Rattle.basics.proofs.Words.{arith, rules}
-use Rattle.machine.specs.Accepted.{accepted, shape_facts}
-use Rattle.columns.proofs.Endings.{PartTo, part_start, part_next, part_end}
+use Rattle.columns.proofs.Endings.{PartTo}
 use Rattle.columns.proofs.fill_part_endings.Given as goal
 
 abbrev pub invariant-loop-state : goal.invariant-loop-state

@@ -1,9 +1,9 @@
-use Rattle.std.specs.Prelude.{◌≡◌, ◌≤◌, ◌-◌, ◌+◌, ◌^◌}
-use Rattle.basics.proofs.Words.{refl, ◌∙◌, ℕ, arith, length, rules}
+use Rattle.std.specs.Prelude.{◌-◌, ◌+◌}
+use Rattle.basics.proofs.Words.{refl, ◌∙◌, arith}
 use Rattle.machine.specs.Part.{state_count, arc_count, arcs_of}
 use Rattle.machine.specs.Accepted.{accepted}
 use Rattle.machine.specs.Laws.Arcs.{arcs_count}
-use Rattle.columns.proofs.AtHand.{arc_of, StateIn, state_none, state_next, state_all}
+use Rattle.columns.proofs.AtHand.{arc_of, state_none, state_next, state_all}
 use Rattle.columns.proofs.fill_state.Goals as goal
 
 pub arc_count-left-requires : goal.arc_count-left-requires

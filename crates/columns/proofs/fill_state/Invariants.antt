@@ -1,9 +1,7 @@
-use Rattle.std.specs.Prelude.{◌≡◌, ◌≤◌, ◌-◌, ◌+◌, ◌^◌}
-use Rattle.basics.proofs.Words.{refl, ◌∙◌, ℕ, arith, length, rules}
-use Rattle.machine.specs.Part.{state_count, arc_count, arcs_of}
-use Rattle.machine.specs.Accepted.{accepted}
-use Rattle.machine.specs.Laws.Arcs.{arcs_count}
-use Rattle.columns.proofs.AtHand.{arc_of, StateIn, state_none, state_next, state_all}
+use Rattle.std.specs.Prelude.{◌≡◌, ◌≤◌, ◌^◌}
+use Rattle.basics.proofs.Words.{ℕ, length}
+use Rattle.machine.specs.Part.{arc_count, arcs_of}
+use Rattle.columns.proofs.AtHand.{StateIn}
 use Rattle.columns.proofs.fill_state.Given as goal
 
 abbrev pub invariant-loop-left : goal.invariant-loop-left

@@ -1,5 +1,5 @@
-use Rattle.std.specs.Prelude.{◌≡◌, ◌≤◌, ◌-◌, ◌*◌}
-use Rattle.basics.proofs.Words.{sym, ◌∙◌, ap, ℕ, arith, length, take, add-one, rules}
+use Rattle.std.specs.Prelude.{◌≡◌}
+use Rattle.basics.proofs.Words.{sym, ◌∙◌, ap, ℕ, arith, length, take, add-one}
 use Rattle.tables.proofs.Counts.{few_counts}
 use Rattle.cells.specs.Cells.{places}
 use Rattle.cells.specs.Laws.Sums.{places_none, places_next, places_all}

@@ -1,4 +1,5 @@
-use Rattle.basics.proofs.Words.{◌-◌, ◌≤◌, arith, rules}
+use Rattle.std.specs.Prelude.{◌-◌, ◌≤◌}
+use Rattle.basics.proofs.Words.{arith, rules}
 use Rattle.cull.specs.Culling.{Blanked}
 use Rattle.cull.proofs.Culling.{blank_start, blank_next, blank_end}
 use Rattle.cull.proofs.blank.Given as goal

@@ -1,4 +1,5 @@
-use Rattle.basics.proofs.Words.{◌-◌, ◌≤◌, arith, rules}
+use Rattle.std.specs.Prelude.{◌-◌, ◌≤◌}
+use Rattle.basics.proofs.Words.{arith, rules}
 use Rattle.cull.specs.Culling.{PlaceCleared}
 use Rattle.cull.proofs.Culling.{clear_start, clear_next, clear_end}
 use Rattle.cull.proofs.clear_place.Goals as goal

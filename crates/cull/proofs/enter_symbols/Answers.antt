@@ -1,12 +1,9 @@
-use Rattle.basics.proofs.Words.{◌≡◌, refl, sym, ◌∙◌, ap, ◌&&◌, not, ℕ, ◌+◌, arith, length, length-replicate, eqb, member, rules}
+use Rattle.std.specs.Prelude.{◌≡◌, ◌&&◌, ◌+◌}
+use Rattle.basics.proofs.Words.{refl, sym, ◌∙◌, ap, not, ℕ, arith, length, length-replicate, eqb, member, rules}
 use Rattle.product.specs.Laws.Setting.{few_codes}
 use Rattle.stage_entering.specs.Entering.{codes_at, AheadOf}
 use Rattle.cull.proofs.Culling.{tables_kept, SymbolsTried, symbols_start, nodes_there, symbol_reads, input_pre, symbols_next, ahead_stays, symbols_end}
 use Rattle.cull.proofs.enter_symbols.Goals as goal
-
--- ---- the place on the way: the call
-abbrev start : goal.At-loop-left → goal.Start
-start c = c.before.before.before.before.before.before.before.before.before.before.before.before
 
 -- ---- what each place asks for
 pub overflow_add-base : goal.overflow_add-base
@@ -28,7 +25,7 @@ overflow_cast-symbol c = omega (arith, c.least-symbol.ensures.1)
 pub enter_input-requires : goal.enter_input-requires
 enter_input-requires c =
     let v = c.loop-left.invariant in
-    let Q = (start c.before.before.before.before.before.before.before).pre in
+    let Q = c.requires in
     let m = c.least-symbol.ensures.2 in
     (input_pre Q.given v.0 m (tables_kept v.1 Q.tables) (v.2 ∙ Q.high_size) (v.3 ∙ Q.low_size) v.4, symbol_reads Q.given v.0 m)
 
@@ -38,13 +35,12 @@ loop-left-smaller c = c.without_least-left.ensures.0
 pub loop-left-preserved : goal.loop-left-preserved
 loop-left-preserved c =
     let v = c.loop-left.invariant in
-    let least = c.least-symbol.ensures in
-    (
-      symbols_next v.0 least.2 (λ n. c.without_least-left.ensures.1 n ∙ ap (λ (x : ℕ). member c.loop-left.false n && not (eqb n x)) (sym least.0)) c.enter_input.ensures,
-      c.enter_input.kept.1.1.0 ∙ v.1,
-      c.enter_input.kept.1.1.1.1.1.1.1.1.0 ∙ v.2,
-      c.enter_input.kept.1.1.1.1.1.1.1.1.1.0 ∙ v.3,
-      ahead_stays (start c.before.before.before.before.before.before.before.before.before.before.before.before.before.before.before.before.before).args.at c.enter_input.ensures v.4,
+    let least = c.least-symbol.ensures in (
+      symbols_next v.0 least.2 (λ n. c.without_least-left.ensures.1 n ∙ ap (λ (x : ℕ). member c.loop-left.left n && not (eqb n x)) (sym least.0)) c.enter_input.ensures,
+      c.enter_input.auto.steps ∙ v.1,
+      c.enter_input.auto.high ∙ v.2,
+      c.enter_input.auto.low ∙ v.3,
+      ahead_stays c.args.at c.enter_input.ensures v.4,
     )
 
 pub shape_of-work : goal.shape_of-work

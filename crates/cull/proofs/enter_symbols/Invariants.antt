@@ -1,4 +1,5 @@
-use Rattle.basics.proofs.Words.{◌≡◌, refl, sym, ◌∙◌, ap, ◌&&◌, not, ℕ, ◌+◌, arith, length, length-replicate, eqb, member, rules}
+use Rattle.std.specs.Prelude.{◌≡◌, ◌&&◌, ◌+◌}
+use Rattle.basics.proofs.Words.{refl, sym, ◌∙◌, ap, not, ℕ, arith, length, length-replicate, eqb, member, rules}
 use Rattle.product.specs.Laws.Setting.{few_codes}
 use Rattle.stage_entering.specs.Entering.{codes_at, AheadOf}
 use Rattle.cull.proofs.Culling.{tables_kept, SymbolsTried, symbols_start, nodes_there, symbol_reads, input_pre, symbols_next, ahead_stays, symbols_end}

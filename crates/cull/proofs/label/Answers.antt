@@ -1,4 +1,5 @@
-use Rattle.basics.proofs.Words.{sym, ◌∙◌, ap, subst, ℕ, ◌+◌, ◌*◌, arith, length, take, rules}
+use Rattle.std.specs.Prelude.{◌+◌, ◌*◌}
+use Rattle.basics.proofs.Words.{sym, ◌∙◌, ap, subst, ℕ, arith, length, take, rules}
 use Rattle.product.specs.Setting.{Setting}
 use Rattle.tables.specs.Places.{six_places}
 use Rattle.cells.specs.Columns.{WeightsOf}
@@ -8,12 +9,6 @@ use Rattle.labelling.proofs.Preparing.{counts_ranked}
 use Rattle.cull.specs.Tables.{RankedBy}
 use Rattle.cull.proofs.Columns.{columns_small, columns_length}
 use Rattle.cull.proofs.label.Goals as goal
-
--- the weights are in the order of the ranking
-ranked-by : (w : goal.After-ranked_weights-weights) →
-    let a = w.before.before.before.before.before.before.before.args in RankedBy a.card.now a.ranking.now (take (3 * a.grid.machines) w.ranked-weights.result)
-ranked-by c =
-    record { weights = in_front_lem c.requires.0.setting.accepted c.requires.1 (RankedWeights (six_places c.args.ranking.now)) c.ranked_weights-weights.result c.ranked_weights-weights.ensures.1; ranks = c.requires.0.ranks }
 
 pub slice_bounds-all-end : goal.slice_bounds-all-end
 slice_bounds-all-end c =
@@ -69,9 +64,9 @@ label_by-requires c =
         columns = omega (arith, columns_length (c.args.grid.states * 65) (omega (arith, states_few c.requires.0.setting.accepted c.requires.1)), states_are c.requires.0.setting.accepted c.requires.1);
         small = columns_small (c.args.grid.states * 65);
       },
-      (c.args.ranking.now, ranked-by c.before.before.before.before.before),
+      (c.args.ranking.now, record { weights = in_front_lem c.requires.0.setting.accepted c.requires.1 (RankedWeights (six_places c.args.ranking.now)) c.ranked_weights-weights.result c.ranked_weights-weights.ensures.1; ranks = c.requires.0.ranks }),
     )
 
 pub returns : goal.returns
 returns c =
-    c.label_by.ensures _ (ranked-by c.before.before.before.before.before.before.before.before.before)
+    c.label_by.ensures _ (record { weights = in_front_lem c.requires.0.setting.accepted c.requires.1 (RankedWeights (six_places c.args.ranking.now)) c.ranked_weights-weights.result c.ranked_weights-weights.ensures.1; ranks = c.requires.0.ranks })

@@ -8,17 +8,17 @@ list_insertions-requires c =
 
 pub slice_bounds-label_stages-end-2 : goal.slice_bounds-label_stages-end-2
 slice_bounds-label_stages-end-2 c =
-    sym (c.list_insertions.kept.1.1.1.1.1.1.1.0 ∙ length-replicate {A = ℕ} 264 0)
+    sym (c.list_insertions.auto.high ∙ length-replicate {A = ℕ} 264 0)
 
 pub slice_bounds-label_stages-end-3 : goal.slice_bounds-label_stages-end-3
 slice_bounds-label_stages-end-3 c =
-    sym (c.list_insertions.kept.1.1.1.1.1.1.1.1.0 ∙ length-replicate {A = ℕ} 264 0)
+    sym (c.list_insertions.auto.low ∙ length-replicate {A = ℕ} 264 0)
 
 pub label_stages-requires : goal.label_stages-requires
 label_stages-requires c =
-    let k = c.list_insertions.kept.1.1.1.1.1.1.1 in (
+    let k = c.list_insertions.auto in (
       (c.requires.1.0, cull_ready c.requires.0 c.requires.1.0 c.requires.1.1 (c.list_insertions.ensures _ c.requires.1.1.weights)),
-      lent_ready c.requires.0 c.list_insertions.kept.1.1.0 (k.0 ∙ length-replicate {A = ℕ} 264 0) (k.1.0 ∙ length-replicate {A = ℕ} 264 0),
+      lent_ready c.requires.0 k.steps (k.high ∙ length-replicate {A = ℕ} 264 0) (k.low ∙ length-replicate {A = ℕ} 264 0),
     )
 
 pub returns : goal.returns

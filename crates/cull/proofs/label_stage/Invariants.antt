@@ -1,4 +1,5 @@
-use Rattle.basics.specs.Words.{◌≡◌, refl, ◌∙◌, List, ℕ, ◌-◌, ◌≤◌, arith, length}
+use Rattle.std.specs.Prelude.{◌≡◌, ◌-◌, ◌≤◌}
+use Rattle.basics.specs.Words.{refl, ◌∙◌, List, ℕ, arith, length}
 use Rattle.product.specs.Laws.Setting.{few_nodes}
 use Rattle.cull.specs.Culling.{StagePre}
 use Rattle.cull.proofs.Positions.{position_there}

@@ -1,4 +1,5 @@
-use Rattle.basics.specs.Words.{◌≡◌, refl, ◌∙◌, List, ℕ, ◌-◌, ◌≤◌, ◌<◌, arith, length}
+use Rattle.std.specs.Prelude.{◌≡◌, ◌-◌, ◌≤◌, ◌<◌}
+use Rattle.basics.specs.Words.{refl, ◌∙◌, List, ℕ, arith, length}
 use Rattle.product.specs.Laws.Setting.{few_nodes}
 use Rattle.cull.specs.Culling.{CullPre, StagePre}
 use Rattle.cull.proofs.Culling.{StagesGone, lent_kept, counts_few, stage_given, stages_start, stages_next, stages_idle, stages_end}

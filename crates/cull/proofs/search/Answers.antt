@@ -9,7 +9,7 @@ fill_sets-requires c =
 
 pub slice_bounds-sets-end : goal.slice_bounds-sets-end
 slice_bounds-sets-end c =
-    omega (arith, short c.requires.0, c.fill_sets.auto.1.0)
+    omega (arith, short c.requires.0, c.fill_sets.auto.sets)
 
 pub slice_bounds-search_sets-end : goal.slice_bounds-search_sets-end
 slice_bounds-search_sets-end c =

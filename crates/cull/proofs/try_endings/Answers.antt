@@ -1,4 +1,5 @@
-use Rattle.basics.specs.Words.{◌-◌, ◌≤◌, arith}
+use Rattle.std.specs.Prelude.{◌-◌, ◌≤◌}
+use Rattle.basics.specs.Words.{arith}
 use Rattle.cull.specs.Culling.{CodesEnded}
 use Rattle.cull.proofs.Ending.{ending_places, ended_start, ended_next, ended_end}
 use Rattle.cull.proofs.try_endings.Goals as goal

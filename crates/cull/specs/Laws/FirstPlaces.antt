@@ -1,6 +1,7 @@
 -- Costs compared on the first k constraints alone. A constraint is named by its place in the ranking, 0 the highest, and `marks i c` is how many marks
 -- of the constraint i the cost c has. Of the costs of a card's ways this is harmonic comparison under the first k constraints (`Laws/Ways.better-is-less`).
-use Rattle.basics.specs.Words.{◌≡◌, sym, ◌∙◌, List, some, ◌⊎◌, inl, inr, ℕ, zero, suc, ◌<◌, arith, ℕ_discrete}
+use Rattle.std.specs.Prelude.{◌≡◌, ◌⊎◌, ◌<◌}
+use Rattle.basics.specs.Words.{sym, ◌∙◌, List, some, inl, inr, ℕ, zero, suc, arith, ℕ_discrete}
 use Rattle.paths.specs.Total.{ℕ-total}
 use Rattle.paths.specs.Costs.{Costs}
 use Rattle.paths.specs.Graph.{Alphabet, Graph, path_cost}

@@ -1,6 +1,7 @@
 -- The ways of a card as paths of the graph that the engine searches: what has a cost is a way, the cost is its profile in ranked order and its pair
 -- count, and costs compared on the first k constraints are profiles compared by harmony under them.
-use Rattle.basics.proofs.Words.{◌≡◌, refl, sym, ◌∙◌, ap, subst, Bool, true, false, ◌&&◌, false≢true, List, [], ◌∷◌, Option, some, none, Option·none-ne-some, ◌↔◌, ℕ, zero, suc, ◌+◌, ◌*◌, ◌/◌, ◌%◌, ◌≤◌, ◌<◌, arith, length, get_or, take, drop, get_or-take, length-take-le, all_of, both, left, right, mod-lt, div-lt_iff_lt-mul, div-add-mod', every_at, each_below}
+use Rattle.std.specs.Prelude.{◌≡◌, ◌&&◌, ◌∷◌, ◌↔◌, ◌+◌, ◌*◌, ◌/◌, ◌%◌, ◌≤◌, ◌<◌}
+use Rattle.basics.proofs.Words.{refl, sym, ◌∙◌, ap, subst, Bool, true, false, false≢true, List, [], Option, some, none, Option·none-ne-some, ℕ, zero, suc, arith, length, get_or, take, drop, get_or-take, length-take-le, all_of, both, left, right, mod-lt, div-lt_iff_lt-mul, div-add-mod', every_at, each_below}
 use Rattle.machine.specs.declared.Pair.{Pair}
 use Rattle.machine.specs.Symbols.{is_pair}
 use Rattle.card.specs.Card.{machines_of, card_refusal}

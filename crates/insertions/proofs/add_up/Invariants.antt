@@ -1,6 +1,5 @@
 use Rattle.std.specs.Prelude.{◌-◌}
-use Rattle.basics.proofs.Words.{arith, rules}
-use Rattle.insertions.proofs.Adding.{AddTo, add_start, add_fits, add_next, add_end}
+use Rattle.insertions.proofs.Adding.{AddTo}
 use Rattle.insertions.proofs.add_up.Given as goal
 
 abbrev pub invariant-loop-i : goal.invariant-loop-i

@@ -1,6 +1,5 @@
 use Rattle.std.specs.Prelude.{◌≡◌, ◌++◌, ◌-◌, ◌≤◌}
-use Rattle.basics.proofs.Words.{ap, ◌∙◌, append-nil, arith, length, set, length-set, drop, replicate, drop_of_length-le, rules}
-use borrow.Author.Fill.{fill_more}
+use Rattle.basics.proofs.Words.{length, drop, replicate}
 use Rattle.insertions.proofs.clear.Given as goal
 
 abbrev pub invariant-loop-i : goal.invariant-loop-i

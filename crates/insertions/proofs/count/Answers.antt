@@ -1,10 +1,9 @@
-use Rattle.std.specs.Prelude.{◌≡◌, ◌^◌, ◌<◌}
-use Rattle.basics.proofs.Words.{refl, ◌∙◌, ap, arith, length, rules}
+use Rattle.basics.proofs.Words.{refl, ◌∙◌, ap, arith}
 use Rattle.cells.specs.Fours.{next_four}
 use Rattle.cells.specs.Laws.Fours.{without_less}
 use Rattle.insertions.proofs.Fours.{fours_small}
 use Rattle.insertions.proofs.Blocks.{asks_four, high_pre, codes_few}
-use Rattle.insertions.proofs.Loops.{CountTo, zeros_of, count_start, room_for_four, four_counted, add_pre, counted}
+use Rattle.insertions.proofs.Loops.{zeros_of, count_start, room_for_four, four_counted, add_pre, counted}
 use Rattle.insertions.proofs.count.Goals as goal
 
 pub clear-requires : goal.clear-requires

@@ -1,8 +1,7 @@
 use Rattle.std.specs.Prelude.{◌≡◌, ◌-◌, ◌≤◌}
-use Rattle.basics.proofs.Words.{refl, sym, ◌∙◌, ap, [], ℕ, arith, rules}
-use Rattle.insertions.specs.Lanes.{bumped, bump}
+use Rattle.basics.proofs.Words.{[]}
+use Rattle.insertions.specs.Lanes.{bumped}
 use Rattle.insertions.specs.Tables.{code_lane}
-use Rattle.insertions.proofs.Lanes.{bump_same, bumped_none, bumped_next, count_next}
 use Rattle.insertions.proofs.count_code.Given as goal
 
 abbrev pub invariant-loop-j : goal.invariant-loop-j

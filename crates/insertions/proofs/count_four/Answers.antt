@@ -1,5 +1,5 @@
-use Rattle.std.specs.Prelude.{◌≡◌, ◌-◌, ◌*◌, ◌≤◌}
-use Rattle.basics.proofs.Words.{refl, ◌∙◌, ap, [], ℕ, arith, rules}
+use Rattle.std.specs.Prelude.{◌≡◌, ◌*◌}
+use Rattle.basics.proofs.Words.{refl, ◌∙◌, ap, [], ℕ, arith}
 use Rattle.insertions.specs.Lanes.{bumped}
 use Rattle.insertions.specs.Tables.{four_lane, lanes_from}
 use Rattle.insertions.proofs.Lanes.{bumped_start, bumped_on, count_next}

@@ -1,9 +1,7 @@
 use Rattle.std.specs.Prelude.{◌≡◌, ◌-◌, ◌*◌, ◌≤◌}
-use Rattle.basics.proofs.Words.{refl, ◌∙◌, ap, [], ℕ, arith, rules}
+use Rattle.basics.proofs.Words.{[]}
 use Rattle.insertions.specs.Lanes.{bumped}
-use Rattle.insertions.specs.Tables.{four_lane, lanes_from}
-use Rattle.insertions.proofs.Lanes.{bumped_start, bumped_on, count_next}
-use Rattle.insertions.proofs.Rows.{row_last, row_next}
+use Rattle.insertions.specs.Tables.{four_lane}
 use Rattle.insertions.proofs.count_four.Given as goal
 
 abbrev pub invariant-loop-a : goal.invariant-loop-a

@@ -1,6 +1,4 @@
-use Rattle.std.specs.Prelude.{◌-◌}
-use Rattle.basics.proofs.Words.{rules}
-use Rattle.insertions.proofs.Adding.{FillTo, fill_start, fill_next, fill_end}
+use Rattle.insertions.proofs.Adding.{fill_start, fill_next, fill_end}
 use Rattle.insertions.proofs.fill_on.Goals as goal
 
 pub loop-i-init : goal.loop-i-init

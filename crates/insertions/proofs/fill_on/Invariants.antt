@@ -1,6 +1,5 @@
 use Rattle.std.specs.Prelude.{◌-◌}
-use Rattle.basics.proofs.Words.{rules}
-use Rattle.insertions.proofs.Adding.{FillTo, fill_start, fill_next, fill_end}
+use Rattle.insertions.proofs.Adding.{FillTo}
 use Rattle.insertions.proofs.fill_on.Given as goal
 
 abbrev pub invariant-loop-i : goal.invariant-loop-i

@@ -1,5 +1,5 @@
-use Rattle.std.specs.Prelude.{◌≡◌, ◌+◌, ◌-◌, ◌≤◌}
-use Rattle.basics.proofs.Words.{sym, ◌∙◌, ap, ℕ, arith, length, rules}
+use Rattle.std.specs.Prelude.{◌≡◌, ◌+◌}
+use Rattle.basics.proofs.Words.{sym, ◌∙◌, ap, ℕ, arith, length}
 use Rattle.insertions.specs.Lanes.{bumped, placed, bump, put}
 use Rattle.insertions.specs.Tables.{code_lane}
 use Rattle.insertions.proofs.Lanes.{bumped_none, bumped_next, placed_none, placed_next, placed_size, entry_next}

@@ -1,8 +1,6 @@
-use Rattle.std.specs.Prelude.{◌≡◌, ◌+◌, ◌-◌, ◌≤◌}
-use Rattle.basics.proofs.Words.{sym, ◌∙◌, ap, ℕ, arith, length, rules}
-use Rattle.insertions.specs.Lanes.{bumped, placed, bump, put}
+use Rattle.std.specs.Prelude.{◌≡◌, ◌-◌, ◌≤◌}
+use Rattle.insertions.specs.Lanes.{bumped, placed}
 use Rattle.insertions.specs.Tables.{code_lane}
-use Rattle.insertions.proofs.Lanes.{bumped_none, bumped_next, placed_none, placed_next, placed_size, entry_next}
 use Rattle.insertions.proofs.list_code.Given as goal
 
 abbrev pub invariant-loop-j : goal.invariant-loop-j

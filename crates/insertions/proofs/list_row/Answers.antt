@@ -1,5 +1,5 @@
-use Rattle.std.specs.Prelude.{◌≡◌, ◌+◌, ◌-◌, ◌*◌, ◌≤◌}
-use Rattle.basics.proofs.Words.{◌∙◌, ap, ℕ, arith, length, rules}
+use Rattle.std.specs.Prelude.{◌≡◌, ◌+◌, ◌*◌}
+use Rattle.basics.proofs.Words.{◌∙◌, ap, ℕ, arith, length}
 use Rattle.insertions.specs.Lanes.{bumped, placed}
 use Rattle.insertions.specs.Tables.{code_lane, lanes_from}
 use Rattle.insertions.proofs.Lanes.{bumped_start, placed_start, bumped_on, placed_on, placed_size, equal_alike, entry_next}

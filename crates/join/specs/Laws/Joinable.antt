@@ -1,5 +1,6 @@
 -- What refusal 27 tells, and the checks before the target. Assumes nothing.
-use Rattle.basics.proofs.Words.{◌≡◌, refl, ap, ◌∙◌, Bool, true, false, not, ◌&&◌, ◌||◌, List, [], ◌∷◌, ◌⊎◌, inl, inr, ℕ, ◌<◌, arith, eqb, ltb, lit<, left, right, either}
+use Rattle.std.specs.Prelude.{◌≡◌, ◌&&◌, ◌||◌, ◌∷◌, ◌⊎◌, ◌<◌}
+use Rattle.basics.proofs.Words.{refl, ap, ◌∙◌, Bool, true, false, not, List, [], inl, inr, ℕ, arith, eqb, ltb, lit<, left, right, either}
 use Rattle.std.proofs.lemmas.Bool.{eqb-false, not-true}
 use Rattle.std.proofs.Common.{ltb-true, ltb-false}
 use Rattle.refusals.specs.Refusals.{refuse}

@@ -1,5 +1,6 @@
 -- The bytes of a machine are a part whose machine it is. Assumes nothing.
-use Rattle.basics.proofs.Words.{◌≡◌, refl, sym, ap, ◌∙◌, true, List, [], ◌∷◌, ◌++◌, map, Option, some, none, ℕ, zero, suc, ◌+◌, ◌*◌, ◌/◌, ◌%◌, ◌^◌, ◌<◌, ◌≤◌, arith, length, get_or, take, drop, length-map, leb, lit<, get_or-drop, drop-drop, take_at, drop_at, all_of, joined, both, left, right}
+use Rattle.std.specs.Prelude.{◌≡◌, ◌∷◌, ◌++◌, ◌+◌, ◌*◌, ◌/◌, ◌%◌, ◌^◌, ◌<◌, ◌≤◌}
+use Rattle.basics.proofs.Words.{refl, sym, ap, ◌∙◌, true, List, [], map, Option, some, none, ℕ, zero, suc, arith, length, get_or, take, drop, length-map, leb, lit<, get_or-drop, drop-drop, take_at, drop_at, all_of, joined, both, left, right}
 use Rattle.std.proofs.Math.Pow.{pow_mono}
 use Rattle.std.proofs.Common.{leb-true, le-leb, eq-eqb}
 use Rattle.machine.specs.declared.Arc.{Arc}

@@ -1,5 +1,6 @@
 -- Sound machines: what the checks of a part promise of its machine. Assumes nothing.
-use Rattle.basics.proofs.Words.{◌≡◌, Bool, true, ◌&&◌, Option, some, none, ℕ, ◌≤◌, leb, all_of, pairwise, left, right}
+use Rattle.std.specs.Prelude.{◌≡◌, ◌&&◌, ◌≤◌}
+use Rattle.basics.proofs.Words.{Bool, true, Option, some, none, ℕ, leb, all_of, pairwise, left, right}
 use Rattle.std.proofs.Common.{leb-true}
 use Rattle.machine.specs.Machine.{Machine, state_count_of}
 use Rattle.machine.specs.Part.{sound_arc, clash_free}

@@ -1,5 +1,6 @@
 -- A machine without marks counts nothing. Assumes nothing.
-use Rattle.basics.proofs.Words.{◌≡◌, refl, sym, ap, ◌∙◌, Bool, true, false, List, [], ◌∷◌, Option, some, none, ℕ, zero, suc, arith, get_or, eqb, all_of, left, right}
+use Rattle.std.specs.Prelude.{◌≡◌, ◌∷◌}
+use Rattle.basics.proofs.Words.{refl, sym, ap, ◌∙◌, Bool, true, false, List, [], Option, some, none, ℕ, zero, suc, arith, get_or, eqb, all_of, left, right}
 use Rattle.std.proofs.Common.{eqb-true}
 use Rattle.machine.specs.declared.Arc.{Arc}
 use Rattle.machine.specs.declared.Pair.{Pair}

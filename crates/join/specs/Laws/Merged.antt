@@ -1,5 +1,6 @@
 -- Laws of lists in which one place takes in another. Assumes nothing.
-use Rattle.basics.proofs.Words.{◌≡◌, refl, sym, ap, subst, ◌∙◌, Bool, true, false, ◌&&◌, and_assoc, and_comm, List, [], ◌∷◌, ◌++◌, map, ℕ, zero, suc, ◌*◌, ◌<◌, ◌≤◌, arith, length, get_or, List·getD-map, List·getD-append, eqb, ltb, mul_assoc, mul_comm, all_of, without, product, any_default}
+use Rattle.std.specs.Prelude.{◌≡◌, ◌&&◌, ◌∷◌, ◌++◌, ◌*◌, ◌<◌, ◌≤◌}
+use Rattle.basics.proofs.Words.{refl, sym, ap, subst, ◌∙◌, Bool, true, false, and_assoc, and_comm, List, [], map, ℕ, zero, suc, arith, length, get_or, List·getD-map, List·getD-append, eqb, ltb, mul_assoc, mul_comm, all_of, without, product, any_default}
 use Rattle.std.proofs.Common.{eqb-true, ltb-true, ltb-false}
 use Rattle.std.proofs.lemmas.Bool.{eqb-false}
 use Rattle.join.specs.Merged.{merged_at}

@@ -1,5 +1,6 @@
 -- The machine of an accepted part is sound; and a part of the right shape with a sound machine is accepted. Assumes nothing.
-use Rattle.basics.proofs.Words.{◌≡◌, refl, sym, ap, ap₂, ◌∙◌, Bool, true, ◌&&◌, List, [], ◌∷◌, map, ℕ, zero, suc, arith, eqb, leb, all_of, same, both, left, right}
+use Rattle.std.specs.Prelude.{◌≡◌, ◌&&◌, ◌∷◌}
+use Rattle.basics.proofs.Words.{refl, sym, ap, ap₂, ◌∙◌, Bool, true, List, [], map, ℕ, zero, suc, arith, eqb, leb, all_of, same, both, left, right}
 use Rattle.std.proofs.Common.{eqb-true, leb-true, eq-eqb, le-leb}
 use Rattle.refusals.specs.Refusals.{first_of}
 use Rattle.refusals.proofs.Refusals.{none_first}

@@ -1,5 +1,6 @@
 -- Rankings of a card with two machines joined: they are rankings, and compare the merged counts as the old one did. Assumes nothing.
-use Rattle.basics.proofs.Words.{◌≡◌, refl, sym, ap, ◌∙◌, Bool, true, false, not, ◌&&◌, cond, List, [], ◌∷◌, ◌⊎◌, inl, inr, ℕ, suc, ◌+◌, ◌-◌, ◌<◌, arith, length, get_or, eqb, ltb, those, occurrences, same, both, left, right, each_below}
+use Rattle.std.specs.Prelude.{◌≡◌, ◌&&◌, ◌∷◌, ◌⊎◌, ◌+◌, ◌-◌, ◌<◌}
+use Rattle.basics.proofs.Words.{refl, sym, ap, ◌∙◌, Bool, true, false, not, cond, List, [], inl, inr, ℕ, suc, arith, length, get_or, eqb, ltb, those, occurrences, same, both, left, right, each_below}
 use Rattle.std.proofs.Common.{eqb-true, ltb-true, ltb-false, eq-eqb, ne_eqb}
 use Rattle.std.proofs.lemmas.Bool.{eqb-false, not-true}
 use Rattle.ranking.specs.Rankings.{is_ranking}

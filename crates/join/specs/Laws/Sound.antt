@@ -1,5 +1,6 @@
 -- The joined machine of two sound machines, one of them without marks, is sound. Assumes nothing.
-use Rattle.basics.proofs.Words.{◌≡◌, refl, sym, ap, ◌∙◌, Bool, true, false, not, ◌&&◌, List, [], ◌∷◌, ◌++◌, map, List-as-Memᴰ, List·Memᴰ·head, List·Memᴰ·tail, Option, some, none, ◌⊎◌, inl, inr, ℕ, zero, suc, ◌+◌, ◌*◌, ◌^◌, ◌<◌, ◌≤◌, arith, eqb, ltb, suc-mul, mul-le-mul_right, mul-le-mul, all_of, pairwise, those, joined, member, both, left, right, fails, clash as never, all_member, each_member, all_append, those_member, pairwise_those, joined_member, member_and, has_member}
+use Rattle.std.specs.Prelude.{◌≡◌, ◌&&◌, ◌∷◌, ◌++◌, ◌⊎◌, ◌+◌, ◌*◌, ◌^◌, ◌<◌, ◌≤◌}
+use Rattle.basics.proofs.Words.{refl, sym, ap, ◌∙◌, Bool, true, false, not, List, [], map, List-as-Memᴰ, List·Memᴰ·head, List·Memᴰ·tail, Option, some, none, inl, inr, ℕ, zero, suc, arith, eqb, ltb, suc-mul, mul-le-mul_right, mul-le-mul, all_of, pairwise, those, joined, member, both, left, right, fails, clash as never, all_member, each_member, all_append, those_member, pairwise_those, joined_member, member_and, has_member}
 use Rattle.std.specs.Int.Bits.{bit_and}
 use Rattle.std.proofs.lemmas.Nat.{and_le_l}
 use Rattle.std.proofs.Common.{eqb-true, ltb-true, leb-true, eq-eqb, ne_eqb, lt-ltb, le-leb}

@@ -1,5 +1,6 @@
 -- One law on a step of the joined machine, one on an ending, and what follows for lists of pairs. Assumes nothing.
-use Rattle.basics.proofs.Words.{◌≡◌, refl, sym, ap, ◌∙◌, Bool, true, false, ◌&&◌, List, [], ◌∷◌, ◌++◌, map, Option, some, none, ℕ, ◌+◌, ◌*◌, ◌/◌, ◌%◌, ◌<◌, arith, eqb, mul-add-div_right, mul-add-mod_self_right, div-eq_of_lt, mod-eq_of_lt, all_of, those, joined, member, same, both, left, right, fails, clash, those_here, those_later, member_and}
+use Rattle.std.specs.Prelude.{◌≡◌, ◌&&◌, ◌∷◌, ◌++◌, ◌+◌, ◌*◌, ◌/◌, ◌%◌, ◌<◌}
+use Rattle.basics.proofs.Words.{refl, sym, ap, ◌∙◌, Bool, true, false, List, [], map, Option, some, none, ℕ, arith, eqb, mul-add-div_right, mul-add-mod_self_right, div-eq_of_lt, mod-eq_of_lt, all_of, those, joined, member, same, both, left, right, fails, clash, those_here, those_later, member_and}
 use Rattle.std.proofs.Common.{eqb-true, eq-eqb}
 use Rattle.machine.specs.declared.Arc.{Arc}
 use Rattle.machine.specs.declared.Pair.{Pair}

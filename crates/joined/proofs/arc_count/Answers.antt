@@ -1,22 +1,10 @@
-use Rattle.basics.proofs.Words.{◌≡◌, ap, ◌+◌, ◌*◌, ◌-◌, ◌≤◌, arith, length, drop, rules}
+use Rattle.basics.proofs.Words.{ap, arith, length}
 use Rattle.machine.specs.declared.Arc.{Arc}
 use Rattle.machine.specs.Part.{state_count, arcs_of}
-use Rattle.joined.specs.JoinedMachine.{arcs_with, joined_arcs}
+use Rattle.joined.specs.JoinedMachine.{arcs_with}
 use Rattle.joined.specs.Laws.Writing.{rows_more, rows_end}
 use Rattle.joined.proofs.Parts.{no_arc, arcs_length}
 use Rattle.joined.proofs.arc_count.Goals as goal
-
-pub nth_arc-arc-requires : goal.nth_arc-arc-requires
-nth_arc-arc-requires c =
-    (c.requires.0, k.before.before.state_count_lem.ensures, omega arith)
-
-pub row_count-count-requires : goal.row_count-count-requires
-row_count-count-requires c =
-    c.requires.1
-
-pub overflow_add-count : goal.overflow_add-count
-overflow_add-count c =
-    omega (arith, c.row_count-count.ensures.1, c.shared_slice_known-1.given 1)
 
 pub loop-i-preserved : goal.loop-i-preserved
 loop-i-preserved c =
@@ -31,4 +19,4 @@ returns c =
     let first = c.args.first.now in
     let second = c.args.second.now in
     let e = rows_end (state_count second) (arcs_of first) (arcs_of second) c.loop-i.i (omega (arith, arcs_length first)) in
-    (omega (arith, e, c.loop-i.invariant.2), omega (arith, c.shared_slice_known-1.given 1))
+    (omega (arith, e, c.loop-i.invariant.2), omega (arith, c.type_inv.first 1))

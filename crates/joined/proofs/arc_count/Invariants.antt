@@ -1,9 +1,7 @@
-use Rattle.basics.proofs.Words.{◌≡◌, ap, ◌+◌, ◌*◌, ◌-◌, ◌≤◌, arith, length, drop, rules}
-use Rattle.machine.specs.declared.Arc.{Arc}
+use Rattle.std.specs.Prelude.{◌≡◌, ◌+◌, ◌*◌, ◌-◌, ◌≤◌}
+use Rattle.basics.proofs.Words.{length, drop}
 use Rattle.machine.specs.Part.{state_count, arcs_of}
-use Rattle.joined.specs.JoinedMachine.{arcs_with, joined_arcs}
-use Rattle.joined.specs.Laws.Writing.{rows_more, rows_end}
-use Rattle.joined.proofs.Parts.{no_arc, arcs_length}
+use Rattle.joined.specs.JoinedMachine.{joined_arcs}
 use Rattle.joined.proofs.arc_count.Given as goal
 
 abbrev pub invariant-loop-i : goal.invariant-loop-i

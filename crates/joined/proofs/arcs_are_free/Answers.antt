@@ -1,12 +1,9 @@
-use Rattle.basics.proofs.Words.{◌≡◌, refl, ap, ◌∙◌, ◌-◌, ◌≤◌, arith, drop, eqb, all_of, rules, eq-eqb, ne_eqb}
+use Rattle.basics.proofs.Words.{ap, ◌∙◌, arith, eqb, eq-eqb, ne_eqb}
 use Rattle.machine.specs.declared.Arc.{Arc}
-use Rattle.machine.specs.Part.{arc_count, arcs_of}
+use Rattle.machine.specs.Part.{arcs_of}
 use Rattle.joined.proofs.Rest.{all_go_on, all_stop, all_end}
 use Rattle.joined.proofs.Parts.{no_arc, arcs_length}
 use Rattle.joined.proofs.arcs_are_free.Goals as goal
-
-pub loop-i-init : goal.loop-i-init
-loop-i-init c = (c.arc_count_lem.ensures, omega arith, refl)
 
 pub returns-then-arc-ne0 : goal.returns-then-arc-ne0
 returns-then-arc-ne0 c =
@@ -16,15 +13,14 @@ returns-then-arc-ne0 c =
 
 pub loop-i-preserved : goal.loop-i-preserved
 loop-i-preserved c =
-    let part = c.args.part.now in
-    (
+    let part = c.args.part.now in (
       c.loop-i.invariant.0,
       omega arith,
       all_go_on (λ (a : Arc). eqb a.marks 0) (arcs_of part) c.loop-i.i _ c.loop-i.invariant.2 no_arc (omega (arith, arcs_length part))
           (ap (λ (a : Arc). eqb a.marks 0) (c.nth_arc-arc.ensures no_arc) ∙ eq-eqb _ 0 c.if-arc-ne0.false),
     )
 
-pub returns-then-arc-ne0 : goal.returns
-returns-then-arc-ne0 c =
+pub returns : goal.returns
+returns c =
     let part = c.args.part.now in
     all_end (λ (a : Arc). eqb a.marks 0) (arcs_of part) c.loop-i.i _ c.loop-i.invariant.2 (omega (arith, arcs_length part))

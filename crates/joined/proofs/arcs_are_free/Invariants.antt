@@ -1,8 +1,6 @@
-use Rattle.basics.proofs.Words.{◌≡◌, refl, ap, ◌∙◌, ◌-◌, ◌≤◌, arith, drop, eqb, all_of, rules, eq-eqb, ne_eqb}
-use Rattle.machine.specs.declared.Arc.{Arc}
+use Rattle.std.specs.Prelude.{◌≡◌, ◌-◌, ◌≤◌}
+use Rattle.basics.proofs.Words.{drop, eqb, all_of}
 use Rattle.machine.specs.Part.{arc_count, arcs_of}
-use Rattle.joined.proofs.Rest.{all_go_on, all_stop, all_end}
-use Rattle.joined.proofs.Parts.{no_arc, arcs_length}
 use Rattle.joined.proofs.arcs_are_free.Given as goal
 
 abbrev pub invariant-loop-i : goal.invariant-loop-i

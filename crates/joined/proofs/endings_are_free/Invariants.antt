@@ -1,8 +1,7 @@
-use Rattle.basics.proofs.Words.{◌≡◌, refl, sym, ap, ◌∙◌, ℕ, ◌-◌, ◌≤◌, arith, drop, all_of, rules}
+use Rattle.std.specs.Prelude.{◌≡◌, ◌-◌, ◌≤◌}
+use Rattle.basics.proofs.Words.{drop, all_of}
 use Rattle.machine.specs.Part.{state_count, state_bytes, ending_byte}
 use Rattle.joined.specs.JoinedMachine.{ends_free}
-use Rattle.joined.proofs.Rest.{all_go_on, all_stop, all_end}
-use Rattle.joined.proofs.Parts.{states_length, costs_marks, costs_none}
 use Rattle.joined.proofs.endings_are_free.Given as goal
 
 abbrev pub invariant-loop-i : goal.invariant-loop-i

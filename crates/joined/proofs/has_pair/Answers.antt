@@ -1,49 +1,51 @@
-use Rattle.basics.proofs.Words.{◌≡◌, refl, sym, subst, true, not, ◌||◌, ◌⊎◌, inl, inr, ⊎_elim, ℕ, ◌^◌, ◌<◌, arith, eqb, rules, eqb-true, eqb-false, either, left_fails, right_fails}
+use Rattle.std.specs.Prelude.{◌≡◌, ◌||◌, ◌^◌, ◌<◌}
+use Rattle.basics.proofs.Words.{refl, sym, subst, false, not, ℕ, arith, eqb, eqb-false, left_fails, right_fails}
 use lib.Bits.{bit_or, and_le_r, or_lt, or_add_and}
-use Rattle.machine.specs.Laws.SymbolSets.{least_at}
 use lib.Count.{count_trailing_zeros}
+use Rattle.machine.specs.Laws.SymbolSets.{least_at}
 use Rattle.joined.specs.CommonPairs.{HasPair}
-use Rattle.joined.specs.Laws.CommonPairs.{none_in, any_in, same_in, unlike_in}
+use Rattle.joined.specs.Laws.CommonPairs.{any_in, same_in, unlike_in}
 use Rattle.joined.proofs.has_pair.Goals as goal
 
-empty_one : (I O : ℕ) → (eqb I 0 || eqb O 0) ≡ true → (I ≡ 0) ⊎ (O ≡ 0)
-empty_one I O t = ⊎_elim (λ e. inl (eqb-true I 0 e)) (λ e. inr (eqb-true O 0 e)) (either (eqb I 0) (eqb O 0) t)
+-- neither set is empty
+some_input : (I O : ℕ) → (eqb I 0 || eqb O 0) ≡ false → I ≡ 0 → ⊥
+some_input I O f = eqb-false I 0 (left_fails (eqb I 0) (eqb O 0) f)
 
-some-input : (c : goal.Else-inputs-outputs) → c.before.args.inputs ≡ 0 → ⊥
-some-input c = eqb-false c.args.inputs 0 (left_fails (eqb c.args.inputs 0) (eqb c.args.outputs 0) c.if-inputs-outputs.false)
+some_output : (I O : ℕ) → (eqb I 0 || eqb O 0) ≡ false → O ≡ 0 → ⊥
+some_output I O f = eqb-false O 0 (right_fails (eqb I 0) (eqb O 0) f)
 
-some_output : (c : goal.Else-inputs-outputs) → c.before.args.outputs ≡ 0 → ⊥
-some_output c = eqb-false c.args.outputs 0 (right_fails (eqb c.args.inputs 0) (eqb c.args.outputs 0) c.if-inputs-outputs.false)
-
-input-fits : (c : goal.Start) → c.args.inputs < 2 ^ 64
-input-fits c = omega (arith, c.ranges.inputs)
-
-output-fits : (c : goal.Start) → c.args.outputs < 2 ^ 64
-output-fits c = omega (arith, c.ranges.outputs)
-
-all-pos : (c : goal.Else-inputs-outputs) → 0 < bit_or c.before.args.inputs c.before.args.outputs
-all-pos c = omega (arith, or_add_and c.args.inputs c.args.outputs, and_le_r c.args.inputs c.args.outputs, some-input c)
-
-pub returns-then-inputs-outputs : goal.returns-then-inputs-outputs
-returns-then-inputs-outputs c = none_in c.args.kind c.args.inputs c.args.outputs (empty_one c.args.inputs c.args.outputs c.if-inputs-outputs.true)
+all_pos : (I O : ℕ) → (eqb I 0 || eqb O 0) ≡ false → 0 < bit_or I O
+all_pos I O f = omega (arith, or_add_and I O, and_le_r I O, some_input I O f)
 
 pub returns-then-kind-eq0 : goal.returns-then-kind-eq0
 returns-then-kind-eq0 c =
-    subst (λ (w : ℕ). HasPair c.args.kind c.args.inputs c.args.outputs (not (eqb w 0))) (sym c.without_empty_lem.ensures)
-    (any_in c.args.kind c.args.inputs c.args.outputs (input-fits c.before.before.before) (output-fits c.before.before.before) (some-input c.before.before) (some_output c.before.before) c.if-kind-eq0.true (bit_or c.args.inputs c.args.outputs) (or_lt 64 c.args.inputs c.args.outputs (input-fits c.before.before.before) (output-fits c.before.before.before)) refl)
+    let I = c.args.inputs in
+    let O = c.args.outputs in
+    let fi : I < 2 ^ 64 = omega (arith, c.ranges.inputs) in
+    let fo : O < 2 ^ 64 = omega (arith, c.ranges.outputs) in
+    subst (λ (w : ℕ). HasPair c.args.kind I O (not (eqb w 0))) (sym c.without_empty.ensures)
+    (any_in c.args.kind I O fi fo (some_input I O c.if-inputs-outputs.false) (some_output I O c.if-inputs-outputs.false) c.if-kind-eq0.true (bit_or I O) (or_lt 64 I O fi fo) refl)
 
 pub returns-then-kind-eq1 : goal.returns-then-kind-eq1
 returns-then-kind-eq1 c =
-    subst (λ (w : ℕ). HasPair c.args.kind c.args.inputs c.args.outputs (not (eqb w 0))) (sym c.without_empty-then-kind-eq1.ensures)
-    (same_in c.args.kind c.args.inputs c.args.outputs (input-fits c.before.before.before.before) (output-fits c.before.before.before.before) (some-input c.before.before.before) (some_output c.before.before.before) c.if-kind-eq1.true)
+    let I = c.args.inputs in
+    let O = c.args.outputs in
+    let fi : I < 2 ^ 64 = omega (arith, c.ranges.inputs) in
+    let fo : O < 2 ^ 64 = omega (arith, c.ranges.outputs) in
+    subst (λ (w : ℕ). HasPair c.args.kind I O (not (eqb w 0))) (sym c.without_empty-then-kind-eq1.ensures)
+    (same_in c.args.kind I O fi fo (some_input I O c.if-inputs-outputs.false) (some_output I O c.if-inputs-outputs.false) c.if-kind-eq1.true)
 
 pub without_least-requires : goal.without_least-requires
-without_least-requires c = all-pos c.before.before
+without_least-requires c = all_pos c.args.inputs c.args.outputs c.if-inputs-outputs.false
 
-pub returns-then-inputs-outputs : goal.returns
-returns-then-inputs-outputs c =
-    let U = bit_or c.args.inputs c.args.outputs in
-    let small = or_lt 64 c.args.inputs c.args.outputs (input-fits c.before.before.before.before) (output-fits c.before.before.before.before) in
-    let t = least_at 64 U (all-pos c.before.before.before) small in
-    unlike_in c.args.kind c.args.inputs c.args.outputs (input-fits c.before.before.before.before) (output-fits c.before.before.before.before) (some-input c.before.before.before) (some_output c.before.before.before) c.if-kind-eq0.false c.if-kind-eq1.false U c.without_least.result (count_trailing_zeros 64 U) refl
+pub returns : goal.returns
+returns c =
+    let I = c.args.inputs in
+    let O = c.args.outputs in
+    let fi : I < 2 ^ 64 = omega (arith, c.ranges.inputs) in
+    let fo : O < 2 ^ 64 = omega (arith, c.ranges.outputs) in
+    let U = bit_or I O in
+    let small = or_lt 64 I O fi fo in
+    let t = least_at 64 U (all_pos I O c.if-inputs-outputs.false) small in
+    unlike_in c.args.kind I O fi fo (some_input I O c.if-inputs-outputs.false) (some_output I O c.if-inputs-outputs.false) c.if-kind-eq0.false c.if-kind-eq1.false U c.without_least.result (count_trailing_zeros 64 U) refl
     (omega (arith, c.without_least.ensures.0, small)) t.below t.has c.without_least.ensures.1

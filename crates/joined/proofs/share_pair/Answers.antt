@@ -1,4 +1,5 @@
-use Rattle.basics.proofs.Words.{ap, subst, ◌∙◌, Bool, not, ◌&&◌, ℕ, rules}
+use Rattle.std.specs.Prelude.{◌&&◌}
+use Rattle.basics.proofs.Words.{ap, subst, ◌∙◌, Bool, not, ℕ}
 use lib.Bits.{bit_and}
 use Rattle.joined.specs.CommonPairs.{HasPair}
 use Rattle.joined.specs.Laws.CommonPairs.{common_by_sets}

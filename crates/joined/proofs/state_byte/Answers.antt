@@ -1,10 +1,7 @@
-use native.Mathlib.Omega.{arith}
+use Rattle.basics.specs.Words.{arith}
 use Rattle.machine.specs.Accepted.{shape_facts}
 use Rattle.joined.proofs.Parts.{state_byte_at}
 use Rattle.joined.proofs.state_byte.Goals as goal
-
-pub overflow_add-result : goal.overflow_add-result
-overflow_add-result c = omega (arith, shape_facts _ c.requires.0)
 
 pub bounds-part-state : goal.bounds-part-state
 bounds-part-state c = omega (arith, shape_facts _ c.requires.0)

@@ -1,5 +1,6 @@
 -- Whether two arcs take a common pair, by their kinds and the sets that they share. Assumes nothing.
-use Rattle.basics.proofs.Words.{◌≡◌, refl, sym, ap, ◌∙◌, Bool, true, false, not, ◌&&◌, ◌||◌, or-true, ◌⊎◌, inl, inr, ℕ, zero, suc, ◌^◌, ◌<◌, arith, eqb, ℕ_discrete, member, same, both, left, right, either, fails, clash, has_member, its_member, member_and, member_or}
+use Rattle.std.specs.Prelude.{◌≡◌, ◌&&◌, ◌||◌, ◌⊎◌, ◌^◌, ◌<◌}
+use Rattle.basics.proofs.Words.{refl, sym, ap, ◌∙◌, Bool, true, false, not, or-true, inl, inr, ℕ, zero, suc, arith, eqb, ℕ_discrete, member, same, both, left, right, either, fails, clash, has_member, its_member, member_and, member_or}
 use Rattle.std.specs.Int.Bits.{bit_and, bit_or, bit_xor}
 use Rattle.std.proofs.lemmas.Nat.{and_le_l}
 use Rattle.std.proofs.Common.{eqb-true, eq-eqb, ne_eqb}

@@ -1,5 +1,6 @@
 -- Laws of two lists crossed, and how many states the joined machine has. Assumes nothing.
-use Rattle.basics.proofs.Words.{◌≡◌, sym, ap, ◌∙◌, List, [], ◌∷◌, ◌++◌, map, ℕ, zero, suc, ◌+◌, ◌*◌, ◌<◌, arith, length, get_or, length-map, length-append, List·getD-append, List·getD-map, get_or-append-add, suc-mul, joined, any_default}
+use Rattle.std.specs.Prelude.{◌≡◌, ◌∷◌, ◌++◌, ◌+◌, ◌*◌, ◌<◌}
+use Rattle.basics.proofs.Words.{sym, ap, ◌∙◌, List, [], map, ℕ, zero, suc, arith, length, get_or, length-map, length-append, List·getD-append, List·getD-map, get_or-append-add, suc-mul, joined, any_default}
 use Rattle.machine.specs.Machine.{Machine, state_count_of}
 use Rattle.joined.specs.JoinedMachine.{joined_state, both_marks, crossed, joined_machine}
 

@@ -1,5 +1,6 @@
 -- Kinds of arcs: which have a pair in common, and the pairs of the joined kind. Assumes nothing.
-use Rattle.basics.proofs.Words.{◌≡◌, refl, sym, ap, ◌∙◌, true, false, not, ◌&&◌, ◌||◌, and-true, and_self, or-true, ◌⊎◌, inl, inr, ℕ, zero, suc, arith, eqb, ltb, left, right, either, fails, clash}
+use Rattle.std.specs.Prelude.{◌≡◌, ◌&&◌, ◌||◌, ◌⊎◌}
+use Rattle.basics.proofs.Words.{refl, sym, ap, ◌∙◌, true, false, not, and-true, and_self, or-true, inl, inr, ℕ, zero, suc, arith, eqb, ltb, left, right, either, fails, clash}
 use Rattle.std.proofs.Common.{eqb-true, lt-ltb}
 use Rattle.std.proofs.lemmas.Bool.{not-true}
 use Rattle.machine.specs.declared.Pair.{Pair}

@@ -1,5 +1,6 @@
 -- Laws of bytes put into a target. Assumes nothing.
-use Rattle.basics.specs.Words.{◌≡◌, ap, sym, ◌∙◌, List, [], ◌∷◌, ◌++◌, append-nil, append_assoc, ℕ, ◌+◌, ◌<◌, ◌≤◌, arith, length, take, drop, set, length-append, length-drop, take-append-drop, drop_of_length-le, set_split, length-take-le, take_at, drop_at, drop-drop, add-one}
+use Rattle.std.specs.Prelude.{◌≡◌, ◌∷◌, ◌++◌, ◌+◌, ◌<◌, ◌≤◌}
+use Rattle.basics.specs.Words.{ap, sym, ◌∙◌, List, [], append-nil, append_assoc, ℕ, arith, length, take, drop, set, length-append, length-drop, take-append-drop, drop_of_length-le, set_split, length-take-le, take_at, drop_at, drop-drop, add-one}
 use borrow.Rule.Slice.PartMut.{put_mid}
 use Rattle.joined.specs.Writing.{placed}
 

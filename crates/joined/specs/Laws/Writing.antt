@@ -1,5 +1,6 @@
 -- The joined part's bytes, as they are written: row by row, arc by arc. Assumes nothing.
-use Rattle.basics.proofs.Words.{◌≡◌, refl, sym, ap, ap₂, ◌∙◌, Bool, true, false, List, [], ◌∷◌, ◌++◌, map, map-map, map-append, append_assoc, ℕ, zero, suc, ◌+◌, ◌*◌, ◌-◌, ◌/◌, ◌%◌, ◌<◌, ◌≤◌, arith, length, get_or, drop, set, length-map, length-append, length-set, those, joined, left_at, left_none, those_here, those_later}
+use Rattle.std.specs.Prelude.{◌≡◌, ◌∷◌, ◌++◌, ◌+◌, ◌*◌, ◌-◌, ◌/◌, ◌%◌, ◌<◌, ◌≤◌}
+use Rattle.basics.proofs.Words.{refl, sym, ap, ap₂, ◌∙◌, Bool, true, false, List, [], map, map-map, map-append, append_assoc, ℕ, zero, suc, arith, length, get_or, drop, set, length-map, length-append, length-set, those, joined, left_at, left_none, those_here, those_later}
 use Rattle.machine.specs.declared.Arc.{Arc}
 use Rattle.machine.specs.Machine.{Machine, state_count_of, take_one_pair}
 use Rattle.machine.specs.Part.{state_bytes, ending_byte, arcs_of, machine_of, shaped}

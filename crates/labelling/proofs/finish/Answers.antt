@@ -1,4 +1,5 @@
-use Rattle.basics.proofs.Words.{◌≡◌, sym, subst, Bool, true, false, List, ℕ, length, rules, eq-eqb, ne_eqb}
+use Rattle.std.specs.Prelude.{◌≡◌}
+use Rattle.basics.proofs.Words.{sym, subst, Bool, true, false, List, ℕ, length, rules, eq-eqb, ne_eqb}
 use Rattle.settling.specs.Insertions.{lists_of}
 use Rattle.settling.specs.Settling.{SettlePre, Settled}
 use Rattle.labelling.specs.Kinds.{in_counts}
@@ -12,16 +13,21 @@ module _ {ranked sums hs own next entries ends : List ℕ} {base P : ℕ} (Q : F
   module _ (kind : Bool) (is : in_counts sums ≡ kind) where
     settle_by : SettlePre (lists_of entries ends hs kind) own P
     settle_by = subst (λ (k : Bool). SettlePre (lists_of entries ends hs k) own P) is Q.settle
+
     settled_by : {ys : List ℕ} → Settled (lists_of entries ends hs kind) own ys → Settled (lists_of entries ends hs (in_counts sums)) own ys
     settled_by {ys} S = subst (λ (k : Bool). Settled (lists_of entries ends hs k) own ys) (sym is) S
+
   module _ (z : length sums ≡ 0) {ys : List ℕ} (S : Settled (lists_of entries ends hs true) own ys) where
     counts_ready : CountsPre ranked ys base P × PassAllPre ys next P
     counts_ready = let q = Q.close ys (settled_by true (eq-eqb (length sums) 0 z) S) in (q.counts z, q.pass)
+
     counts_finished : {ranked' own' next' : List ℕ} → CountsClosed ranked ranked' ys base P × AllPassed ys own' next next' P → Finished ranked ranked' sums sums hs own own' next next' entries ends base P
     counts_finished C = record { labels = ys; settled = settled_by true (eq-eqb (length sums) 0 z) S; closed = counts_closed z C.0 C.1 }
+
   module _ (z : length sums ≡ 0 → ⊥) {ys : List ℕ} (S : Settled (lists_of entries ends hs false) own ys) where
     sums_ready : SumsPre sums ys base P × PassAllPre ys next P
     sums_ready = let q = Q.close ys (settled_by false (ne_eqb (length sums) 0 z) S) in (q.in_sums z, q.pass)
+
     sums_finished : {sums' own' next' : List ℕ} → SumsClosed sums sums' ys base P × AllPassed ys own' next next' P → Finished ranked ranked sums sums' hs own own' next next' entries ends base P
     sums_finished C = record { labels = ys; settled = settled_by false (ne_eqb (length sums) 0 z) S; closed = sums_closed z C.0 C.1 }
 

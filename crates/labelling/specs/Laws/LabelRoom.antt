@@ -1,5 +1,6 @@
 -- Attained labels of two numbers leave room for 128 pairs more.
-use Rattle.basics.specs.Words.{◌≡◌, refl, List, some, ℕ, zero, suc, ◌+◌, ◌*◌, ◌/◌, ◌^◌, ◌≤◌, ◌<◌, arith, length, get_or, replicate, length-replicate, mul-le-mul_left}
+use Rattle.std.specs.Prelude.{◌≡◌, ◌+◌, ◌*◌, ◌/◌, ◌^◌, ◌≤◌, ◌<◌}
+use Rattle.basics.specs.Words.{refl, List, some, ℕ, zero, suc, arith, length, get_or, replicate, length-replicate, mul-le-mul_left}
 use Rattle.machine.specs.declared.Pair.{Pair}
 use Rattle.card.specs.Card.{machines_of}
 use Rattle.paths.specs.Costs.{Labels}

@@ -1,5 +1,6 @@
 -- Labels of six ranked counts that are done are labels of two numbers that are done.
-use Rattle.basics.specs.Words.{◌≡◌, refl, sym, ◌∙◌, ap, subst, List, ◌∷◌, Option, none, some, Option·none-ne-some, inl, inr, ℕ, arith}
+use Rattle.std.specs.Prelude.{◌≡◌, ◌∷◌}
+use Rattle.basics.specs.Words.{refl, sym, ◌∙◌, ap, subst, List, Option, none, some, Option·none-ne-some, inl, inr, ℕ, arith}
 use Rattle.card.specs.Card.{machines_of}
 use Rattle.paths.specs.Total.{Upto}
 use Rattle.paths.specs.Costs.{Costs, Labels, AtMost}

@@ -1,5 +1,6 @@
 -- The engine's graph with its costs packed into two numbers is the graph of the cells, by the ranked weights.
-use Rattle.basics.specs.Words.{◌≡◌, refl, sym, ◌∙◌, ap, List, [], ◌∷◌, Option, some, none, Option·none-ne-some, ℕ, suc, ◌+◌, ◌/◌, ◌%◌, ◌≤◌, arith, length, length-map}
+use Rattle.std.specs.Prelude.{◌≡◌, ◌∷◌, ◌+◌, ◌/◌, ◌%◌, ◌≤◌}
+use Rattle.basics.specs.Words.{refl, sym, ◌∙◌, ap, List, [], Option, some, none, Option·none-ne-some, ℕ, suc, arith, length, length-map}
 use Rattle.machine.specs.declared.Pair.{Pair}
 use Rattle.machine.specs.Machine.{Machine}
 use Rattle.card.specs.Card.{machines_of, card_refusal}

@@ -1,5 +1,6 @@
 -- Labels of two numbers that are done are labels of six ranked counts that are done.
-use Rattle.basics.specs.Words.{◌≡◌, refl, true, List, some, ◌⊎◌, inl, inr, ◌≢◌, ℕ, zero, suc, ◌+◌, ◌*◌, ◌≤◌, ◌<◌, arith, length, get_or, member}
+use Rattle.std.specs.Prelude.{◌≡◌, ◌⊎◌, ◌≢◌, ◌+◌, ◌*◌, ◌≤◌, ◌<◌}
+use Rattle.basics.specs.Words.{refl, true, List, some, inl, inr, ℕ, zero, suc, arith, length, get_or, member}
 use Rattle.machine.specs.declared.Pair.{Pair}
 use Rattle.machine.specs.Symbols.{empty_symbol}
 use Rattle.card.specs.Card.{machines_of}

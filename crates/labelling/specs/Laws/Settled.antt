@@ -1,6 +1,7 @@
 -- A position that was settled is done, over the costs that cells stand for: settling works on the two numbers of a label, high with its last byte,
 -- and these are the costs packed. Nothing is lost by packing where every cost is short.
-use Rattle.basics.specs.Words.{◌≡◌, refl, sym, ◌∙◌, ap, ap₂, subst, List, ◌∷◌, Option, none, some, Option·none-ne-some, inl, inr, ◌≢◌, ℕ, ◌+◌, ◌*◌, ◌/◌, ◌%◌, ◌<◌, arith, length, get_or, dec_lt}
+use Rattle.std.specs.Prelude.{◌≡◌, ◌∷◌, ◌≢◌, ◌+◌, ◌*◌, ◌/◌, ◌%◌, ◌<◌}
+use Rattle.basics.specs.Words.{refl, sym, ◌∙◌, ap, ap₂, subst, List, Option, none, some, Option·none-ne-some, inl, inr, ℕ, arith, length, get_or, dec_lt}
 use Rattle.machine.specs.declared.Pair.{Pair}
 use Rattle.card.specs.Card.{machines_of}
 use Rattle.paths.specs.Total.{Upto}

@@ -1,5 +1,6 @@
 -- The lists of insertions are the edges between the codes of a position; what settling it asks, and what it gives in ranked order.
-use Rattle.basics.proofs.Words.{◌≡◌, refl, sym, ◌∙◌, ap, subst, Bool, true, List, Option, none, some, Option·none-ne-some, ◌⊎◌, inl, inr, ◌≢◌, ℕ, ◌+◌, ◌*◌, ◌-◌, ◌/◌, ◌%◌, ◌<◌, ◌≤◌, arith, length, get_or, member, clash}
+use Rattle.std.specs.Prelude.{◌≡◌, ◌⊎◌, ◌≢◌, ◌+◌, ◌*◌, ◌-◌, ◌/◌, ◌%◌, ◌<◌, ◌≤◌}
+use Rattle.basics.proofs.Words.{refl, sym, ◌∙◌, ap, subst, Bool, true, List, Option, none, some, Option·none-ne-some, inl, inr, ℕ, arith, length, get_or, member, clash}
 use Rattle.std.proofs.Common.{ne_eqb}
 use Rattle.machine.specs.declared.Pair.{Pair}
 use Rattle.machine.specs.Symbols.{empty_symbol, is_pair, pair_of}

@@ -1,6 +1,5 @@
-use Rattle.std.specs.Prelude.{◌≡◌, ◌+◌, ◌-◌, ◌≤◌, ◌<◌}
-use Rattle.basics.proofs.Words.{ℕ, arith, get_or, rules}
-use Rattle.cells.specs.Cells.{nowhere}
+use Rattle.std.specs.Prelude.{◌≡◌, ◌+◌}
+use Rattle.basics.proofs.Words.{ℕ, arith, get_or}
 use Rattle.lanes.proofs.Trying.{none_more}
 use Rattle.lanes.proofs.any_step.Goals as goal
 

@@ -1,7 +1,6 @@
-use Rattle.std.specs.Prelude.{◌≡◌, ◌+◌, ◌-◌, ◌≤◌, ◌<◌}
-use Rattle.basics.proofs.Words.{ℕ, arith, get_or, rules}
+use Rattle.std.specs.Prelude.{◌+◌, ◌-◌, ◌≤◌, ◌<◌}
+use Rattle.basics.proofs.Words.{ℕ, get_or}
 use Rattle.cells.specs.Cells.{nowhere}
-use Rattle.lanes.proofs.Trying.{none_more}
 use Rattle.lanes.proofs.any_step.Given as goal
 
 abbrev pub invariant-loop-j : goal.invariant-loop-j

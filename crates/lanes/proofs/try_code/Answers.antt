@@ -1,9 +1,9 @@
-use Rattle.std.specs.Prelude.{◌≡◌, ◌+◌, ◌-◌, ◌≤◌}
-use Rattle.basics.proofs.Words.{sym, ◌∙◌, ap, ℕ, arith, length-set, rules}
+use Rattle.std.specs.Prelude.{◌≡◌, ◌+◌}
+use Rattle.basics.proofs.Words.{sym, ◌∙◌, ap, ℕ, arith, length-set}
 use Rattle.cells.specs.declared.Cell.{Cell}
 use Rattle.cells.specs.Labels.{cell_at}
 use Rattle.cells.specs.Laws.Labels.{written_here, written_other}
-use Rattle.lanes.specs.Trying.{lesser, way_of, least_of}
+use Rattle.lanes.specs.Trying.{lesser, way_of}
 use Rattle.lanes.specs.Laws.Least.{least_none, least_next}
 use Rattle.lanes.proofs.try_code.Goals as goal
 

@@ -1,10 +1,6 @@
 use Rattle.std.specs.Prelude.{◌≡◌, ◌+◌, ◌-◌, ◌≤◌}
-use Rattle.basics.proofs.Words.{sym, ◌∙◌, ap, ℕ, arith, length-set, rules}
-use Rattle.cells.specs.declared.Cell.{Cell}
 use Rattle.cells.specs.Labels.{cell_at}
-use Rattle.cells.specs.Laws.Labels.{written_here, written_other}
-use Rattle.lanes.specs.Trying.{lesser, way_of, least_of}
-use Rattle.lanes.specs.Laws.Least.{least_none, least_next}
+use Rattle.lanes.specs.Trying.{way_of, least_of}
 use Rattle.lanes.proofs.try_code.Given as goal
 
 abbrev pub invariant-loop-j : goal.invariant-loop-j

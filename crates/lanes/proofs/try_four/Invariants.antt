@@ -1,7 +1,5 @@
-use Rattle.std.specs.Prelude.{◌≡◌, ◌+◌, ◌*◌, ◌-◌, ◌≤◌}
-use Rattle.basics.proofs.Words.{◌∙◌, arith, add-mul, rules}
+use Rattle.std.specs.Prelude.{◌*◌, ◌-◌, ◌≤◌}
 use Rattle.lanes.specs.Trying.{TriedIn}
-use Rattle.lanes.proofs.Trying.{tried_none, tried_row, try_pre, skip_pre}
 use Rattle.lanes.proofs.try_four.Given as goal
 
 abbrev pub invariant-loop-a : goal.invariant-loop-a

@@ -1,4 +1,4 @@
-use Rattle.basics.proofs.Words.{arith, rules}
+use Rattle.basics.proofs.Words.{arith}
 use Rattle.lanes.proofs.Trying.{front_few, row_skipped}
 use Rattle.lanes.proofs.try_front.Goals as goal
 

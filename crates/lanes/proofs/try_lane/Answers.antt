@@ -1,5 +1,5 @@
 use Rattle.std.specs.Prelude.{◌+◌, ◌%◌}
-use Rattle.basics.proofs.Words.{sym, arith, get_or, rules}
+use Rattle.basics.proofs.Words.{sym, arith, get_or}
 use Rattle.lanes.specs.Trying.{way_of}
 use Rattle.lanes.specs.Laws.Least.{keeps_high, keeps_low, falls_high, falls_low}
 use Rattle.lanes.proofs.try_lane.Goals as goal

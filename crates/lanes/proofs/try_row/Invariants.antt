@@ -1,7 +1,5 @@
-use Rattle.std.specs.Prelude.{◌≡◌, ◌+◌, ◌*◌, ◌-◌, ◌≤◌}
-use Rattle.basics.proofs.Words.{arith, rules}
+use Rattle.std.specs.Prelude.{◌+◌, ◌*◌, ◌-◌, ◌≤◌}
 use Rattle.lanes.specs.Trying.{TriedIn}
-use Rattle.lanes.proofs.Trying.{front_few, back_few, row_last, tried_none, code_pre, tried_code}
 use Rattle.lanes.proofs.try_row.Given as goal
 
 abbrev pub invariant-loop-b : goal.invariant-loop-b

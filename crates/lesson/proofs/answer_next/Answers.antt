@@ -1,4 +1,5 @@
-use Rattle.basics.proofs.Words.{◌≡◌, ap, sym, ◌∙◌, Bool, true, false, not, lit<, not-true, not-false}
+use Rattle.std.specs.Prelude.{◌≡◌}
+use Rattle.basics.proofs.Words.{ap, sym, ◌∙◌, Bool, true, false, not, lit<, not-true, not-false}
 use Rattle.refusals.specs.Refusals.{refuse}
 use Rattle.refusals.proofs.Refusals.{was_true, was_false}
 use Rattle.writing.specs.Writing.{refused_line}

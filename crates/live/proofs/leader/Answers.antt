@@ -1,4 +1,3 @@
-use Rattle.std.specs.Prelude.{◌<◌}
 use Rattle.basics.specs.Words.{sym, ap, ◌∙◌, arith, length}
 use Rattle.refusals.specs.Refusals.{checked_number}
 use Rattle.live.specs.Rows.{fits, unled}

@@ -1,4 +1,4 @@
-use Rattle.std.specs.Prelude.{◌-◌, ◌<◌}
+use Rattle.std.specs.Prelude.{◌-◌}
 use Rattle.basics.specs.Words.{ap, ◌∙◌, ℕ, arith}
 use Rattle.live.specs.Steps.{closing}
 use Rattle.live.proofs.Places.{found, not_taken, taken, present_refused, present_passed}

@@ -1,85 +1,67 @@
-use Rattle.basics.proofs.Words.{◌≡◌, refl, ◌∙◌, ap, List, ℕ, ◌*◌, ◌-◌, ◌≤◌, arith, length, rules}
-use Rattle.tables.specs.Places.{six_places}
+use Rattle.std.specs.Prelude.{◌≡◌, ◌*◌, ◌-◌, ◌≤◌}
+use Rattle.basics.proofs.Words.{refl, ◌∙◌, ap, List, ℕ, arith, length}
 use Rattle.settling.specs.Prices.{ranked_highs, ranked_lows}
 use Rattle.insertions.specs.RankedWeights.{weight_by}
-use Rattle.machine_weights.proofs.Weighing.{highs_six, lows_six, WeightsFrom, weights_start, machine_few, machine_at_lem, scale_few, weights_next, weights_are, weights_ranked}
+use Rattle.machine_weights.proofs.Weighing.{highs_six, lows_six, weights_start, machine_few, machine_at_lem, scale_few, weights_next, weights_are, weights_ranked}
 use Rattle.machine_weights.proofs.ranked_weights.Goals as goal
-
--- ---- the places on the way
-abbrev start : goal.In-loop-m → goal.Start
-start c = c.before.before.before.before.before
-
-abbrev first : goal.After-weight → goal.In-loop-m
-first c = c.before.before.before
-
-abbrev second : goal.After-weight-in-loop-m → goal.After-weight
-second c = c.before.before.before
-
--- the machine whose weights are written
-few : (c : goal.In-loop-m) → c.before.loop.m ≤ 6
-few c = machine_few (start c).requires.0 c.loop-m.invariant
 
 pub loop-m-init : goal.loop-m-init
 loop-m-init c = weights_start refl
 
 pub overflow_mul-at : goal.overflow_mul-at
-overflow_mul-at c = omega (arith, few c)
+overflow_mul-at c = omega (arith, machine_few c.requires.0 c.loop-m.invariant)
 
 pub offset_bounds-weights-at : goal.offset_bounds-weights-at
-offset_bounds-weights-at c = omega (arith, few c)
+offset_bounds-weights-at c = omega (arith, machine_few c.requires.0 c.loop-m.invariant)
 
 pub bounds-weights-at : goal.bounds-weights-at
-bounds-weights-at c = omega (arith, few c, c.loop-m-test.true)
+bounds-weights-at c = omega (arith, machine_few c.requires.0 c.loop-m.invariant, c.loop-m-test.true)
 
 pub overflow_cast-m : goal.overflow_cast-m
-overflow_cast-m c = omega (arith, few c.before.before)
+overflow_cast-m c = omega (arith, machine_few c.requires.0 c.loop-m.invariant)
 
 pub weight-requires : goal.weight-requires
-weight-requires c = (ap length c.before.before.before.before.six_places_lem.ensures, refl, highs_six)
+weight-requires c = (ap length c.six_places-places.ensures, refl, highs_six)
 
 pub overflow_add-weights : goal.overflow_add-weights
-overflow_add-weights c = omega (arith, few (first c))
+overflow_add-weights c = omega (arith, machine_few c.requires.0 c.loop-m.invariant)
 
 pub offset_bounds-weights-at-in-loop-m : goal.offset_bounds-weights-at-in-loop-m
-offset_bounds-weights-at-in-loop-m c = omega (arith, few (first c))
+offset_bounds-weights-at-in-loop-m c = omega (arith, machine_few c.requires.0 c.loop-m.invariant)
 
 pub bounds-weights-at-in-loop-m : goal.bounds-weights-at-in-loop-m
-bounds-weights-at-in-loop-m c = omega (arith, few (first c), (first c).loop-test.true)
+bounds-weights-at-in-loop-m c = omega (arith, machine_few c.requires.0 c.loop-m.invariant, c.loop-m-test.true)
 
 pub overflow_cast-m-in-loop-m : goal.overflow_cast-m-in-loop-m
-overflow_cast-m-in-loop-m c = omega (arith, few (first c.before.before))
+overflow_cast-m-in-loop-m c = omega (arith, machine_few c.requires.0 c.loop-m.invariant)
 
 pub weight-requires-in-loop-m : goal.weight-requires-in-loop-m
-weight-requires-in-loop-m c = (ap length (first c.before.before).before.before.six_places_lem.ensures, refl, lows_six)
+weight-requires-in-loop-m c = (ap length c.six_places-places.ensures, refl, lows_six)
 
 pub overflow_add-weights-in-loop-m : goal.overflow_add-weights-in-loop-m
-overflow_add-weights-in-loop-m c = omega (arith, few (first (second c)))
+overflow_add-weights-in-loop-m c = omega (arith, machine_few c.requires.0 c.loop-m.invariant)
 
 pub offset_bounds-weights-at-in-loop-m-2 : goal.offset_bounds-weights-at-in-loop-m-2
-offset_bounds-weights-at-in-loop-m-2 c = omega (arith, few (first (second c)))
+offset_bounds-weights-at-in-loop-m-2 c = omega (arith, machine_few c.requires.0 c.loop-m.invariant)
 
 pub bounds-weights-at-in-loop-m-2 : goal.bounds-weights-at-in-loop-m-2
-bounds-weights-at-in-loop-m-2 c = omega (arith, few (first (second c)), (first (second c)).loop-test.taken)
+bounds-weights-at-in-loop-m-2 c = omega (arith, machine_few c.requires.0 c.loop-m.invariant, c.loop-m-test.true)
 
 pub bounds-counts-m : goal.bounds-counts-m
-bounds-counts-m c = let i = first (second c.before) in machine_at_lem i.before.loop.inv i.loop-test.taken
+bounds-counts-m c = machine_at_lem c.loop-m.invariant c.loop-m-test.true
 
 pub overflow_mul-scale : goal.overflow_mul-scale
 overflow_mul-scale c =
-    let i = first (second c.before.before) in
-    let q : i.before.loop.scale * c.index-scale.result ≤ 128 = rw c.index-scale.ensures.0 (scale_few (start i).pre.0 i.before.loop.inv i.loop-test.taken) in
+    let q : c.loop-m.scale * c.index-scale.result ≤ 128 = rw c.index-scale.ensures.0 (scale_few c.requires.0 c.loop-m.invariant c.loop-m-test.true) in
     omega (arith, q)
 
 pub loop-m-smaller : goal.loop-m-smaller
-loop-m-smaller c = omega (arith, (first (second c.before.before)).loop-test.taken)
+loop-m-smaller c = omega (arith, c.loop-m-test.true)
 
 pub loop-m-preserved : goal.loop-m-preserved
 loop-m-preserved c =
-    let v = second c.before.before in
-    let i = first v in
-    let l = i.before.loop in
-    let e = i.before.before.six_places_lem.ensures in
-    weights_next (start i).pre.0 l.inv i.loop-test.taken (v.weight.ensures ∙ ap (λ (r : List ℕ). weight_by r ranked_highs (l.m - 1)) e) (c.weight-in-loop-m.ensures ∙ ap (λ (r : List ℕ). weight_by r ranked_lows (l.m - 1)) e) c.index-scale.ensures.0
+    let e = c.six_places-places.ensures in
+    weights_next c.requires.0 c.loop-m.invariant c.loop-m-test.true (c.weight.ensures ∙ ap (λ (r : List ℕ). weight_by r ranked_highs (c.loop-m.m - 1)) e) (c.weight-in-loop-m.ensures ∙ ap (λ (r : List ℕ). weight_by r ranked_lows (c.loop-m.m - 1)) e) c.index-scale.ensures.0
 
 pub returns : goal.returns
 returns c =

@@ -1,6 +1,7 @@
-use Rattle.basics.proofs.Words.{⊎_elim, ◌-◌, arith, rules}
-use Rattle.machine_weights.proofs.Weighing.{SumTo, sum_start, sum_taken, sum_passed, sum_end}
+use Rattle.basics.proofs.Words.{arith}
+use Rattle.machine_weights.proofs.Weighing.{sum_start, sum_taken, sum_passed, sum_end}
 use Rattle.machine_weights.proofs.weight.Goals as goal
+use Rattle.machine_weights.proofs.weight.Goals.{then-places-i, else-places-i}
 
 pub loop-i-init : goal.loop-i-init
 loop-i-init c = sum_start
@@ -14,7 +15,7 @@ loop-i-smaller c = omega (arith, c.loop-i-test.true)
 pub loop-i-preserved : goal.loop-i-preserved
 loop-i-preserved c =
     let h = c.loop-i-test.true in
-    (elim c.if-places-i.branch [ then-places-i w ↦ rw w.2 (sum_taken c.loop-i.invariant h c.requires.0 c.requires.1 c.requires.2 w.0.taken) | else-places-i w ↦ rw w.1 (sum_passed c.loop-i.invariant h c.requires.0 c.requires.1 w.0.left) ])
+    elim c.if-places-i.branch [ then-places-i w ↦ rw w.sum-is (sum_taken c.loop-i.invariant h c.requires.0 c.requires.1 c.requires.2 w.if-places-i.true) | else-places-i w ↦ rw w.sum-is (sum_passed c.loop-i.invariant h c.requires.0 c.requires.1 w.if-places-i.false) ]
 
 pub returns : goal.returns
 returns c = sum_end c.loop-i.invariant c.loop-i-test.false c.requires.0

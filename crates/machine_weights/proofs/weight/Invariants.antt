@@ -1,5 +1,5 @@
-use Rattle.basics.proofs.Words.{⊎_elim, ◌-◌, arith, rules}
-use Rattle.machine_weights.proofs.Weighing.{SumTo, sum_start, sum_taken, sum_passed, sum_end}
+use Rattle.std.specs.Prelude.{◌-◌}
+use Rattle.machine_weights.proofs.Weighing.{SumTo}
 use Rattle.machine_weights.proofs.weight.Given as goal
 
 abbrev pub invariant-loop-i : goal.invariant-loop-i

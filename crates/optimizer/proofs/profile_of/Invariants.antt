@@ -1,4 +1,5 @@
-use Rattle.basics.proofs.Words.{refl, ap, ◌-◌, ◌<◌, arith, length, rules}
+use Rattle.std.specs.Prelude.{◌-◌, ◌<◌}
+use Rattle.basics.proofs.Words.{refl, ap, arith, length, rules}
 use Rattle.ranking.specs.declared.Profile.{Profile}
 use Rattle.optimizer.specs.Telling.{RankingOfSome}
 use Rattle.optimizer.proofs.Places.{Placed, placed_start, placed_next, placed_end, place_below}

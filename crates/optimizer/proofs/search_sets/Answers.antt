@@ -1,4 +1,3 @@
-use borrow.Author.Rules.{rules}
 use Rattle.readout.proofs.Reading.{read_out_pre, searched_by}
 use Rattle.optimizer.proofs.search_sets.Goals as goal
 
@@ -8,5 +7,4 @@ read_out-requires c =
     (p.0, p.1, c.requires.1)
 
 pub returns : goal.returns
-returns c =
-    searched_by c.label.ensures c.read_out.ensures
+returns c = searched_by c.label.ensures c.read_out.ensures

@@ -1,5 +1,5 @@
 use Rattle.std.specs.Prelude.{◌≡◌, ◌^◌}
-use Rattle.basics.proofs.Words.{refl, sym, ap, ◌∙◌, true, ℕ, member, rules, clash}
+use Rattle.basics.proofs.Words.{refl, sym, ap, ◌∙◌, true, ℕ, member, clash}
 use Rattle.outputs.proofs.is_known.Goals as goal
 
 pub returns-then-is_same : goal.returns-then-is_same

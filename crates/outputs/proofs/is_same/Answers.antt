@@ -1,7 +1,5 @@
-use Rattle.std.specs.Prelude.{◌≡◌, ◌<◌, ◌≤◌, ◌-◌}
-use Rattle.basics.proofs.Words.{refl, ℕ, arith, rules, clash}
+use Rattle.basics.proofs.Words.{refl, arith, clash}
 use borrow.Author.Count.{below_more}
-use Rattle.adding.specs.Cells.{step_at}
 use Rattle.adding.specs.Laws.Numbers.{column_few, column_in}
 use Rattle.outputs.proofs.is_same.Goals as goal
 

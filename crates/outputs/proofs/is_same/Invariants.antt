@@ -1,8 +1,6 @@
 use Rattle.std.specs.Prelude.{◌≡◌, ◌<◌, ◌≤◌, ◌-◌}
-use Rattle.basics.proofs.Words.{refl, ℕ, arith, rules, clash}
-use borrow.Author.Count.{below_more}
+use Rattle.basics.proofs.Words.{ℕ}
 use Rattle.adding.specs.Cells.{step_at}
-use Rattle.adding.specs.Laws.Numbers.{column_few, column_in}
 use Rattle.outputs.proofs.is_same.Given as goal
 
 abbrev pub invariant-loop-place : goal.invariant-loop-place

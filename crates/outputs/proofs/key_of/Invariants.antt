@@ -1,6 +1,4 @@
-use Rattle.std.specs.Prelude.{◌+◌, ◌*◌, ◌<◌, ◌≤◌, ◌-◌}
-use Rattle.basics.proofs.Words.{ℕ, arith, get_or, mul-le-mul, mod-lt, rules}
-use Rattle.adding.specs.Laws.Numbers.{column_few, column_in}
+use Rattle.std.specs.Prelude.{◌*◌, ◌≤◌, ◌-◌}
 use Rattle.outputs.proofs.key_of.Given as goal
 
 abbrev pub invariant-loop-place : goal.invariant-loop-place

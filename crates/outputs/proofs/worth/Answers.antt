@@ -1,7 +1,6 @@
-use Rattle.std.specs.Prelude.{◌≡◌}
-use Rattle.basics.proofs.Words.{refl, ap, arith, length, rules}
+use Rattle.basics.proofs.Words.{refl, ap, arith}
 use lib.Bits.{bit_or}
-use Rattle.outputs.proofs.Keeping.{WorthTo, worth_start, worth_passed, worth_kept, worth_end}
+use Rattle.outputs.proofs.Keeping.{worth_start, worth_passed, worth_kept, worth_end}
 use Rattle.outputs.proofs.worth.Goals as goal
 
 pub loop-left-init : goal.loop-left-init

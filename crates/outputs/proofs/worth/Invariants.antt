@@ -1,7 +1,6 @@
 use Rattle.std.specs.Prelude.{◌≡◌}
-use Rattle.basics.proofs.Words.{refl, ap, arith, length, rules}
-use lib.Bits.{bit_or}
-use Rattle.outputs.proofs.Keeping.{WorthTo, worth_start, worth_passed, worth_kept, worth_end}
+use Rattle.basics.proofs.Words.{length}
+use Rattle.outputs.proofs.Keeping.{WorthTo}
 use Rattle.outputs.proofs.worth.Given as goal
 
 abbrev pub invariant-loop-left : goal.invariant-loop-left

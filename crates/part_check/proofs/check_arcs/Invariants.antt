@@ -1,8 +1,6 @@
-use Rattle.basics.proofs.Words.{◌≡◌, ap, sym, ◌∙◌, ◌≤◌, ◌+◌, ◌*◌, arith, length, all_of, rules, not-true, not-false}
-use Rattle.refusals.specs.Refusals.{refuse}
+use Rattle.std.specs.Prelude.{◌≡◌, ◌≤◌, ◌+◌, ◌*◌}
+use Rattle.basics.proofs.Words.{length, all_of}
 use Rattle.machine.specs.Part.{arcs_at, sound_arc, sound_arcs}
-use Rattle.machine.specs.Accepted.{shape_facts}
-use Rattle.machine.specs.Laws.Arcs.{all_go_on, all_stop, all_end}
 use Rattle.part_check.proofs.check_arcs.Given as goal
 
 abbrev pub invariant-loop-left : goal.invariant-loop-left

@@ -1,6 +1,6 @@
-use Rattle.basics.proofs.Words.{◌≡◌, ap, sym, ◌∙◌, [], ◌≤◌, ◌-◌, ◌+◌, arith, length, leb, slice, slice_empty, all_of, rules, lt-leb, le-leb, all_next, all_fails, all_none}
+use Rattle.std.specs.Prelude.{◌≡◌, ◌+◌}
+use Rattle.basics.proofs.Words.{ap, sym, ◌∙◌, [], arith, leb, slice, slice_empty, rules, lt-leb, le-leb, all_next, all_fails, all_none}
 use Rattle.refusals.specs.Refusals.{refuse}
-use Rattle.machine.specs.Part.{sound_states}
 use Rattle.machine.specs.Accepted.{shape_facts}
 use Rattle.machine.specs.Laws.States.{bytes_cons}
 use Rattle.part_check.proofs.check_states.Goals as goal
@@ -26,8 +26,8 @@ loop-at-preserved c =
       all_next (λ b. leb b 16) (bytes_cons l c.loop-at.at _ (omega arith) c.loop-at.invariant.1) (le-leb _ _ c.if-part-at-gt16.false) ∙ c.loop-at.invariant.2,
     )
 
-pub returns-then-part-at-gt16 : goal.returns
-returns-then-part-at-gt16 c =
+pub returns : goal.returns
+returns c =
     let l = c.args.part.now in
     let end = 2 + c.index-end.result in
     let e : c.loop-at.at ≡ end = omega arith in

@@ -1,10 +1,10 @@
-use Rattle.basics.proofs.Words.{sym, ◌∙◌, ap, Option·none-ne-some, arith, rules}
+use Rattle.basics.proofs.Words.{sym, ◌∙◌, ap, Option·none-ne-some, arith}
 use Rattle.machine.specs.Machine.{ended}
 use Rattle.passing.proofs.ending_marks.Goals as goal
 
 pub returns-in_default : goal.returns-in_default
-returns-in_default c = (λ n e. absurd (Option·none-ne-some n (sym (ap ended c.enum_told-1.given.1) ∙ c.ending.ensures ∙ e)), omega arith)
+returns-in_default c = (λ n e. absurd (Option·none-ne-some n (sym (ap ended c.in_default.is) ∙ c.ending.ensures ∙ e)), omega arith)
 
-pub returns-in_default : goal.returns
-returns-in_default c =
-    (λ n e. cc (c.ending.ensures, e, ap ended c.marks-1.given.1), omega arith)
+pub returns : goal.returns
+returns c =
+    (λ n e. cc (c.ending.ensures, e, ap ended c.in-Marks.is), omega arith)

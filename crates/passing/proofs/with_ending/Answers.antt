@@ -1,17 +1,12 @@
-use Rattle.basics.specs.Words.{refl, sym, ◌∙◌, ap, List, ℕ, ◌-◌, ◌<◌, arith, length, get_or}
+use Rattle.basics.specs.Words.{refl, sym, ◌∙◌, ap, List, ℕ, arith, get_or}
 use Rattle.machine.specs.Machine.{Machine, no_machine, ending_of}
 use Rattle.machine.specs.Part.{machine_of}
 use Rattle.machine.specs.Accepted.{accepted as part_accepted}
 use Rattle.card.specs.Layout.{symbol_count, part_of}
 use Rattle.card.specs.Accepted.{accepted}
 use Rattle.card.specs.Laws.Machines.{machine_at_lem}
-use Rattle.passing.proofs.Ending.{EndedTo, machine_there, ended_start, in_sums, sum_fits, ended_next, ended_end}
+use Rattle.passing.proofs.Ending.{machine_there, ended_start, in_sums, sum_fits, ended_next, ended_end}
 use Rattle.passing.proofs.with_ending.Goals as goal
-
--- in a turn: the machine's place
-place : (c : goal.In-loop-m) → c.before.loop.m < length c.before.loop.sums
-place c =
-    in_sums c.requires c.loop-m.invariant c.loop-m-test.true
 
 pub loop-m-init : goal.loop-m-init
 loop-m-init c =
@@ -31,11 +26,11 @@ ending_marks-marks-requires c =
 
 pub offset_bounds-sums-m : goal.offset_bounds-sums-m
 offset_bounds-sums-m c =
-    omega (arith, place c.before.before.before, c.loop-m.invariant.size)
+    omega (arith, in_sums c.requires c.loop-m.invariant c.loop-m-test.true, c.loop-m.invariant.size)
 
 pub bounds-sums-m : goal.bounds-sums-m
 bounds-sums-m c =
-    omega (arith, place c.before.before.before, c.loop-m.invariant.size)
+    omega (arith, in_sums c.requires c.loop-m.invariant c.loop-m-test.true, c.loop-m.invariant.size)
 
 pub overflow_add-sums : goal.overflow_add-sums
 overflow_add-sums c =
@@ -43,15 +38,15 @@ overflow_add-sums c =
 
 pub offset_bounds-sums-m-in-loop-m : goal.offset_bounds-sums-m-in-loop-m
 offset_bounds-sums-m-in-loop-m c =
-    omega (arith, place c.before.before.before, c.loop-m.invariant.size)
+    omega (arith, in_sums c.requires c.loop-m.invariant c.loop-m-test.true, c.loop-m.invariant.size)
 
 pub bounds-sums-m-in-loop-m : goal.bounds-sums-m-in-loop-m
 bounds-sums-m-in-loop-m c =
-    omega (arith, place c.before.before.before, c.loop-m.invariant.size)
+    omega (arith, in_sums c.requires c.loop-m.invariant c.loop-m-test.true, c.loop-m.invariant.size)
 
 pub overflow_add-m : goal.overflow_add-m
 overflow_add-m c =
-    omega (arith, place c.before.before.before, c.loop-m.invariant.size)
+    omega (arith, in_sums c.requires c.loop-m.invariant c.loop-m-test.true, c.loop-m.invariant.size)
 
 pub loop-m-smaller : goal.loop-m-smaller
 loop-m-smaller c =

@@ -1,4 +1,5 @@
-use Rattle.basics.proofs.Words.{◌≡◌, refl, ap, sym, ◌∙◌, true, false, [], ◌<◌, ◌≤◌, arith, length, take, drop, lit≤, length-take-le, take_at, rules, clash, left_fails, right_fails, not-false, List, ℕ}
+use Rattle.std.specs.Prelude.{◌≡◌, ◌<◌, ◌≤◌}
+use Rattle.basics.proofs.Words.{refl, ap, sym, ◌∙◌, true, false, [], arith, length, take, drop, lit≤, length-take-le, take_at, rules, clash, left_fails, right_fails, not-false, List, ℕ}
 use Rattle.lines.specs.Taking.{ended_lines, held_after}
 use Rattle.lines.specs.declared.Next.TheVariants as next
 use Rattle.lines.proofs.Bounds.{next_bounds}

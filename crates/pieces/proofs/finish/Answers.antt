@@ -1,4 +1,5 @@
-use Rattle.basics.proofs.Words.{ap, sym, ◌∙◌, List, ◌++◌, drop, left_fails, right_fails}
+use Rattle.std.specs.Prelude.{◌++◌}
+use Rattle.basics.proofs.Words.{ap, sym, ◌∙◌, List, drop, left_fails, right_fails}
 use Rattle.tally.specs.declared.Tally.{Tally}
 use Rattle.lesson.specs.Tally.{line_text, closing_text}
 use Rattle.lesson.proofs.Replies.{prints}

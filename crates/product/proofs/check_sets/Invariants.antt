@@ -1,8 +1,7 @@
 use Rattle.std.specs.Prelude.{◌≡◌, ◌≤◌, ◌-◌, ◌^◌}
-use Rattle.basics.proofs.Words.{refl, sym, ◌∙◌, ap, true, false, ℕ, arith, length, get_or, drop, all_of, rules, not-true, not-false}
+use Rattle.basics.proofs.Words.{length, drop, all_of}
 use Rattle.refusals.specs.Refusals.{refuse}
 use Rattle.product.specs.OptimizingSets.{symbol_set, sets_refusal}
-use Rattle.product.proofs.Sets.{too_many, few, next_set, wrong_set, no_set_left}
 use Rattle.product.proofs.check_sets.Given as goal
 
 abbrev pub invariant-loop-at : goal.invariant-loop-at

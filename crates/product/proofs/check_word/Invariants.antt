@@ -1,8 +1,7 @@
 use Rattle.std.specs.Prelude.{◌≡◌, ◌≤◌, ◌-◌}
-use Rattle.basics.proofs.Words.{refl, sym, ◌∙◌, ap, true, false, ℕ, arith, length, get_or, drop, all_of, rules, not-true, not-false}
-use Rattle.refusals.proofs.Refusals.{passes_with, refuses_with}
+use Rattle.basics.proofs.Words.{length, drop, all_of}
 use Rattle.product.specs.Optimizing.{sound_word}
-use Rattle.product.proofs.Words.{symbol, wrong_length, right_length, next_symbol, wrong_symbol, no_symbol_left}
+use Rattle.product.proofs.Words.{symbol}
 use Rattle.product.proofs.check_word.Given as goal
 
 abbrev pub invariant-loop-at : goal.invariant-loop-at

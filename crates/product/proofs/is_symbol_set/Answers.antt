@@ -1,5 +1,5 @@
 use Rattle.std.specs.Prelude.{◌≡◌, ◌&&◌}
-use Rattle.basics.proofs.Words.{not, member, rules}
+use Rattle.basics.proofs.Words.{not, member}
 use Rattle.machine.specs.Symbols.{empty_symbol}
 use Rattle.machine.specs.Part.{sound_set}
 use Rattle.product.proofs.is_symbol_set.Goals as goal

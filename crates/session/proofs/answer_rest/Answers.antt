@@ -1,4 +1,5 @@
-use Rattle.basics.proofs.Words.{◌≡◌, true, sym, ◌∙◌, [], zero-le, arith, length-take-le, not-false}
+use Rattle.std.specs.Prelude.{◌≡◌}
+use Rattle.basics.proofs.Words.{true, sym, ◌∙◌, [], zero-le, arith, length-take-le, not-false}
 use Rattle.lesson.proofs.Replies.{front}
 use Rattle.session.proofs.Reading.{reads_full, reads_text}
 use Rattle.session.proofs.answer_rest.Goals as goal

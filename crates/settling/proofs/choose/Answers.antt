@@ -1,5 +1,4 @@
 use Rattle.settling.proofs.OpenCodes.{chosen_none, chosen_front, chosen_back}
-use borrow.Author.Rules.{rules}
 use Rattle.settling.proofs.choose.Goals as goal
 
 pub returns-then-back-eq0 : goal.returns-then-back-eq0

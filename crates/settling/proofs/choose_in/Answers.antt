@@ -1,7 +1,6 @@
-use Rattle.basics.proofs.Words.{refl, ⊎_elim, arith, rules}
+use Rattle.basics.proofs.Words.{refl, arith}
 use Rattle.settling.proofs.OpenCodes.{one_in, one_same}
-use Rattle.settling.specs.OpenCodes.{OneIn}
-use Rattle.settling.proofs.OpenCodes.{PartOf, part_less}
+use Rattle.settling.proofs.OpenCodes.{part_less}
 use Rattle.settling.proofs.choose_in.Goals as goal
 use Rattle.settling.proofs.choose_in.Goals.{else-is_before, then-is_before}
 

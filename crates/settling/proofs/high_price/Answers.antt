@@ -1,5 +1,5 @@
 use Rattle.std.specs.Prelude.{◌*◌}
-use Rattle.basics.proofs.Words.{◌∙◌, sym, ap, List, ℕ, arith, rules}
+use Rattle.basics.proofs.Words.{◌∙◌, sym, ap, List, ℕ, arith}
 use Rattle.settling.specs.Prices.{marks_price}
 use Rattle.settling.proofs.Prices.{ranked_high, widened_few}
 use Rattle.settling.proofs.high_price.Goals as goal

@@ -1,5 +1,5 @@
 use Rattle.std.specs.Prelude.{◌*◌}
-use Rattle.basics.proofs.Words.{◌∙◌, sym, ap, Bool, ℕ, arith, rules}
+use Rattle.basics.proofs.Words.{◌∙◌, sym, ap, Bool, ℕ, arith}
 use Rattle.settling.specs.Prices.{marks_price, lows_by}
 use Rattle.settling.proofs.Prices.{ranked_low, widened_few, no_price}
 use Rattle.settling.proofs.low_price.Goals as goal

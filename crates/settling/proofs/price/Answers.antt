@@ -1,5 +1,5 @@
 use Rattle.settling.specs.Prices.{marks_price}
-use Rattle.basics.proofs.Words.{arith, rules}
+use Rattle.basics.proofs.Words.{arith}
 use Rattle.settling.proofs.price.Goals as goal
 
 pub share-first-requires : goal.share-first-requires

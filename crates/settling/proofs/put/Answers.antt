@@ -1,5 +1,4 @@
 use Rattle.settling.proofs.OpenCodes.{opened}
-use borrow.Author.Rules.{rules}
 use Rattle.settling.proofs.put.Goals as goal
 
 pub returns : goal.returns

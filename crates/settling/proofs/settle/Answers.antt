@@ -1,7 +1,5 @@
-use Rattle.std.specs.Prelude.{◌-◌, ◌≤◌}
-use Rattle.basics.proofs.Words.{refl, ⊎_elim, List, ℕ, arith, rules}
-use Rattle.settling.specs.Insertions.{lists_of}
-use Rattle.settling.proofs.Settling.{Settling, settling_start, spread_ready, settling_same, settling_step, settling_end, height_of, height_less}
+use Rattle.basics.proofs.Words.{refl, arith}
+use Rattle.settling.proofs.Settling.{settling_start, spread_ready, settling_same, settling_step, settling_end, height_less}
 use Rattle.settling.proofs.settle.Goals as goal
 use Rattle.settling.proofs.settle.Goals.{else-is_open, then-is_open}
 

@@ -1,7 +1,7 @@
 use Rattle.std.specs.Prelude.{◌-◌, ◌≤◌}
-use Rattle.basics.proofs.Words.{refl, ⊎_elim, List, ℕ, arith, rules}
+use Rattle.basics.proofs.Words.{List, ℕ}
 use Rattle.settling.specs.Insertions.{lists_of}
-use Rattle.settling.proofs.Settling.{Settling, settling_start, spread_ready, settling_same, settling_step, settling_end, height_of, height_less}
+use Rattle.settling.proofs.Settling.{Settling, height_of}
 use Rattle.settling.proofs.settle.Given as goal
 
 abbrev pub invariant-loop-left : goal.invariant-loop-left

@@ -1,5 +1,5 @@
 use Rattle.std.specs.Prelude.{◌≡◌, ◌*◌, ◌^◌, ◌≤◌}
-use Rattle.basics.proofs.Words.{ap, ℕ, arith, mul-le-mul, rules}
+use Rattle.basics.proofs.Words.{ap, ℕ, arith, mul-le-mul}
 use Rattle.settling.proofs.share.Goals as goal
 
 -- the product is small

@@ -1,7 +1,5 @@
-use Rattle.std.specs.Prelude.{◌*◌, ◌-◌, ◌≤◌}
-use Rattle.basics.proofs.Words.{arith, get_or, rules}
-use Rattle.settling.specs.Insertions.{lists_of}
-use Rattle.settling.proofs.Spreading.{Spreading, spreading_start, spreading_step, spreading_end, its_label, no_label, try_ready, end_listed, beyond_useless}
+use Rattle.basics.proofs.Words.{arith}
+use Rattle.settling.proofs.Spreading.{spreading_start, spreading_step, spreading_end, its_label, no_label, try_ready, end_listed, beyond_useless}
 use Rattle.settling.proofs.spread.Goals as goal
 
 pub returns-then-high-ge-NOWHERE : goal.returns-then-high-ge-NOWHERE

@@ -1,7 +1,7 @@
 use Rattle.std.specs.Prelude.{◌*◌, ◌-◌, ◌≤◌}
-use Rattle.basics.proofs.Words.{arith, get_or, rules}
+use Rattle.basics.proofs.Words.{get_or}
 use Rattle.settling.specs.Insertions.{lists_of}
-use Rattle.settling.proofs.Spreading.{Spreading, spreading_start, spreading_step, spreading_end, its_label, no_label, try_ready, end_listed, beyond_useless}
+use Rattle.settling.proofs.Spreading.{Spreading}
 use Rattle.settling.proofs.spread.Given as goal
 
 abbrev pub invariant-loop-at : goal.invariant-loop-at

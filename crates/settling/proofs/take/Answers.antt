@@ -1,5 +1,4 @@
 use Rattle.settling.proofs.OpenCodes.{closed}
-use borrow.Author.Rules.{rules}
 use Rattle.settling.proofs.take.Goals as goal
 
 pub returns : goal.returns

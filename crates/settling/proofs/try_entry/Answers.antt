@@ -1,5 +1,4 @@
 use Rattle.settling.proofs.Trying.{entry_above, entry_kept, entry_lowered}
-use borrow.Author.Rules.{rules}
 use Rattle.settling.proofs.try_entry.Goals as goal
 
 pub returns-then-own-from : goal.returns-then-own-from

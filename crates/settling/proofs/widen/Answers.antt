@@ -1,5 +1,4 @@
 use Rattle.settling.proofs.Prices.{widened}
-use borrow.Author.Rules.{rules}
 use Rattle.settling.proofs.widen.Goals as goal
 
 pub returns : goal.returns

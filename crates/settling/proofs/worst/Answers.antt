@@ -1,5 +1,5 @@
-use Rattle.std.specs.Prelude.{◌≡◌, ◌+◌, ◌*◌, ◌-◌, ◌<◌, ◌≤◌}
-use Rattle.basics.proofs.Words.{List, ⊎_elim, ℕ, arith, get_or, ℕ_discrete, rules}
+use Rattle.std.specs.Prelude.{◌≡◌, ◌+◌, ◌*◌, ◌<◌, ◌≤◌}
+use Rattle.basics.proofs.Words.{List, ℕ, arith, get_or, ℕ_discrete}
 use Rattle.settling.proofs.worst.Goals as goal
 use Rattle.settling.proofs.worst.Goals.{else-high-most, then-high-most}
 

@@ -1,5 +1,5 @@
-use Rattle.std.specs.Prelude.{◌≡◌, ◌+◌, ◌*◌, ◌-◌, ◌<◌, ◌≤◌}
-use Rattle.basics.proofs.Words.{List, ⊎_elim, ℕ, arith, get_or, ℕ_discrete, rules}
+use Rattle.std.specs.Prelude.{◌*◌, ◌-◌, ◌<◌, ◌≤◌}
+use Rattle.basics.proofs.Words.{ℕ, get_or}
 use Rattle.settling.proofs.worst.Given as goal
 
 abbrev pub invariant-loop-code : goal.invariant-loop-code

@@ -7,4 +7,4 @@ pub returns-then-work-node-eq0 : goal.returns-then-work-node-eq0
 returns-then-work-node-eq0 c = (ap top_of (sym (stage_unlabelled _ _ _ c.if-work-node-eq0.true)), omega arith)
 
 pub returns : goal.returns
-returns c = (c.count_at_lem.ensures.0 ∙ ap top_of (sym (stage_labelled _ _ _ c.if-work-node-eq0.false)), c.count_at_lem.ensures.1)
+returns c = (c.count_at.ensures.0 ∙ ap top_of (sym (stage_labelled _ _ _ c.if-work-node-eq0.false)), c.count_at.ensures.1)

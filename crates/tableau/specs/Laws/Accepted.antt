@@ -1,5 +1,6 @@
 -- What input and tableau promise where nothing is refused. Assumes nothing.
-use Rattle.basics.proofs.Words.{◌≡◌, refl, ◌∙◌, true, ◌&&◌, List, [], ◌∷◌, Option, some, none, ◌↔◌, ℕ, ◌*◌, ◌%◌, ◌<◌, arith, length, eqb, leb, lit<, all_of, left, right, every_at}
+use Rattle.std.specs.Prelude.{◌≡◌, ◌&&◌, ◌∷◌, ◌↔◌, ◌*◌, ◌%◌, ◌<◌}
+use Rattle.basics.proofs.Words.{refl, ◌∙◌, true, List, [], Option, some, none, ℕ, arith, length, eqb, leb, lit<, all_of, left, right, every_at}
 use Rattle.refusals.specs.Refusals.{refuse}
 use Rattle.refusals.proofs.Refusals.{passed, none_first}
 use Rattle.machine.specs.declared.Pair.{Pair}
@@ -12,7 +13,8 @@ use Rattle.candidate.specs.Candidates.{pairs_of, spelled, is_complete, profile_o
 use Rattle.candidate.specs.Evaluating.{sound_pair, sound_candidate}
 use Rattle.product.specs.Best.{Contender, same_word, best}
 use Rattle.product.specs.Optimizing.{input_refusal}
-use Rattle.product.specs.BestTheorem.{BestOfAll, best_is_best_of_all}
+use Rattle.product.specs.BestTheorem.{BestOfAll}
+use Rattle.product.proofs.BestTheorem.{best_is_best_of_all}
 use Rattle.product.specs.Laws.Accepted.{accepted_machines}
 use Rattle.product.specs.Laws.BestCandidate.{profile_length}
 use Rattle.product.specs.Laws.Candidates.{same_word_lem}

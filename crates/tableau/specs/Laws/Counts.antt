@@ -1,5 +1,6 @@
 -- Six counts compared, and profiles as six counts. Assumes nothing.
-use Rattle.basics.proofs.Words.{◌≡◌, sym, ◌∙◌, ap, true, List, ◌↔◌, ℕ, ◌-◌, ◌<◌, ◌≤◌, arith, length, get_or, replicate, List·getD-append, eqb, ext_get_or, every_at}
+use Rattle.std.specs.Prelude.{◌≡◌, ◌↔◌, ◌-◌, ◌<◌, ◌≤◌}
+use Rattle.basics.proofs.Words.{sym, ◌∙◌, ap, true, List, ℕ, arith, length, get_or, replicate, List·getD-append, eqb, ext_get_or, every_at}
 use borrow.Author.Tests.{eqb-true}
 use Rattle.ranking.specs.declared.Order.TheVariants.{Equal}
 use Rattle.ranking.specs.Rankings.{is_ranking}

@@ -1,5 +1,6 @@
 -- The first number below a bound that passes. Assumes nothing.
-use Rattle.basics.proofs.Words.{◌≡◌, refl, Bool, true, false, [], ◌∷◌, Option, some, none, ℕ, zero, suc, ◌<◌, arith, first_that, numbers_below, first_passes, first_member, first_misses, numbers_member, member_numbers}
+use Rattle.std.specs.Prelude.{◌≡◌, ◌∷◌, ◌<◌}
+use Rattle.basics.proofs.Words.{refl, Bool, true, false, [], Option, some, none, ℕ, zero, suc, arith, first_that, numbers_below, first_passes, first_member, first_misses, numbers_member, member_numbers}
 use Rattle.ranking.specs.Lemmas.Searches.{first_before_lem}
 
 -- i is below n and passes, and none before it does

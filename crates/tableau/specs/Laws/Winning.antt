@@ -1,5 +1,6 @@
 -- Which candidates no other one has a better profile than: those whose profile is the best's. Assumes nothing.
-use Rattle.basics.proofs.Words.{◌≡◌, refl, sym, ◌∙◌, ap, true, List, ◌↔◌, ℕ, fails}
+use Rattle.std.specs.Prelude.{◌≡◌, ◌↔◌}
+use Rattle.basics.proofs.Words.{refl, sym, ◌∙◌, ap, true, List, ℕ, fails}
 use Rattle.machine.specs.declared.Pair.{Pair}
 use Rattle.machine.specs.Machine.{Machine}
 use Rattle.ranking.specs.declared.Order.TheVariants.{Equal}

@@ -1,5 +1,4 @@
-use Rattle.std.specs.Prelude.{◌≡◌, ◌*◌, ◌-◌}
-use Rattle.basics.proofs.Words.{sym, ◌∙◌, ap, ℕ, arith, length, rules}
+use Rattle.basics.proofs.Words.{sym, ◌∙◌}
 use Rattle.tables.proofs.Starting.{start_is_zero}
 use Rattle.tables.proofs.start_node.Goals as goal
 

@@ -1,6 +1,5 @@
-use Rattle.std.specs.Prelude.{◌≡◌, ◌*◌, ◌-◌}
-use Rattle.basics.proofs.Words.{sym, ◌∙◌, ap, ℕ, arith, length, rules}
-use Rattle.tables.proofs.Starting.{start_is_zero}
+use Rattle.std.specs.Prelude.{◌≡◌, ◌-◌}
+use Rattle.basics.proofs.Words.{length}
 use Rattle.tables.proofs.start_node.Given as goal
 
 abbrev pub invariant-loop-m : goal.invariant-loop-m

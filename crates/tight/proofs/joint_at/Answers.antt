@@ -1,7 +1,6 @@
-use Rattle.basics.proofs.Words.{◌*◌, ◌-◌, ◌^◌, arith, length, rules}
-use Rattle.cells.specs.Cells.{nowhere, high_at, low_at}
+use Rattle.basics.proofs.Words.{arith}
 use Rattle.passing.proofs.Placing.{column_few, column_in}
-use Rattle.tight.proofs.JointSteps.{SumTo, sum_start, joint_none, joint_whole, highs_next, lows_next, highs_fit, lows_fit}
+use Rattle.tight.proofs.JointSteps.{sum_start, joint_none, joint_whole, highs_next, lows_next, highs_fit, lows_fit}
 use Rattle.tight.proofs.joint_at.Goals as goal
 
 pub loop-m-init : goal.loop-m-init
@@ -33,7 +32,7 @@ high_cell-high-requires c =
 
 pub overflow_add-high : goal.overflow_add-high
 overflow_add-high c =
-    omega (arith, highs_fit c.requires.0 c.requires.1 _ c.requires.3 c.loop-m.invariant.0 c.loop-m.invariant.1 c.loop-m-test.true _ c.index.ensures.0 _ c.high_cell_lem.ensures)
+    omega (arith, highs_fit c.requires.0 c.requires.1 _ c.requires.3 c.loop-m.invariant.0 c.loop-m.invariant.1 c.loop-m-test.true _ c.index.ensures.0 _ c.high_cell-high.ensures)
 
 pub low_cell-low-requires : goal.low_cell-low-requires
 low_cell-low-requires c =
@@ -41,15 +40,14 @@ low_cell-low-requires c =
 
 pub overflow_add-low : goal.overflow_add-low
 overflow_add-low c =
-    omega (arith, lows_fit c.requires.0 c.requires.1 _ c.requires.3 c.loop-m.invariant.0 c.loop-m.invariant.1 c.loop-m-test.true _ c.index.ensures.0 _ c.low_cell_lem.ensures)
+    omega (arith, lows_fit c.requires.0 c.requires.1 _ c.requires.3 c.loop-m.invariant.0 c.loop-m.invariant.1 c.loop-m-test.true _ c.index.ensures.0 _ c.low_cell-low.ensures)
 
 pub loop-m-preserved : goal.loop-m-preserved
-loop-m-preserved c =
-    (
-      highs_next c.requires.0 c.requires.1 _ c.requires.3 c.loop-m.invariant.0 c.loop-m.invariant.1 c.loop-m-test.true _ c.index.ensures.0 _ c.before.before.high_cell_lem.ensures,
-      lows_next c.requires.0 c.requires.1 _ c.requires.3 c.loop-m.invariant.0 c.loop-m.invariant.1 c.loop-m-test.true _ c.index.ensures.0 _ c.low_cell_lem.ensures,
-    )
+loop-m-preserved c = (
+  highs_next c.requires.0 c.requires.1 _ c.requires.3 c.loop-m.invariant.0 c.loop-m.invariant.1 c.loop-m-test.true _ c.index.ensures.0 _ c.high_cell-high.ensures,
+  lows_next c.requires.0 c.requires.1 _ c.requires.3 c.loop-m.invariant.0 c.loop-m.invariant.1 c.loop-m-test.true _ c.index.ensures.0 _ c.low_cell-low.ensures,
+)
 
-pub returns-then-step : goal.returns
-returns-then-step c =
+pub returns : goal.returns
+returns c =
     joint_whole c.requires.0 c.requires.1 _ c.requires.3 c.loop-m.invariant.0 c.loop-m.invariant.1 (omega (arith, c.loop-m-test.false))

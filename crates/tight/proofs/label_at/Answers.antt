@@ -13,5 +13,5 @@ pub sum_cell-requires : goal.sum_cell-requires
 sum_cell-requires c =
     (c.requires.0.by_sums c.if-sums-eq0.false, c.requires.1)
 
-pub returns-then-sums-eq0 : goal.returns
-returns-then-sums-eq0 c = c.sum_cell.ensures ∙ sym (cell_by_sums _ _ _ c.if-sums-eq0.false)
+pub returns : goal.returns
+returns c = c.sum_cell.ensures ∙ sym (cell_by_sums _ _ _ c.if-sums-eq0.false)

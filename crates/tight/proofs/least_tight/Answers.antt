@@ -1,6 +1,7 @@
-use Rattle.basics.specs.Words.{⊎_elim, arith}
-use Rattle.tight.proofs.Tests.{not_keeps, step_leads, step_pre, keeps_step, Trying, trying_start, trying_end, trying_found, trying_next}
+use Rattle.basics.specs.Words.{arith}
+use Rattle.tight.proofs.Tests.{not_keeps, step_leads, step_pre, keeps_step, trying_start, trying_end, trying_found, trying_next}
 use Rattle.tight.proofs.least_tight.Goals as goal
+use Rattle.tight.proofs.least_tight.Goals.{then-step-lt-NOWHERE+else-keeps, else-step-lt-NOWHERE}
 
 pub loop-left-init : goal.loop-left-init
 loop-left-init c = trying_start
@@ -49,11 +50,11 @@ loop-left-preserved c =
     let J = c.joint_at-step.ensures in
     let e = c.least-output.ensures in
     trying_next c.loop-left.invariant _ e.0 e.1 e.2
-    (⊎_elim
-    (λ w b. w.3.ensures.1 w.4.left (keeps_step _ _ _ J w.0.taken _ w.2.ensures b))
-    (λ w. not_keeps _ _ _ J (omega (arith, w.left)))
-    c.if-step-lt-NOWHERE.branch)
+    (elim c.if-step-lt-NOWHERE.branch [
+      | then-step-lt-NOWHERE+else-keeps w ↦ (λ b. w.keeps.ensures.1 w.if-keeps.false (keeps_step _ _ _ J w.if-step-lt-NOWHERE.true _ w.label_at-rest.ensures b))
+      | else-step-lt-NOWHERE w ↦ not_keeps _ _ _ J (omega (arith, w.if-step-lt-NOWHERE.false))
+    ])
     _ c.without_least-left.ensures.1
 
-pub returns-then-keeps : goal.returns
-returns-then-keeps c = trying_end c.loop-left.invariant (omega (arith, c.loop-left-test.false))
+pub returns : goal.returns
+returns c = trying_end c.loop-left.invariant (omega (arith, c.loop-left-test.false))

@@ -1,5 +1,6 @@
 -- Calls that answer with number 0, by the best candidate: the same for every order, a word and sets. Assumes nothing.
-use Rattle.basics.specs.Words.{◌≡◌, refl, sym, ◌∙◌, ap, ap₂, subst, List, [], ◌∷◌, ◌++◌, Option, some, Option·none-ne-some, ℕ, ◌*◌, ◌≤◌, arith, length, take, drop, take_at}
+use Rattle.std.specs.Prelude.{◌≡◌, ◌∷◌, ◌++◌, ◌*◌, ◌≤◌}
+use Rattle.basics.specs.Words.{refl, sym, ◌∙◌, ap, ap₂, subst, List, [], Option, some, Option·none-ne-some, ℕ, arith, length, take, drop, take_at}
 use Rattle.machine.specs.declared.Pair.{Pair}
 use Rattle.candidate.specs.declared.Evaluation.{Evaluation}
 use Rattle.candidate.specs.Candidates.{pairs_of, bytes_of}

@@ -1,5 +1,6 @@
 -- Lists without an element, and lists with one element replaced. Assumes nothing.
-use Rattle.basics.proofs.Words.{◌≡◌, refl, Bool, true, List, [], ◌∷◌, ℕ, zero, suc, get_or, set, all_of, pairwise, without, both, left, right}
+use Rattle.std.specs.Prelude.{◌≡◌, ◌∷◌}
+use Rattle.basics.proofs.Words.{refl, Bool, true, List, [], ℕ, zero, suc, get_or, set, all_of, pairwise, without, both, left, right}
 
 -- what holds of all elements, or of every two, holds of those that are left
 pub all_without : {A : Type 0} (f : A → Bool) (j : ℕ) (xs : List A) → all_of f xs ≡ true → all_of f (without j xs) ≡ true

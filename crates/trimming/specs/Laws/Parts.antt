@@ -1,5 +1,6 @@
 -- A part rebuilt without an arc: its machine, and that it is accepted. Assumes nothing.
-use Rattle.basics.specs.Words.{◌≡◌, refl, sym, ◌∙◌, ap, ap₂, List, [], ◌∷◌, ◌++◌, map, ℕ, zero, suc, ◌+◌, ◌*◌, ◌-◌, ◌^◌, ◌<◌, ◌≤◌, arith, length, get_or, take, drop, length-append, length-drop, length-set, List·getD-append, leb, slice, length-take-le, get_or-take, get_or-drop, get_or-append-add, get_or-set_same, get_or-set_other, take-set-lt, drop-set-lt, take-append-le, take-take, dec_lt, ℕ_discrete, all_of, pairwise, without}
+use Rattle.std.specs.Prelude.{◌≡◌, ◌∷◌, ◌++◌, ◌+◌, ◌*◌, ◌-◌, ◌^◌, ◌<◌, ◌≤◌}
+use Rattle.basics.specs.Words.{refl, sym, ◌∙◌, ap, ap₂, List, [], map, ℕ, zero, suc, arith, length, get_or, take, drop, length-append, length-drop, length-set, List·getD-append, leb, slice, length-take-le, get_or-take, get_or-drop, get_or-append-add, get_or-set_same, get_or-set_other, take-set-lt, drop-set-lt, take-append-le, take-take, dec_lt, ℕ_discrete, all_of, pairwise, without}
 use borrow.Author.Tests.{le-leb, eq-eqb}
 use Rattle.machine.specs.declared.Arc.{Arc}
 use Rattle.machine.specs.Part.{state_count, arc_count, four_bytes_at, eight_bytes_at, arc_at, arcs_at, state_bytes, arcs_of, ending_byte, machine_of, shaped, sound_arc, clash_free, part_refusal}

@@ -1,5 +1,6 @@
 -- A candidate's run through a machine that lacks an arc. Assumes nothing.
-use Rattle.basics.proofs.Words.{◌≡◌, refl, sym, ◌∙◌, ap, Bool, true, false, false≢true, List, [], ◌∷◌, Option, some, none, Option·none-ne-some, ◌≢◌, ℕ, zero, suc, ◌<◌, arith, eqb, all_of, pairwise, without, clash as never, left, right, left_fails, right_fails}
+use Rattle.std.specs.Prelude.{◌≡◌, ◌∷◌, ◌≢◌, ◌<◌}
+use Rattle.basics.proofs.Words.{refl, sym, ◌∙◌, ap, Bool, true, false, false≢true, List, [], Option, some, none, Option·none-ne-some, ℕ, zero, suc, arith, eqb, all_of, pairwise, without, clash as never, left, right, left_fails, right_fails}
 use Rattle.std.proofs.lemmas.Bool.{not-true}
 use Rattle.machine.specs.declared.Arc.{Arc}
 use Rattle.machine.specs.declared.Pair.{Pair}

@@ -1,4 +1,5 @@
-use Rattle.basics.specs.Words.{◌≡◌, refl, sym, ◌∙◌, ap, subst, true, ◌&&◌, not, List, ⊎_elim, ◌≢◌, ℕ, ◌+◌, ◌*◌, ◌<◌, ◌≤◌, arith, length, length-set, eqb, member}
+use Rattle.std.specs.Prelude.{◌≡◌, ◌&&◌, ◌≢◌, ◌+◌, ◌*◌, ◌<◌, ◌≤◌}
+use Rattle.basics.specs.Words.{refl, sym, ◌∙◌, ap, subst, true, not, List, ⊎_elim, ℕ, arith, length, length-set, eqb, member}
 use Rattle.machine.specs.Symbols.{empty_symbol}
 use Rattle.paths.specs.Costs.{Labels}
 use Rattle.paths.specs.Ranked.{ranked_costs}

@@ -1,4 +1,5 @@
-use Rattle.basics.proofs.Words.{⊎_elim, ℕ, ◌-◌, ◌<◌, arith, length, rules}
+use Rattle.std.specs.Prelude.{◌-◌, ◌<◌}
+use Rattle.basics.proofs.Words.{⊎_elim, ℕ, arith, length, rules}
 use Rattle.weighted.proofs.heaviest.Given as goal
 
 abbrev pub invariant-loop-m : goal.invariant-loop-m

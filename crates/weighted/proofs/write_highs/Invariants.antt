@@ -1,4 +1,5 @@
-use Rattle.basics.proofs.Words.{◌≡◌, ap, ℕ, ◌-◌, ◌*◌, ◌≤◌, arith, length, rules}
+use Rattle.std.specs.Prelude.{◌≡◌, ◌-◌, ◌*◌, ◌≤◌}
+use Rattle.basics.proofs.Words.{ap, ℕ, arith, length, rules}
 use Rattle.weighted.specs.WeighsBy.{HighsWritten}
 use Rattle.weighted.proofs.Numbers.{highs_start, highs_next}
 use Rattle.weighted.proofs.write_highs.Given as goal

@@ -1,5 +1,6 @@
 -- The graph of the cells is the weighted graph: labels that are done in the one are done in the other, and paths cost the same.
-use Rattle.basics.specs.Words.{◌≡◌, refl, sym, ◌∙◌, ap, List, [], ◌∷◌, Option, some, none, ℕ}
+use Rattle.std.specs.Prelude.{◌≡◌, ◌∷◌}
+use Rattle.basics.specs.Words.{refl, sym, ◌∙◌, ap, List, [], Option, some, none, ℕ}
 use Rattle.machine.specs.declared.Pair.{Pair}
 use Rattle.card.specs.Card.{machines_of}
 use Rattle.paths.specs.Costs.{Labels}

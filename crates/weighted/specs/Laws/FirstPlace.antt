@@ -1,5 +1,6 @@
 -- A machine in the first place, and the first one in its place: a ranking, by which the weights price marks as before. Assumes nothing.
-use Rattle.basics.proofs.Words.{◌≡◌, refl, sym, ◌∙◌, ap, Bool, true, cond, List, ◌≢◌, ◌⊎◌, inl, inr, ℕ, zero, suc, ◌+◌, ◌*◌, ◌<◌, ◌≤◌, arith, length, get_or, set, take, length-set, List·getD-eq-default, eqb, get_or-set_same, get_or-set_other, get_or-take, ℕ_discrete, dec_lt, every_below, occurrences, every_at}
+use Rattle.std.specs.Prelude.{◌≡◌, ◌≢◌, ◌⊎◌, ◌+◌, ◌*◌, ◌<◌, ◌≤◌}
+use Rattle.basics.proofs.Words.{refl, sym, ◌∙◌, ap, Bool, true, cond, List, inl, inr, ℕ, zero, suc, arith, length, get_or, set, take, length-set, List·getD-eq-default, eqb, get_or-set_same, get_or-set_other, get_or-take, ℕ_discrete, dec_lt, every_below, occurrences, every_at}
 use Rattle.std.proofs.Common.{eq-eqb, ne_eqb, eqb-true}
 use Rattle.ranking.specs.Rankings.{is_ranking}
 use Rattle.tables.specs.Places.{six_places}

@@ -1,5 +1,6 @@
 -- The lists of insertions have marks as numbers: what settling makes of them by the weights is what the machines' numbers make of them.
-use Rattle.basics.specs.Words.{◌≡◌, refl, sym, ◌∙◌, ap, List, [], ◌∷◌, ◌⊎◌, inl, inr, ℕ, zero, suc, ◌+◌, ◌*◌, ◌/◌, ◌%◌, ◌^◌, ◌<◌, ◌≤◌, arith, length, get_or, set, length-set, List·getD-eq-default, mul_comm, zero-mul, dec_lt}
+use Rattle.std.specs.Prelude.{◌≡◌, ◌∷◌, ◌⊎◌, ◌+◌, ◌*◌, ◌/◌, ◌%◌, ◌^◌, ◌<◌, ◌≤◌}
+use Rattle.basics.specs.Words.{refl, sym, ◌∙◌, ap, List, [], inl, inr, ℕ, zero, suc, arith, length, get_or, set, length-set, List·getD-eq-default, mul_comm, zero-mul, dec_lt}
 use Rattle.tables.specs.Places.{mark_number}
 use Rattle.tables.specs.Laws.Packing.{six_number}
 use Rattle.settling.specs.Prices.{SixWeights, marks_price, most_price, no_lows}

@@ -1,5 +1,6 @@
 -- Attained labels by weights leave room for 128 pairs more, and have fewer than 4,096 pairs.
-use Rattle.basics.specs.Words.{◌≡◌, List, some, ℕ, zero, suc, ◌+◌, ◌*◌, ◌^◌, ◌<◌, ◌≤◌, arith, length, get_or, replicate, length-replicate, mul-le-mul_left}
+use Rattle.std.specs.Prelude.{◌≡◌, ◌+◌, ◌*◌, ◌^◌, ◌<◌, ◌≤◌}
+use Rattle.basics.specs.Words.{List, some, ℕ, zero, suc, arith, length, get_or, replicate, length-replicate, mul-le-mul_left}
 use Rattle.card.specs.Card.{machines_of}
 use Rattle.paths.specs.Costs.{Labels}
 use Rattle.paths.specs.Ranked.{Ranked, ranked_costs}

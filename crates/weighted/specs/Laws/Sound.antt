@@ -1,5 +1,6 @@
 -- Accepted weights.
-use Rattle.basics.proofs.Words.{◌≡◌, true, List, ℕ, ◌≤◌, ◌<◌, arith, length, get_or, List·getD-eq-default, eqb, leb, dec_lt, all_of, left, right, all_at}
+use Rattle.std.specs.Prelude.{◌≡◌, ◌≤◌, ◌<◌}
+use Rattle.basics.proofs.Words.{true, List, ℕ, arith, length, get_or, List·getD-eq-default, eqb, leb, dec_lt, all_of, left, right, all_at}
 use Rattle.std.proofs.Common.{eqb-true, leb-true}
 use Rattle.product.specs.Weights.{sound_weights}
 

@@ -1,5 +1,6 @@
 -- Marks by weights: what they count in high and low is their weighted sum.
-use Rattle.basics.specs.Words.{◌≡◌, refl, ◌∙◌, ap, List, [], ◌∷◌, ℕ, suc, ◌+◌, ◌*◌, ◌/◌, arith, get_or, mul_comm, mul-zero}
+use Rattle.std.specs.Prelude.{◌≡◌, ◌∷◌, ◌+◌, ◌*◌, ◌/◌}
+use Rattle.basics.specs.Words.{refl, ◌∙◌, ap, List, [], ℕ, suc, arith, get_or, mul_comm, mul-zero}
 use Rattle.cells.specs.Cells.{high_of, low_of}
 use Rattle.cells.specs.Columns.{weighed}
 use Rattle.cells.specs.Trying.{cell_price}

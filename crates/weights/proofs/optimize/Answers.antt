@@ -1,4 +1,5 @@
-use Rattle.basics.proofs.Words.{◌≡◌, sym, ◌∙◌, ap, ◌≤◌, ◌<◌, ◌+◌, ◌*◌, arith, length, rules}
+use Rattle.std.specs.Prelude.{◌≡◌, ◌≤◌, ◌<◌, ◌+◌, ◌*◌}
+use Rattle.basics.proofs.Words.{sym, ◌∙◌, ap, arith, length, rules}
 use Rattle.refusals.specs.Refusals.{checked_number}
 use Rattle.refusals.proofs.Refusals.{refused_number}
 use Rattle.grid.specs.Grids.{GridOf}
@@ -20,15 +21,18 @@ told c = c.before.before
 module _ (c : goal.In-Passed) where
   passed : weighted_refusal (begun c).args.card.now (begun c).args.weights.now (begun c).args.word.now (length (begun c).args.work.now) ≡ 0
   passed = sym c.before.before.check-input.ensures.number ∙ ap checked_number c.enum_told.given.1
+
   accepted : Accepts (begun c).args.card.now (begun c).args.weights.now (begun c).args.word.now (length (begun c).args.work.now)
   accepted = accepts _ _ _ _ passed
+
   sizes : GridOf (begun c).args.card.now c.before.before.check-input.result.grid
   sizes = c.before.before.check-input.ensures.sizes passed
+
   few : (length (begun c).args.word.now + 1) * c.before.before.check-input.result.grid.size ≤ 3200
   few = nodes_few accepted c.before.before.check-input.result.grid sizes
+
   fits : (length (begun c).args.word.now + 1) * c.before.before.check-input.result.grid.size ≤ length (begun c).args.work.now
   fits = nodes_fit accepted c.before.before.check-input.result.grid sizes
-
 
 pub returns-in_default : goal.returns-in_default
 returns-in_default c =

@@ -1,4 +1,5 @@
-use Rattle.basics.proofs.Words.{◌≡◌, sym, ◌∙◌, ap, ℕ, ◌*◌, ◌≤◌, arith, length, get_or, take, length-take-le, rules}
+use Rattle.std.specs.Prelude.{◌≡◌, ◌*◌, ◌≤◌}
+use Rattle.basics.proofs.Words.{sym, ◌∙◌, ap, ℕ, arith, length, get_or, take, length-take-le, rules}
 use Rattle.card.specs.Card.{machines_of}
 use Rattle.product.specs.Nodes.{state_counts}
 use Rattle.product.specs.ProductGraph.{card_start}
@@ -38,15 +39,18 @@ walked c = c.before.before.before.before
 module _ (s : goal.Start) where
   ready : LabelPre s.args.card.now s.args.weights.now s.args.sets.now s.args.work.now s.args.grid.size
   ready = label_ready s.requires.0
+
   few : s.args.grid.machines ≤ 6
   few = machines_few s.pre.0.setting.accepted s.pre.2
+
   fit : s.args.grid.machines ≤ length s.args.grid.counts
   fit = counts_fit s.pre.0.setting.accepted s.pre.2
+
   whole : s.args.grid.machines ≡ length (take s.args.grid.machines s.args.grid.counts)
   whole = counts_length s.pre.0.setting.accepted s.pre.2
+
   counts_are : take s.args.grid.machines s.args.grid.counts ≡ state_counts (machines_of s.args.card.now)
   counts_are = front_is s.args.card.now s.pre.0.setting.accepted s.args.grid.counts s.args.grid.machines s.pre.2.machines s.pre.2.counts
-
 
 -- ---- the start is found, and its number
 start : (c : goal.After-start_node) → c.start_node_lem.result ≡ card_start (begun c).args.card.now
@@ -62,15 +66,16 @@ passes c = sym (checked c).check-best.ensures ∙ ap checked_number c.enum_told-
 module _ (c : goal.After-weights_of-numbers) where
   abbrev sizes : Grid
   sizes = (begun (passed c)).args.grid
+
   weights_here : WeightsOf (take sizes.machines sizes.counts) (take (3 * sizes.machines) c.weights-of.result)
   weights_here =
       let s = begun (passed c) in
       in_front_lem s.pre.0.setting.accepted s.pre.2 (WeightsOf (take sizes.machines sizes.counts)) c.weights-of.result c.weights-of.ensures.0
+
   weighs_here : WeighsBy (begun (passed c)).args.weights.now (take (3 * sizes.machines) c.weights-of.result)
   weighs_here =
       let s = begun (passed c) in
       in_front_lem s.pre.0.setting.accepted s.pre.2 (WeighsBy s.args.weights.now) c.weights-of.result c.weights-of.ensures.1
-
 
 pub slice_bounds-all-end : goal.slice_bounds-all-end
 slice_bounds-all-end c =

@@ -1,4 +1,4 @@
-use Rattle.basics.proofs.Words.{ap, ◌∙◌, ℕ, arith, length, get_or, rules, lt-leb, le-leb}
+use Rattle.basics.proofs.Words.{ap, ◌∙◌, ℕ, arith, length, get_or, lt-leb, le-leb}
 use Rattle.refusals.specs.Refusals.{refuse}
 use Rattle.card.specs.Layout.{sound_counts, counted}
 use Rattle.card.proofs.head.check_head.Goals as goal

@@ -1,4 +1,4 @@
-use Rattle.basics.proofs.Words.{arith, rules}
+use Rattle.basics.proofs.Words.{arith}
 use Rattle.card.specs.Laws.Layout.{head_told}
 use Rattle.card.proofs.head.check_layout.Goals as goal
 

@@ -1,12 +1,12 @@
 use Rattle.std.specs.Prelude.{◌≡◌, ◌∷◌, ◌+◌, ◌*◌, ◌<◌, ◌≤◌}
-use Rattle.basics.proofs.Words.{ap, sym, ◌∙◌, List, ℕ, [], map, arith, length, get_or, take, drop, length-take-le, get_or-take, rules}
+use Rattle.basics.proofs.Words.{ap, sym, ◌∙◌, List, ℕ, [], map, arith, length, get_or, take, drop, length-take-le, get_or-take}
 use Rattle.refusals.specs.Refusals.{refuse, first_of}
 use Rattle.layout.specs.Layout.{length_of}
 use Rattle.card.specs.Layout.{machine_count, symbol_count, parts_of}
 use Rattle.card.specs.Card.{parts_refusal, few_states}
 use Rattle.card.specs.Packing.{split}
 use Rattle.layout.specs.LaidOut.{LaidOut, layout_told}
-use Rattle.card.specs.Laws.Layout.{Headed, head_told}
+use Rattle.card.specs.Laws.Layout.{head_told}
 use Rattle.card.specs.Laws.Repacked.{table_lengths, table_parts, table_total}
 use Rattle.card.proofs.parts.check_card.Goals as goal
 

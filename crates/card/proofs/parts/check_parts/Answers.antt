@@ -1,8 +1,7 @@
-use Rattle.std.specs.Prelude.{◌≡◌, ◌∷◌, ◌+◌, ◌-◌, ◌^◌, ◌≤◌}
-use Rattle.basics.proofs.Words.{refl, ◌∙◌, List, [], ℕ, arith, length, take, drop, lit≤, rules}
+use Rattle.std.specs.Prelude.{◌+◌, ◌≤◌}
+use Rattle.basics.proofs.Words.{refl, ◌∙◌, arith}
 use Rattle.machine.specs.Accepted.{accepted}
 use Rattle.refusals.proofs.Refusals.{passed_number, refused_number}
-use Rattle.card.specs.Packing.{total, split}
 use Rattle.card.specs.Laws.Parts.{total_left}
 use Rattle.card.specs.Laws.Checked.{part_shaped}
 use Rattle.card.proofs.PartSteps.{check_on, check_stop, check_end, product_next, product_small}

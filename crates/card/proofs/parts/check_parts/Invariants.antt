@@ -1,14 +1,9 @@
 use Rattle.std.specs.Prelude.{◌≡◌, ◌∷◌, ◌+◌, ◌-◌, ◌^◌, ◌≤◌}
-use Rattle.basics.proofs.Words.{refl, ◌∙◌, List, [], ℕ, arith, length, take, drop, lit≤, rules}
+use Rattle.basics.proofs.Words.{[], length, drop}
 use Rattle.refusals.specs.Refusals.{refuse, first_of}
-use Rattle.machine.specs.Part.{part_refusal}
-use Rattle.machine.specs.Accepted.{accepted}
-use Rattle.refusals.proofs.Refusals.{passed_number, refused_number}
 use Rattle.card.specs.Card.{parts_refusal, few_states}
 use Rattle.card.specs.Packing.{total, split}
-use Rattle.card.specs.Laws.Parts.{total_left}
-use Rattle.card.specs.Laws.Checked.{part_shaped}
-use Rattle.card.proofs.PartSteps.{parts_left, parts_start, check_on, check_stop, check_end, product_next, product_small}
+use Rattle.card.proofs.PartSteps.{parts_left}
 use Rattle.card.proofs.parts.check_parts.Given as goal
 
 abbrev pub invariant-loop-i : goal.invariant-loop-i

@@ -1,4 +1,4 @@
-use Rattle.basics.proofs.Words.{arith, rules}
+use Rattle.basics.proofs.Words.{arith}
 use lib.Count.{trailing_le}
 use Rattle.cells.proofs.fours.least.Goals as goal
 

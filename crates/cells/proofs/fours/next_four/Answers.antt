@@ -1,4 +1,3 @@
-use borrow.Author.Rules.{rules}
 use Rattle.cells.proofs.fours.next_four.Goals as goal
 
 pub returns : goal.returns

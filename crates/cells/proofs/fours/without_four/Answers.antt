@@ -1,4 +1,3 @@
-use borrow.Author.Rules.{rules}
 use Rattle.cells.proofs.fours.without_four.Goals as goal
 
 pub returns : goal.returns

@@ -1,6 +1,6 @@
 use Rattle.std.specs.Prelude.{◌-◌}
-use Rattle.basics.proofs.Words.{arith, rules}
-use Rattle.cells.proofs.Scaling.{Scaling, scaling_start, place_within, next_few, scaling_next, scaling_end}
+use Rattle.basics.proofs.Words.{arith}
+use Rattle.cells.proofs.Scaling.{scaling_start, place_within, next_few, scaling_next, scaling_end}
 use Rattle.cells.proofs.scales.write_scales.Goals as goal
 
 pub loop-m-init : goal.loop-m-init

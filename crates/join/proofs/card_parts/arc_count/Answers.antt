@@ -1,7 +1,3 @@
-use Rattle.basics.specs.Words.{ap₂, ◌∙◌, List, ℕ, length}
-use Rattle.machine.specs.Part.{state_count, arcs_of}
-use Rattle.join.specs.JoinedMachine.{joined_arcs}
-use Rattle.join.specs.JoinedCard.{lower, other}
 use Rattle.join.proofs.CardParts.{first_in, second_in, shape_of}
 use Rattle.join.proofs.card_parts.arc_count.Goals as goal
 
@@ -15,6 +11,3 @@ pub arc_count-requires : goal.arc_count-requires
 arc_count-requires c =
     let card = c.args.card.now in
     (rw c.part.ensures (shape_of card c.args.lower c.args.other c.requires c.args.lower (first_in card c.args.lower c.args.other c.requires)), rw c.part-2.ensures (shape_of card c.args.lower c.args.other c.requires c.args.other (second_in card c.args.lower c.args.other c.requires)))
-
-pub returns : goal.returns
-returns c = c.arc_count_lem.ensures.0 ∙ ap₂ (λ (x y : List ℕ). length (joined_arcs (state_count y) (arcs_of x) (arcs_of y))) c.part.ensures c.part-2.ensures

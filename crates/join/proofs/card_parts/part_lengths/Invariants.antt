@@ -1,4 +1,5 @@
-use Rattle.basics.proofs.Words.{◌≡◌, refl, [], ℕ, ◌-◌, ◌<◌, ◌≤◌, arith, length, get_or, length-set, rules}
+use Rattle.std.specs.Prelude.{◌≡◌, ◌-◌, ◌<◌, ◌≤◌}
+use Rattle.basics.proofs.Words.{refl, [], ℕ, arith, length, get_or, length-set, rules}
 use Rattle.card.specs.Layout.{parts_of}
 use Rattle.join.proofs.Lengths.{stored}
 use Rattle.join.specs.JoinedCard.{joined_parts, lower, other}

@@ -1,4 +1,5 @@
-use Rattle.basics.proofs.Words.{◌≡◌, sym, ap, subst, ◌∙◌, List, [], ℕ, ◌+◌, ◌*◌, ◌-◌, ◌<◌, ◌≤◌, arith, length, get_or, length-take, length-drop, rules}
+use Rattle.std.specs.Prelude.{◌≡◌, ◌+◌, ◌*◌, ◌-◌, ◌<◌, ◌≤◌}
+use Rattle.basics.proofs.Words.{sym, ap, subst, ◌∙◌, List, [], ℕ, arith, length, get_or, length-take, length-drop, rules}
 use Rattle.card.specs.Layout.{machine_count, parts_of}
 use Rattle.join.specs.JoinedCard.{joined_parts, lower, other}
 use Rattle.join.specs.Writing.{placed, table_length, joined_bytes}

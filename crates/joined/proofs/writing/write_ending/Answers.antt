@@ -1,5 +1,6 @@
-use Rattle.basics.proofs.Words.{◌≡◌, sym, ap, subst, ◌∙◌, List, [], ◌∷◌, ℕ, ◌+◌, ◌-◌, ◌≤◌, arith, length, get_or, set, length-map, joined, rules}
-use Rattle.machine.specs.Part.{state_count, state_bytes}
+use Rattle.std.specs.Prelude.{◌≡◌, ◌∷◌, ◌+◌}
+use Rattle.basics.proofs.Words.{sym, ap, subst, ◌∙◌, true, List, [], ℕ, arith, length, get_or, set, length-map, joined}
+use Rattle.machine.specs.Part.{state_count, state_bytes, shaped}
 use Rattle.joined.specs.Writing.{placed, joined_byte}
 use Rattle.joined.specs.Laws.Placed.{placed_one}
 use Rattle.joined.proofs.Rest.{Rest, rest_start, rest_next, rest_end, as_joined}
@@ -8,11 +9,11 @@ use Rattle.joined.proofs.writing.write_ending.Invariants.{one_byte}
 use Rattle.joined.proofs.writing.write_ending.Goals as goal
 
 -- as many bytes as states
-bytes : (c : goal.Start) → length (joined (one_byte c.args.byte) (state_bytes c.args.second.now)) ≡ state_count c.args.second.now
-bytes c =
-    let b = joined_byte c.args.byte in
-    let l = state_bytes c.args.second.now in
-    sym (ap length (as_joined b l)) ∙ length-map l b ∙ states_length c.args.second.now c.requires.0
+bytes : (byte : ℕ) (second : List ℕ) → shaped second ≡ true → length (joined (one_byte byte) (state_bytes second)) ≡ state_count second
+bytes byte second t =
+    let b = joined_byte byte in
+    let l = state_bytes second in
+    sym (ap length (as_joined b l)) ∙ length-map l b ∙ states_length second t
 
 pub loop-i-init : goal.loop-i-init
 loop-i-init c =
@@ -21,16 +22,12 @@ loop-i-init c =
     let t = c.args.target.now in
     let at = c.args.at in
     let e : at ≡ at + 0 = omega arith in
-    (c.state_count_lem.ensures, omega arith, subst (λ (k : ℕ). Rest f l (placed at (joined f l) t) (at + length (joined f l)) (length t) 0 k t) e (rest_start f l at t (omega (arith, bytes c.before.before.before))))
+    (c.state_count-i-end.ensures, omega arith, subst (λ (k : ℕ). Rest f l (placed at (joined f l) t) (at + length (joined f l)) (length t) 0 k t) e (rest_start f l at t (omega (arith, bytes c.args.byte c.args.second.now c.requires.0))))
 
 pub joined_byte-requires : goal.joined_byte-requires
 joined_byte-requires c =
     let second = c.args.second.now in
     (c.requires.2, omega (arith, c.state_byte.ensures, state_byte_few second c.requires.0 c.requires.1 c.loop-i.i (omega arith)))
-
-pub bounds-target-at : goal.bounds-target-at
-bounds-target-at c =
-    omega (arith, c.loop-i.invariant.2.size)
 
 pub loop-i-preserved : goal.loop-i-preserved
 loop-i-preserved c =
@@ -44,9 +41,6 @@ loop-i-preserved c =
           (placed_one (at + c.loop-i.i) c.joined_byte.result c.loop-i.target (omega (arith, c.loop-i.invariant.2.size)) ∙ ap (λ (x : ℕ). placed (at + c.loop-i.i) (x ∷ []) c.loop-i.target) v)
           (omega arith),
     )
-
-pub shape_of-target : goal.shape_of-target
-shape_of-target c = c.loop-i.invariant.2.size
 
 pub returns : goal.returns
 returns c =

@@ -1,9 +1,8 @@
-use Rattle.basics.proofs.Words.{◌≡◌, sym, ap, subst, ◌∙◌, List, [], ◌∷◌, ℕ, ◌+◌, ◌-◌, ◌≤◌, arith, length, get_or, set, length-map, joined, rules}
+use Rattle.std.specs.Prelude.{◌≡◌, ◌∷◌, ◌+◌, ◌-◌, ◌≤◌}
+use Rattle.basics.proofs.Words.{List, [], ℕ, length, joined}
 use Rattle.machine.specs.Part.{state_count, state_bytes}
 use Rattle.joined.specs.Writing.{placed, joined_byte}
-use Rattle.joined.specs.Laws.Placed.{placed_one}
-use Rattle.joined.proofs.Rest.{Rest, rest_start, rest_next, rest_end, as_joined}
-use Rattle.joined.proofs.Parts.{states_length, state_byte_few}
+use Rattle.joined.proofs.Rest.{Rest}
 use Rattle.joined.proofs.writing.write_ending.Given as goal
 
 abbrev pub one_byte : ℕ → ℕ → List ℕ

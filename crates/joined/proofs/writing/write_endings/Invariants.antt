@@ -1,9 +1,9 @@
-use Rattle.basics.proofs.Words.{◌≡◌, ap, ◌∙◌, List, map, ℕ, ◌+◌, ◌-◌, ◌≤◌, arith, length, get_or, length-map, rules}
+use Rattle.std.specs.Prelude.{◌≡◌, ◌+◌, ◌-◌, ◌≤◌}
+use Rattle.basics.proofs.Words.{List, map, ℕ, length}
 use Rattle.machine.specs.Part.{state_count, state_bytes}
 use Rattle.joined.specs.JoinedMachine.{crossed}
 use Rattle.joined.specs.Writing.{placed, joined_byte}
-use Rattle.joined.proofs.Rest.{Rest, rest_start, rest_room, rest_next, rest_end}
-use Rattle.joined.proofs.Parts.{states_length, state_byte_few, first_accepted, second_accepted}
+use Rattle.joined.proofs.Rest.{Rest}
 use Rattle.joined.proofs.writing.write_endings.Given as goal
 
 abbrev pub row : List ℕ → ℕ → List ℕ

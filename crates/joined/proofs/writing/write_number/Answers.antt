@@ -1,20 +1,16 @@
-use Rattle.basics.proofs.Words.{◌≡◌, refl, sym, ap, ◌∙◌, ℕ, ◌+◌, ◌-◌, ◌≤◌, arith, length, length-set, rules}
+use Rattle.std.specs.Prelude.{◌≡◌, ◌+◌, ◌-◌}
+use Rattle.basics.proofs.Words.{sym, ap, ◌∙◌, ℕ, arith, length-set}
 use Rattle.joined.specs.MachineBytes.{little_endian}
 use Rattle.joined.specs.Writing.{placed}
 use Rattle.joined.specs.Laws.Placed.{placed_none}
 use Rattle.joined.proofs.Rest.{number_next}
 use Rattle.joined.proofs.writing.write_number.Goals as goal
 
-pub loop-i-init : goal.loop-i-init
-loop-i-init c =
-    let e : c.args.at + 0 ≡ c.args.at = omega arith in
-    (omega arith, refl, ap (λ (k : ℕ). placed k (little_endian 8 c.args.value) c.args.target.now) e)
-
 pub loop-i-preserved : goal.loop-i-preserved
 loop-i-preserved c =
-    (omega arith, simp length-set c.loop-i.invariant.1, number_next c.args.at c.loop-i.i c.loop-i.false c.loop-i.target _ (omega arith) (omega arith) c.loop-i.invariant.2)
+    (omega arith, simp length-set c.loop-i.invariant.1, number_next c.args.at c.loop-i.i c.loop-i.left c.loop-i.target _ (omega arith) (omega arith) c.loop-i.invariant.2)
 
 pub returns : goal.returns
 returns c =
     let z : 0 ≡ 8 - c.loop-i.i = omega arith in
-    sym (placed_none (c.args.at + c.loop-i.i) c.loop-i.target) ∙ ap (λ (n : ℕ). placed (c.args.at + c.loop-i.i) (little_endian n c.loop-i.false) c.loop-i.target) z ∙ c.loop-i.invariant.2
+    sym (placed_none (c.args.at + c.loop-i.i) c.loop-i.target) ∙ ap (λ (n : ℕ). placed (c.args.at + c.loop-i.i) (little_endian n c.loop-i.left) c.loop-i.target) z ∙ c.loop-i.invariant.2

@@ -1,8 +1,7 @@
-use Rattle.basics.proofs.Words.{◌≡◌, refl, sym, ap, ◌∙◌, ℕ, ◌+◌, ◌-◌, ◌≤◌, arith, length, length-set, rules}
+use Rattle.std.specs.Prelude.{◌≡◌, ◌+◌, ◌-◌, ◌≤◌}
+use Rattle.basics.proofs.Words.{length}
 use Rattle.joined.specs.MachineBytes.{little_endian}
 use Rattle.joined.specs.Writing.{placed}
-use Rattle.joined.specs.Laws.Placed.{placed_none}
-use Rattle.joined.proofs.Rest.{number_next}
 use Rattle.joined.proofs.writing.write_number.Given as goal
 
 abbrev pub invariant-loop-i : goal.invariant-loop-i

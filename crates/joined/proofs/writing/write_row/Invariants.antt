@@ -1,9 +1,8 @@
-use Rattle.basics.proofs.Words.{◌≡◌, sym, ap, ap₂, ◌∙◌, List, ℕ, ◌+◌, ◌-◌, ◌≤◌, arith, length, get_or, rules}
-use Rattle.machine.specs.declared.Arc.{Arc}
+use Rattle.std.specs.Prelude.{◌+◌, ◌-◌, ◌≤◌}
+use Rattle.basics.proofs.Words.{length}
 use Rattle.machine.specs.Part.{state_count, arcs_of}
 use Rattle.joined.specs.Writing.{placed, shared_bytes, row_bytes}
-use Rattle.joined.proofs.Rest.{Rest, rest_start, rest_room, rest_next, rest_end}
-use Rattle.joined.proofs.Parts.{no_arc, arcs_length, shared_ready}
+use Rattle.joined.proofs.Rest.{Rest}
 use Rattle.joined.proofs.writing.write_row.Given as goal
 
 abbrev pub invariant-loop-i : goal.invariant-loop-i

@@ -1,8 +1,8 @@
-use Rattle.basics.proofs.Words.{◌≡◌, sym, ap, ◌∙◌, List, ℕ, ◌+◌, ◌-◌, ◌≤◌, arith, length, get_or, rules}
+use Rattle.std.specs.Prelude.{◌+◌, ◌-◌, ◌≤◌}
+use Rattle.basics.proofs.Words.{length}
 use Rattle.machine.specs.Part.{arcs_of}
 use Rattle.joined.specs.Writing.{placed, row_bytes, rows_bytes}
-use Rattle.joined.proofs.Rest.{Rest, rest_start, rest_room, rest_next, rest_end}
-use Rattle.joined.proofs.Parts.{no_arc, arcs_length, first_accepted, row_fits}
+use Rattle.joined.proofs.Rest.{Rest}
 use Rattle.joined.proofs.writing.write_rows.Given as goal
 
 abbrev pub invariant-loop-i : goal.invariant-loop-i

@@ -1,4 +1,4 @@
-use Rattle.basics.proofs.Words.{◌≡◌, ap, sym, ◌∙◌, true, ◌≤◌, ◌-◌, arith, lit<, pairwise, every_below, rules, every_start, every_next, every_at}
+use Rattle.basics.proofs.Words.{ap, sym, ◌∙◌, arith, lit<, pairwise, rules, every_start, every_next, every_at}
 use Rattle.refusals.specs.Refusals.{refuse}
 use Rattle.machine.specs.Part.{state_count, arcs_of}
 use Rattle.machine.specs.Accepted.{shape_facts}
@@ -10,29 +10,22 @@ use Rattle.part_check.proofs.clashes.check_clashes.Goals as goal
 pub bounds-part-0 : goal.bounds-part-0
 bounds-part-0 c = omega (arith, shape_facts _ c.requires.0)
 
-pub index-count-requires : goal.index-count-requires
-index-count-requires c = tt
-
 pub loop-from-init : goal.loop-from-init
 loop-from-init c = (omega arith, every_start (λ s. pairwise (clash_free_from s) (arcs_of _)))
-
-pub check_state-answer-requires : goal.check_state-answer-requires
-check_state-answer-requires c =
-    (c.requires.0, c.index-count.ensures.0)
 
 pub returns-in_default : goal.returns-in_default
 returns-in_default c =
     let l = arcs_of c.args.part.now in
     let e = c.check_state-answer.ensures in
-    let f = was_false c.enum_told-in_default-1.given.1 5 _ e in
+    let f = was_false c.in_default.is 5 _ e in
     e ∙ ap (refuse 5) (f ∙ sym (state_clash c.loop-from.from l f))
 
 pub loop-from-preserved : goal.loop-from-preserved
 loop-from-preserved c =
     let l = arcs_of c.args.part.now in
-    (search rules, every_next (λ s. pairwise (clash_free_from s) l) c.loop-from.from c.loop-from.invariant.1 (was_true c.enum_told-1.given.1 5 _ (lit< tt) c.check_state-answer.ensures))
+    (search rules, every_next (λ s. pairwise (clash_free_from s) l) c.loop-from.from c.loop-from.invariant.1 (was_true c.in-Passed.is 5 _ (lit< tt) c.check_state-answer.ensures))
 
-pub returns-in_default : goal.returns
-returns-in_default c =
+pub returns : goal.returns
+returns c =
     let part = c.args.part.now in
-    ap (refuse 5) (sym (states_free (state_count part) (arcs_of part) c.requires.1 (λ n h. every_at (λ c.before.before.before.before.before. pairwise (clash_free_from c.before.before.before.before.before) (arcs_of part)) c.loop-from.from c.loop-from.invariant.1 n (omega arith))))
+    ap (refuse 5) (sym (states_free (state_count part) (arcs_of part) c.requires.1 (λ n h. every_at (λ s. pairwise (clash_free_from s) (arcs_of part)) c.loop-from.from c.loop-from.invariant.1 n (omega arith))))

@@ -1,10 +1,7 @@
-use Rattle.basics.proofs.Words.{◌≡◌, ap, sym, ◌∙◌, true, ◌≤◌, ◌-◌, arith, lit<, pairwise, every_below, rules, every_start, every_next, every_at}
-use Rattle.refusals.specs.Refusals.{refuse}
-use Rattle.machine.specs.Part.{state_count, arcs_of}
-use Rattle.machine.specs.Accepted.{shape_facts}
+use Rattle.std.specs.Prelude.{◌≡◌, ◌≤◌, ◌-◌}
+use Rattle.basics.proofs.Words.{true, pairwise, every_below}
+use Rattle.machine.specs.Part.{arcs_of}
 use Rattle.part_check.specs.Clashes.{clash_free_from}
-use Rattle.refusals.proofs.Refusals.{was_true, was_false}
-use Rattle.part_check.proofs.Clashing.{state_clash, states_free}
 use Rattle.part_check.proofs.clashes.check_clashes.Given as goal
 
 abbrev pub invariant-loop-from : goal.invariant-loop-from

@@ -1,33 +1,16 @@
-use Rattle.basics.proofs.Words.{ap, sym, ◌+◌, ◌*◌, ◌-◌, arith, rules}
+use Rattle.std.specs.Prelude.{◌+◌, ◌*◌, ◌-◌}
+use Rattle.basics.proofs.Words.{ap, sym, arith}
 use Rattle.refusals.specs.Refusals.{refuse}
 use Rattle.machine.specs.Accepted.{shape_facts}
-use Rattle.part_check.proofs.Clashing.{StateChecked, state_start, state_next, state_stop, state_end}
+use Rattle.part_check.proofs.Clashing.{state_start, state_next, state_stop}
 use Rattle.part_check.proofs.clashes.check_state.Goals as goal
 
 pub bounds-part-1 : goal.bounds-part-1
 bounds-part-1 c = omega (arith, shape_facts _ c.requires.0)
 
-pub index-left-requires : goal.index-left-requires
-index-left-requires c = tt
-
 pub loop-left-init : goal.loop-left-init
 loop-left-init c =
     state_start c.args.part.now c.args.from c.index-left.result c.index-left.ensures.0
-
-pub slice_bounds-note_arc-end : goal.slice_bounds-note_arc-end
-slice_bounds-note_arc-end c = omega (arith, c.loop-left.invariant.size)
-
-pub overflow_add-states : goal.overflow_add-states
-overflow_add-states c =
-    omega (arith, c.requires.1, shape_facts _ c.requires.0)
-
-pub overflow_mul-left : goal.overflow_mul-left
-overflow_mul-left c =
-    omega (arith, c.loop-left.invariant.arcs, shape_facts _ c.requires.0)
-
-pub overflow_add-states-in-loop-left : goal.overflow_add-states-in-loop-left
-overflow_add-states-in-loop-left c =
-    omega (arith, c.loop-left.invariant.arcs, c.requires.1, shape_facts _ c.requires.0)
 
 pub note_arc-requires : goal.note_arc-requires
 note_arc-requires c =
@@ -35,12 +18,8 @@ note_arc-requires c =
 
 pub returns-then-note_arc : goal.returns-then-note_arc
 returns-then-note_arc c =
-    ap (refuse 5) (sym (state_stop c.args.part.now c.args.from c.loop-left.invariant (c.loop-left.false - 1) (2 + c.args.states + 20 * (c.loop-left.false - 1)) (omega arith) (omega (arith, c.requires.1)) c.note_arc.new.0 (rw c.if-note_arc.true at c.note_arc.ensures)))
+    ap (refuse 5) (sym (state_stop c.args.part.now c.args.from c.loop-left.invariant (c.loop-left.left - 1) (2 + c.args.states + 20 * (c.loop-left.left - 1)) (omega arith) (omega (arith, c.requires.1)) c.note_arc.new.taken (rw c.if-note_arc.true at c.note_arc.ensures)))
 
 pub loop-left-preserved : goal.loop-left-preserved
 loop-left-preserved c =
-    state_next c.args.part.now c.args.from c.loop-left.invariant (c.loop-left.false - 1) (2 + c.args.states + 20 * (c.loop-left.false - 1)) (omega arith) (omega (arith, c.requires.1)) c.note_arc.new.0 (omega (arith, c.note_arc.auto, c.loop-left.invariant.size)) (rw c.if-note_arc.false at c.note_arc.ensures)
-
-pub returns-then-note_arc : goal.returns
-returns-then-note_arc c =
-    ap (refuse 5) (sym (state_end c.args.part.now c.args.from c.loop-left.invariant c.loop-left-test.false))
+    state_next c.args.part.now c.args.from c.loop-left.invariant (c.loop-left.left - 1) (2 + c.args.states + 20 * (c.loop-left.left - 1)) (omega arith) (omega (arith, c.requires.1)) c.note_arc.new.taken (omega (arith, c.note_arc.auto.taken, c.loop-left.invariant.size)) (rw c.if-note_arc.false at c.note_arc.ensures)

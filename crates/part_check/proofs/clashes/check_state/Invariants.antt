@@ -1,7 +1,4 @@
-use Rattle.basics.proofs.Words.{ap, sym, ◌+◌, ◌*◌, ◌-◌, arith, rules}
-use Rattle.refusals.specs.Refusals.{refuse}
-use Rattle.machine.specs.Accepted.{shape_facts}
-use Rattle.part_check.proofs.Clashing.{StateChecked, state_start, state_next, state_stop, state_end}
+use Rattle.part_check.proofs.Clashing.{StateChecked}
 use Rattle.part_check.proofs.clashes.check_state.Given as goal
 
 abbrev pub invariant-loop-left : goal.invariant-loop-left

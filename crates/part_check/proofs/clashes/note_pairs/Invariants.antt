@@ -1,7 +1,6 @@
-use Rattle.basics.proofs.Words.{◌≡◌, sym, ap, ap₂, ◌∙◌, not, ◌&&◌, ℕ, arith, length, length-set, get_or, eqb, member, rules}
-use lib.Bits.{bit_and, bit_or, and_le_r}
-use Rattle.machine.specs.Machine.{takes}
-use Rattle.part_check.proofs.Clashing.{PairsPassed, pairs_none, pair_found, not_yet, pairs_next, pairs_end}
+use Rattle.std.specs.Prelude.{◌≡◌}
+use Rattle.basics.proofs.Words.{length}
+use Rattle.part_check.proofs.Clashing.{PairsPassed}
 use Rattle.part_check.proofs.clashes.note_pairs.Given as goal
 
 abbrev pub invariant-loop-left : goal.invariant-loop-left

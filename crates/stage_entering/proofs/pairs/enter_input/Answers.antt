@@ -1,4 +1,5 @@
-use Rattle.basics.proofs.Words.{◌≡◌, sym, ◌∙◌, inr, ◌^◌, ◌<◌, arith, length, rules}
+use Rattle.std.specs.Prelude.{◌≡◌, ◌^◌, ◌<◌}
+use Rattle.basics.proofs.Words.{sym, ◌∙◌, inr, arith, length, rules}
 use Rattle.cells.specs.Laws.Fours.{without_less}
 use Rattle.entering.proofs.Fours.{four_few, four_or_after}
 use Rattle.stage_entering.specs.Entering.{codes_at}
@@ -24,7 +25,7 @@ pub try_four-requires : goal.try_four-requires
 try_four-requires c =
     let Q = c.requires.0 in
     let j = c.add_four in
-    four_ready Q.tables c.prepare-outputs.ensures (four_few c.loop-outputs.outputs c.next_four-four.ensures) (j.kept.1.1.1.1.1.1.0 ∙ c.loop-outputs.invariant.2) (j.kept.1.1.1.1.1.1.1.0 ∙ c.loop-outputs.invariant.3) j.ensures _ _ Q.order (nodes_kept c.loop-outputs.invariant.0.size c.loop-outputs.invariant.0.others Q.given) (ahead_kept c.loop-outputs.invariant.0.counts (λ w h. c.loop-outputs.invariant.0.others w (inr h)) Q.ahead_is)
+    four_ready Q.tables c.prepare-outputs.ensures (four_few c.loop-outputs.outputs c.next_four-four.ensures) (c.add_four.auto.high ∙ c.loop-outputs.invariant.2) (c.add_four.auto.low ∙ c.loop-outputs.invariant.3) j.ensures _ _ Q.order (nodes_kept c.loop-outputs.invariant.0.size c.loop-outputs.invariant.0.others Q.given) (ahead_kept c.loop-outputs.invariant.0.counts (λ w h. c.loop-outputs.invariant.0.others w (inr h)) Q.ahead_is)
 
 pub loop-outputs-smaller : goal.loop-outputs-smaller
 loop-outputs-smaller c =
@@ -34,28 +35,13 @@ pub loop-outputs-preserved : goal.loop-outputs-preserved
 loop-outputs-preserved c =
     let j = c.add_four in
     let f = c.next_four-four.ensures in
-    let eh = j.kept.1.1.1.1.1.1.0 ∙ c.loop-outputs.invariant.2 in
-    let el = j.kept.1.1.1.1.1.1.1.0 ∙ c.loop-outputs.invariant.3 in (
+    let eh = c.add_four.auto.high ∙ c.loop-outputs.invariant.2 in
+    let el = c.add_four.auto.low ∙ c.loop-outputs.invariant.3 in (
       fours_next c.requires.0.tables c.prepare-outputs.ensures (four_few c.loop-outputs.outputs f) eh el j.ensures (four_or_after c.loop-outputs.outputs c.loop-outputs.invariant.1 f c.without_four-outputs.ensures) c.loop-outputs.invariant.0 c.try_four.ensures,
       omega (arith, c.without_four-outputs.type_inv),
       eh,
       el,
     )
-
-pub shape_of-work : goal.shape_of-work
-shape_of-work c = c.loop-outputs.invariant.0.size
-
-pub shape_of-steps : goal.shape_of-steps
-shape_of-steps c =
-    c.prepare-outputs.kept.0
-
-pub shape_of-high : goal.shape_of-high
-shape_of-high c =
-    c.loop-outputs.invariant.2 ∙ sym c.requires.0.high_size
-
-pub shape_of-low : goal.shape_of-low
-shape_of-low c =
-    c.loop-outputs.invariant.3 ∙ sym c.requires.0.low_size
 
 pub returns : goal.returns
 returns c =

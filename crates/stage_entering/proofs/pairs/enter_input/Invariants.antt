@@ -1,4 +1,5 @@
-use Rattle.basics.proofs.Words.{◌≡◌, sym, ◌∙◌, inr, ◌^◌, ◌<◌, arith, length, rules}
+use Rattle.std.specs.Prelude.{◌≡◌, ◌^◌, ◌<◌}
+use Rattle.basics.proofs.Words.{sym, ◌∙◌, inr, arith, length, rules}
 use Rattle.cells.specs.Laws.Fours.{without_less}
 use Rattle.entering.proofs.Fours.{four_few, four_or_after}
 use Rattle.stage_entering.specs.Entering.{codes_at}

@@ -15,24 +15,7 @@ count-requires c =
 pub list-requires : goal.list-requires
 list-requires c =
     let n = c.count.ensures.0 in
-    let k = c.count.kept.1.1.1.1.1.1.1 in
-    (count_ready c.requires.0 c.prepare-kept.ensures, n, omega (arith, n.few, codes_few c.requires.0, c.requires.2), omega (arith, c.requires.0.few, k.0, c.requires.3), omega (arith, c.requires.0.few, k.1.0, c.requires.4))
-
-pub shape_of-entries : goal.shape_of-entries
-shape_of-entries c =
-    c.list.kept.0
-
-pub shape_of-steps : goal.shape_of-steps
-shape_of-steps c =
-    c.prepare-kept.kept.0
-
-pub shape_of-high : goal.shape_of-high
-shape_of-high c =
-    c.list.kept.1.1.1.1.1.1.1.1.0 ∙ c.count.kept.1.1.1.1.1.1.1.0
-
-pub shape_of-low : goal.shape_of-low
-shape_of-low c =
-    c.list.kept.1.1.1.1.1.1.1.1.1.0 ∙ c.count.kept.1.1.1.1.1.1.1.1.0
+    (count_ready c.requires.0 c.prepare-kept.ensures, n, omega (arith, n.few, codes_few c.requires.0, c.requires.2), omega (arith, c.requires.0.few, c.count.auto.high, c.requires.3), omega (arith, c.requires.0.few, c.count.auto.low, c.requires.4))
 
 pub returns : goal.returns
 returns c =

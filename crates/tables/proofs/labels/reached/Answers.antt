@@ -1,4 +1,3 @@
-use borrow.Author.Rules.{rules}
 use Rattle.tables.proofs.Work.{reached_test}
 use Rattle.tables.proofs.labels.reached.Goals as goal
 

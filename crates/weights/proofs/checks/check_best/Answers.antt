@@ -1,4 +1,5 @@
-use Rattle.basics.proofs.Words.{sym, ap, ◌∙◌, Bool, [], ◌∷◌, ◌*◌, ◌%◌, arith, leb, lt-ltb, le-ltb, le-leb, lt-leb}
+use Rattle.std.specs.Prelude.{◌∷◌, ◌*◌, ◌%◌}
+use Rattle.basics.proofs.Words.{sym, ap, ◌∙◌, Bool, [], arith, leb, lt-ltb, le-ltb, le-leb, lt-leb}
 use Rattle.refusals.specs.Refusals.{refuse, first_of}
 use Rattle.tables.specs.SumLabels.{no_label}
 use Rattle.weights.proofs.checks.check_best.Goals as goal

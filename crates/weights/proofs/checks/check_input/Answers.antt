@@ -1,4 +1,5 @@
-use Rattle.basics.proofs.Words.{◌≡◌, sym, ◌∙◌, List, [], ◌∷◌, ℕ, ◌+◌, ◌*◌, arith, length, leb, rules}
+use Rattle.std.specs.Prelude.{◌≡◌, ◌∷◌, ◌+◌, ◌*◌}
+use Rattle.basics.proofs.Words.{sym, ◌∙◌, List, [], ℕ, arith, length, leb, rules}
 use Rattle.refusals.specs.Refusals.{refuse, first_of, checked_number}
 use Rattle.refusals.proofs.Refusals.{passed_number, refused_number, goes_up, first_on}
 use Rattle.card.specs.Layout.{machine_count, symbol_count}

@@ -1,4 +1,5 @@
-use Rattle.basics.proofs.Words.{◌≡◌, refl, sym, ◌-◌, arith, length, drop, leb, all_of, rules}
+use Rattle.std.specs.Prelude.{◌≡◌, ◌-◌}
+use Rattle.basics.proofs.Words.{refl, sym, arith, length, drop, leb, all_of, rules}
 use Rattle.refusals.proofs.Refusals.{passes_with, refuses_with}
 use Rattle.weights.proofs.Checking.{other_count, one_above, none_above, one_passes}
 use Rattle.weights.proofs.checks.check_weights.Goals as goal

@@ -1,4 +1,5 @@
-use Rattle.basics.proofs.Words.{◌≡◌, sym, ◌∙◌, true, [], ◌∷◌, ◌+◌, ◌*◌, arith, length, leb, lit<, rules}
+use Rattle.std.specs.Prelude.{◌≡◌, ◌∷◌, ◌+◌, ◌*◌}
+use Rattle.basics.proofs.Words.{sym, ◌∙◌, true, [], arith, length, leb, lit<, rules}
 use Rattle.refusals.specs.Refusals.{refuse}
 use Rattle.refusals.proofs.Refusals.{was_true, goes_up, last_one}
 use Rattle.product.specs.Optimizing.{sound_word}

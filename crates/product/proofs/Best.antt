@@ -18,7 +18,8 @@ use Rattle.product.specs.ProductGraph.{pairs, start_node, product_graph, priced_
 use Rattle.product.specs.Laws.JointStep.{Sound, AllSound, all_none, all_next, marks_next, marks_stuck}
 use Rattle.product.specs.Laws.Candidates.{same_word_lem, word_same, candidate_cost, CostOfCandidate, cost_candidate}
 use Rattle.product.specs.Laws.Preference.{key_of}
-use Rattle.product.specs.Laws.Listing.{From, from_none, from_next, over_pairs, lists_short, lists_from, short_listed, from_pairs, contenders_listed, listed_contenders, least_member, LeastUpto, least_upto}
+use Rattle.product.specs.Laws.Listing.{From, from_none, from_next, over_pairs, lists_short, lists_from, short_listed, from_pairs}
+use Rattle.product.proofs.Listing.{contenders_listed, listed_contenders, least_member, LeastUpto, least_upto}
 use Rattle.product.specs.Laws.Accepted.{accepted_machines}
 use Rattle.product.specs.Laws.CardGraph.{some_machine, start_within, word_within}
 
