@@ -9,7 +9,6 @@ use Rattle.settling.specs.Packing.{packed_path}
 use Rattle.cells.specs.declared.Cell.{Cell}
 use Rattle.cells.specs.Cells.{nowhere}
 use Rattle.cells.specs.Labels.{cell_at}
-use Rattle.cells.specs.Laws.Labels.{written}
 use Rattle.cells.specs.Laws.Trying.{label_there, label_none}
 use Rattle.closing.specs.CountsPacking.{first_counts, last_counts, counts_packing}
 use Rattle.closing.specs.Closing.{CountsHeld, CountsStored, CountsPre, CountsClosed}

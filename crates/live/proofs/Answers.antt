@@ -9,7 +9,7 @@ use Rattle.live.specs.declared.Counted.{Counted}
 use Rattle.live.specs.declared.Lead.{Lead}
 use Rattle.live.specs.Rows.{present, added, removed, fits, has_room, leader_of, counted, refused_count, unled, lead_answer}
 use Rattle.live.specs.Steps.{putting_in, taking_out, leader_down}
-use Rattle.live.specs.Laws.Rows.{some_row}
+use Rattle.live.proofs.Rows.{some_row}
 use Rattle.live.specs.Calls.{adding_refusal, removing_refusal, leading_refusal, leading, Adds, Removes}
 use Rattle.live_checks.proofs.Checks.{first_three, three_stay, three_go}
 use Rattle.live.proofs.Leading.{leader_found}

@@ -9,7 +9,7 @@ use Rattle.refusals.specs.Refusals.{checked_number, refuse}
 use Rattle.refusals.proofs.Refusals.{was_true, was_false}
 use Rattle.live.specs.declared.Row.{Row}
 use Rattle.live.specs.Rows.{zero_row, has_id, present, without, removed, led}
-use Rattle.live.specs.Laws.Rows.{without_none, without_here, present_here, present_later}
+use Rattle.live.proofs.Rows.{without_none, without_here, present_here, present_later}
 use Rattle.live.specs.Steps.{row_at, place, closing_by, putting_in, taking_out, better_of, best_from, leader_down}
 
 -- the rows from a place on, of the first count

@@ -3,7 +3,5 @@ pub mod Rows
 pub mod Calls
 pub mod Afresh
 pub mod Steps
--- lemmas
-pub mod Laws
--- theorems
+-- what the theorems say
 pub mod LiveTableau

@@ -1,5 +1,5 @@
-use Rattle.std.specs.Prelude.{◌≡◌, ◌-◌, ◌≤◌}
-use Rattle.basics.proofs.Words.{subst, arith, rules}
+use Rattle.std.specs.Prelude.{◌≡◌}
+use Rattle.basics.proofs.Words.{subst, arith}
 use Rattle.closing.specs.Closing.{CountsClosed}
 use Rattle.closing.proofs.ClosingCodes.{stored_start, has_node, stored_next}
 use Rattle.closing.proofs.close_counts.Goals as goal

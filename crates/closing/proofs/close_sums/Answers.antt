@@ -1,5 +1,5 @@
-use Rattle.std.specs.Prelude.{◌≡◌, ◌-◌, ◌≤◌}
-use Rattle.basics.proofs.Words.{subst, arith, rules}
+use Rattle.std.specs.Prelude.{◌≡◌}
+use Rattle.basics.proofs.Words.{subst, arith}
 use Rattle.closing.specs.Closing.{SumsClosed}
 use Rattle.closing.proofs.ClosingSums.{sums_start, sums_next}
 use Rattle.closing.proofs.close_sums.Goals as goal

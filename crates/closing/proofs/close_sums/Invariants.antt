@@ -1,7 +1,5 @@
-use Rattle.std.specs.Prelude.{◌≡◌, ◌-◌, ◌≤◌}
-use Rattle.basics.proofs.Words.{subst, arith, rules}
+use Rattle.std.specs.Prelude.{◌-◌, ◌≤◌}
 use Rattle.closing.specs.Closing.{SumsClosed}
-use Rattle.closing.proofs.ClosingSums.{sums_start, sums_next}
 use Rattle.closing.proofs.close_sums.Given as goal
 
 abbrev pub invariant-loop-code : goal.invariant-loop-code

@@ -1,5 +1,5 @@
-use Rattle.std.specs.Prelude.{◌≡◌, ◌-◌, ◌≤◌}
-use Rattle.basics.proofs.Words.{subst, arith, rules}
+use Rattle.std.specs.Prelude.{◌≡◌}
+use Rattle.basics.proofs.Words.{subst, arith}
 use Rattle.closing.proofs.Passing.{PassedBelow, passed_start, pass_pre, passed_next, passed_end}
 use Rattle.closing.proofs.pass_all.Goals as goal
 

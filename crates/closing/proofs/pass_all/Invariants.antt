@@ -1,6 +1,5 @@
-use Rattle.std.specs.Prelude.{◌≡◌, ◌-◌, ◌≤◌}
-use Rattle.basics.proofs.Words.{subst, arith, rules}
-use Rattle.closing.proofs.Passing.{PassedBelow, passed_start, pass_pre, passed_next, passed_end}
+use Rattle.std.specs.Prelude.{◌-◌, ◌≤◌}
+use Rattle.closing.proofs.Passing.{PassedBelow}
 use Rattle.closing.proofs.pass_all.Given as goal
 
 abbrev pub invariant-loop-code : goal.invariant-loop-code

@@ -1,4 +1,4 @@
-use Rattle.basics.proofs.Words.{arith, rules}
+use Rattle.basics.proofs.Words.{arith}
 use Rattle.closing.proofs.Passing.{at_least, passed}
 use Rattle.closing.proofs.pass_on.Goals as goal
 

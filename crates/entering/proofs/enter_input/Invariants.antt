@@ -1,7 +1,6 @@
 use Rattle.std.specs.Prelude.{◌≡◌, ◌^◌, ◌<◌}
-use Rattle.basics.proofs.Words.{refl, sym, ◌∙◌, arith, length, rules}
-use Rattle.cells.specs.Laws.Fours.{without_less}
-use Rattle.entering.proofs.Fours.{FoursTried, four_few, four_or_after, of_width, fill_ready, four_ready, try_ready, fours_start, fours_next, fours_end}
+use Rattle.basics.proofs.Words.{length}
+use Rattle.entering.proofs.Fours.{FoursTried}
 use Rattle.entering.proofs.enter_input.Given as goal
 
 abbrev pub invariant-loop-outputs : goal.invariant-loop-outputs

@@ -1,6 +1,6 @@
-use Rattle.std.specs.Prelude.{◌≡◌, ◌&&◌}
-use Rattle.basics.proofs.Words.{refl, sym, ◌∙◌, ap, not, ℕ, arith, length, eqb, member, rules}
-use Rattle.entering.proofs.Symbols.{blank_position, still_ready, blank_codes, SymbolsTried, symbols_start, symbols_next, symbols_end}
+use Rattle.std.specs.Prelude.{◌≡◌}
+use Rattle.basics.proofs.Words.{length}
+use Rattle.entering.proofs.Symbols.{SymbolsTried}
 use Rattle.entering.proofs.enter_symbols.Given as goal
 
 abbrev pub invariant-loop-left : goal.invariant-loop-left

@@ -1,5 +1,5 @@
 use Rattle.std.specs.Prelude.{◌≡◌}
-use Rattle.basics.proofs.Words.{sym, subst, Bool, true, false, List, ℕ, length, rules, eq-eqb, ne_eqb}
+use Rattle.basics.proofs.Words.{sym, subst, Bool, true, false, List, ℕ, length, eq-eqb, ne_eqb}
 use Rattle.settling.specs.Insertions.{lists_of}
 use Rattle.settling.specs.Settling.{SettlePre, Settled}
 use Rattle.labelling.specs.Kinds.{in_counts}

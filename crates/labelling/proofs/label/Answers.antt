@@ -1,9 +1,5 @@
-use Rattle.std.specs.Prelude.{◌*◌}
-use Rattle.basics.proofs.Words.{arith, take, rules}
-use Rattle.card.specs.Card.{machines_of}
-use Rattle.product.specs.Nodes.{state_counts}
+use Rattle.basics.proofs.Words.{arith}
 use Rattle.tables.specs.Places.{six_places}
-use Rattle.cells.specs.Columns.{WeightsOf}
 use Rattle.insertions.specs.RankedWeights.{RankedWeights}
 use Rattle.labelling.proofs.Sizes.{counts_fit, counts_length, counts_some, machines_few, weights_front_length, weights_front, in_front_lem}
 use Rattle.labelling.proofs.Preparing.{counts_ranked, search_ready, label_done}

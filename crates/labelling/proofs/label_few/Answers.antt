@@ -1,5 +1,5 @@
 use Rattle.std.specs.Prelude.{◌*◌}
-use Rattle.basics.proofs.Words.{sym, ℕ, arith, length-replicate, rules}
+use Rattle.basics.proofs.Words.{sym, ℕ, arith, length-replicate}
 use Rattle.labelling.proofs.Sizes.{states_small}
 use Rattle.labelling.proofs.Preparing.{columns_length}
 use Rattle.labelling.proofs.label_few.Goals as goal

@@ -1,5 +1,5 @@
 use Rattle.std.specs.Prelude.{◌*◌}
-use Rattle.basics.proofs.Words.{sym, ℕ, arith, length-replicate, rules}
+use Rattle.basics.proofs.Words.{sym, ℕ, arith, length-replicate}
 use Rattle.product.specs.Laws.Setting.{few_codes}
 use Rattle.labelling.proofs.Sizes.{states_few}
 use Rattle.labelling.proofs.Preparing.{columns_length}

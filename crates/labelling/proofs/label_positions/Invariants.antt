@@ -1,8 +1,6 @@
-use Rattle.std.specs.Prelude.{◌≡◌, ◌-◌, ◌≤◌}
-use Rattle.basics.specs.Words.{refl, sym, ◌∙◌, ℕ, arith, length, length-replicate}
-use Rattle.labelling.proofs.Sizes.{counts_fit, counts_length, states_are}
+use Rattle.std.specs.Prelude.{◌≡◌, ◌≤◌}
+use Rattle.basics.specs.Words.{length}
 use Rattle.labelling.proofs.Finishing.{PositionClosed}
-use Rattle.labelling.proofs.Looping.{enter_ready, base_few, last_ready, last_closed, blank_there, next_there, symbols_ready, symbols_closed, all_closed, one_before, zeros_fit}
 use Rattle.labelling.proofs.label_positions.Given as goal
 
 abbrev pub invariant-loop-position : goal.invariant-loop-position

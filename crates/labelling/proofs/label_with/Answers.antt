@@ -1,5 +1,4 @@
-use Rattle.std.specs.Prelude.{◌+◌, ◌*◌, ◌≤◌}
-use Rattle.basics.proofs.Words.{◌∙◌, ℕ, arith, length, length-replicate, rules}
+use Rattle.basics.proofs.Words.{◌∙◌, ℕ, arith, length-replicate}
 use Rattle.labelling.proofs.Sizes.{counts_fit, counts_length, counts_some, size_is, states_are}
 use Rattle.labelling.proofs.Preparing.{fill_ready, list_ready, lists_ready, groups_room}
 use Rattle.labelling.proofs.label_with.Goals as goal

@@ -1,4 +1,4 @@
-use Rattle.basics.proofs.Words.{sym, List·getD-eq-default, rules}
+use Rattle.basics.proofs.Words.{sym, List·getD-eq-default}
 use Rattle.machine_weights.proofs.high_at.Goals as goal
 
 pub returns : goal.returns

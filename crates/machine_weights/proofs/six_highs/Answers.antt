@@ -1,4 +1,3 @@
-use borrow.Author.Rules.{rules}
 use Rattle.machine_weights.proofs.six_highs.Goals as goal
 
 -- src/lib.rt:58:1

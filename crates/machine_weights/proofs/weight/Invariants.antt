@@ -1,6 +1,5 @@
 use Rattle.std.specs.Prelude.{◌-◌}
-use Rattle.basics.proofs.Words.{arith, rules}
-use Rattle.machine_weights.proofs.Weighing.{SumTo, sum_start, sum_taken, sum_passed, sum_end}
+use Rattle.machine_weights.proofs.Weighing.{SumTo}
 use Rattle.machine_weights.proofs.weight.Given as goal
 
 abbrev pub invariant-loop-i : goal.invariant-loop-i

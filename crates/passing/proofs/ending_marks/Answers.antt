@@ -1,4 +1,4 @@
-use Rattle.basics.proofs.Words.{sym, ◌∙◌, ap, Option·none-ne-some, arith, rules}
+use Rattle.basics.proofs.Words.{sym, ◌∙◌, ap, Option·none-ne-some, arith}
 use Rattle.machine.specs.Machine.{ended}
 use Rattle.passing.proofs.ending_marks.Goals as goal
 

@@ -1,6 +1,5 @@
-use Rattle.std.specs.Prelude.{◌-◌}
-use Rattle.basics.proofs.Words.{sym, ◌∙◌, arith, length, rules}
-use Rattle.passing.proofs.Placing.{column_few, column_in, PassedTo, passed_start, mark_fits, in_states, in_marks, step_few, passed_next, passed_states, passed_marks}
+use Rattle.basics.proofs.Words.{sym, ◌∙◌, arith}
+use Rattle.passing.proofs.Placing.{column_few, column_in, passed_start, mark_fits, in_states, in_marks, step_few, passed_next, passed_states, passed_marks}
 use Rattle.passing.proofs.pass.Goals as goal
 
 pub loop-m-init : goal.loop-m-init

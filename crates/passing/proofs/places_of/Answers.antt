@@ -1,6 +1,5 @@
-use Rattle.std.specs.Prelude.{◌-◌}
-use Rattle.basics.proofs.Words.{sym, ◌∙◌, arith, length, rules}
-use Rattle.passing.proofs.Placing.{PlacedTo, placed_start, in_six, next_few, place_few, placed_next, placed_end}
+use Rattle.basics.proofs.Words.{sym, ◌∙◌, arith}
+use Rattle.passing.proofs.Placing.{placed_start, in_six, next_few, place_few, placed_next, placed_end}
 use Rattle.passing.proofs.places_of.Goals as goal
 
 pub loop-m-init : goal.loop-m-init

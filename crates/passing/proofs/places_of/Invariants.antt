@@ -1,6 +1,6 @@
 use Rattle.std.specs.Prelude.{◌-◌}
-use Rattle.basics.proofs.Words.{sym, ◌∙◌, arith, length, rules}
-use Rattle.passing.proofs.Placing.{PlacedTo, placed_start, in_six, next_few, place_few, placed_next, placed_end}
+use Rattle.basics.proofs.Words.{length}
+use Rattle.passing.proofs.Placing.{PlacedTo}
 use Rattle.passing.proofs.places_of.Given as goal
 
 abbrev pub invariant-loop-m : goal.invariant-loop-m

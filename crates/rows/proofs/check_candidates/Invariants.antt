@@ -1,8 +1,6 @@
 use Rattle.std.specs.Prelude.{◌≡◌, ◌≤◌, ◌-◌}
-use Rattle.basics.proofs.Words.{sym, ap, ◌∙◌, true, arith, every_below, rules, not-true, not-false, every_start, every_next, one_below_fails}
-use Rattle.refusals.proofs.Refusals.{passes_with, refuses_with}
-use Rattle.layout.specs.LaidOut.{part_within}
-use Rattle.rows.specs.Tableau.{row_count, row_of}
+use Rattle.basics.proofs.Words.{true, every_below}
+use Rattle.rows.specs.Tableau.{row_of}
 use Rattle.rows.specs.Judging.{is_for_word}
 use Rattle.rows.proofs.check_candidates.Given as goal
 

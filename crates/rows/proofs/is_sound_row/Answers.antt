@@ -1,4 +1,4 @@
-use Rattle.std.specs.Prelude.{◌≡◌, ◌≤◌}
+use Rattle.std.specs.Prelude.{◌≡◌}
 use Rattle.basics.proofs.Words.{sym, ap, ◌∙◌, List, ℕ, arith, get_or}
 use Rattle.rows.specs.Tableau.{counts_of}
 use Rattle.rows.proofs.Rows.{zeros_from, row_short, row_long, zero_next, not_zero, zero_end}

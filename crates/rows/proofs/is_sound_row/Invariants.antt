@@ -1,7 +1,5 @@
 use Rattle.std.specs.Prelude.{◌≡◌, ◌≤◌, ◌-◌}
-use Rattle.basics.proofs.Words.{refl, sym, ap, ◌∙◌, List, ℕ, arith, get_or, rules}
-use Rattle.rows.specs.Tableau.{counts_of}
-use Rattle.rows.proofs.Rows.{zeros_from, row_short, row_long, zero_next, not_zero, zero_end}
+use Rattle.rows.proofs.Rows.{zeros_from}
 use Rattle.rows.proofs.is_sound_row.Given as goal
 
 abbrev pub invariant-loop-machine : goal.invariant-loop-machine

@@ -1,5 +1,5 @@
 use Rattle.std.specs.Prelude.{◌≡◌}
-use Rattle.basics.proofs.Words.{sym, ap, ◌∙◌, Bool, false, List, ℕ, arith}
+use Rattle.basics.proofs.Words.{sym, ap, ◌∙◌, Bool, List, ℕ, arith}
 use Rattle.rows.specs.Tableau.{row_count, claimed_row, row_of}
 use Rattle.rows.proofs.Verdicts.{first_before, none_start, none_next, claim_wins, later_wins, no_row_wins}
 use Rattle.rows.proofs.verdict_of.Invariants.{wins}

@@ -1,8 +1,8 @@
 use Rattle.std.specs.Prelude.{◌≡◌, ◌≤◌, ◌-◌}
-use Rattle.basics.proofs.Words.{sym, ap, ◌∙◌, Bool, false, List, none, ℕ, arith, rules}
-use Rattle.rows.specs.Tableau.{row_count, claimed_row, row_of, counts_of}
+use Rattle.basics.proofs.Words.{Bool, List, none, ℕ}
+use Rattle.rows.specs.Tableau.{counts_of}
 use Rattle.rows.specs.Judging.{same_counts}
-use Rattle.rows.proofs.Verdicts.{first_before, none_start, none_next, claim_wins, later_wins, no_row_wins}
+use Rattle.rows.proofs.Verdicts.{first_before}
 use Rattle.rows.proofs.verdict_of.Given as goal
 
 -- a row that has the counts wins

@@ -1,9 +1,6 @@
-use Rattle.basics.proofs.Words.{arith, rules, not-true, not-false}
+use Rattle.basics.proofs.Words.{arith}
 use Rattle.stage.proofs.Marks.{place_0, place_1, place_2, place_3, place_4}
 use Rattle.stage.proofs.StageWork.{left_start, makes_next, left_told, makes_broken}
-use Rattle.stage.proofs.arc_left.Reads as reads
-use Rattle.stage.proofs.arc_left.Lts as lts
-use Rattle.stage.proofs.makes.Reads as makes-reads
 use Rattle.stage.proofs.arc_left.Goals as goal
 
 -- src/lib.rt:91:9

@@ -1,7 +1,5 @@
-use Rattle.std.specs.Prelude.{◌-◌, ◌≤◌}
-use Rattle.basics.proofs.Words.{arith, rules}
-use Rattle.stage.specs.Relaxing.{no_counts}
-use Rattle.stage.proofs.StageWork.{KeptBelow, left_start, left_next, left_told, left_broken}
+use Rattle.basics.proofs.Words.{arith}
+use Rattle.stage.proofs.StageWork.{left_start, left_next, left_told, left_broken}
 use Rattle.stage.proofs.ending_left.Goals as goal
 
 pub loop-i-init : goal.loop-i-init

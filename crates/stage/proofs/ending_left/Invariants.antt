@@ -1,7 +1,6 @@
 use Rattle.std.specs.Prelude.{◌-◌, ◌≤◌}
-use Rattle.basics.proofs.Words.{arith, rules}
 use Rattle.stage.specs.Relaxing.{no_counts}
-use Rattle.stage.proofs.StageWork.{KeptBelow, left_start, left_next, left_told, left_broken}
+use Rattle.stage.proofs.StageWork.{KeptBelow}
 use Rattle.stage.proofs.ending_left.Given as goal
 
 abbrev pub invariant-loop-i : goal.invariant-loop-i

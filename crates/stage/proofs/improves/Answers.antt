@@ -1,4 +1,4 @@
-use Rattle.basics.proofs.Words.{arith, rules}
+use Rattle.basics.proofs.Words.{arith}
 use Rattle.stage.proofs.StageWork.{compared_none, compared_count, compared_pairs}
 use Rattle.stage.proofs.improves.Goals as goal
 

@@ -1,8 +1,5 @@
 use Rattle.std.specs.Prelude.{◌+◌}
-use Rattle.basics.proofs.Words.{eqb, rules}
-use Rattle.stage.proofs.makes.Reads as reads
-use Rattle.stage.proofs.makes.Lts as lts
-use Rattle.stage.proofs.wide.Reads as wide-reads
+use Rattle.basics.proofs.Words.{eqb}
 use Rattle.stage.proofs.makes.Goals as goal
 
 -- src/lib.rt:78:1

@@ -1,5 +1,5 @@
 use Rattle.std.specs.Prelude.{◌≡◌}
-use Rattle.basics.proofs.Words.{arith, rules}
+use Rattle.basics.proofs.Words.{arith}
 use Rattle.stage.proofs.Marks.{first_marks, second_marks, third_marks, fourth_marks, fifth_marks, sixth_marks}
 use Rattle.stage.proofs.marks_at.Goals as goal
 

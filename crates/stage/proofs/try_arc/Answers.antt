@@ -1,4 +1,4 @@
-use Rattle.basics.proofs.Words.{refl, arith, rules, not-true, not-false}
+use Rattle.basics.proofs.Words.{refl, arith}
 use Rattle.stage.specs.Relaxing.{unlabelled, dropped}
 use Rattle.stage.proofs.StageWork.{stage_labelled, stage_unlabelled, arc_pairs, arc_count_lem, arc_lowered}
 use Rattle.stage.proofs.try_arc.Goals as goal

@@ -1,6 +1,4 @@
-use Rattle.std.specs.Prelude.{◌≡◌, ◌-◌, ◌≤◌}
-use Rattle.basics.specs.Words.{arith, length, length-set}
-use Rattle.stage_entering.specs.Entering.{AheadOf}
+use Rattle.basics.specs.Words.{arith, length-set}
 use Rattle.stage_entering.proofs.Front.{look_start, look_next, look_end}
 use Rattle.stage_entering.proofs.look_ahead.Goals as goal
 

@@ -1,7 +1,6 @@
 use Rattle.std.specs.Prelude.{◌≡◌, ◌-◌, ◌≤◌}
-use Rattle.basics.specs.Words.{arith, length, length-set}
+use Rattle.basics.specs.Words.{length}
 use Rattle.stage_entering.specs.Entering.{AheadOf}
-use Rattle.stage_entering.proofs.Front.{look_start, look_next, look_end}
 use Rattle.stage_entering.proofs.look_ahead.Given as goal
 
 abbrev pub invariant-loop-code : goal.invariant-loop-code

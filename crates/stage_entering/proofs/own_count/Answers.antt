@@ -1,4 +1,4 @@
-use Rattle.basics.proofs.Words.{sym, ◌∙◌, ap, arith, rules}
+use Rattle.basics.proofs.Words.{sym, ◌∙◌, ap, arith}
 use Rattle.stage_entering.specs.Entering.{top_of}
 use Rattle.stage.proofs.StageWork.{stage_labelled, stage_unlabelled}
 use Rattle.stage_entering.proofs.own_count.Goals as goal

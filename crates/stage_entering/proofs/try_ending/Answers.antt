@@ -1,5 +1,5 @@
 use Rattle.std.specs.Prelude.{◌<◌}
-use Rattle.basics.proofs.Words.{refl, sym, ◌∙◌, ap, subst, some, ℕ, arith, rules, not-true, not-false}
+use Rattle.basics.proofs.Words.{refl, sym, ◌∙◌, ap, subst, some, ℕ, arith}
 use Rattle.stage_entering.specs.Entering.{not_final, dropped_ending, lowered_ending}
 use Rattle.stage_entering.proofs.Lanes.{ending_none, ending_some, marks_small}
 use Rattle.stage_entering.proofs.try_ending.Goals as goal

@@ -1,7 +1,5 @@
-use Rattle.std.specs.Prelude.{◌+◌, ◌-◌, ◌≤◌}
 use Rattle.basics.specs.Words.{arith}
-use Rattle.stage_entering.specs.Entering.{CodesTried}
-use Rattle.stage_entering.proofs.Lanes.{codes_start, codes_next, codes_end, code_ready, AtPlaces, code_at, lanes_at, front_is, places_start, places_row, places_next}
+use Rattle.stage_entering.proofs.Lanes.{codes_start, codes_next, codes_end, code_ready, code_at, lanes_at, front_is, places_start, places_row, places_next}
 use Rattle.stage_entering.proofs.try_four.Goals as goal
 
 pub loop-code-init : goal.loop-code-init

@@ -1,7 +1,6 @@
 use Rattle.std.specs.Prelude.{◌+◌, ◌-◌, ◌≤◌}
-use Rattle.basics.specs.Words.{arith}
 use Rattle.stage_entering.specs.Entering.{CodesTried}
-use Rattle.stage_entering.proofs.Lanes.{codes_start, codes_next, codes_end, code_ready, AtPlaces, code_at, lanes_at, front_is, places_start, places_row, places_next}
+use Rattle.stage_entering.proofs.Lanes.{AtPlaces}
 use Rattle.stage_entering.proofs.try_four.Given as goal
 
 abbrev pub invariant-loop-code : goal.invariant-loop-code

@@ -1,5 +1,5 @@
 use Rattle.std.specs.Prelude.{◌<◌}
-use Rattle.basics.proofs.Words.{sym, subst, ℕ, arith, rules}
+use Rattle.basics.proofs.Words.{sym, subst, ℕ, arith}
 use Rattle.stage_entering.proofs.Front.{front_room}
 use Rattle.stage_entering.proofs.Lanes.{marks_small, lane_arc, lane_nothing, lane_passed, lane_tried}
 use Rattle.stage_entering.proofs.try_lane.Goals as goal

@@ -1,4 +1,4 @@
-use Rattle.basics.proofs.Words.{arith, rules}
+use Rattle.basics.proofs.Words.{arith}
 use Rattle.settling.proofs.OpenCodes.{chosen_none, chosen_front, chosen_back}
 use Rattle.stage_settling.proofs.Spreading.{front_in, back_in}
 use Rattle.stage_settling.proofs.choose.Goals as goal

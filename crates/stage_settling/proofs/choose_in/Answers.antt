@@ -1,7 +1,6 @@
-use Rattle.basics.proofs.Words.{refl, ⊎_elim, arith, rules}
+use Rattle.basics.proofs.Words.{refl, arith}
 use Rattle.settling.proofs.OpenCodes.{one_in, one_same}
-use Rattle.settling.specs.OpenCodes.{OneIn}
-use Rattle.settling.proofs.OpenCodes.{PartOf, part_less}
+use Rattle.settling.proofs.OpenCodes.{part_less}
 use Rattle.stage_settling.proofs.choose_in.Goals as goal
 use Rattle.stage_settling.proofs.choose_in.Goals.{then-is_before, else-is_before}
 

@@ -1,7 +1,5 @@
-use Rattle.basics.proofs.Words.{refl, ⊎_elim, arith, rules}
-use Rattle.settling.proofs.OpenCodes.{one_in, one_same}
 use Rattle.settling.specs.OpenCodes.{OneIn}
-use Rattle.settling.proofs.OpenCodes.{PartOf, part_less}
+use Rattle.settling.proofs.OpenCodes.{PartOf}
 use Rattle.stage_settling.proofs.choose_in.Given as goal
 
 abbrev pub invariant-loop-left : goal.invariant-loop-left

@@ -1,8 +1,6 @@
-use Rattle.std.specs.Prelude.{◌-◌, ◌≤◌}
-use Rattle.basics.proofs.Words.{refl, ⊎_elim, List, ℕ, arith, rules}
+use Rattle.basics.proofs.Words.{refl, arith}
 use Rattle.settling.proofs.OpenCodes.{none_open}
-use Rattle.stage_settling.specs.Settling.{turns}
-use Rattle.stage_settling.proofs.Spreading.{Settling, settling_start, settling_ready, settling_same, open_there, settling_step, settling_end, turn_less}
+use Rattle.stage_settling.proofs.Spreading.{settling_start, settling_ready, settling_same, open_there, settling_step, settling_end, turn_less}
 use Rattle.stage_settling.proofs.settle.Goals as goal
 use Rattle.stage_settling.proofs.settle.Goals.{then-is_open, else-is_open}
 

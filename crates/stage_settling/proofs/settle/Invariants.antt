@@ -1,8 +1,7 @@
 use Rattle.std.specs.Prelude.{◌-◌, ◌≤◌}
-use Rattle.basics.proofs.Words.{refl, ⊎_elim, List, ℕ, arith, rules}
-use Rattle.settling.proofs.OpenCodes.{none_open}
+use Rattle.basics.proofs.Words.{List, ℕ}
 use Rattle.stage_settling.specs.Settling.{turns}
-use Rattle.stage_settling.proofs.Spreading.{Settling, settling_start, settling_ready, settling_same, open_there, settling_step, settling_end, turn_less}
+use Rattle.stage_settling.proofs.Spreading.{Settling}
 use Rattle.stage_settling.proofs.settle.Given as goal
 
 abbrev pub invariant-loop-left : goal.invariant-loop-left

@@ -1,7 +1,6 @@
-use Rattle.std.specs.Prelude.{◌*◌, ◌-◌, ◌≤◌}
-use Rattle.basics.proofs.Words.{◌∙◌, arith, get_or, rules}
+use Rattle.basics.proofs.Words.{◌∙◌, arith}
 use Rattle.settling.proofs.Insertions.{listed}
-use Rattle.stage_settling.proofs.Spreading.{Spreading, spreading_start, spreading_step, spreading_end, settle_kept, entry_ready}
+use Rattle.stage_settling.proofs.Spreading.{spreading_start, spreading_step, spreading_end, settle_kept, entry_ready}
 use Rattle.stage_settling.proofs.spread.Goals as goal
 
 pub overflow_mul-to : goal.overflow_mul-to

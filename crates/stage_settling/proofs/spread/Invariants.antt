@@ -1,7 +1,6 @@
 use Rattle.std.specs.Prelude.{◌*◌, ◌-◌, ◌≤◌}
-use Rattle.basics.proofs.Words.{◌∙◌, arith, get_or, rules}
-use Rattle.settling.proofs.Insertions.{listed}
-use Rattle.stage_settling.proofs.Spreading.{Spreading, spreading_start, spreading_step, spreading_end, settle_kept, entry_ready}
+use Rattle.basics.proofs.Words.{get_or}
+use Rattle.stage_settling.proofs.Spreading.{Spreading}
 use Rattle.stage_settling.proofs.spread.Given as goal
 
 abbrev pub invariant-loop-at : goal.invariant-loop-at

@@ -1,4 +1,4 @@
-use Rattle.basics.proofs.Words.{◌∙◌, rules}
+use Rattle.basics.proofs.Words.{◌∙◌}
 use Rattle.stage_settling.proofs.take_one.Goals as goal
 
 pub spread-requires : goal.spread-requires

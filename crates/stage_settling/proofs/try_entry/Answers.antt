@@ -1,4 +1,4 @@
-use Rattle.basics.proofs.Words.{refl, arith, rules, clash}
+use Rattle.basics.proofs.Words.{refl, arith, clash}
 use Rattle.stage_settling.proofs.try_entry.Goals as goal
 
 pub overflow_add-base : goal.overflow_add-base

@@ -1,4 +1,4 @@
-use Rattle.basics.proofs.Words.{sym, rules}
+use Rattle.basics.proofs.Words.{sym}
 use Rattle.tight.specs.Laws.Labels.{counts_none, counts_made}
 use Rattle.tight.proofs.counts_cell.Goals as goal
 

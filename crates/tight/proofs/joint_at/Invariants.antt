@@ -1,8 +1,7 @@
 use Rattle.std.specs.Prelude.{◌*◌, ◌-◌, ◌^◌}
-use Rattle.basics.proofs.Words.{arith, length, rules}
+use Rattle.basics.proofs.Words.{length}
 use Rattle.cells.specs.Cells.{nowhere, high_at, low_at}
-use Rattle.passing.proofs.Placing.{column_few, column_in}
-use Rattle.tight.proofs.JointSteps.{SumTo, sum_start, joint_none, joint_whole, highs_next, lows_next, highs_fit, lows_fit}
+use Rattle.tight.proofs.JointSteps.{SumTo}
 use Rattle.tight.proofs.joint_at.Given as goal
 
 abbrev pub invariant-loop-m : goal.invariant-loop-m

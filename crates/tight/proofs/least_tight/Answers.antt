@@ -1,5 +1,5 @@
 use Rattle.basics.specs.Words.{arith}
-use Rattle.tight.proofs.Tests.{not_keeps, step_leads, step_pre, keeps_step, Trying, trying_start, trying_end, trying_found, trying_next}
+use Rattle.tight.proofs.Tests.{not_keeps, step_leads, step_pre, keeps_step, trying_start, trying_end, trying_found, trying_next}
 use Rattle.tight.proofs.least_tight.Goals as goal
 use Rattle.tight.proofs.least_tight.Goals.{then-step-lt-NOWHERE+else-keeps, else-step-lt-NOWHERE}
 

@@ -1,5 +1,4 @@
-use Rattle.basics.specs.Words.{arith}
-use Rattle.tight.proofs.Tests.{not_keeps, step_leads, step_pre, keeps_step, Trying, trying_start, trying_end, trying_found, trying_next}
+use Rattle.tight.proofs.Tests.{Trying}
 use Rattle.tight.proofs.least_tight.Given as goal
 
 abbrev pub invariant-loop-left : goal.invariant-loop-left

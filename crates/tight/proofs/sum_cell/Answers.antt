@@ -1,4 +1,4 @@
-use Rattle.basics.proofs.Words.{sym, arith, rules}
+use Rattle.basics.proofs.Words.{sym, arith}
 use Rattle.tight.specs.Laws.Labels.{sum_some, sum_none}
 use Rattle.tight.proofs.sum_cell.Goals as goal
 

@@ -1,35 +1,19 @@
-use Rattle.std.specs.Prelude.{◌≡◌, ◌-◌, ◌*◌, ◌≤◌}
-use Rattle.basics.proofs.Words.{ap, ℕ, arith, length, rules}
-use Rattle.weighted.specs.WeighsBy.{HighsWritten}
+use Rattle.std.specs.Prelude.{◌≡◌, ℕ, ◌*◌}
+use Rattle.std.proofs.Common.{ap, length, arith}
 use Rattle.weighted.proofs.Numbers.{highs_start, highs_next}
 use Rattle.weighted.proofs.write_highs.Goals as goal
 
 pub loop-m-init : goal.loop-m-init
 loop-m-init c = (highs_start c.args.weights.now c.args.numbers.now, omega arith)
 
-pub overflow_mul-numbers : goal.overflow_mul-numbers
-overflow_mul-numbers c = omega (arith, c.wide.ensures.1)
-
-pub overflow_mul-numbers-in-loop-m : goal.overflow_mul-numbers-in-loop-m
-overflow_mul-numbers-in-loop-m c =
-    omega (arith, c.requires.1, c.loop-m-test.true)
-
-pub overflow_add-numbers : goal.overflow_add-numbers
-overflow_add-numbers c =
-    omega (arith, c.requires.1, c.loop-m-test.true)
-
 pub bounds-numbers-m : goal.bounds-numbers-m
-bounds-numbers-m c =
-    omega (arith, c.requires.0, c.loop-m.invariant.0.size, c.loop-m-test.true)
+bounds-numbers-m c = omega (arith, c.requires.0, c.loop-m.invariant.0.size, c.loop-m-test.true)
 
 pub loop-m-preserved : goal.loop-m-preserved
 loop-m-preserved c = (
   highs_next c.loop-m.invariant.0 (omega (arith, c.requires.0, c.loop-m.invariant.0.size, c.loop-m-test.true)) (256 * c.wide.result) (ap (λ (n : ℕ). 256 * n) c.wide.ensures.0),
   omega (arith, c.loop-m-test.true),
 )
-
-pub shape_of-numbers : goal.shape_of-numbers
-shape_of-numbers c = c.loop-m.invariant.0.size
 
 pub returns : goal.returns
 returns c =

@@ -1,4 +1,4 @@
-use Rattle.basics.proofs.Words.{sym, arith, rules}
+use Rattle.basics.proofs.Words.{sym, arith}
 use Rattle.entering.proofs.LastPosition.{ending_there, ending_none}
 use Rattle.entering.proofs.endings.ending_label.Goals as goal
 

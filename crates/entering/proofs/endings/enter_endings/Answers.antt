@@ -1,4 +1,4 @@
-use Rattle.basics.proofs.Words.{arith, rules}
+use Rattle.basics.proofs.Words.{arith}
 use Rattle.entering.proofs.LastPosition.{fill_ready, add_ready, write_ready, last_entered}
 use Rattle.entering.proofs.endings.enter_endings.Goals as goal
 

@@ -1,7 +1,5 @@
 use Rattle.std.specs.Prelude.{◌-◌, ◌≤◌}
-use Rattle.basics.proofs.Words.{sym, ◌∙◌, arith, length-set, rules}
 use Rattle.entering.specs.Endings.{EndingsWritten}
-use Rattle.entering.proofs.LastPosition.{CodePlaces, code_places, written_start, written_next, written_end}
 use Rattle.entering.proofs.endings.write_endings.Given as goal
 
 abbrev pub invariant-loop-code : goal.invariant-loop-code

@@ -1,10 +1,8 @@
-use Rattle.std.specs.Prelude.{◌≡◌, ◌^◌, ◌<◌}
-use Rattle.basics.proofs.Words.{sym, ◌∙◌, inr, arith, length, rules}
+use Rattle.basics.proofs.Words.{◌∙◌, inr, arith}
 use Rattle.cells.specs.Laws.Fours.{without_less}
 use Rattle.entering.proofs.Fours.{four_few, four_or_after}
-use Rattle.stage_entering.specs.Entering.{codes_at}
 use Rattle.stage_entering.proofs.Front.{ahead_kept}
-use Rattle.stage_entering.proofs.Fours.{FoursTried, fours_start, fours_next, fours_end, add_ready, four_ready, nodes_kept, codes_are}
+use Rattle.stage_entering.proofs.Fours.{fours_start, fours_next, fours_end, add_ready, four_ready, nodes_kept, codes_are}
 use Rattle.stage_entering.proofs.pairs.enter_input.Goals as goal
 
 pub prepare-outputs-requires : goal.prepare-outputs-requires

@@ -1,10 +1,7 @@
 use Rattle.std.specs.Prelude.{◌≡◌, ◌^◌, ◌<◌}
-use Rattle.basics.proofs.Words.{sym, ◌∙◌, inr, arith, length, rules}
-use Rattle.cells.specs.Laws.Fours.{without_less}
-use Rattle.entering.proofs.Fours.{four_few, four_or_after}
+use Rattle.basics.proofs.Words.{length}
 use Rattle.stage_entering.specs.Entering.{codes_at}
-use Rattle.stage_entering.proofs.Front.{ahead_kept}
-use Rattle.stage_entering.proofs.Fours.{FoursTried, fours_start, fours_next, fours_end, add_ready, four_ready, nodes_kept, codes_are}
+use Rattle.stage_entering.proofs.Fours.{FoursTried}
 use Rattle.stage_entering.proofs.pairs.enter_input.Given as goal
 
 abbrev pub invariant-loop-outputs : goal.invariant-loop-outputs

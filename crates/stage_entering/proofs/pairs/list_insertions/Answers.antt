@@ -1,4 +1,4 @@
-use Rattle.basics.specs.Words.{◌∙◌, arith}
+use Rattle.basics.specs.Words.{arith}
 use Rattle.stage_entering.proofs.Listing.{count_ready, codes_few, listed_of}
 use Rattle.stage_entering.proofs.pairs.list_insertions.Goals as goal
 

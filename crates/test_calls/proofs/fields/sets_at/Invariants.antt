@@ -1,5 +1,4 @@
 use Prim.Native.Nat.{◌≤◌, ◌-◌}
-use borrow.Author.Rules.{rules}
 use Rattle.test_calls.proofs.fields.sets_at.Given as goal
 
 abbrev pub invariant-loop-position : goal.invariant-loop-position

@@ -21,28 +21,22 @@ by_sizes card weights word room g ok G =
     rw (G.machines, G.symbols, G.size)
     (sym (first_on (card_refusal card) (refuse 26 (sound_weights (machine_count card) weights) ∷ refuse 8 (sound_word (symbol_count card) word) ∷ refuse 9 (leb (2 * node_count (machines_of card) (length word)) room) ∷ []) ok))
 
-card-passed : (c : goal.In-Passed) → card_refusal c.before.before.before.before.before.before.args.card.now ≡ 0
-card-passed c = passed_number c.enum_told-1.given.1 c.check-checked.ensures
-
 pub returns-in_default : goal.returns-in_default
 unfolding weighted_refusal
 returns-in_default c =
     let n : checked_number c.check-checked.result ≡ weighted_refusal c.args.card.now c.args.weights.now c.args.word.now c.args.room =
-    goes_up c.enum_told-in_default-1.given.1 (card_refusal c.args.card.now)
+    goes_up c.in_default.is (card_refusal c.args.card.now)
     (refuse 26 (sound_weights (machine_count c.args.card.now) c.args.weights.now) ∷ refuse 8 (sound_word (symbol_count c.args.card.now) c.args.word.now) ∷ refuse 9 (leb (2 * node_count (machines_of c.args.card.now) (length c.args.word.now)) c.args.room) ∷ [])
     c.check-checked.ensures in
-    record { number = n; sizes = λ z. absurd (omega (arith, z, n, refused_number c.enum_told-in_default-1.given.1 c.check-checked.ensures, c.check-checked.ensures)) }
-
-pub grid_of-grid-requires : goal.grid_of-grid-requires
-grid_of-grid-requires c = card-passed c
+    record { number = n; sizes = λ z. absurd (omega (arith, z, n, refused_number c.in_default.is c.check-checked.ensures, c.check-checked.ensures)) }
 
 pub check_word-checked-requires : goal.check_word-checked-requires
 check_word-checked-requires c =
-    few_sizes c.args.card.now (card-passed c.before) c.grid_of-grid.result c.grid_of-grid.ensures
+    few_sizes c.args.card.now (passed_number c.in-Passed.is c.check-checked.ensures) c.grid_of-grid.result c.grid_of-grid.ensures
 
-pub returns-in_default : goal.returns
-returns-in_default c =
+pub returns : goal.returns
+returns c =
     record {
-      number = c.check_word-checked.ensures ∙ by_sizes c.args.card.now c.args.weights.now c.args.word.now c.args.room c.grid_of-grid.result (card-passed c.before.before) c.grid_of-grid.ensures;
+      number = c.check_word-checked.ensures ∙ by_sizes c.args.card.now c.args.weights.now c.args.word.now c.args.room c.grid_of-grid.result (passed_number c.in-Passed.is c.check-checked.ensures) c.grid_of-grid.ensures;
       sizes = λ z. c.grid_of-grid.ensures;
     }

@@ -12,15 +12,15 @@ loop-i-init c = (c.if-weights-machines.false, refl)
 
 pub returns-then-weights-i-gt-LIMIT : goal.returns-then-weights-i-gt-LIMIT
 returns-then-weights-i-gt-LIMIT c =
-    sym (refuses_with 26 (one_above c.args.machines c.args.weights.now c.loop-i.invariant.0 c.loop-i.i c.loop-i-test.true (omega (arith, c.if-weights-i-gt-LIMIT.true)) c.loop-i.invariant.1))
+    sym (refuses_with 26 (one_above c.args.machines c.args.weights.now c.loop-i.invariant.0 c.loop-i.i c.loop-i-test.true (omega arith) c.loop-i.invariant.1))
 
 pub loop-i-smaller : goal.loop-i-smaller
 loop-i-smaller c = omega (arith, c.loop-i-test.true)
 
 pub loop-i-preserved : goal.loop-i-preserved
 loop-i-preserved c =
-    (c.loop-i.invariant.0, one_passes c.args.weights.now c.loop-i.i c.loop-i-test.true (omega (arith, c.if-weights-i-gt-LIMIT.false)) c.loop-i.invariant.1)
+    (c.loop-i.invariant.0, one_passes c.args.weights.now c.loop-i.i c.loop-i-test.true (omega arith) c.loop-i.invariant.1)
 
-pub returns-then-weights-machines : goal.returns
-returns-then-weights-machines c =
+pub returns : goal.returns
+returns c =
     sym (passes_with 26 (none_above c.args.machines c.args.weights.now c.loop-i.invariant.0 c.loop-i.i c.loop-i-test.false c.loop-i.invariant.1))
