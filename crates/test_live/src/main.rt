@@ -101,119 +101,119 @@ fn three(first: Row, second: Row, third: Row) -> Board {
     Board { rows, answer }
 }
 
-fn write_row(row: Row) {
+fn write_row(rt: &impl Print, row: Row) {
     let profile = row.profile;
-    write(b" ");
-    write_number(row.id as u64);
-    write(b":");
-    write_number(profile.count(0) as u64);
-    write(b",");
-    write_number(profile.count(1) as u64);
-    write(b",");
-    write_number(profile.count(5) as u64);
+    write(rt, b" ");
+    write_number(rt, row.id as u64);
+    write(rt, b":");
+    write_number(rt, profile.count(0) as u64);
+    write(rt, b",");
+    write_number(rt, profile.count(1) as u64);
+    write(rt, b",");
+    write_number(rt, profile.count(5) as u64);
 }
 
-fn write_answer(answer: Counted) {
-    write(b": ");
-    write_number(answer.number as u64);
-    write(b" ");
-    write_number(answer.count as u64);
-    write(b" |");
+fn write_answer(rt: &impl Print, answer: Counted) {
+    write(rt, b": ");
+    write_number(rt, answer.number as u64);
+    write(rt, b" ");
+    write_number(rt, answer.count as u64);
+    write(rt, b" |");
 }
 
 // The answer and the first three records.
-fn show_three(board: Board) {
+fn show_three(rt: &impl Print, board: Board) {
     let answer = board.answer;
-    write_answer(answer);
-    write_row(row_at(board, 0));
-    write_row(row_at(board, 1));
-    write_row(row_at(board, 2));
+    write_answer(rt, answer);
+    write_row(rt, row_at(board, 0));
+    write_row(rt, row_at(board, 1));
+    write_row(rt, row_at(board, 2));
 }
 
 // The line of a call on a list of 34, with five records, and on one of 3.
-fn show(board: Board) {
-    show_three(board);
-    write_row(row_at(board, 3));
-    write_row(row_at(board, 4));
-    write(b"\n");
+fn show(rt: &impl Print, board: Board) {
+    show_three(rt, board);
+    write_row(rt, row_at(board, 3));
+    write_row(rt, row_at(board, 4));
+    write(rt, b"\n");
 }
 
-fn show_short(board: Board) {
-    show_three(board);
-    write(b"\n");
+fn show_short(rt: &impl Print, board: Board) {
+    show_three(rt, board);
+    write(rt, b"\n");
 }
 
-fn show_lead(lead: Lead) {
-    write(b": ");
-    write_number(lead.number as u64);
+fn show_lead(rt: &impl Print, lead: Lead) {
+    write(rt, b": ");
+    write_number(rt, lead.number as u64);
     if lead.any {
-        write(b" leads");
+        write(rt, b" leads");
     } else {
-        write(b" none");
+        write(rt, b" none");
     }
     let row = lead.row;
-    write_row(row);
-    write(b"\n");
+    write_row(rt, row);
+    write(rt, b"\n");
 }
 
-fn add(board: Board, count: usize, row: Row) -> Board {
+fn add(rt: &impl Print, board: Board, count: usize, row: Row) -> Board {
     let next = add_to(board, 34, 2, b"\x01\x00", count, row);
-    write(b"add ");
-    write_number(row.id as u64);
-    show(next);
+    write(rt, b"add ");
+    write_number(rt, row.id as u64);
+    show(rt, next);
     next
 }
 
-fn remove(board: Board, count: usize, id: u16) -> Board {
+fn remove(rt: &impl Print, board: Board, count: usize, id: u16) -> Board {
     let next = remove_from(board, 34, 2, b"\x01\x00", count, id);
-    write(b"remove ");
-    write_number(id as u64);
-    show(next);
+    write(rt, b"remove ");
+    write_number(rt, id as u64);
+    show(rt, next);
     next
 }
 
-fn lead(board: Board, count: usize) {
-    write(b"leader of ");
-    write_number(count as u64);
-    show_lead(leader_of(board, 34, 2, b"\x01\x00", count));
+fn lead(rt: &impl Print, board: Board, count: usize) {
+    write(rt, b"leader of ");
+    write_number(rt, count as u64);
+    show_lead(rt, leader_of(board, 34, 2, b"\x01\x00", count));
 }
 
 // An empty table, the lowest and the highest id, an id that is present, and an id added again.
-fn ids() {
-    write(b"- ids\n");
+fn ids(rt: &impl Print) {
+    write(rt, b"- ids\n");
     let empty = new();
-    lead(empty, 0);
-    let none = remove(empty, 0, 0);
-    let one = add(none, 0, row(0, 1, 1, 5));
-    let two = add(one, 1, row(65535, 0, 2, 6));
-    let again = add(two, 2, row(0, 9, 9, 9));
-    let gone = remove(again, 2, 0);
-    let anew = add(gone, 1, row(0, 3, 1, 8));
-    lead(anew, 2);
+    lead(rt, empty, 0);
+    let none = remove(rt, empty, 0, 0);
+    let one = add(rt, none, 0, row(0, 1, 1, 5));
+    let two = add(rt, one, 1, row(65535, 0, 2, 6));
+    let again = add(rt, two, 2, row(0, 9, 9, 9));
+    let gone = remove(rt, again, 2, 0);
+    let anew = add(rt, gone, 1, row(0, 3, 1, 8));
+    lead(rt, anew, 2);
 }
 
 // The ranking decides, and among equals the earliest arrival leads; the last count is not looked at.
-fn leaders() {
-    write(b"- leaders\n");
+fn leaders(rt: &impl Print) {
+    write(rt, b"- leaders\n");
     let table = three(row(1, 0, 2, 0), row(2, 4, 1, 9), row(3, 4, 1, 0));
-    lead(table, 1);
-    lead(table, 3);
-    let less = remove(table, 3, 2);
-    lead(less, 2);
+    lead(rt, table, 1);
+    lead(rt, table, 3);
+    let less = remove(rt, table, 3, 2);
+    lead(rt, less, 2);
 }
 
 // The first, the middle and the last row of three, and an id that stands twice.
-fn removals() {
-    write(b"- removals\n");
+fn removals(rt: &impl Print) {
+    write(rt, b"- removals\n");
     let table = three(row(1, 1, 0, 0), row(2, 2, 0, 0), row(3, 3, 0, 0));
-    remove(table, 3, 1);
-    remove(table, 3, 2);
-    remove(table, 3, 3);
-    remove(table, 3, 4);
-    remove(table, 2, 3);
+    remove(rt, table, 3, 1);
+    remove(rt, table, 3, 2);
+    remove(rt, table, 3, 3);
+    remove(rt, table, 3, 4);
+    remove(rt, table, 2, 3);
     let twice = three(row(5, 1, 0, 0), row(6, 2, 0, 0), row(5, 3, 0, 0));
-    let once = remove(twice, 3, 5);
-    remove(once, 2, 5);
+    let once = remove(rt, twice, 3, 5);
+    remove(rt, once, 2, 5);
 }
 
 // A table of 32 rows.
@@ -226,61 +226,64 @@ fn full() -> Board {
 }
 
 // 32 rows, and a 33rd; row counts past what the list can have.
-fn many() {
-    write(b"- many\n");
+fn many(rt: &impl Print) {
+    write(rt, b"- many\n");
     let board = full();
-    show(board);
-    add(board, 32, row(99, 0, 0, 0));
-    add(board, 31, row(99, 0, 0, 0));
-    lead(board, 32);
-    lead(board, 33);
-    remove(board, 32, 31);
-    remove(board, 33, 31);
+    show(rt, board);
+    add(rt, board, 32, row(99, 0, 0, 0));
+    add(rt, board, 31, row(99, 0, 0, 0));
+    lead(rt, board, 32);
+    lead(rt, board, 33);
+    remove(rt, board, 32, 31);
+    remove(rt, board, 33, 31);
 }
 
-fn call(machines: u8, ranking: &[u8], count: usize, id: u16) {
+fn call(rt: &impl Print, machines: u8, ranking: &[u8], count: usize, id: u16) {
     let board = three(row(1, 1, 0, 0), row(2, 2, 0, 0), row(3, 3, 0, 0));
-    write(b"add");
-    show(add_to(board, 34, machines, ranking, count, row(id, 0, 0, 0)));
-    write(b"remove");
-    show(remove_from(board, 34, machines, ranking, count, id));
-    write(b"leader");
-    show_lead(leader_of(board, 34, machines, ranking, count));
+    write(rt, b"add");
+    show(
+        rt,
+        add_to(board, 34, machines, ranking, count, row(id, 0, 0, 0)),
+    );
+    write(rt, b"remove");
+    show(rt, remove_from(board, 34, machines, ranking, count, id));
+    write(rt, b"leader");
+    show_lead(rt, leader_of(board, 34, machines, ranking, count));
 }
 
 // 1 before 7 before 23 before 24.
-fn order() {
-    write(b"- order\n");
-    call(0, b"\x01\x01", 40, 1);
-    call(7, b"\x01\x00", 3, 4);
-    call(2, b"\x01\x01", 40, 1);
-    call(2, b"\x01", 3, 4);
-    call(2, b"\x01\x00", 40, 1);
-    call(2, b"\x01\x00", 3, 1);
-    call(2, b"\x01\x00", 3, 4);
+fn order(rt: &impl Print) {
+    write(rt, b"- order\n");
+    call(rt, 0, b"\x01\x01", 40, 1);
+    call(rt, 7, b"\x01\x00", 3, 4);
+    call(rt, 2, b"\x01\x01", 40, 1);
+    call(rt, 2, b"\x01", 3, 4);
+    call(rt, 2, b"\x01\x00", 40, 1);
+    call(rt, 2, b"\x01\x00", 3, 1);
+    call(rt, 2, b"\x01\x00", 3, 4);
 }
 
 // A list shorter than 32.
-fn few_records() {
-    write(b"- a list of three\n");
+fn few_records(rt: &impl Print) {
+    write(rt, b"- a list of three\n");
     let one = add_to(new(), 3, 2, b"\x01\x00", 0, row(1, 1, 1, 0));
-    show_short(one);
+    show_short(rt, one);
     let two = add_to(one, 3, 2, b"\x01\x00", 1, row(2, 0, 1, 0));
-    show_short(two);
+    show_short(rt, two);
     let full = add_to(two, 3, 2, b"\x01\x00", 2, row(3, 0, 1, 0));
-    show_short(full);
-    show_short(add_to(full, 3, 2, b"\x01\x00", 3, row(4, 0, 0, 0)));
-    show_lead(leader_of(full, 3, 2, b"\x01\x00", 3));
-    show_lead(leader_of(full, 3, 2, b"\x01\x00", 4));
-    show_short(remove_from(full, 3, 2, b"\x01\x00", 3, 2));
-    show_short(remove_from(full, 3, 2, b"\x01\x00", 4, 2));
+    show_short(rt, full);
+    show_short(rt, add_to(full, 3, 2, b"\x01\x00", 3, row(4, 0, 0, 0)));
+    show_lead(rt, leader_of(full, 3, 2, b"\x01\x00", 3));
+    show_lead(rt, leader_of(full, 3, 2, b"\x01\x00", 4));
+    show_short(rt, remove_from(full, 3, 2, b"\x01\x00", 3, 2));
+    show_short(rt, remove_from(full, 3, 2, b"\x01\x00", 4, 2));
 }
 
-fn main() {
-    ids();
-    leaders();
-    removals();
-    many();
-    order();
-    few_records();
+fn main(rt: HostRuntime) {
+    ids(&rt);
+    leaders(&rt);
+    removals(&rt);
+    many(&rt);
+    order(&rt);
+    few_records(&rt);
 }
