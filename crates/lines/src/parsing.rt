@@ -9,6 +9,9 @@ use crate::Parsed;
 use writing::decimal::{are_digits, value};
 use writing::text::length_before;
 
+// A longer line is a bad line.
+const LINE_BYTES: usize = 200;
+
 fn is_ranking_text(text: &[u8]) -> bool
     ensures { result ≡ is_ranking_text text.now }
 {
@@ -85,7 +88,7 @@ pub fn parse(line: &[u8], ranking: &mut [u8], word: &mut [u8]) -> Parsed
     ensures ranking { ranking.new ≡ at_front (ranking_of (parsed_line line.now)) ranking.old }
     ensures word { word.new ≡ at_front (word_of (parsed_line line.now)) word.old }
 {
-    if line.len() > 200 {
+    if line.len() > LINE_BYTES {
         return Parsed::BadLine;
     }
     let space = length_before(line, b' ');

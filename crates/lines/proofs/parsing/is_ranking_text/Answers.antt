@@ -1,5 +1,5 @@
 use Rattle.std.specs.Prelude.{◌&&◌}
-use Rattle.basics.proofs.Words.{ap, Bool, length, leb, rules}
+use Rattle.basics.proofs.Words.{ap, Bool, length, leb}
 use Rattle.lines.specs.Parsing.{is_ranking_text}
 use Rattle.lines.proofs.parsing.is_ranking_text.Goals as goal
 

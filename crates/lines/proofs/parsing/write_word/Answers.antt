@@ -1,5 +1,4 @@
-use Rattle.std.specs.Prelude.{◌≡◌}
-use Rattle.basics.proofs.Words.{refl, ap, sym, ◌∙◌, true, List, map, ℕ, arith, length, take, length-take, length-drop, length-set, length-map, sets, all_of, rules}
+use Rattle.basics.proofs.Words.{refl, ap, sym, ◌∙◌, List, map, ℕ, arith, length, length-take, length-drop, length-set, length-map, sets, all_of, rules}
 use Rattle.writing.specs.Text.{comma}
 use Rattle.writing.specs.Decimal.{value_of}
 use Rattle.lines.specs.Parsing.{is_symbol_text, symbols_in}

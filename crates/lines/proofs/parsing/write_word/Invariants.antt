@@ -1,11 +1,8 @@
-use Rattle.std.specs.Prelude.{◌≡◌, ◌∷◌, ◌+◌, ◌≤◌}
-use Rattle.basics.proofs.Words.{refl, ap, sym, ◌∙◌, true, List, map, ℕ, arith, length, take, length-take, length-drop, length-set, length-map, length-take-le, sets, all_of, rules}
-use Rattle.writing.specs.Text.{comma, after, segments}
+use Rattle.std.specs.Prelude.{◌≡◌, ◌+◌, ◌≤◌}
+use Rattle.basics.proofs.Words.{true, map, length, sets, all_of}
+use Rattle.writing.specs.Text.{comma, segments}
 use Rattle.writing.specs.Decimal.{value_of}
 use Rattle.lines.specs.Parsing.{is_symbol_text, symbols_in}
-use Rattle.writing.proofs.Lists.{all_first, all_rest, sets_next, sets_front}
-use Rattle.writing.proofs.Cutting.{other_segments, segment_first, segment_last, segment_more}
-use Rattle.lines.proofs.Forms.{symbol_digits, symbol_small, symbols_none, symbols_some}
 use Rattle.lines.proofs.parsing.write_word.Given as goal
 
 abbrev pub invariant-loop-rest : goal.invariant-loop-rest
