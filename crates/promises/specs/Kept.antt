@@ -62,7 +62,7 @@ use Rattle.optimizer.specs.CountsThatFit as counts
 use Rattle.optimizer.specs.TwoCalls as calls
 use Rattle.optimizer.specs.SetsCalls as sets-calls
 use Rattle.tableau.specs.Verdicts as verdicts
-use Rattle.live.specs.LiveTableau as live
+use Rattle.live.proofs.LiveTableau as live
 use Rattle.lines.specs.LinesOfPieces as pieces
 use Rattle.writing.specs.DecimalRead as decimal_read
 use Rattle.session.specs.Totals as totals
