@@ -31,6 +31,7 @@ def exported():
         calls[name] = []
         for parameter in filter(None, (p.strip() for p in parameters.split(","))):
             own, kind = (part.strip() for part in parameter.split(":"))
+            own = {"res": "result"}.get(own, own)  # `result` is a word of clauses
             slice_, array = re.fullmatch(r"&(mut )?\[(\w+)\]", kind), re.fullmatch(r"&(mut )?\[(\w+); (\d+)\]", kind)
             if slice_:
                 calls[name] += [(own, NUMBERS[slice_[2]], not slice_[1], None, "*"), (own + "_len", NUMBERS["usize"], False, None, "")]

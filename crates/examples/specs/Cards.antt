@@ -14,8 +14,8 @@ abbrev pub card_a : List ℕ
 card_a = 1 ∷ 2 ∷ 6 ∷ 0 ∷ 23 ∷ 0 ∷ 1 ∷ 1 ∷ 1 ∷ 0 ∷ 0 ∷ 0 ∷ 0 ∷ 2 ∷ 0 ∷ 0 ∷ 0 ∷ 0 ∷ 0 ∷ 0 ∷ 0 ∷ 6 ∷ 0 ∷ 0 ∷ 0 ∷ 0 ∷ 0 ∷ 0 ∷ 0 ∷ []
 
 -- card A with another arc, in {0}, out {1,2}, 0 marks
-abbrev pub card_aWith_insertion : List ℕ
-card_aWith_insertion = 1 ∷ 2 ∷ 6 ∷ 0 ∷ 43 ∷ 0 ∷ 1 ∷ 2 ∷ 1 ∷ (arc_bytes 0 0 0 2 6 ++ arc_bytes 0 0 0 1 6)
+abbrev pub card_a_with_insertion : List ℕ
+card_a_with_insertion = 1 ∷ 2 ∷ 6 ∷ 0 ∷ 43 ∷ 0 ∷ 1 ∷ 2 ∷ 1 ∷ (arc_bytes 0 0 0 2 6 ++ arc_bytes 0 0 0 1 6)
 
 -- card B's machines: in {0,1,2} on every arc of the first, whose state 1 has a state byte
 abbrev pub onset : ℕ → List ℕ
@@ -29,12 +29,12 @@ abbrev pub deletion : List ℕ
 deletion = 1 ∷ 4 ∷ 1 ∷ (arc_bytes 0 0 0 2 2 ++ (arc_bytes 0 0 0 4 4 ++ (arc_bytes 0 0 0 1 6 ++ arc_bytes 0 0 1 6 1)))
 
 -- card B: S = 2 (1 consonant, 2 vowel), K = 3, parts (14,124), (138,43), (181,83)
-abbrev card_bWith : ℕ → List ℕ
-card_bWith byte = 3 ∷ 2 ∷ 14 ∷ 0 ∷ 124 ∷ 0 ∷ 138 ∷ 0 ∷ 43 ∷ 0 ∷ 181 ∷ 0 ∷ 83 ∷ 0 ∷ (onset byte ++ (insertion ++ deletion))
+abbrev card_b_with : ℕ → List ℕ
+card_b_with byte = 3 ∷ 2 ∷ 14 ∷ 0 ∷ 124 ∷ 0 ∷ 138 ∷ 0 ∷ 43 ∷ 0 ∷ 181 ∷ 0 ∷ 83 ∷ 0 ∷ (onset byte ++ (insertion ++ deletion))
 
 abbrev pub card_b : List ℕ
-card_b = card_bWith 1
+card_b = card_b_with 1
 
 -- card B with a mark for ending in state 1 of the first machine
-abbrev pub card_bWith_ending : List ℕ
-card_bWith_ending = card_bWith 2
+abbrev pub card_b_with_ending : List ℕ
+card_b_with_ending = card_b_with 2

@@ -17,7 +17,7 @@ use Rattle.ranking.specs.ByteStrings.{smaller}
 use Rattle.product.specs.Best.{wins_tie, preferred, same_word, pairs_over, lists_below, contenders_among, least_of, best_below, best_of, best_in, best}
 use Rattle.product.specs.Answering.{answered, answered_slice}
 use Rattle.product.specs.Optimizing.{sound_word, input_refusal, optimized, optimized_answer}
-use Rattle.examples.specs.Cards.{card_a, card_aWith_insertion, card_b, card_bWith_ending}
+use Rattle.examples.specs.Cards.{card_a, card_a_with_insertion, card_b, card_b_with_ending}
 
 -- an accepted result: the counts, the pairs, the length of the word
 abbrev pub accepted : List ℕ → ℕ → ℕ → Evaluation
@@ -40,7 +40,7 @@ pub record TenExamples : Type 0 where
   -- B, `120 2`: `1,0,0 2:2`
   pub five : Gives card_b (1 ∷ 2 ∷ 0 ∷ []) 2 (accepted (1 ∷ 0 ∷ 0 ∷ 0 ∷ 0 ∷ 0 ∷ []) 1 1) (2 ∷ 2 ∷ 9 ∷ 9 ∷ [])
   -- A with another arc, a loop of free insertions; word 1: `0 1:1`
-  pub six : Gives card_aWith_insertion (0 ∷ []) 1 (accepted (0 ∷ 0 ∷ 0 ∷ 0 ∷ 0 ∷ 0 ∷ []) 1 1) (1 ∷ 1 ∷ 9 ∷ 9 ∷ [])
+  pub six : Gives card_a_with_insertion (0 ∷ []) 1 (accepted (0 ∷ 0 ∷ 0 ∷ 0 ∷ 0 ∷ 0 ∷ []) 1 1) (1 ∷ 1 ∷ 9 ∷ 9 ∷ [])
   -- B evaluates 0:1 2:0: 0,1,1; two pairs, word length 1
   pub seven : evaluating card_b (0 ∷ 1 ∷ 2 ∷ 0 ∷ []) ≡ accepted (0 ∷ 1 ∷ 1 ∷ 0 ∷ 0 ∷ 0 ∷ []) 2 1
   -- (0,0,1) against (0,1,0): W {1}, L {2}
@@ -67,9 +67,9 @@ the_ten_examples = record {
 
 pub record RequestExamples : Type 0 where
   -- S-5. B with state byte 2 for state 1 of machine 0, `012 1`: `0,0,1 1:0`
-  pub ending_marks : Gives card_bWith_ending (0 ∷ 1 ∷ 2 ∷ []) 1 (accepted (0 ∷ 0 ∷ 1 ∷ 0 ∷ 0 ∷ 0 ∷ []) 1 1) (1 ∷ 0 ∷ 9 ∷ 9 ∷ [])
+  pub ending_marks : Gives card_b_with_ending (0 ∷ 1 ∷ 2 ∷ []) 1 (accepted (0 ∷ 0 ∷ 1 ∷ 0 ∷ 0 ∷ 0 ∷ []) 1 1) (1 ∷ 0 ∷ 9 ∷ 9 ∷ [])
   -- and there 1:1 has a mark for ending: 1,0,0; one pair, word length 1
-  pub its_profile : evaluating card_bWith_ending (1 ∷ 1 ∷ []) ≡ accepted (1 ∷ 0 ∷ 0 ∷ 0 ∷ 0 ∷ 0 ∷ []) 1 1
+  pub its_profile : evaluating card_b_with_ending (1 ∷ 1 ∷ []) ≡ accepted (1 ∷ 0 ∷ 0 ∷ 0 ∷ 0 ∷ 0 ∷ []) 1 1
 
 pub the_request_examples : RequestExamples
 unfolding all_of pairwise those first_that joined every_below some_below numbers_below occurrences set_of of_kind takes step_among ending_of take_one_pair clash arc_at arcs_at machine_of sound_arc shaped part_refusal due_offset laid_out parts_in counted parts_of card_refusal parts_refusal product machines_of is_ranking arrangements harmony highest fits conditions_of disjoint sound_condition sound_list smallest finding pairs_of bytes_of spelled marks_from is_complete profile_of sound_candidate evaluating smaller wins_tie preferred same_word pairs_over lists_below contenders_among least_of best_below best_of best_in best sound_word input_refusal answered answered_slice

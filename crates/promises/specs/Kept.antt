@@ -68,9 +68,9 @@ use Rattle.writing.specs.DecimalRead as decimal_read
 use Rattle.session.specs.Totals as totals
 use Rattle.cull.specs.Survivors as survivors
 use Rattle.cull.specs.TwoEngines as engines
-use Rattle.trimming.specs.Acceptance as acceptance
-use Rattle.trimming.specs.Trimming as trimming
-use Rattle.trimming.specs.TrimmedAnswers as trimmed
+use Rattle.trimming.proofs.Acceptance as acceptance
+use Rattle.trimming.proofs.Trimming as trimming
+use Rattle.trimming.proofs.TrimmedAnswers as trimmed
 use Rattle.weights.specs.Demand3 as weighed
 use Rattle.weights.specs.CountsThatFit as weighed-counts
 use Rattle.weights.specs.WeightedBest as weighted_best

@@ -1,5 +1,5 @@
 use Rattle.std.specs.Prelude.{◌≡◌, ◌∷◌, ◌+◌, ◌*◌}
-use Rattle.basics.proofs.Words.{sym, ◌∙◌, List, [], ℕ, arith, length, leb, rules}
+use Rattle.basics.proofs.Words.{sym, ◌∙◌, List, [], ℕ, arith, length, leb}
 use Rattle.refusals.specs.Refusals.{refuse, first_of, checked_number}
 use Rattle.refusals.proofs.Refusals.{passed_number, refused_number, goes_up, first_on}
 use Rattle.ranking.specs.Rankings.{is_ranking}

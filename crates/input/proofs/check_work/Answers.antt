@@ -1,5 +1,5 @@
 use Rattle.std.specs.Prelude.{◌≡◌, ◌≤◌, ◌+◌, ◌*◌}
-use Rattle.basics.proofs.Words.{sym, arith, mul_comm, mul-le-mul, rules, le-leb, lt-leb}
+use Rattle.basics.proofs.Words.{sym, arith, mul_comm, mul-le-mul, le-leb, lt-leb}
 use Rattle.refusals.proofs.Refusals.{passes_with, refuses_with}
 use Rattle.input.proofs.Nodes.{few_nodes}
 use Rattle.input.proofs.check_work.Goals as goal

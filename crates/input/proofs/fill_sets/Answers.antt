@@ -1,6 +1,5 @@
-use Rattle.std.specs.Prelude.{◌≡◌, ◌-◌, ◌≤◌}
-use Rattle.basics.proofs.Words.{refl, arith, length, length-set, rules}
-use Rattle.input.proofs.Words.{FilledBelow, filled_start, filled_next, filled_end, small_at}
+use Rattle.basics.proofs.Words.{refl, arith, length-set}
+use Rattle.input.proofs.Words.{filled_start, filled_next, filled_end, small_at}
 use Rattle.input.proofs.fill_sets.Goals as goal
 
 pub loop-i-init : goal.loop-i-init

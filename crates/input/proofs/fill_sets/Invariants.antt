@@ -1,6 +1,6 @@
 use Rattle.std.specs.Prelude.{◌≡◌, ◌-◌, ◌≤◌}
-use Rattle.basics.proofs.Words.{refl, arith, length, length-set, rules}
-use Rattle.input.proofs.Words.{FilledBelow, filled_start, filled_next, filled_end, small_at}
+use Rattle.basics.proofs.Words.{length}
+use Rattle.input.proofs.Words.{FilledBelow}
 use Rattle.input.proofs.fill_sets.Given as goal
 
 abbrev pub invariant-loop-i : goal.invariant-loop-i

@@ -17,7 +17,7 @@ use Rattle.card.specs.Laws.Machines.{machine_at_lem}
 use Rattle.product.specs.Nodes.{node_count}
 use Rattle.trimming.specs.Travelling.{machine_without, machines_without}
 use Rattle.trimming.specs.Trimmed.{HasArc, LacksArc, part_without, parts_without, card_without}
-use Rattle.trimming.specs.Laws.Parts.{same_state_count, trimmed_machine, trimmed_part, trimmed_bytes}
+use Rattle.trimming.proofs.Parts.{same_state_count, trimmed_machine, trimmed_part, trimmed_bytes}
 
 -- a card that lacks an arc has as many nodes
 pub same_nodes : {card trimmed : List ℕ} {i j : ℕ} → LacksArc card i j trimmed → (n : ℕ) → node_count (machines_of trimmed) n ≡ node_count (machines_of card) n

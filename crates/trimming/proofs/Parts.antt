@@ -8,7 +8,7 @@ use Rattle.machine.specs.Accepted.{Shaped, accepted}
 use Rattle.layout.specs.Layout.{Bytes}
 use Rattle.trimming.specs.Travelling.{machine_without}
 use Rattle.trimming.specs.Trimmed.{arc_place, part_without}
-use Rattle.trimming.specs.Laws.Lists.{all_without, pairwise_without}
+use Rattle.trimming.proofs.Lists.{all_without, pairwise_without}
 
 -- ---- arcs by their bytes
 

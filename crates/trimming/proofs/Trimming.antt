@@ -25,9 +25,9 @@ use Rattle.optimizer.specs.Demands.{answered_accepts}
 use Rattle.trimming.specs.Travelling.{travels}
 use Rattle.trimming.specs.Trimmed.{LacksArc}
 use Rattle.trimming.specs.Answering.{answered_candidate, SameAnswer}
-use Rattle.trimming.specs.Laws.Answers.{Answered, answered_by, its_candidate, answers_again, same_candidate}
-use Rattle.trimming.specs.Acceptance.{same_nodes}
-use Rattle.trimming.specs.SameBest.{same_best, travelled_gone}
+use Rattle.trimming.proofs.Answers.{Answered, answered_by, its_candidate, answers_again, same_candidate}
+use Rattle.trimming.proofs.Acceptance.{same_nodes}
+use Rattle.trimming.proofs.SameBest.{same_best, travelled_gone}
 
 -- ---- whatever is asked for, in every order on profiles with a price that agrees with it
 

@@ -18,8 +18,8 @@ use Rattle.product.specs.BestCandidate.{BeatsIn, IsBestIn}
 use Rattle.product.specs.Searches.{Searches}
 use Rattle.trimming.specs.Travelling.{machine_without, machines_without, travels}
 use Rattle.trimming.specs.Trimmed.{LacksArc}
-use Rattle.trimming.specs.Laws.Lists.{all_set_same}
-use Rattle.trimming.specs.Laws.Runs.{Clashless, run_same, run_kept, run_gone}
+use Rattle.trimming.proofs.Lists.{all_set_same}
+use Rattle.trimming.proofs.Runs.{Clashless, run_same, run_kept, run_gone}
 
 -- ---- candidates
 
