@@ -7,7 +7,7 @@ a later kit lowers otherwise is refused:
 - Numbers have 1, 8, 16, 32 or 64 bits. Every load and store says its alignment, and none asks for more than its type has.
 - A pointer has eight bytes in memory, of which a processor with shorter ones uses the first. So a variable that is one pointer is read and
   written as a pointer alone, and no number is read or written where a pointer stands.
-- Two values together are a pointer or a number of 8 or 64 bits, and a number of 64 bits, which stands eight bytes on.
+- Of two values together the second stands behind the first, as far on as its own size asks; the first may be a pointer. Only 0 is a pointer's null.
 - Calls go to a function by its name: one of the module, the four intrinsics below, or those that a program has of its surroundings.
 - Nothing of x86-64 is left: no layout of data, no triple, no processor, no feature, no assembly."""
 import pathlib
@@ -33,7 +33,7 @@ SURROUNDINGS = {
 
 VARIABLE = r'%(?:"[^"]*"|[\w.]+)'
 TEXT = r"@static\.\d+"  # bytes that nothing writes
-PAIR = r"\{ (?:ptr|i8|i64), i64 \}"
+PAIR = r"\{ (?:ptr|i1|i8|i16|i32|i64), (?:ptr|i1|i8|i16|i32|i64) \}"
 FUNCTION = r'@(?:"[^"]*"|[\w.]+)'
 NUMBER = r"(?:i1|i8|i16|i32|i64)"
 TYPE = rf"(?:{NUMBER}|ptr)"
@@ -42,27 +42,29 @@ ARGUMENTS = rf"(?:{TYPE} (?:align \d+ )?{VALUE}(?:, )?)*"
 
 MEMORY = re.compile(rf"(?:(?P<to>{VARIABLE}) = load (?P<loaded>{TYPE})|store (?P<stored>{TYPE}) (?P<value>{VALUE})), ptr (?P<at>{VARIABLE}), align (?P<align>\d+)(?:, !\w+ !\d+)*")
 ADDRESS = re.compile(rf"(?P<to>{VARIABLE}) = getelementptr (?:inbounds nuw )?i8, ptr (?P<base>{VARIABLE}), i64 (?P<offset>{VALUE})")
-PAIR_READ = re.compile(rf"{VARIABLE} = load \{{ (?P<first>ptr|i8|i64), i64 \}}, ptr (?P<at>{VARIABLE}), align 8")
+PAIR_READ = re.compile(rf"{VARIABLE} = load \{{ (?P<first>ptr|i8|i16|i32|i64), (?P<second>i8|i16|i32|i64) \}}, ptr (?P<at>{VARIABLE}), align (?P<align>\d+)")
 CALL = re.compile(rf"(?:{VARIABLE} = )?call (?P<result>{TYPE}|{PAIR}|void)(?: \(ptr, i32, \.\.\.\))? (?P<name>{FUNCTION})\((?P<arguments>{ARGUMENTS})\)")
 SLOT = re.compile(rf"(?P<to>{VARIABLE}) = alloca (?P<type>{TYPE}|\[\d+ x i8\]), align [1248]")
 OTHERS = [re.compile(shape) for shape in (
     rf"{VARIABLE} = (?:add|sub|mul)(?: nuw)? {NUMBER} {VALUE}, {VALUE}",
     rf"{VARIABLE} = (?:udiv|urem|and|or|xor|shl|lshr) {NUMBER} {VALUE}, {VALUE}",
     rf"{VARIABLE} = icmp (?:eq|ne|ult|ule|slt|sle) {NUMBER} {VALUE}, {VALUE}",
+    rf"{VARIABLE} = icmp eq ptr {VARIABLE}, null",
     rf"{VARIABLE} = extractvalue {PAIR} {VARIABLE}, [01]",
+    rf"{VARIABLE} = insertvalue {PAIR} (?:poison|{VARIABLE}), {TYPE} {VARIABLE}, [01]",
     rf"{VARIABLE} = (?:zext|trunc(?: nuw)?) {NUMBER} {VALUE} to {NUMBER}",
     rf"br label {VARIABLE}|br i1 {VALUE}, label {VARIABLE}, label {VARIABLE}",
     rf"switch (?:i8|i32) {VALUE}, label {VARIABLE} \[|  (?:i8|i32) \d+, label {VARIABLE}|\]",
     rf"ret void|ret {TYPE} {VALUE}|ret {PAIR} {VARIABLE}|unreachable",
 )]
 
-DEFINITION = re.compile(rf"define (?:internal )?(?:noundef )?(?:zeroext )?(?P<result>{TYPE}|{PAIR}|void) (?P<name>{FUNCTION})\((?:{TYPE} noundef (?:zeroext )?{VARIABLE}(?:, )?)*\) #\d+ \{{")
+DEFINITION = re.compile(rf"define (?:internal )?(?:noundef )?(?:zeroext )?(?P<result>{TYPE}|{PAIR}|void) (?P<name>{FUNCTION})\((?:{TYPE} (?:noundef )?(?:zeroext )?{VARIABLE}(?:, )?)*\) #\d+ \{{")
 DECLARATION = re.compile(rf"declare (?:noundef )?(?P<result>{TYPE}|{PAIR}|void) (?P<name>{FUNCTION})\((?P<parameters>[^)]*(?:\(none\)[^)]*)*)\) #\d+")
-ATTRIBUTE = r"(?:nounwind|nobuiltin|nocallback|nofree|nosync|noreturn|willreturn|speculatable|cold|memory\([\w: ,]+\))"
+ATTRIBUTE = r"(?:alwaysinline|noinline|nounwind|nobuiltin|nocallback|nofree|nosync|noreturn|willreturn|speculatable|cold|memory\([\w: ,]+\))"
 OUTSIDE = [re.compile(shape) for shape in (
     r"; Function Attrs: .*",
     rf"attributes #\d+ = \{{(?: {ATTRIBUTE})+ \}}",
-    rf'{TEXT} = private unnamed_addr constant \[\d+ x i8\] c"[^"]*", align 1',
+    rf'{TEXT} = private unnamed_addr constant \[\d+ x i8\] (?:c"[^"]*"|zeroinitializer), align 1',
     r'!llvm\.ident = !\{!\d+\}|!\d+ = !\{!"rattle logic=[0-9a-f]+"\}|!\d+ = !\{\}|!\d+ = !\{i8 0, i8 \d+\}',
 )]
 LABEL = re.compile(r'(?:"[^"]*"|[\w.]+):(?: +; (?:preds = .*|No predecessors!))?')
@@ -80,6 +82,16 @@ def without_machine(text):
     text = re.sub(r"^(define i32 @main\(\) #\d+ \{\n)start:\n  %r0 = call i64 @__sysv_signal\(i32 13, i64 1\)\n.*?(  (%r\d+) = call i32 @\"[\w:]+\+start\"\(\)\n  ret i32 \3\n).*?^\}\n",
                   r"\1start:\n\2}\n", text, flags=re.M | re.S)
     text = re.sub(r"^(?:; Function Attrs: .*\n)?declare .* @(?:__sysv_signal|__x86_get_cpuid_feature_leaf|__write)\(.*\n", "", text, flags=re.M)
+    # A pointer behind another value stands eight bytes on, also where a processor has shorter ones: it is read by itself.
+    text = re.sub(r"^  (%[\w.]+) = load \{ (i8|i16|i32|i64|ptr), ptr \}, ptr (%[\w.]+), align 8$",
+                  r"  \1.first = load \2, ptr \3, align 1\n  \1.place = getelementptr i8, ptr \3, i64 8\n  \1.second = load ptr, ptr \1.place, align 8\n"
+                  r"  \1.half = insertvalue { \2, ptr } poison, \2 \1.first, 0\n  \1 = insertvalue { \2, ptr } \1.half, ptr \1.second, 1", text, flags=re.M)
+    # So has a variable that is one pointer and is cleared as eight bytes.
+    def cleared(function):
+        for name in re.findall(r"@llvm\.memset\.p0\.i64\(ptr (%[\w.]+), i8 0, i64 8, ", function[0]):
+            function = [re.sub(rf"^(  {re.escape(name)} = alloca )ptr, align 8$", r"\1[8 x i8], align 8", function[0], flags=re.M)]
+        return function[0]
+    text = re.sub(r"^define .*?^\}$", cleared, text, flags=re.M | re.S)
     return re.sub(r' ?"(?:probe-stack"="inline-asm|stack-probe-size"="\d+|target-cpu"="x86-64(?:-v2)?)"', "", text)
 
 
@@ -124,12 +136,16 @@ class Function:
                 raise NotPortable("a number where a pointer stands")
 
     def pair(self, found):
-        """Two values at once, the second eight bytes on."""
+        """Two values at once, the second as far on as its own size asks."""
         if found["at"] in self.pointer_slots:
             raise NotPortable("a variable that is one pointer, as two values")
+        size = bits(found["second"]) // 8
+        further = max(bits(found["first"]) // 8, size)
+        if int(found["align"]) > further:
+            raise NotPortable(f"an alignment of {found['align']} for {found['first']} and {found['second']}")
         base, offset = self.place(found["at"])
         at = self.seen.setdefault(base, {})
-        for start, kind in ((offset, found["first"]), (offset + 8, "i64")):
+        for start, kind in ((offset, found["first"]), (offset + further, found["second"])):
             for byte in range(start, start + bits(kind) // 8):
                 if at.setdefault(byte, kind == "ptr") != (kind == "ptr"):
                     raise NotPortable("a number where a pointer stands")

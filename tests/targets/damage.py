@@ -43,7 +43,10 @@ DAMAGES = [
     ("another calling convention", r"^define internal ", "define internal fastcc "),
     ("a parameter by its size", r"^(define internal [^(]*\()ptr noundef", r"\1ptr noundef byval([16 x i8])"),
     ("a number with a sign, divided", r"udiv i64", "sdiv i64"),
-    ("a floating-point number", r"add nuw i64", "fadd double"),
+    ("a floating-point number", r"= add (?:nuw )?(?:nsw )?i64", "= fadd double"),
+    ("a pointer behind another value", r"load \{ i8, i8 \}, ptr (%\w+), align 1", r"load { i8, ptr }, ptr \1, align 8"),
+    ("two values of more alignment than they have", r"load \{ i8, i8 \}, ptr (%\w+), align 1", r"load { i8, i8 }, ptr \1, align 4"),
+    ("a pointer compared with another", r"icmp eq ptr (%\w+), null", r"icmp eq ptr \1, \1"),
     ("it ends within a function", r"^\}\n[^\0]*", ""),
     ("no function", r"[^\0]+", ""),
 ]
