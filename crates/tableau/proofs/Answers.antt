@@ -14,7 +14,7 @@ use Rattle.tableau.specs.Tableau.{counts_of, every_row, sound_tableau}
 use Rattle.rows.specs.Reading.{Readable}
 use Rattle.tableau.specs.Judging.{is_for_word, same_counts, counts_are_profile, has_profile_of, verdict_of, verdict_numbers, refused_judging, judging_refusal, judging}
 use Rattle.tableau.specs.Laws.Accepted.{tableau_told}
-use Rattle.tableau.specs.Verdicts.{no_case_for_10}
+use Rattle.tableau.proofs.Verdicts.{no_case_for_10}
 
 -- 19, 20 and 21
 abbrev pub tableau_refusal : List ℕ → List ℕ → List ℕ → ℕ

@@ -1,1 +1,3 @@
+pub mod Winning
+pub mod Verdicts
 pub mod Answers

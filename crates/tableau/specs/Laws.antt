@@ -1,5 +1,4 @@
--- Lemmas: counts and rows; which candidates have no better one; what a tableau promises of which nothing is refused.
+-- Lemmas: counts and rows; what a tableau promises of which nothing is refused.
 pub mod Counts
 pub mod Rows
-pub mod Winning
 pub mod Accepted

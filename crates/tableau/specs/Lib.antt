@@ -5,5 +5,5 @@ pub mod Judging
 pub mod Judges
 -- lemmas
 pub mod Laws
--- theorems
+-- what the theorems say
 pub mod Verdicts

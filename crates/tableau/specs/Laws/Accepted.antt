@@ -22,7 +22,6 @@ use Rattle.input.specs.AcceptedInput.{AcceptedInput, accepted_input}
 use Rattle.tableau.specs.Tableau.{row_count, row_of, counts_of, candidate_of, every_row, sound_tableau}
 use Rattle.tableau.specs.Judging.{is_for_word, counts_are_profile, has_profile_of, judging_refusal}
 use Rattle.tableau.specs.Winning.{NoneBetter}
-use Rattle.tableau.specs.Laws.Winning.{wins_by_best}
 use Rattle.tableau.specs.Laws.Counts.{equal_counts}
 pub use Rattle.rows.specs.Laws.{SoundTableau, tableau_told, row_complete}
 
@@ -76,27 +75,3 @@ accepted_tableau card ranking word room tableau z =
       candidates = λ n h. row_candidate card word (row_of tableau n) (every_at (λ m. is_for_word card word (row_of tableau m)) (row_count tableau) (passed 20 b (lit< tt) k.0) n h);
       profiles = λ n h. every_at (λ m. counts_are_profile card (row_of tableau m)) (row_count tableau) (passed 21 c (lit< tt) l.0) n h;
     }
-
--- the rows with the best's profile are those that win
-pub row_wins : (card ranking word row : List ℕ) → card_refusal card ≡ 0 → is_ranking (machine_count card) ranking ≡ true
-    → IsCandidate (machines_of card) word (pairs_of (candidate_of row)) → counts_are_profile card row ≡ true
-    → (has_profile_of (best card ranking word) row ≡ true) ↔ NoneBetter ranking (machines_of card) word (pairs_of (candidate_of row))
-row_wins card ranking word row ok ranks k t = go (best card ranking word) refl
-  where
-    all : BestOfAll card ranking word
-    all = best_is_best_of_all card ranking word ok ranks
-
-    c : List Pair
-    c = pairs_of (candidate_of row)
-
-    long : (d : List Pair) → length (profile_of (machines_of card) d) ≡ machine_count card
-    long d = profile_length (machines_of card) d ∙ (accepted_machines card ok).count
-
-    go : (o : Option Contender) → best card ranking word ≡ o → (has_profile_of o row ≡ true) ↔ NoneBetter ranking (machines_of card) word (pairs_of (candidate_of row))
-    go none e = absurd (all.none_exactly.0 e c k)
-    go (some b) e =
-        let p : b.profile ≡ profile_of (machines_of card) b.candidate = all.its_profile b e in
-        let q = equal_counts (machine_count card) ranking (counts_of row) (profile_of (machines_of card) c) (profile_of (machines_of card) b.candidate)
-        (omega (arith, (accepted card ok).head)) ranks (long c) (long b.candidate) t in
-        let w = wins_by_best ranking (machines_of card) word b.candidate (all.is_best b e) c k in
-        (λ h. w.1 (q.0 (rw p at h)), λ n. rw p (q.1 (w.0 n)))
