@@ -119,7 +119,7 @@ def check_names(header):
     version = pathlib.Path("VERSION")
     if not re.fullmatch(r"\d+\.\d+\.\d+", said.get("VERSION", "")) or version.exists() and version.read_text().strip() != said["VERSION"]:
         wrong.append(f"PASTASPUR_VERSION is {said.get('VERSION')}")
-    most = re.search(r"cardRefusal card ≡ 0 → length card ≤ (\d+)", pathlib.Path("crates/card/specs/Accepted.antt").read_text())[1]
+    most = re.search(r"card_refusal card ≡ 0 → length card ≤ (\d+)", pathlib.Path("crates/card/specs/Accepted.antt").read_text())[1]
     if said.get("CARD_BYTES") != most:
         wrong.append(f"PASTASPUR_CARD_BYTES is {said.get('CARD_BYTES')}, and a card has up to {most}")
     return wrong, sizes
