@@ -61,7 +61,7 @@ use Rattle.optimizer.specs.Demand3 as demand3
 use Rattle.optimizer.specs.CountsThatFit as counts
 use Rattle.optimizer.specs.TwoCalls as calls
 use Rattle.optimizer.specs.SetsCalls as sets-calls
-use Rattle.tableau.specs.Verdicts as verdicts
+use Rattle.tableau.proofs.Verdicts as verdicts
 use Rattle.live.proofs.LiveTableau as live
 use Rattle.lines.specs.LinesOfPieces as pieces
 use Rattle.writing.specs.DecimalRead as decimal_read
