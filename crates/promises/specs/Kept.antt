@@ -71,11 +71,11 @@ use Rattle.cull.specs.TwoEngines as engines
 use Rattle.trimming.proofs.Acceptance as acceptance
 use Rattle.trimming.proofs.Trimming as trimming
 use Rattle.trimming.proofs.TrimmedAnswers as trimmed
-use Rattle.weights.specs.Demand3 as weighed
-use Rattle.weights.specs.CountsThatFit as weighed-counts
+use Rattle.weights.proofs.Demand3 as weighed
+use Rattle.weights.proofs.CountsThatFit as weighed-counts
 use Rattle.weights.specs.WeightedBest as weighted_best
 use Rattle.weights.specs.TwoCalls as weighed-calls
-use Rattle.weights.specs.TwoEngines as agreeing
+use Rattle.weights.proofs.TwoEngines as agreeing
 use Rattle.weights.specs.GangingUp as ganging-up
 use Rattle.join.specs.JoinedCardTheorem as joined-card
 use Rattle.join.specs.JoinedEvaluation as joined-evaluation

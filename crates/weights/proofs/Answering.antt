@@ -17,7 +17,7 @@ use Rattle.product.specs.WeightedPaths.{weights_agree}
 use Rattle.tables.specs.SumsDone.{AllDone}
 use Rattle.weights.specs.declared.Weighing.{Weighing}
 use Rattle.weights.specs.Weighing.{weighted_refusal, refused_weighing, answered_sum}
-use Rattle.weights.specs.Accepting.{accepts}
+use Rattle.weights.proofs.Accepting.{accepts}
 use Rattle.weights.specs.WeightedBest.{weighted_best_is_small}
 use Rattle.weights.specs.Searching.{SetsPre, SearchPre, Searched, Optimizes}
 

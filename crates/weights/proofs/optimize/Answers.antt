@@ -2,7 +2,7 @@ use Rattle.std.specs.Prelude.{◌+◌, ◌*◌, ◌<◌, ◌≤◌}
 use Rattle.std.proofs.Common.{sym, ◌∙◌, length, arith}
 use Rattle.refusals.proofs.Refusals.{passed_number, refused_number}
 use Rattle.optimizer.proofs.Answers.{front_room, same_room}
-use Rattle.weights.specs.Accepting.{accepts}
+use Rattle.weights.proofs.Accepting.{accepts}
 use Rattle.weights.proofs.Checking.{nodes_few, nodes_fit}
 use Rattle.weights.proofs.Answering.{call_refused, call_searched}
 use Rattle.weights.proofs.optimize.Goals as goal
