@@ -1,7 +1,7 @@
-use Rattle.std.specs.Prelude.{◌≡◌, ◌∷◌}
+use Rattle.std.specs.Prelude.{◌∷◌}
 use Rattle.basics.proofs.Words.{sym, ap, ◌∙◌, [], arith}
 use Rattle.card.specs.Card.{card_refusal}
-use Rattle.refusals.specs.Refusals.{refuse, checked_number}
+use Rattle.refusals.specs.Refusals.{refuse}
 use Rattle.refusals.proofs.Refusals.{passed_number, goes_up, first_on, last_one}
 use Rattle.join.specs.JoinedCard.{joinable, join_fits, machines_refusal}
 use Rattle.join.proofs.Answers.{two_of, fits_as}

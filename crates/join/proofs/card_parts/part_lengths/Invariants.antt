@@ -1,9 +1,7 @@
 use Rattle.std.specs.Prelude.{◌≡◌, ◌-◌, ◌<◌, ◌≤◌}
-use Rattle.basics.proofs.Words.{refl, [], ℕ, arith, length, get_or, length-set, rules}
+use Rattle.basics.proofs.Words.{[], ℕ, length, get_or}
 use Rattle.card.specs.Layout.{parts_of}
-use Rattle.join.proofs.Lengths.{stored}
-use Rattle.join.specs.JoinedCard.{joined_parts, lower, other}
-use Rattle.join.proofs.CardParts.{second_in, few_machines, lengths_told}
+use Rattle.join.specs.JoinedCard.{joined_parts}
 use Rattle.join.proofs.card_parts.part_lengths.Given as goal
 
 abbrev pub invariant-loop-i : goal.invariant-loop-i

@@ -1,11 +1,9 @@
-use Rattle.std.specs.Prelude.{◌≡◌, ◌+◌, ◌*◌, ◌-◌, ◌<◌, ◌≤◌}
-use Rattle.basics.proofs.Words.{sym, ap, subst, ◌∙◌, List, [], ℕ, arith, length, get_or, length-take, length-drop, rules}
-use Rattle.card.specs.Layout.{machine_count, parts_of}
-use Rattle.join.specs.JoinedCard.{joined_parts, lower, other}
+use Rattle.std.specs.Prelude.{◌+◌, ◌-◌, ◌≤◌}
+use Rattle.basics.proofs.Words.{List, ℕ, length}
+use Rattle.card.specs.Layout.{parts_of}
+use Rattle.join.specs.JoinedCard.{joined_parts}
 use Rattle.join.specs.Writing.{placed, table_length, joined_bytes}
-use Rattle.joined.specs.Laws.Placed.{placed_mid}
-use Rattle.joined.proofs.Rest.{Rest, rest_start, rest_room, rest_next, rest_end}
-use Rattle.join.proofs.CardParts.{second_in, few_machines, new_count, card_length}
+use Rattle.joined.proofs.Rest.{Rest}
 use Rattle.join.proofs.card_parts.write_parts.Given as goal
 
 abbrev pub invariant-loop-i : goal.invariant-loop-i
