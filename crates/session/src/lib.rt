@@ -61,7 +61,8 @@ fn answer_pieces(
         }
         let progress = pieces::answer_piece(rt, card, &piece[..n], line, bytes, so_far, out);
         let after = progress.tally;
-        if after.past | !progress.written {
+        let written = progress.written;
+        if after.past | !written {
             return progress;
         }
         bytes = progress.held;
@@ -90,7 +91,8 @@ fn answer_rest(
     ensures { Finishes card.now (take held line.old) tally out.new result }
 {
     let progress = answer_pieces(rt, input, card, line, held, tally, out);
-    if !progress.written {
+    let printed = progress.written;
+    if !printed {
         return 0;
     }
     let bytes = progress.held;

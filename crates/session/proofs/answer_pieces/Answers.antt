@@ -12,17 +12,17 @@ pub answer_piece-progress-requires : goal.answer_piece-progress-requires
 answer_piece-progress-requires g c =
     let i = c.loop-turns.invariant in (i.0.answers.few, i.1, i.0.answers.fits, i.3, omega (arith, i.4, c.requires.4))
 
-pub returns-then-after-progress : goal.returns-then-after-progress
-returns-then-after-progress g c =
+pub returns-then-after-written : goal.returns-then-after-written
+returns-then-after-written g c =
     let i = c.loop-turns.invariant in reads_more i.0 i.3 c.answer_piece-progress.ensures (λ w. w)
 
 pub loop-turns-preserved : goal.loop-turns-preserved
 loop-turns-preserved g c =
     let i = c.loop-turns.invariant in (
-      reads_more i.0 i.3 c.answer_piece-progress.ensures (λ _. not-false c.answer_piece-progress.result.written (right_fails c.answer_piece-progress.result.tally.past (not c.answer_piece-progress.result.written) c.if-after-progress.false)),
+      reads_more i.0 i.3 c.answer_piece-progress.ensures (λ _. not-false c.answer_piece-progress.result.written (right_fails c.answer_piece-progress.result.tally.past (not c.answer_piece-progress.result.written) c.if-after-written.false)),
       search rules,
       search rules,
-      left_fails _ _ c.if-after-progress.false,
+      left_fails _ _ c.if-after-written.false,
       search rules,
     )
 
