@@ -263,7 +263,7 @@ test("unused: as the demo says, and the promise is there", () =>
     assert.deepEqual((await json<Shown>(["show", "trimmed.bin"])).machines.map(({ arcs }) => arcs.length), [6, 3, 5]);
     const [crate, name] = PROMISE.split("/") as [string, string];
     const [file, theorem] = name.split(".") as [string, string];
-    assert.match(readFileSync(join(ROOT, "crates", crate, "specs", `${file}.antt`), "utf8"), new RegExp(`^ *(pub )?${theorem} :`, "m"));
+    assert.match(readFileSync(join(ROOT, "crates", crate, "proofs", `${file}.antt`), "utf8"), new RegExp(`^ *(pub )?${theorem} :`, "m"));
     const all = await json<{ unused: object[] }>(["unused", demo("tag")]);
     const one = await json<{ unused: object[]; answers: number }>(["unused", demo("tag"), "--ranking", "012", "t a g"]);
     assert.equal(one.answers, 1);

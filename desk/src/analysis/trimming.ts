@@ -9,7 +9,7 @@ import { ask, askAll, Asked } from "./asking";
 import { Task } from "./task";
 
 /** The proved promise that they can be left out. */
-export const PROMISE = "trimming/Trimming.same-answer";
+export const PROMISE = "trimming/Trimming.same_answer";
 
 export interface Trimming {
   /** How many of the questions have an answer. */
