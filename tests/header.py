@@ -67,6 +67,16 @@ def refusal_lists(text, comment, call):
     return lists
 
 
+def check_contracts():
+    """What the exported functions promise: each has the parameters and clauses of the function of crate pastaspur that it calls."""
+    def contracts(path):
+        text = pathlib.Path(path).read_text()
+        return {name: (parameters, clauses) for name, parameters, clauses in re.findall(r'pub (?:extern "C" )?fn (\w+)\((.*?)\) -> u32\n(.*?)\n\{', text, re.S)}
+    of_export, of_library = contracts(source), contracts("crates/pastaspur/src/lib.rt")
+    return [f"{name} promises something else in {source} than in crates/pastaspur" for name in of_export if of_export[name] != of_library.get(name)] + \
+        ([] if len(of_export) == CALLS else [f"{source} has {len(of_export)} contracts, not {CALLS}"])
+
+
 @functools.cache
 def defined():
     """The names that the archive exports."""
@@ -164,7 +174,7 @@ def main():
         lists = refusal_lists(pathlib.Path("include/pastaspur.h").read_text(), IN_HEADER, DECLARATION)
         print("\n".join(" ".join(map(str, [name, 0, *sorted(listed)])) for name, listed in lists.items()))
         return
-    wrong = faults("include")
+    wrong = faults("include") + check_contracts()
     if not wrong and sys.argv[4:] == ["wrong"]:
         passed, refused = try_wrong_headers()
         wrong = [f"not refused: {what}" for what in passed] + [f"{refused} wrong headers: too few"] * (refused < 100)
