@@ -1,17 +1,13 @@
 -- How the finder goes on from place to place. Assumes nothing.
 use Rattle.std.specs.Prelude.{◌≡◌, ◌&&◌, ◌||◌, ◌∷◌, ◌++◌, ◌+◌, ◌-◌, ◌<◌, ◌≤◌}
 use Rattle.basics.proofs.Words.{refl, sym, ◌∙◌, ap, ap₂, Bool, true, false, not, List, [], append-nil, Option, some, none, Option·map, ℕ, suc, arith, length, take, drop, set, replicate, length-set, take-append-drop, eqb, lit<, append_snoc, take-suc-set, drop-set-lt, drop-drop, add-one, those, first_that, numbers_below, member, eq-eqb, ne_eqb, not-true, clash, fails, both, left, right, neither, left_fails, right_fails, same, first_member, numbers_member, no_member}
-use Rattle.refusals.specs.Refusals.{number_of, checked_number, refuse, first_of}
-use Rattle.refusals.specs.declared.Refusal.{Refusal}
-use Rattle.refusals.specs.declared.Checked.TheVariants.{Passed, Refused}
-use Rattle.refusals.proofs.Refusals.{passed, none_first, number_positive}
+use Rattle.refusals.specs.Refusals.{refuse, first_of}
+use Rattle.refusals.proofs.Refusals.{passed, none_first}
 use Rattle.ranking.specs.declared.Condition.{Condition}
-use Rattle.ranking.specs.declared.Finding.{Finding}
 use Rattle.ranking.specs.Rankings.{is_machine_count}
 use Rattle.ranking.specs.Lemmas.Rankings.{machine_count_lem}
-use Rattle.finder.specs.Finder.{disjoint, sound_list, smallest, finding_of}
-use Rattle.finder.specs.declared.Next.{Next}
-use Rattle.finder.specs.Steps.{may_stand, next_machine, next_of}
+use Rattle.finder.specs.Finder.{Finding, disjoint, sound_list, smallest, finding_of}
+use Rattle.finder.specs.Steps.{may_stand, next_machine}
 use Rattle.ranking.specs.Lemmas.Searches.{count_on, count_found, first_same, first_those, all_those, all_same, those_in, those_those, those_same}
 use Rattle.ranking.specs.Lemmas.Arrangements.{without}
 use Rattle.finder.proofs.Demotion.{free, still, demotion, demotion_stops, demotion_goes}
@@ -38,15 +34,6 @@ module _ (cs : List Condition) (placed : ℕ) where
 pub next_below : (K : ℕ) (cs : List Condition) (placed : ℕ) {m : ℕ} → next_machine K cs placed ≡ some m → m < K
 unfolding next_machine
 next_below K cs placed e = numbers_member K (first_member (next cs placed) (numbers_below K) e)
-
--- what was answered of the next place
-pub next_there : (o : Option ℕ) {n : Next} → n ≡ next_of o → n.checked ≡ Passed → o ≡ some n.machine
-next_there none {n} e t = absurd (let z : ◌≡◌ {A = ℕ} 16 0 = ap checked_number (ap (λ (n : Next). n.checked) (sym e) ∙ t) in omega (arith, z))
-next_there (some m) {n} e t = ap {B = Option ℕ} some (ap (λ (n : Next). n.machine) (sym e))
-
-pub next_missing : (o : Option ℕ) {n : Next} {r : Refusal} → n ≡ next_of o → n.checked ≡ Refused r → (o ≡ none) × (checked_number n.checked ≡ 16)
-next_missing none {n} e t = (refl, ap (λ (n : Next). checked_number n.checked) e)
-next_missing (some m) {n} {r} e t = absurd (let z : 0 ≡ number_of r = ap checked_number (ap (λ (n : Next). n.checked) (sym e) ∙ t) in omega (arith, z, number_positive r))
 
 -- the machines that are not placed, and the conditions that no placed machine decides
 abbrev pub remaining : ℕ → ℕ → List ℕ

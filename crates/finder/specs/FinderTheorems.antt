@@ -3,11 +3,10 @@
 use Rattle.std.specs.Prelude.{◌≡◌, ◌∷◌, ◌++◌, ◌↔◌, ◌-◌}
 use Rattle.basics.proofs.Words.{refl, sym, ◌∙◌, ap, Bool, true, false, List, [], List-as-Memᴰ, Option, some, none, ℕ, arith, replicate, all_of, pairwise, first_passes, first_member, first_misses, length_numbers}
 use Rattle.ranking.specs.declared.Condition.{Condition}
-use Rattle.ranking.specs.declared.Finding.{Finding}
 use Rattle.ranking.specs.Rankings.{is_ranking, rankings, is_machine_count}
 use Rattle.ranking.specs.Conditions.{fits}
 use Rattle.ranking.specs.ByteStrings.{smaller}
-use Rattle.finder.specs.Finder.{conditions_of, sound_list, smallest, refused_finding, finding_of, finding}
+use Rattle.finder.specs.Finder.{Finding, conditions_of, sound_list, smallest, refused_finding, finding_of, finding}
 use Rattle.refusals.specs.Refusals.{refuse, first_of}
 use Rattle.refusals.proofs.Refusals.{accepted}
 use Rattle.ranking.specs.Lemmas.Searches.{none_first}

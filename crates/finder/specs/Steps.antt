@@ -2,9 +2,7 @@
 use Rattle.std.specs.Prelude.{◌&&◌, ◌+◌}
 use Rattle.basics.specs.Words.{Bool, not, List, Option, some, none, ℕ, get_or, all_of, first_that, numbers_below, member}
 use Rattle.ranking.specs.declared.Condition.{Condition}
-use Rattle.finder.specs.declared.Next.{Next}
-use Rattle.refusals.specs.declared.Checked.TheVariants.{Passed, Refused}
-use Rattle.refusals.specs.declared.Refusal.TheVariants.{NoRanking}
+use Rattle.std.specs.Prelude.{Option as Answer, Some, None}
 use Rattle.finder.specs.Finder.{disjoint}
 
 -- the condition whose bytes stand at a place of a list
@@ -23,7 +21,7 @@ may_stand cs placed m = all_of (λ c. not (blocks placed m c)) cs
 unfoldable pub next_machine : ℕ → List Condition → ℕ → Option ℕ
 next_machine K cs placed = first_that (λ m. not (member placed m) && may_stand cs placed m) (numbers_below K)
 
--- it, or refusal 16
-abbrev pub next_of : Option ℕ → Next
-next_of (some m) = record { checked = Passed; machine = m }
-next_of none = record { checked = Refused NoRanking; machine = 0 }
+-- what the code answers
+abbrev pub next_of : Answer ℕ → Option ℕ
+next_of (Some m) = some m
+next_of None = none

@@ -5,18 +5,11 @@ ghost use Rattle.std.specs.Prelude.{◌≡◌, ◌∷◌, ◌+◌, ◌<◌, ◌�
 ghost use Rattle.basics.specs.Words.{true, [], length, member};
 ghost use Rattle.refusals.specs.Refusals.{refuse, first_of, checked_number};
 ghost use Rattle.ranking.specs.Rankings.{is_machine_count};
-ghost use Rattle.finder.specs.Finder.{disjoint, sound_condition, sound_list, conditions_of, smallest, refused_finding, finding_of, finding};
+ghost use Rattle.finder.specs.Finder.{disjoint, sound_condition, sound_list, conditions_of, smallest, found, finding_of, finding};
 ghost use Rattle.finder.specs.Steps.{condition_at, blocks, may_stand, next_machine, next_of};
 
-use ranking::{Condition, Finding, rankings};
-use refusals::{Checked, Refusal};
-
-// The machine for the next place: refusal 16 and machine 0 where there is none.
-#[derive(Clone, Copy)]
-struct Next {
-    checked: Checked,
-    machine: u8,
-}
+use ranking::{Condition, rankings};
+use refusals::Refusal;
 
 // Whether a machine is in a set.
 fn has(set: u8, machine: u8) -> bool
@@ -63,34 +56,31 @@ fn blocks(condition: Condition, placed: u8, machine: u8) -> bool
 }
 
 // Refusal 15: whether the list is even, of at most 64 pairs, and sound in each.
-fn check_conditions(machines: u8, conditions: &[u8]) -> Checked
+fn check_conditions(machines: u8, conditions: &[u8]) -> Result<(), Refusal>
     requires { machines < 8 }
     ensures { checked_number result ≡ refuse 15 (sound_list machines conditions.now) }
 {
     if conditions.len() % 2 != 0 {
-        return Checked::Refused(Refusal::Conditions);
+        return Err(Refusal::Conditions);
     }
     if conditions.len() > 128 {
-        return Checked::Refused(Refusal::Conditions);
+        return Err(Refusal::Conditions);
     }
     let mut at = 0;
     while at < conditions.len() {
         if !sound(machines, condition_at(conditions, at)) {
-            return Checked::Refused(Refusal::Conditions);
+            return Err(Refusal::Conditions);
         }
         at += 2;
     }
-    Checked::Passed
+    Ok(())
 }
 
 // Refusals 1 and 15.
-fn check(machines: u8, conditions: &[u8]) -> Checked
+fn check(machines: u8, conditions: &[u8]) -> Result<(), Refusal>
     ensures { checked_number result ≡ first_of (refuse 1 (is_machine_count machines) ∷ refuse 15 (sound_list machines conditions.now) ∷ []) }
 {
-    let answer = rankings::check_machine_count(machines);
-    let Checked::Passed = answer else {
-        return answer;
-    };
+    rankings::check_machine_count(machines)?;
     check_conditions(machines, conditions)
 }
 
@@ -109,62 +99,40 @@ fn may_stand(conditions: &[u8], placed: u8, machine: u8) -> bool
     true
 }
 
-// The smallest machine that is not placed and may stand at the next place, or refusal 16.
-fn next_machine(machines: u8, conditions: &[u8], placed: u8) -> Next
+// The smallest machine that is not placed and may stand at the next place.
+fn next_machine(machines: u8, conditions: &[u8], placed: u8) -> Option<u8>
     requires { (length conditions.now % 2 ≡ 0) × (machines < 8) }
-    ensures { result ≡ next_of (next_machine machines (conditions_of conditions.now) placed) }
+    ensures { next_of result ≡ next_machine machines (conditions_of conditions.now) placed }
 {
     for machine in 0..machines {
         if !has(placed, machine) & may_stand(conditions, placed, machine) {
-            return Next {
-                checked: Checked::Passed,
-                machine,
-            };
+            return Some(machine);
         }
     }
-    Next {
-        checked: Checked::Refused(Refusal::NoRanking),
-        machine: 0,
-    }
-}
-
-// What a refused call answers: the number, and no ranking.
-fn refused(answer: Checked) -> Finding
-    ensures { result ≡ refused_finding (checked_number answer) }
-{
-    Finding {
-        number: answer.number(),
-        ranking: [0; 6],
-    }
+    None
 }
 
 // Fills the places from the highest down: refusal 16 where no machine may stand at one.
-fn rank(machines: u8, conditions: &[u8]) -> Finding
+fn rank(machines: u8, conditions: &[u8]) -> Result<[u8; 6], Refusal>
     requires { (machines ≤ 6) × (sound_list machines conditions.now ≡ true) }
-    ensures { result ≡ finding_of machines (smallest machines (conditions_of conditions.now)) }
+    ensures { found result ≡ finding_of machines (smallest machines (conditions_of conditions.now)) }
 {
     let mut ranking = [0u8; 6];
     let mut placed: u8 = 0;
     for place in 0..machines {
-        let next = next_machine(machines, conditions, placed);
-        let answer = next.checked;
-        let Checked::Passed = answer else {
-            return refused(answer);
+        let Some(machine) = next_machine(machines, conditions, placed) else {
+            return Err(Refusal::NoRanking);
         };
-        let machine = next.machine;
         ranking[place as usize] = machine;
         placed = placed | (1 << machine);
     }
-    Finding { number: 0, ranking }
+    Ok(ranking)
 }
 
 // The smallest ranking, as a byte string, that fits every condition of the list: refusals 1, 15 and 16.
-pub fn find(machines: u8, conditions: &[u8]) -> Finding
-    ensures { result ≡ finding machines conditions.now }
+pub fn find(machines: u8, conditions: &[u8]) -> Result<[u8; 6], Refusal>
+    ensures { found result ≡ finding machines conditions.now }
 {
-    let answer = check(machines, conditions);
-    let Checked::Passed = answer else {
-        return refused(answer);
-    };
+    check(machines, conditions)?;
     rank(machines, conditions)
 }

@@ -1,10 +1,9 @@
 -- Ranking conditions: where one of them comes from, and when a ranking fits it.
-use Rattle.std.specs.Prelude.{◌||◌, ◌∷◌}
+use Rattle.std.specs.Prelude.{Result, Ok, Err, ◌||◌, ◌∷◌}
 use Rattle.basics.specs.Words.{Bool, true, false, List, [], Option, some, none, ℕ, get_or, eqb, ltb, member, set_of}
 use Rattle.refusals.specs.Refusals.{refuse, unless_refused, number_of}
 use Rattle.ranking.specs.declared.Condition.{Condition}
-use Rattle.ranking.specs.declared.Derived.{Derived}
-use Rattle.ranking.specs.declared.Derived.TheVariants as answers
+use Rattle.refusals.specs.declared.Refusal.{Refusal}
 use Rattle.ranking.specs.declared.Profile.{Profile}
 use Rattle.ranking.specs.Rankings.{is_machine_count}
 
@@ -37,9 +36,9 @@ pub record DerivedCondition : Type 0 where
 abbrev pub refused_condition : ℕ → DerivedCondition
 refused_condition n = record { number = n; condition = record { fewer = 0; more = 0 } }
 
-abbrev pub derived : Derived → DerivedCondition
-derived (answers.Condition c) = record { number = 0; condition = c }
-derived (answers.Refused r) = refused_condition (number_of r)
+abbrev pub derived : Result Condition Refusal → DerivedCondition
+derived (Ok c) = record { number = 0; condition = c }
+derived (Err r) = refused_condition (number_of r)
 
 abbrev pub derived_from : ℕ → Profile → Profile → DerivedCondition
 derived_from K a b =

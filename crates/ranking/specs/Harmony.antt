@@ -1,11 +1,10 @@
 -- Harmonic comparison of two profiles, by their counts in card order.
-use Rattle.std.specs.Prelude.{◌∷◌}
+use Rattle.std.specs.Prelude.{Result, Ok, Err, ◌∷◌}
 use Rattle.basics.specs.Words.{Bool, true, false, List, [], Option, some, none, ℕ, get_or, ltb}
 use Rattle.refusals.specs.Refusals.{refuse, first_of, unless_refused, number_of}
+use Rattle.refusals.specs.declared.Refusal.{Refusal}
 use Rattle.ranking.specs.declared.Order.{Order}
 use Rattle.ranking.specs.declared.Order.TheVariants.{Better, Equal, Worse}
-use Rattle.ranking.specs.declared.Comparison.{Comparison}
-use Rattle.ranking.specs.declared.Comparison.TheVariants as answers
 use Rattle.ranking.specs.declared.Profile.{Profile}
 use Rattle.ranking.specs.Rankings.{is_machine_count, is_ranking}
 
@@ -49,9 +48,9 @@ pub record Compared : Type 0 where
 abbrev pub refused_comparison : ℕ → Compared
 refused_comparison n = record { number = n; order = none }
 
-abbrev pub compared : Comparison → Compared
-compared (answers.Ordered o) = record { number = 0; order = some o }
-compared (answers.Refused r) = refused_comparison (number_of r)
+abbrev pub compared : Result Order Refusal → Compared
+compared (Ok o) = record { number = 0; order = some o }
+compared (Err r) = refused_comparison (number_of r)
 
 abbrev pub comparing : ℕ → List ℕ → Profile → Profile → Compared
 comparing K r v w =

@@ -2,8 +2,8 @@
 ghost use Rattle.std.specs.Prelude.{◌≡◌, ◌≤◌};
 ghost use Rattle.ranking.specs.Conditions.{fewer_in, derived, derived_from};
 
-use super::{Condition, Derived, Profile, rankings};
-use refusals::Checked;
+use super::{Condition, Profile, rankings};
+use refusals::Refusal;
 
 // The set of the machines where the first profile has fewer.
 fn fewer_in(machines: u8, first: Profile, second: Profile) -> u8
@@ -22,14 +22,12 @@ fn fewer_in(machines: u8, first: Profile, second: Profile) -> u8
 }
 
 // The condition under which the first of two profiles of `machines` machines is not worse: refusal 1.
-pub fn derive(machines: u8, first: Profile, second: Profile) -> Derived
+pub fn derive(machines: u8, first: Profile, second: Profile) -> Result<Condition, Refusal>
     ensures { derived result ≡ derived_from machines first second }
 {
-    let Checked::Refused(refusal) = rankings::check_machine_count(machines) else {
-        return Derived::Condition(Condition {
-            fewer: fewer_in(machines, first, second),
-            more: fewer_in(machines, second, first),
-        });
-    };
-    Derived::Refused(refusal)
+    rankings::check_machine_count(machines)?;
+    Ok(Condition {
+        fewer: fewer_in(machines, first, second),
+        more: fewer_in(machines, second, first),
+    })
 }

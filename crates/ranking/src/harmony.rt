@@ -4,8 +4,8 @@ ghost use Rattle.basics.specs.Words.{true, length, get_or};
 ghost use Rattle.ranking.specs.Rankings.{is_ranking};
 ghost use Rattle.ranking.specs.Harmony.{harmony, compared, comparing};
 
-use super::{Comparison, Order, Profile, rankings};
-use refusals::Checked;
+use super::{Order, Profile, rankings};
+use refusals::Refusal;
 
 // The machine at a place of a ranking.
 fn machine_at(ranking: &[u8], place: u8) -> u8
@@ -35,11 +35,9 @@ pub fn harmony(ranking: &[u8], first: Profile, second: Profile) -> Order
 }
 
 // Compares two profiles of `machines` machines under a ranking: refusals 1 and 7.
-pub fn compare(machines: u8, ranking: &[u8], first: Profile, second: Profile) -> Comparison
+pub fn compare(machines: u8, ranking: &[u8], first: Profile, second: Profile) -> Result<Order, Refusal>
     ensures { compared result ≡ comparing machines ranking.now first second }
 {
-    let Checked::Refused(refusal) = rankings::check(machines, ranking) else {
-        return Comparison::Ordered(harmony(ranking, first, second));
-    };
-    Comparison::Refused(refusal)
+    rankings::check(machines, ranking)?;
+    Ok(harmony(ranking, first, second))
 }

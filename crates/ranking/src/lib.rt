@@ -9,8 +9,6 @@ ghost use Rattle.std.specs.Prelude.{◌≡◌, ◌<◌};
 ghost use Rattle.basics.specs.Words.{get_or};
 ghost use Rattle.ranking.specs.Profiles.{zero_profile};
 
-use refusals::Refusal;
-
 // How often a candidate breaks each constraint, in card order; unused places are 0.
 #[repr(C)]
 #[derive(Clone, Copy)]
@@ -52,25 +50,4 @@ pub enum Order {
 pub struct Condition {
     pub fewer: u8,
     pub more: u8,
-}
-
-// What comparing answers.
-#[derive(Clone, Copy)]
-pub enum Comparison {
-    Ordered(Order),
-    Refused(Refusal),
-}
-
-// What deriving a condition answers.
-#[derive(Clone, Copy)]
-pub enum Derived {
-    Condition(Condition),
-    Refused(Refusal),
-}
-
-// What the finder answers: the refusal's number, 0 where there is none, and the ranking, unused places 0.
-#[derive(Clone, Copy)]
-pub struct Finding {
-    pub number: u8,
-    pub ranking: [u8; 6],
 }

@@ -7,8 +7,7 @@ use native.Mathlib.Omega.{arith}
 use lib.Dec.{lit<}
 use Rattle.refusals.specs.declared.Refusal.{Refusal}
 use Rattle.refusals.specs.declared.Refusal.TheVariants.{Counts, Layout, PartLength, Field, Clash, Product, Ranking, Word, Work, NoCandidate, Answer, Candidate, NotComplete, Conditions, NoRanking, Parts, Target, Tableau, RowCandidate, RowCounts, Line, RowCount, Presence, Sets, Weights, Machines, JoinedSize}
-use Rattle.refusals.specs.declared.Checked.{Checked}
-use Rattle.refusals.specs.declared.Checked.TheVariants.{Passed, Refused}
+use Rattle.std.proofs.Common.{Result, Ok, Err}
 use Rattle.refusals.specs.Refusals.{number_of, checked_number, refuse, first_of, unless_refused}
 
 -- no refusal has the number 0
@@ -83,7 +82,7 @@ last_one zero = refl
 last_one (suc n) = refl
 
 -- a check that passed
-module _ {s : Checked} (told : s ≡ Passed) where
+module _ {A : Type 0} {s : Result A Refusal} {a : A} (told : s ≡ Ok a) where
   pub passed_number : {n : ℕ} → checked_number s ≡ n → n ≡ 0
   passed_number e = sym e ∙ ap checked_number told
 
@@ -95,11 +94,11 @@ module _ {s : Checked} (told : s ≡ Passed) where
   goes_on n ns e = first_on n ns (passed_number e)
 
   -- the call's answer where it decides for the whole call
-  pub accepts : {A : Type 0} (n : ℕ) (a : A) (f : ℕ → A) → checked_number s ≡ n → unless_refused n a f ≡ a
-  accepts n a f e = accepted a f (passed_number e)
+  pub accepts : {B : Type 0} (n : ℕ) (b : B) (f : ℕ → B) → checked_number s ≡ n → unless_refused n b f ≡ b
+  accepts n b f e = accepted b f (passed_number e)
 
 -- a check that refused
-module _ {s : Checked} {r : Refusal} (told : s ≡ Refused r) where
+module _ {A : Type 0} {s : Result A Refusal} {r : Refusal} (told : s ≡ Err r) where
   pub refused_number : {n : ℕ} → checked_number s ≡ n → 0 < n
   refused_number {n} e = let q : n ≡ number_of r = sym e ∙ ap checked_number told in omega (arith, number_positive r)
 
@@ -111,5 +110,5 @@ module _ {s : Checked} {r : Refusal} (told : s ≡ Refused r) where
   goes_up n ns e = e ∙ sym (first_up n ns (refused_number e))
 
   -- the call's answer where it decides for the whole call
-  pub refuses : {A : Type 0} (n : ℕ) (a : A) (f : ℕ → A) → checked_number s ≡ n → unless_refused n a f ≡ f (number_of r)
-  refuses n a f e = not_accepted n a f (refused_number e) ∙ ap f (sym e ∙ ap checked_number told)
+  pub refuses : {B : Type 0} (n : ℕ) (b : B) (f : ℕ → B) → checked_number s ≡ n → unless_refused n b f ≡ f (number_of r)
+  refuses n b f e = not_accepted n b f (refused_number e) ∙ ap f (sym e ∙ ap checked_number told)

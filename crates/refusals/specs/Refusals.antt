@@ -1,9 +1,7 @@
 -- Refusals by their numbers in the refusal table; 0 is accepted.
-use Rattle.std.specs.Prelude.{Bool, true, false, List, [], ◌∷◌, ℕ, zero, suc}
+use Rattle.std.specs.Prelude.{Result, Ok, Err, Bool, true, false, List, [], ◌∷◌, ℕ, zero, suc}
 use Rattle.refusals.specs.declared.Refusal.{Refusal}
 use Rattle.refusals.specs.declared.Refusal.TheVariants.{Counts, Layout, PartLength, Field, Clash, Product, Ranking, Word, Work, NoCandidate, Answer, Candidate, NotComplete, Conditions, NoRanking, Parts, Target, Tableau, RowCandidate, RowCounts, Line, RowCount, Presence, Sets, Weights, Machines, JoinedSize}
-use Rattle.refusals.specs.declared.Checked.{Checked}
-use Rattle.refusals.specs.declared.Checked.TheVariants.{Passed, Refused}
 
 -- the table; 11 was struck
 abbrev pub number_of : Refusal → ℕ
@@ -36,9 +34,9 @@ number_of Machines = 27
 number_of JoinedSize = 28
 
 -- a check's number: 0 where it passed
-abbrev pub checked_number : Checked → ℕ
-checked_number Passed = 0
-checked_number (Refused r) = number_of r
+abbrev pub checked_number : {A : Type 0} → Result A Refusal → ℕ
+checked_number (Ok a) = 0
+checked_number (Err r) = number_of r
 
 -- refusal n, unless the test passes
 abbrev pub refuse : ℕ → Bool → ℕ

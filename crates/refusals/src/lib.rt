@@ -1,4 +1,4 @@
-// The refusal table, and what a check answers.
+// The refusal table. A check answers a Result: the refusal is its error.
 #![tactic(auto)]
 
 ghost use Rattle.std.specs.Prelude.{◌≡◌};
@@ -63,12 +63,14 @@ pub enum Refusal {
     JoinedSize,
 }
 
-impl Refusal {
+impl From<Refusal> for u8 {
+    ghost from_gives = { λ refusal number. number ≡ number_of refusal };
+
     // Its number in the refusal table; 11 was struck.
-    pub fn number(self) -> u8
-        ensures { result ≡ number_of self }
+    fn from(refusal: Refusal) -> u8
+        ensures { result ≡ number_of refusal }
     {
-        match self {
+        match refusal {
             Refusal::Counts => 1,
             Refusal::Layout => 2,
             Refusal::PartLength => 3,
@@ -100,32 +102,10 @@ impl Refusal {
     }
 }
 
-// What a check answers.
-#[derive(Clone, Copy)]
-pub enum Checked {
-    Passed,
-    Refused(Refusal),
-}
-
-impl Checked {
-    // The number that a call answers with it: 0 where it passed.
-    pub fn number(self) -> u8
-        ensures { result ≡ checked_number self }
-    {
-        match self {
-            Checked::Passed => 0,
-            Checked::Refused(refusal) => refusal.number(),
-        }
-    }
-}
-
-// The answer of a check that is one test.
-pub fn tested(ok: bool, refusal: Refusal) -> Checked
+// Passes where the test does, and refuses with the refusal where not.
+pub fn tested(ok: bool, refusal: Refusal) -> Result<(), Refusal>
     ensures { checked_number result ≡ refuse (number_of refusal) ok }
 {
-    if ok {
-        Checked::Passed
-    } else {
-        Checked::Refused(refusal)
-    }
+    if ok { Ok(()) } else { Err(refusal) }
 }
+

@@ -11,7 +11,7 @@ loop-machine-init c = (search rules, next_start _ _)
 pub returns-then-has-may_stand : goal.returns-then-has-may_stand
 returns-then-has-may_stand c =
     let cs = conditions_of c.args.conditions.now in
-    sym (ap next_of (next_found cs c.args.placed c.args.machines c.loop-machine.machine c.loop-machine-test.true c.loop-machine.invariant.1 (ap₂ (λ (a b : Bool). not a && b) (sym c.has.ensures) (sym c.may_stand.ensures) ∙ c.if-has-may_stand.true)))
+    sym (next_found cs c.args.placed c.args.machines c.loop-machine.machine c.loop-machine-test.true c.loop-machine.invariant.1 (ap₂ (λ (a b : Bool). not a && b) (sym c.has.ensures) (sym c.may_stand.ensures) ∙ c.if-has-may_stand.true))
 
 pub loop-machine-preserved : goal.loop-machine-preserved
 loop-machine-preserved c =
