@@ -1,12 +1,9 @@
 -- Constraint machines: arcs, the pairs that they take, steps, endings.
-use Rattle.std.specs.Prelude.{◌&&◌, ◌∷◌}
+use Rattle.std.specs.Prelude.{Option as Answer, Some, None, ◌&&◌, ◌∷◌}
 use Rattle.basics.specs.Words.{Bool, true, false, not, List, [], Option, some, none, ℕ, zero, suc, length, get_or, eqb, some_below, member}
 use Rattle.machine.specs.declared.Arc.{Arc}
 use Rattle.machine.specs.declared.Pair.{Pair}
-use Rattle.machine.specs.declared.Ending.{Ending}
-use Rattle.machine.specs.declared.Ending.TheVariants.{Marks, NotFinal}
-use Rattle.machine.specs.declared.Step.{Step}
-use Rattle.machine.specs.declared.Step.TheVariants.{Moved, Stuck}
+use Rattle.machine.specs.declared.Position.{Position}
 use Rattle.machine.specs.Symbols.{is_pair}
 
 -- for each state the marks for ending there, none where it is not final; and the arcs
@@ -65,12 +62,12 @@ take_one_pair a b = some_below (λ x. some_below (λ y. both_take a b (record { 
 unfoldable pub clash : Arc → Arc → Bool
 clash a b = eqb a.from b.from && take_one_pair a b
 
--- what a Step says
-abbrev pub stepped : Step → Option (ℕ × ℕ)
-stepped (Moved p m) = some (p.state, m)
-stepped Stuck = none
+-- what the code answers of a step
+abbrev pub stepped : Answer (Position × ℕ) → Option (ℕ × ℕ)
+stepped (Some a) = some (a.0.state, a.1)
+stepped None = none
 
--- what an Ending says
-abbrev pub ended : Ending → Option ℕ
-ended (Marks m) = some m
-ended NotFinal = none
+-- what the code answers of an ending
+abbrev pub ended : Answer ℕ → Option ℕ
+ended (Some m) = some m
+ended None = none

@@ -128,20 +128,6 @@ pub struct Position {
     pub state: u8,
 }
 
-// What taking a pair does: the new position with the marks, or nothing takes it.
-#[derive(Clone, Copy)]
-pub enum Step {
-    Moved(Position, u8),
-    Stuck,
-}
-
-// What ending does: it hands back its marks, or the state is not final.
-#[derive(Clone, Copy)]
-pub enum Ending {
-    Marks(u8),
-    NotFinal,
-}
-
 impl Position {
     // Where a machine starts.
     pub const START: Position = Position { state: 0 };
@@ -152,8 +138,8 @@ impl Position {
         Position::START
     }
 
-    // Takes a pair: the arc of this state that takes it moves the state on and hands back its marks.
-    pub fn step(self, part: &[u8], pair: Pair) -> Step
+    // Takes a pair: the arc of this state that takes it moves the state on and hands back its marks; none where nothing takes it.
+    pub fn step(self, part: &[u8], pair: Pair) -> Option<(Position, u8)>
         requires { (shaped part.now ≡ true) × (pair.input < 64) × (pair.output < 64) }
         ensures { stepped result ≡ step_of (machine_of part.now) self.state pair }
     {
@@ -164,33 +150,31 @@ impl Position {
         let mut left = part[1];
         while left > 0 {
             if part::takes_from(part, at, state, input, output) {
-                return Step::Moved(
-                    Position {
-                        state: part[at + 1],
-                    },
-                    part[at + 2],
-                );
+                let next = Position {
+                    state: part[at + 1],
+                };
+                return Some((next, part[at + 2]));
             }
             at += 20;
             left -= 1;
         }
-        Step::Stuck
+        None
     }
 
-    // Ends here: what a state that the machine has says of it; no other is final.
-    pub fn ending(self, part: &[u8]) -> Ending
+    // Ends here: the marks of a state that the machine has, none where it is not final; no other is.
+    pub fn ending(self, part: &[u8]) -> Option<u8>
         requires { shaped part.now ≡ true }
         ensures { ended result ≡ ending_of (machine_of part.now) self.state }
     {
         let state = index(self.state);
         if index(part[0]) <= state {
-            return Ending::NotFinal;
+            return None;
         }
         let byte = part[2 + state];
         if byte == 0 {
-            Ending::NotFinal
+            None
         } else {
-            Ending::Marks(byte - 1)
+            Some(byte - 1)
         }
     }
 }
