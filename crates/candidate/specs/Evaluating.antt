@@ -1,22 +1,21 @@
 -- Evaluation of a candidate, given as bytes, on a card.
-use Rattle.std.specs.Prelude.{◌&&◌, ◌∷◌, ◌++◌, ◌-◌, ◌*◌, ◌%◌}
+use Rattle.std.specs.Prelude.{Result, Ok, Err, Option as Answer, Some, None, ◌&&◌, ◌∷◌, ◌++◌, ◌-◌, ◌*◌, ◌%◌}
 use Rattle.basics.specs.Words.{Bool, List, [], Option, some, none, ℕ, length, replicate, eqb, leb, all_of}
-use Rattle.refusals.specs.Refusals.{refuse, first_of, unless_refused}
+use Rattle.refusals.specs.declared.Refusal.{Refusal}
+use Rattle.refusals.specs.Refusals.{number_of, refuse, first_of, unless_refused}
 use Rattle.machine.specs.declared.Pair.{Pair}
 use Rattle.machine.specs.Symbols.{is_pair, within_symbols}
 use Rattle.ranking.specs.declared.Profile.{Profile}
 use Rattle.ranking.specs.Profiles.{zero_profile}
 use Rattle.card.specs.Layout.{symbol_count}
 use Rattle.card.specs.Card.{card_refusal, machines_of}
-use Rattle.candidate.specs.declared.Evaluation.{Evaluation}
-use Rattle.candidate.specs.declared.Marks.{Marks}
-use Rattle.candidate.specs.declared.Marks.TheVariants.{Complete, NotComplete}
+use Rattle.candidate.specs.declared.Evaluated.{Evaluated}
 use Rattle.candidate.specs.Candidates.{pairs_of, spelled, is_complete, profile_of}
 
--- what one machine says of a candidate
-abbrev pub marked : Marks → Option ℕ
-marked (Complete n) = some n
-marked NotComplete = none
+-- what the code answers of one machine and a candidate
+abbrev pub marked : Answer ℕ → Option ℕ
+marked (Some n) = some n
+marked None = none
 
 -- not 0:0, and no symbol over S
 abbrev pub sound_pair : ℕ → Pair → Bool
@@ -31,9 +30,21 @@ sound_candidate S bytes =
 abbrev pub profile_with : List ℕ → Profile
 profile_with counts = record { counts = counts ++ replicate (6 - length counts) 0 }
 
+-- what evaluation answers, and the optimizer of the best candidate, in the paper's terms: the refusal's number, 0 where there is none; the profile,
+-- unused places 0; the pair count; the length of the word spelled
+pub record Evaluation : Type 0 where
+  pub number : ℕ
+  pub profile : Profile
+  pub pairs : ℕ
+  pub word_length : ℕ
+
 -- a refusal: its number, every other field 0
 abbrev pub refused : ℕ → Evaluation
 refused n = record { number = n; profile = zero_profile; pairs = 0; word_length = 0 }
+
+abbrev pub evaluation_of : Result Evaluated Refusal → Evaluation
+evaluation_of (Ok e) = record { number = 0; profile = e.profile; pairs = e.pairs; word_length = e.word_length }
+evaluation_of (Err r) = refused (number_of r)
 
 unfoldable pub evaluating : List ℕ → List ℕ → Evaluation
 evaluating card bytes =

@@ -10,33 +10,19 @@ ghost use Rattle.card.specs.Layout.{symbol_count};
 ghost use Rattle.card.specs.Card.{card_refusal, machines_of};
 ghost use Rattle.candidate.specs.Scoring.{RunPre, Scores};
 ghost use Rattle.candidate.specs.Candidates.{pair_at, pairs_of, spelled, marks_of};
-ghost use Rattle.candidate.specs.Evaluating.{marked, sound_pair, sound_candidate, refused, evaluating};
+ghost use Rattle.candidate.specs.Evaluating.{marked, sound_pair, sound_candidate, evaluation_of, evaluating};
 
-use machine::{Ending, Pair, Position, Step};
+use machine::{Pair, Position};
 use ranking::Profile;
-use refusals::{Checked, Refusal};
+use refusals::Refusal;
 
-// What evaluation answers, and the optimizer of the best candidate: the refusal's number, 0 where there is none; the profile,
-// unused places 0; the pair count; the length of the word spelled.
+// What evaluation says of a candidate, and the optimizer of the best one: the profile, unused places 0; the pair count; the length of the word
+// spelled.
 #[derive(Clone, Copy)]
-pub struct Evaluation {
-    pub number: u8,
+pub struct Evaluated {
     pub profile: Profile,
     pub pairs: u16,
     pub word_length: u16,
-}
-
-// What one machine says of a candidate: its marks, or that it does not take every pair or does not end.
-#[derive(Clone, Copy)]
-pub enum Marks {
-    Complete(u16),
-    NotComplete,
-}
-
-pub fn wide(x: u8) -> u16
-    ensures { (result ≡ x) × (result < 256) }
-{
-    x as u16
 }
 
 // The pair whose two bytes start at a place.
@@ -47,8 +33,8 @@ pub fn pair_at(candidate: &[u8], at: usize) -> Pair
     Pair::new(candidate[at], candidate[at + 1])
 }
 
-// Takes a candidate's pairs in turn on one machine, and ends.
-fn run(part: &[u8], candidate: &[u8]) -> Marks
+// Takes a candidate's pairs in turn on one machine, and ends: its marks; none where it does not take every pair or does not end.
+fn run(part: &[u8], candidate: &[u8]) -> Option<u16>
     requires { RunPre part.now candidate.now }
     ensures { marked result ≡ marks_of (pairs_of candidate.now) (machine_of part.now) }
 {
@@ -56,18 +42,13 @@ fn run(part: &[u8], candidate: &[u8]) -> Marks
     let mut marks: u16 = 0;
     let mut at = 0;
     while at < candidate.len() {
-        let Step::Moved(next, more) = position.step(part, pair_at(candidate, at)) else {
-            return Marks::NotComplete;
-        };
+        let (next, more) = position.step(part, pair_at(candidate, at))?;
         position = next;
-        marks += wide(more);
+        marks += u16::from(more);
         at += 2;
     }
-    let Ending::Marks(more) = position.ending(part) else {
-        return Marks::NotComplete;
-    };
-    let total = marks + wide(more);
-    Marks::Complete(total)
+    let more = position.ending(part)?;
+    Some(marks + u16::from(more))
 }
 
 // Whether the bytes at a place are a pair of the card's symbols.
@@ -88,23 +69,23 @@ fn inserts_at(candidate: &[u8], at: usize) -> bool
 }
 
 // Refusal 13: whether the bytes are at most 3,199 pairs of the card's symbols.
-pub fn check_candidate(candidate: &[u8], symbols: u8) -> Checked
+pub fn check_candidate(candidate: &[u8], symbols: u8) -> Result<(), Refusal>
     ensures { checked_number result ≡ refuse 13 (sound_candidate symbols candidate.now) }
 {
     if candidate.len() % 2 != 0 {
-        return Checked::Refused(Refusal::Candidate);
+        return Err(Refusal::Candidate);
     }
     if candidate.len() > 6398 {
-        return Checked::Refused(Refusal::Candidate);
+        return Err(Refusal::Candidate);
     }
     let mut at = 0;
     while at < candidate.len() {
         if !is_sound_at(candidate, at, symbols) {
-            return Checked::Refused(Refusal::Candidate);
+            return Err(Refusal::Candidate);
         }
         at += 2;
     }
-    Checked::Passed
+    Ok(())
 }
 
 // The length of the word that a candidate spells.
@@ -123,69 +104,32 @@ fn spelled_length(candidate: &[u8]) -> u16
     symbols
 }
 
-// Each machine's marks, in card order, or that some machine does not complete the candidate.
-#[derive(Clone, Copy)]
-pub struct Scored {
-    pub checked: Checked,
-    pub profile: Profile,
-}
-
-// Refusal 14, and the profile.
-pub fn score(card: &[u8], candidate: &[u8]) -> Scored
+// Each machine's marks, in card order: refusal 14 where some machine does not complete the candidate.
+pub fn score(card: &[u8], candidate: &[u8]) -> Result<Profile, Refusal>
     requires { (card_refusal card.now ≡ 0) × (sound_candidate (symbol_count card.now) candidate.now ≡ true) }
     ensures { Scores (machines_of card.now) (pairs_of candidate.now) result }
 {
     let mut counts = Profile::ZERO.counts;
     let machines = card::machine_count(card);
     for machine in 0..machines {
-        let Marks::Complete(marks) = run(card::part(card, machine), candidate) else {
-            return Scored {
-                checked: Checked::Refused(Refusal::NotComplete),
-                profile: Profile::zero(),
-            };
+        let Some(marks) = run(card::part(card, machine), candidate) else {
+            return Err(Refusal::NotComplete);
         };
         counts[machine] = marks;
     }
-    Scored {
-        checked: Checked::Passed,
-        profile: Profile { counts },
-    }
-}
-
-// The answer of a refusal, for every call that answers an evaluation.
-pub fn refused(number: u8) -> Evaluation
-    ensures { result ≡ refused number }
-{
-    Evaluation {
-        number,
-        profile: Profile::zero(),
-        pairs: 0,
-        word_length: 0,
-    }
+    Ok(Profile { counts })
 }
 
 // Evaluates a candidate on a card: 1 to 6, 13, 14.
-pub fn evaluate(card: &[u8], candidate: &[u8]) -> Evaluation
-    ensures { result ≡ evaluating card.now candidate.now }
+pub fn evaluate(card: &[u8], candidate: &[u8]) -> Result<Evaluated, Refusal>
+    ensures { evaluation_of result ≡ evaluating card.now candidate.now }
 {
-    let answer = card::check(card);
-    let Checked::Passed = answer else {
-        return refused(answer.number());
-    };
-    let answer = check_candidate(candidate, card::symbol_count(card));
-    let Checked::Passed = answer else {
-        return refused(answer.number());
-    };
-    let scored = score(card, candidate);
-    let answer = scored.checked;
-    let Checked::Passed = answer else {
-        return refused(answer.number());
-    };
-    let profile = scored.profile;
-    Evaluation {
-        number: 0,
+    card::check(card)?;
+    check_candidate(candidate, card::symbol_count(card))?;
+    let profile = score(card, candidate)?;
+    Ok(Evaluated {
         profile,
         pairs: (candidate.len() / 2) as u16,
         word_length: spelled_length(candidate),
-    }
+    })
 }

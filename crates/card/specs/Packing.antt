@@ -1,8 +1,8 @@
 -- Packing machine parts into a card.
-use Rattle.std.specs.Prelude.{◌∷◌, ◌++◌}
+use Rattle.std.specs.Prelude.{Result, Ok, Err, ◌∷◌, ◌++◌}
 use Rattle.basics.specs.Words.{List, [], ℕ, length, drop, eqb, leb}
-use Rattle.refusals.specs.Refusals.{refuse, first_of, unless_refused}
-use Rattle.card.specs.declared.Packed.{Packed}
+use Rattle.refusals.specs.declared.Refusal.{Refusal}
+use Rattle.refusals.specs.Refusals.{number_of, refuse, first_of, unless_refused}
 use Rattle.card.specs.Layout.{sound_counts}
 use Rattle.card.specs.Card.{machines_refusal}
 pub use Rattle.layout.specs.Packing.{table}
@@ -17,6 +17,15 @@ packing_refusal S lengths joined room =
     ∷ machines_refusal S (split lengths joined)
     ∷ refuse 18 (leb (length (packed S lengths joined)) room)
     ∷ [])
+
+-- what packing answers, in the paper's terms: the refusal's number, 0 where there is none, and the card's length
+pub record Packed : Type 0 where
+  pub number : ℕ
+  pub length : ℕ
+
+abbrev pub packed_of : Result ℕ Refusal → Packed
+packed_of (Ok n) = record { number = 0; length = n }
+packed_of (Err r) = record { number = number_of r; length = 0 }
 
 -- what packing answers, and the target at exit: the card in front, its other bytes as they were
 unfoldable pub packing : ℕ → List ℕ → List ℕ → List ℕ → Packed

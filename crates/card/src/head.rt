@@ -6,10 +6,10 @@ ghost use Rattle.layout.specs.Layout.{length_of, laid_out};
 ghost use Rattle.card.specs.Layout.{machine_count, sound_counts, counted};
 
 use basics::index;
-use refusals::{Checked, Refusal, tested};
+use refusals::{Refusal, tested};
 
 // Refusal 1: K is 1 to 6 and S is 1 to 63.
-pub fn check_counts(machines: usize, symbols: u8) -> Checked
+pub fn check_counts(machines: usize, symbols: u8) -> Result<(), Refusal>
     ensures { checked_number result ≡ refuse 1 (sound_counts machines symbols) }
 {
     tested(
@@ -19,17 +19,17 @@ pub fn check_counts(machines: usize, symbols: u8) -> Checked
 }
 
 // Refusal 1 of a card: it has both counts, and they are in range.
-pub fn check_head(card: &[u8]) -> Checked
+pub fn check_head(card: &[u8]) -> Result<(), Refusal>
     ensures { checked_number result ≡ refuse 1 (counted card.now) }
 {
     if card.len() < 2 {
-        return Checked::Refused(Refusal::Counts);
+        return Err(Refusal::Counts);
     }
     check_counts(index(card[0]), card[1])
 }
 
 // Refusal 2: the parts follow one another to the card's end.
-pub fn check_layout(card: &[u8]) -> Checked
+pub fn check_layout(card: &[u8]) -> Result<(), Refusal>
     requires { counted card.now ≡ true }
     ensures { checked_number result ≡ refuse 2 (laid_out (machine_count card.now) card.now) }
 {

@@ -6,43 +6,29 @@ ghost use Rattle.refusals.specs.Refusals.{checked_number};
 ghost use Rattle.layout.specs.Layout.{part_of};
 ghost use Rattle.card.specs.Layout.{machine_count, symbol_count};
 ghost use Rattle.card.specs.Card.{card_refusal};
-ghost use Rattle.card.specs.Reading.{reading_refusal, reading};
-ghost use Rattle.card.specs.Packing.{packing_refusal, packing, packed_target};
+ghost use Rattle.card.specs.Reading.{reading_refusal, part_place_of, reading};
+ghost use Rattle.card.specs.Packing.{packing_refusal, packed_of, packing, packed_target};
 
 mod head; // head.rt: K, S and the lengths of the parts
 mod parts; // parts.rt: the check of the machine parts
 
 use basics::index;
 pub use layout::packing;
-use refusals::{Checked, Refusal, tested};
+use refusals::{Refusal, tested};
 
-// What reading a part answers: the refusal's number, 0 where there is none, and where the part lies in the card.
+// Where a part lies in its card.
 #[derive(Clone, Copy)]
-pub struct PartPlace {
-    pub number: u8,
+pub struct Stretch {
     pub offset: usize,
     pub length: usize,
 }
 
-// What packing answers: the refusal's number, 0 where there is none, and the card's length.
-#[derive(Clone, Copy)]
-pub struct Packed {
-    pub number: u8,
-    pub length: usize,
-}
-
 // The first of refusals 1 to 6 that applies to a card.
-pub fn check(card: &[u8]) -> Checked
+pub fn check(card: &[u8]) -> Result<(), Refusal>
     ensures { checked_number result ≡ card_refusal card.now }
 {
-    let answer = head::check_head(card);
-    let Checked::Passed = answer else {
-        return answer;
-    };
-    let answer = head::check_layout(card);
-    let Checked::Passed = answer else {
-        return answer;
-    };
+    head::check_head(card)?;
+    head::check_layout(card)?;
     parts::check_card(card)
 }
 
@@ -71,70 +57,41 @@ pub fn part(card: &[u8], machine: usize) -> &[u8]
 }
 
 // The first of refusals 1 to 6 and 17 that reading part `machine` meets.
-fn check_reading(card: &[u8], machine: u8) -> Checked
+fn check_reading(card: &[u8], machine: u8) -> Result<(), Refusal>
     ensures { checked_number result ≡ reading_refusal card.now machine }
 {
-    let answer = check(card);
-    let Checked::Passed = answer else {
-        return answer;
-    };
+    check(card)?;
     tested(machine < card[0], Refusal::Parts)
 }
 
 // Reading part `machine`: where it lies in the card.
-pub fn read_part(card: &[u8], machine: u8) -> PartPlace
-    ensures { result ≡ reading card.now machine }
+pub fn read_part(card: &[u8], machine: u8) -> Result<Stretch, Refusal>
+    ensures { part_place_of result ≡ reading card.now machine }
 {
-    let answer = check_reading(card, machine);
-    let Checked::Passed = answer else {
-        return PartPlace {
-            number: answer.number(),
-            offset: 0,
-            length: 0,
-        };
-    };
-    let machine = index(machine);
-    PartPlace {
-        number: 0,
+    check_reading(card, machine)?;
+    let machine = usize::from(machine);
+    Ok(Stretch {
         offset: layout::part_offset(card, machine),
         length: layout::part_length(card, machine),
-    }
+    })
 }
 
 // The first of refusals 1, 17, 3 to 6 and 18 that packing meets, for a target of `room` bytes.
-fn check_packing(symbols: u8, lengths: &[u16], parts: &[u8], room: usize) -> Checked
+fn check_packing(symbols: u8, lengths: &[u16], parts: &[u8], room: usize) -> Result<(), Refusal>
     ensures { checked_number result ≡ packing_refusal symbols lengths.now parts.now room }
 {
-    let answer = head::check_counts(lengths.len(), symbols);
-    let Checked::Passed = answer else {
-        return answer;
-    };
-    let answer = tested(packing::sum(lengths) == parts.len(), Refusal::Parts);
-    let Checked::Passed = answer else {
-        return answer;
-    };
-    let answer = parts::check_parts(parts, 0, lengths, symbols);
-    let Checked::Passed = answer else {
-        return answer;
-    };
+    head::check_counts(lengths.len(), symbols)?;
+    tested(packing::sum(lengths) == parts.len(), Refusal::Parts)?;
+    parts::check_parts(parts, 0, lengths, symbols)?;
     tested(2 + 4 * lengths.len() + parts.len() <= room, Refusal::Target)
 }
 
-// Packs parts, joined, into a card at the front of the target, whose other bytes stay.
-pub fn pack(symbols: u8, lengths: &[u16], parts: &[u8], target: &mut [u8]) -> Packed
-    ensures { (result ≡ packing symbols lengths.now parts.now target.old) × (target.new ≡ packed_target symbols lengths.now parts.now target.old) }
+// Packs parts, joined, into a card at the front of the target, whose other bytes stay. The card's length.
+pub fn pack(symbols: u8, lengths: &[u16], parts: &[u8], target: &mut [u8]) -> Result<usize, Refusal>
+    ensures { (packed_of result ≡ packing symbols lengths.now parts.now target.old) × (target.new ≡ packed_target symbols lengths.now parts.now target.old) }
 {
-    let answer = check_packing(symbols, lengths, parts, target.len());
-    let Checked::Passed = answer else {
-        return Packed {
-            number: answer.number(),
-            length: 0,
-        };
-    };
+    check_packing(symbols, lengths, parts, target.len())?;
     packing::write_table(target, symbols, lengths);
     packing::write_parts(target, lengths, parts);
-    Packed {
-        number: 0,
-        length: 2 + 4 * lengths.len() + parts.len(),
-    }
+    Ok(2 + 4 * lengths.len() + parts.len())
 }

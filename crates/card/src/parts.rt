@@ -10,10 +10,10 @@ ghost use Rattle.card.specs.Packing.{total, split};
 use crate::head::read_lengths;
 use basics::index;
 use layout::packing::wide;
-use refusals::{Checked, Refusal, tested};
+use refusals::{Refusal, tested};
 
 // Refusals 3 to 5 of each part in turn, then 6. The parts lie in `bytes` from `start` on, one after another.
-pub fn check_parts(bytes: &[u8], start: usize, lengths: &[u16], symbols: u8) -> Checked
+pub fn check_parts(bytes: &[u8], start: usize, lengths: &[u16], symbols: u8) -> Result<(), Refusal>
     requires { (start + total lengths.now ≤ length bytes.now) × (length lengths.now ≤ 6) × (symbols < 64) }
     ensures { checked_number result ≡ machines_refusal symbols (split lengths.now (drop start bytes.now)) }
 {
@@ -22,10 +22,7 @@ pub fn check_parts(bytes: &[u8], start: usize, lengths: &[u16], symbols: u8) -> 
     for i in 0..lengths.len() {
         let end = offset + wide(lengths[i]);
         let part = &bytes[offset..end];
-        let answer = part_check::check(part, symbols);
-        let Checked::Passed = answer else {
-            return answer;
-        };
+        part_check::check(part, symbols)?;
         states *= machine::state_count(part);
         offset = end;
     }
@@ -33,7 +30,7 @@ pub fn check_parts(bytes: &[u8], start: usize, lengths: &[u16], symbols: u8) -> 
 }
 
 // Refusals 3 to 6 of a card whose counts and layout are right.
-pub fn check_card(card: &[u8]) -> Checked
+pub fn check_card(card: &[u8]) -> Result<(), Refusal>
     requires { (counted card.now ≡ true) × (laid_out (machine_count card.now) card.now ≡ true) }
     ensures { checked_number result ≡ machines_refusal (symbol_count card.now) (parts_of card.now) }
 {

@@ -15,17 +15,6 @@ pub struct Grid {
     pub size: usize,
 }
 
-// No sizes: what stands for them beside a refusal.
-pub fn no_grid() -> Grid {
-    Grid {
-        machines: 0,
-        symbols: 0,
-        counts: [0u8; 6],
-        states: 0,
-        size: 0,
-    }
-}
-
 // The sizes of an accepted card; the counts from K on are 0.
 pub fn grid_of(card: &[u8]) -> Grid
     requires { card_refusal card.now ≡ 0 }

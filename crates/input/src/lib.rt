@@ -13,88 +13,57 @@ ghost use Rattle.product.specs.OptimizingSets.{sets_refusal, sets_input_refusal}
 ghost use Rattle.input.specs.Readiness.{Readies, FewSizes};
 
 use grid::Grid;
-use refusals::{Checked, Refusal};
-
-// What the checks before a search answer: what they found and, where they passed, the card's sizes.
-#[derive(Clone, Copy)]
-pub struct Ready {
-    pub checked: Checked,
-    pub grid: Grid,
-}
+use refusals::Refusal;
 
 // Refusal 9, for that many symbols or sets: whether a work slice of `room` numbers has so many for each node.
-pub fn check_work(grid: Grid, count: usize, numbers: usize, room: usize) -> Checked
+pub fn check_work(grid: Grid, count: usize, numbers: usize, room: usize) -> Result<(), Refusal>
     requires { FewSizes grid × (count ≤ 24) × (numbers ≤ 8) }
     ensures { checked_number result ≡ refuse 9 (leb (numbers * ((count + 1) * grid.size)) room) }
 {
     if room < (count + 1) * grid.size * numbers {
-        return Checked::Refused(Refusal::Work);
+        return Err(Refusal::Work);
     }
-    Checked::Passed
+    Ok(())
 }
 
 // The first of refusals 7 to 9.
-fn check_word(grid: Grid, ranking: &[u8], word: &[u8], room: usize) -> Checked
+fn check_word(grid: Grid, ranking: &[u8], word: &[u8], room: usize) -> Result<(), Refusal>
     requires { FewSizes grid }
     ensures { checked_number result ≡ first_of (refuse 7 (is_ranking grid.machines ranking.now) ∷ refuse 8 (sound_word grid.symbols word.now) ∷ refuse 9 (leb (8 * ((length word.now + 1) * grid.size)) room) ∷ []) }
 {
-    let answer = ranking::rankings::check_ranking(grid.machines as u8, ranking);
-    let Checked::Passed = answer else {
-        return answer;
-    };
-    let answer = product::check_word(word, grid.symbols);
-    let Checked::Passed = answer else {
-        return answer;
-    };
+    ranking::rankings::check_ranking(grid.machines as u8, ranking)?;
+    product::check_word(word, grid.symbols)?;
     check_work(grid, word.len(), 8, room)
 }
 
 // The first of refusals 7, 8, 25 and 9.
-fn check_sets(grid: Grid, ranking: &[u8], sets: &[u64], room: usize) -> Checked
+fn check_sets(grid: Grid, ranking: &[u8], sets: &[u64], room: usize) -> Result<(), Refusal>
     requires { FewSizes grid }
     ensures { checked_number result ≡ first_of (refuse 7 (is_ranking grid.machines ranking.now) ∷ sets_refusal grid.symbols sets.now ∷ refuse 9 (leb (8 * ((length sets.now + 1) * grid.size)) room) ∷ []) }
 {
-    let answer = ranking::rankings::check_ranking(grid.machines as u8, ranking);
-    let Checked::Passed = answer else {
-        return answer;
-    };
-    let answer = product::check_sets(sets, grid.symbols);
-    let Checked::Passed = answer else {
-        return answer;
-    };
+    ranking::rankings::check_ranking(grid.machines as u8, ranking)?;
+    product::check_sets(sets, grid.symbols)?;
     check_work(grid, sets.len(), 8, room)
 }
 
-// The first of refusals 1 to 9 that the input meets, for a work slice of `room` numbers.
-pub fn check_input(card: &[u8], ranking: &[u8], word: &[u8], room: usize) -> Ready
+// The sizes of the card of accepted input; the first of refusals 1 to 9 that the input meets, for a work slice of `room` numbers.
+pub fn check_input(card: &[u8], ranking: &[u8], word: &[u8], room: usize) -> Result<Grid, Refusal>
     ensures { Readies card.now (input_refusal card.now ranking.now word.now room) result }
 {
-    let checked = card::check(card);
-    let Checked::Passed = checked else {
-        return Ready {
-            checked,
-            grid: grid::no_grid(),
-        };
-    };
+    card::check(card)?;
     let grid = grid::grid_of(card);
-    let checked = check_word(grid, ranking, word, room);
-    Ready { checked, grid }
+    check_word(grid, ranking, word, room)?;
+    Ok(grid)
 }
 
-// The first of refusals 1 to 8, 25 and 9 that the input meets with sets in the word's place, for a work slice of `room` numbers.
-pub fn check_sets_input(card: &[u8], ranking: &[u8], sets: &[u64], room: usize) -> Ready
+// The same with sets in the word's place: refusals 1 to 8, 25 and 9.
+pub fn check_sets_input(card: &[u8], ranking: &[u8], sets: &[u64], room: usize) -> Result<Grid, Refusal>
     ensures { Readies card.now (sets_input_refusal card.now ranking.now sets.now room) result }
 {
-    let checked = card::check(card);
-    let Checked::Passed = checked else {
-        return Ready {
-            checked,
-            grid: grid::no_grid(),
-        };
-    };
+    card::check(card)?;
     let grid = grid::grid_of(card);
-    let checked = check_sets(grid, ranking, sets, room);
-    Ready { checked, grid }
+    check_sets(grid, ranking, sets, room)?;
+    Ok(grid)
 }
 
 // The sets of one symbol each of a word.

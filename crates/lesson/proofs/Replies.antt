@@ -1,7 +1,7 @@
 -- How a line's reply follows from what parsing and the optimizer answer. Assumes nothing.
 use Rattle.std.specs.Prelude.{◌≡◌, ◌++◌}
 use Rattle.basics.proofs.Words.{refl, ap, ◌∙◌, Bool, List, Option, some, none, ℕ, zero, suc, arith, length, take, drop, replicate, length-append, length-drop, eqb, take-append_seam, suc-ne-zero, ne_eqb}
-use Rattle.candidate.specs.declared.Evaluation.{Evaluation}
+use Rattle.candidate.specs.Evaluating.{Evaluation}
 use Rattle.card.specs.Layout.{machine_count}
 use Rattle.product.specs.Optimizing.{optimized, optimized_answer}
 use Rattle.lines.specs.declared.Parsed.TheVariants as parsed

@@ -8,7 +8,7 @@ ghost use Rattle.part_check.specs.Clashes.{pairs_with, clash_free_from, PairsNot
 
 use basics::index;
 use machine::{Arc, Pair, part, sets};
-use refusals::{Checked, Refusal};
+use refusals::Refusal;
 
 // The inputs of a set that make a pair of a kind with an output: 0 with 0 is none.
 fn pairs_with(inputs: u64, kind: u8, output: usize) -> u64
@@ -56,7 +56,7 @@ fn note_arc(taken: &mut [u64], part: &[u8], at: usize, from: u8) -> bool
 }
 
 // Refusal 5, one state: no two arcs of it take one pair. The arcs are gone through from the last to the first.
-fn check_state(part: &[u8], states: usize, from: u8) -> Checked
+fn check_state(part: &[u8], states: usize, from: u8) -> Result<(), Refusal>
     requires { (shaped part.now ≡ true) × (states ≡ state_count part.now) }
     ensures { checked_number result ≡ refuse 5 (pairwise (clash_free_from from) (arcs_of part.now)) }
 {
@@ -65,14 +65,14 @@ fn check_state(part: &[u8], states: usize, from: u8) -> Checked
     while left > 0 {
         left -= 1;
         if note_arc(&mut taken, part, 2 + states + 20 * left, from) {
-            return Checked::Refused(Refusal::Clash);
+            return Err(Refusal::Clash);
         }
     }
-    Checked::Passed
+    Ok(())
 }
 
 // Refusal 5: no two arcs clash, if every arc leaves a state of the machine. Each state is checked for itself.
-pub fn check_clashes(part: &[u8]) -> Checked
+pub fn check_clashes(part: &[u8]) -> Result<(), Refusal>
     requires { (shaped part.now ≡ true) × LeavesStates part.now }
     ensures { checked_number result ≡ refuse 5 (no_clash part.now) }
 {
@@ -80,11 +80,8 @@ pub fn check_clashes(part: &[u8]) -> Checked
     let count = index(states);
     let mut from = 0;
     while from < states {
-        let answer = check_state(part, count, from);
-        let Checked::Passed = answer else {
-            return answer;
-        };
+        check_state(part, count, from)?;
         from += 1;
     }
-    Checked::Passed
+    Ok(())
 }

@@ -8,16 +8,16 @@ ghost use Rattle.machine.specs.Part.{shaped, sound_states, sound_arcs, part_refu
 
 use basics::index;
 use machine::{part, sets};
-use refusals::{Checked, Refusal, tested};
+use refusals::{Refusal, tested};
 
 mod clashes; // clashes.rt: no two arcs of a state take one pair
 
 // Refusal 3: the length is what the first bytes say.
-fn check_length(part: &[u8]) -> Checked
+fn check_length(part: &[u8]) -> Result<(), Refusal>
     ensures { checked_number result ≡ refuse 3 (shaped part.now) }
 {
     if part.len() < 2 {
-        return Checked::Refused(Refusal::PartLength);
+        return Err(Refusal::PartLength);
     }
     let states = index(part[0]);
     let arcs = index(part[1]);
@@ -28,21 +28,21 @@ fn check_length(part: &[u8]) -> Checked
 }
 
 // Refusal 4, the states: no state byte is over 16.
-fn check_states(part: &[u8]) -> Checked
+fn check_states(part: &[u8]) -> Result<(), Refusal>
     requires { shaped part.now ≡ true }
     ensures { checked_number result ≡ refuse 4 (sound_states part.now) }
 {
     let end = 2 + index(part[0]);
     for at in 2..end {
         if part[at] > 16 {
-            return Checked::Refused(Refusal::Field);
+            return Err(Refusal::Field);
         }
     }
-    Checked::Passed
+    Ok(())
 }
 
 // Refusal 4, the arcs: the fields of each are in range.
-fn check_arcs(part: &[u8], symbols: u8) -> Checked
+fn check_arcs(part: &[u8], symbols: u8) -> Result<(), Refusal>
     requires { (shaped part.now ≡ true) × (symbols < 64) }
     ensures { checked_number result ≡ refuse 4 (sound_arcs symbols part.now) }
 {
@@ -52,30 +52,21 @@ fn check_arcs(part: &[u8], symbols: u8) -> Checked
     let mut left = part[1];
     while left > 0 {
         if !part::read_arc(part, at).is_sound(states, last) {
-            return Checked::Refused(Refusal::Field);
+            return Err(Refusal::Field);
         }
         at += 20;
         left -= 1;
     }
-    Checked::Passed
+    Ok(())
 }
 
 // The first of refusals 3, 4 and 5 that applies to a part, on a card of `symbols` symbols.
-pub fn check(part: &[u8], symbols: u8) -> Checked
+pub fn check(part: &[u8], symbols: u8) -> Result<(), Refusal>
     requires { symbols < 64 }
     ensures { checked_number result ≡ part_refusal symbols part.now }
 {
-    let answer = check_length(part);
-    let Checked::Passed = answer else {
-        return answer;
-    };
-    let answer = check_states(part);
-    let Checked::Passed = answer else {
-        return answer;
-    };
-    let answer = check_arcs(part, symbols);
-    let Checked::Passed = answer else {
-        return answer;
-    };
+    check_length(part)?;
+    check_states(part)?;
+    check_arcs(part, symbols)?;
     clashes::check_clashes(part)
 }

@@ -9,7 +9,7 @@ ghost use Rattle.product.specs.Optimizing.{sound_word};
 ghost use Rattle.product.specs.OptimizingSets.{symbol_set, sets_refusal};
 
 use machine::{Pair, sets};
-use refusals::{Checked, Refusal};
+use refusals::Refusal;
 
 // Whether a byte is one of the symbols 1 to `symbols`.
 fn is_symbol(byte: u8, symbols: u8) -> bool
@@ -19,18 +19,18 @@ fn is_symbol(byte: u8, symbols: u8) -> bool
 }
 
 // Refusal 8: whether a word has at most 24 symbols, each 1 to `symbols`.
-pub fn check_word(word: &[u8], symbols: u8) -> Checked
+pub fn check_word(word: &[u8], symbols: u8) -> Result<(), Refusal>
     ensures { checked_number result ≡ refuse 8 (sound_word symbols word.now) }
 {
     if word.len() > 24 {
-        return Checked::Refused(Refusal::Word);
+        return Err(Refusal::Word);
     }
     for at in 0..word.len() {
         if !is_symbol(word[at], symbols) {
-            return Checked::Refused(Refusal::Word);
+            return Err(Refusal::Word);
         }
     }
-    Checked::Passed
+    Ok(())
 }
 
 // Whether a set has symbols of 1 to S alone, and one at least; `last` is the set of S.
@@ -42,18 +42,18 @@ fn is_symbol_set(set: u64, last: u64) -> bool
 }
 
 // 8's length limit and refusal 25: whether there are at most 24 sets, each of symbols of 1 to `symbols`.
-pub fn check_sets(sets: &[u64], symbols: u8) -> Checked
+pub fn check_sets(sets: &[u64], symbols: u8) -> Result<(), Refusal>
     requires { symbols < 64 }
     ensures { checked_number result ≡ sets_refusal symbols sets.now }
 {
     if sets.len() > 24 {
-        return Checked::Refused(Refusal::Word);
+        return Err(Refusal::Word);
     }
     let last = sets::set_of(symbols);
     for at in 0..sets.len() {
         if !is_symbol_set(sets[at], last) {
-            return Checked::Refused(Refusal::Sets);
+            return Err(Refusal::Sets);
         }
     }
-    Checked::Passed
+    Ok(())
 }

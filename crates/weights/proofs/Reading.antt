@@ -5,7 +5,7 @@ use Rattle.refusals.specs.Refusals.{refuse, first_of, unless_refused}
 use Rattle.refusals.proofs.Refusals.{accepted as taken, not_accepted, passed, none_first}
 use Rattle.machine.specs.declared.Pair.{Pair}
 use Rattle.card.specs.Card.{machines_of}
-use Rattle.candidate.specs.declared.Evaluation.{Evaluation}
+use Rattle.candidate.specs.Evaluating.{Evaluation}
 use Rattle.candidate.specs.Candidates.{profile_of}
 use Rattle.paths.specs.Costs.{Labels}
 use Rattle.paths.specs.Ranked.{Ranked, ranked_costs}

@@ -7,7 +7,7 @@ use Rattle.machine.specs.declared.Pair.{Pair}
 use Rattle.ranking.specs.declared.Profile.{Profile}
 use Rattle.card.specs.Layout.{machine_count}
 use Rattle.card.specs.Card.{machines_of}
-use Rattle.candidate.specs.declared.Evaluation.{Evaluation}
+use Rattle.candidate.specs.Evaluating.{Evaluation}
 use Rattle.candidate.specs.Candidates.{bytes_of, profile_of}
 use Rattle.candidate.specs.Evaluating.{profile_with}
 use Rattle.product.specs.Best.{Contender, contender_of, best}

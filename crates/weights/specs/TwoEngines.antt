@@ -3,7 +3,7 @@
 -- zero follows from the rest.)
 use Rattle.std.specs.Prelude.{◌≡◌, ◌*◌}
 use Rattle.basics.specs.Words.{List, ℕ, take}
-use Rattle.candidate.specs.declared.Evaluation.{Evaluation}
+use Rattle.candidate.specs.Evaluating.{Evaluation}
 use Rattle.weights.specs.declared.Weighing.{Weighing}
 
 -- the same profile, as many pairs, and the same bytes in the front of the answer slices
