@@ -9,6 +9,7 @@ ghost use Rattle.labelling.specs.Labelling.{LabelPre, PositionsDone};
 ghost use Rattle.optimizer.specs.Optimizes.{Optimizes, OptimizesSets};
 ghost use Rattle.product.specs.Best.{best};
 ghost use Rattle.product.specs.Sets.{best_of_sets};
+ghost use Rattle.candidate.specs.Evaluating.{evaluation_of};
 ghost use Rattle.readout.specs.Searching.{SetsPre, SearchPre, Searched};
 ghost use Rattle.grid.specs.Grids.{GridOf};
 ghost use Rattle.cull.specs.Tables.{TablesPre, RankedBy};
@@ -17,10 +18,10 @@ ghost use Rattle.cull.specs.Entering.{EndingsPre};
 ghost use Rattle.cull.specs.Culling.{LentTables, CullPre, SymbolsPre, SymbolsEntered, CodesEnded, LastPre, LastTried, StagePre, StageDone, Blanked, PlaceCleared};
 ghost use Rattle.cull.specs.Ways.{StagesDone};
 
-use candidate::{Evaluation, refused};
+use candidate::Evaluated;
 use cells::Groups;
 use grid::Grid;
-use refusals::Checked;
+use refusals::Refusal;
 use stage_entering::pairs::{enter_input, list_insertions};
 use stage_entering::{Site, look_ahead, try_ending};
 use stage_settling::settle;
@@ -271,9 +272,9 @@ fn search_sets(
     sets: &[u64],
     work: &mut [u16],
     answer: &mut [u8],
-) -> Evaluation
+) -> Result<Evaluated, Refusal>
     requires { SetsPre card.now ranking.now sets.now work.old grid.size × GridOf card.now grid }
-    ensures { Searched (best_of_sets card.now ranking.now sets.now) sets.now work.old work.new answer.old answer.new result }
+    ensures { Searched (best_of_sets card.now ranking.now sets.now) sets.now work.old work.new answer.old answer.new (evaluation_of result) }
 {
     label(work, card, grid, ranking, sets);
     readout::read_out(card, grid, ranking, sets, work, answer)
@@ -287,9 +288,9 @@ fn search(
     word: &[u8],
     work: &mut [u16],
     answer: &mut [u8],
-) -> Evaluation
+) -> Result<Evaluated, Refusal>
     requires { SearchPre card.now ranking.now word.now work.old grid.size × GridOf card.now grid }
-    ensures { Searched (best card.now ranking.now word.now) word.now work.old work.new answer.old answer.new result }
+    ensures { Searched (best card.now ranking.now word.now) word.now work.old work.new answer.old answer.new (evaluation_of result) }
 {
     let mut sets = [0u64; 24];
     input::fill_sets(word, &mut sets);
@@ -303,15 +304,10 @@ pub fn cull(
     word: &[u8],
     work: &mut [u16],
     answer: &mut [u8],
-) -> Evaluation
-    ensures { Optimizes card.now ranking.now word.now work.old work.new answer.old answer.new result }
+) -> Result<Evaluated, Refusal>
+    ensures { Optimizes card.now ranking.now word.now work.old work.new answer.old answer.new (evaluation_of result) }
 {
-    let ready = input::check_input(card, ranking, word, work.len());
-    let checked = ready.checked;
-    let Checked::Passed = checked else {
-        return refused(checked.number());
-    };
-    let grid = ready.grid;
+    let grid = input::check_input(card, ranking, word, work.len())?;
     let nodes = (word.len() + 1) * grid.size;
     search(card, grid, ranking, word, &mut work[..nodes * 8], answer)
 }
@@ -323,15 +319,10 @@ pub fn cull_sets(
     sets: &[u64],
     work: &mut [u16],
     answer: &mut [u8],
-) -> Evaluation
-    ensures { OptimizesSets card.now ranking.now sets.now work.old work.new answer.old answer.new result }
+) -> Result<Evaluated, Refusal>
+    ensures { OptimizesSets card.now ranking.now sets.now work.old work.new answer.old answer.new (evaluation_of result) }
 {
-    let ready = input::check_sets_input(card, ranking, sets, work.len());
-    let checked = ready.checked;
-    let Checked::Passed = checked else {
-        return refused(checked.number());
-    };
-    let grid = ready.grid;
+    let grid = input::check_sets_input(card, ranking, sets, work.len())?;
     let nodes = (sets.len() + 1) * grid.size;
     search_sets(card, grid, ranking, sets, &mut work[..nodes * 8], answer)
 }

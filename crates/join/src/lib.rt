@@ -8,14 +8,14 @@ ghost use Rattle.layout.specs.Layout.{part_of};
 ghost use Rattle.machine.specs.Part.{machine_of};
 ghost use Rattle.card.specs.Layout.{machine_count};
 ghost use Rattle.card.specs.Card.{card_refusal};
+ghost use Rattle.card.specs.Packing.{packed_of};
 ghost use Rattle.join.specs.JoinedMachine.{joined_machine};
 ghost use Rattle.join.specs.JoinedCard.{fits_part, joinable, machines_refusal, joining_answer, joining_target};
 
 mod card_parts; // card_parts.rt: the parts of the new card
 
 use basics::index;
-use card::Packed;
-use refusals::{Checked, Refusal, tested};
+use refusals::{Refusal, tested};
 
 // Refusal 27: two different machines of the card, one of them without marks.
 fn is_joinable(card: &[u8], first: usize, second: usize) -> bool
@@ -61,17 +61,11 @@ fn other(first: usize, second: usize) -> usize
 }
 
 // The first of refusals 1 to 6, 27 and 28 that joining two machines meets.
-fn check_joining(card: &[u8], first: usize, second: usize) -> Checked
+fn check_joining(card: &[u8], first: usize, second: usize) -> Result<(), Refusal>
     ensures { checked_number result ≡ machines_refusal card.now first second }
 {
-    let answer = card::check(card);
-    let Checked::Passed = answer else {
-        return answer;
-    };
-    let answer = tested(is_joinable(card, first, second), Refusal::Machines);
-    let Checked::Passed = answer else {
-        return answer;
-    };
+    card::check(card)?;
+    tested(is_joinable(card, first, second), Refusal::Machines)?;
     let lower = lower(first, second);
     let other = other(first, second);
     tested(fits_part(card, lower, other), Refusal::JoinedSize)
@@ -79,28 +73,16 @@ fn check_joining(card: &[u8], first: usize, second: usize) -> Checked
 
 // Joins two machines of a card, in either order. The new card fills the front of the target, whose other bytes stay, and its length is
 // answered.
-pub fn join(card: &[u8], first: u8, second: u8, target: &mut [u8]) -> Packed
-    ensures { (result ≡ joining_answer card.now first second (length target.old)) × (target.new ≡ joining_target card.now first second target.old) }
+pub fn join(card: &[u8], first: u8, second: u8, target: &mut [u8]) -> Result<usize, Refusal>
+    ensures { (packed_of result ≡ joining_answer card.now first second (length target.old)) × (target.new ≡ joining_target card.now first second target.old) }
 {
     let first = index(first);
     let second = index(second);
-    let answer = check_joining(card, first, second);
-    let Checked::Passed = answer else {
-        return Packed {
-            number: answer.number(),
-            length: 0,
-        };
-    };
+    check_joining(card, first, second)?;
     let lower = lower(first, second);
     let other = other(first, second);
     let length = card_parts::new_card_length(card, lower, other);
-    let answer = tested(length <= target.len(), Refusal::Target);
-    let Checked::Passed = answer else {
-        return Packed {
-            number: answer.number(),
-            length: 0,
-        };
-    };
+    tested(length <= target.len(), Refusal::Target)?;
     card_parts::write_card(target, card, lower, other);
-    Packed { number: 0, length }
+    Ok(length)
 }

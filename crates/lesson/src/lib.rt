@@ -9,7 +9,7 @@ ghost use Rattle.lesson.specs.Tally.{best_counts, line_counts, told, line_tally,
 
 use lines::Parsed;
 use ranking::Profile;
-use refusals::{Checked, Refusal, tested};
+use refusals::Refusal;
 use tally::{Reply, Tally};
 
 // What the optimizer is lent.
@@ -32,13 +32,21 @@ fn write_best(card: &[u8], ranking: &[u8], word: &[u8], out: &mut [u8]) -> Reply
 {
     let mut work = [0u16; WORK_NUMBERS];
     let mut answer = [0u8; ANSWER_BYTES];
-    let evaluation = optimizer::optimize(card, ranking, word, &mut work, &mut answer);
-    let size = writing::write_answer(evaluation, machine_count(card), &answer, out);
-    let profile = evaluation.profile;
+    let best = optimizer::optimize(card, ranking, word, &mut work, &mut answer);
+    let size = writing::write_answer(best, machine_count(card), &answer, out);
+    let Ok(evaluated) = best else {
+        let counts = Profile::ZERO.counts;
+        return Reply {
+            size,
+            answered: false,
+            counts,
+        };
+    };
+    let profile = evaluated.profile;
     let counts = profile.counts;
     Reply {
         size,
-        answered: evaluation.number == 0,
+        answered: true,
         counts,
     }
 }
@@ -81,12 +89,11 @@ pub fn answer_next(card: &[u8], line: &[u8], tally: Tally, out: &mut [u8]) -> Tu
     ensures text { Prints (line_text card.now tally line.now) out.old out.new result.size }
     ensures tally { (result.tally ≡ line_tally card.now tally line.now) × Fits result.tally }
 {
-    let answer = tested(!tally.is_full(), Refusal::Line);
-    let Checked::Passed = answer else {
-        let size = writing::write_refused(answer.number(), out);
+    if tally.is_full() {
+        let size = writing::write_refused(u8::from(Refusal::Line), out);
         let tally = tally.passed();
         return Turn { size, tally };
-    };
+    }
     let reply = answer_line(card, line, out);
     let size = reply.size;
     let tally = tally.count(reply);
@@ -97,10 +104,9 @@ pub fn answer_next(card: &[u8], line: &[u8], tally: Tally, out: &mut [u8]) -> Tu
 fn shown_machines(card: &[u8]) -> usize
     ensures { (result ≡ shown_machines card.now) × (result ≤ 6) }
 {
-    let answer = card::check(card);
-    let Checked::Passed = answer else {
+    if card::check(card).is_err() {
         return 0;
-    };
+    }
     card::machine_count(card)
 }
 

@@ -1,11 +1,11 @@
 -- The rows of a live tableau, in order of arrival, and what a list of records is after a row is added or removed: its first records are the rows.
-use Rattle.std.specs.Prelude.{◌||◌, ◌∷◌, ◌++◌}
+use Rattle.std.specs.Prelude.{Result, Ok, Err, Option as Answer, Some, None, ◌||◌, ◌∷◌, ◌++◌}
 use Rattle.basics.specs.Words.{Bool, true, false, not, List, [], Option, some, none, ℕ, set, take, drop, eqb, all_of, first_that}
+use Rattle.refusals.specs.declared.Refusal.{Refusal}
+use Rattle.refusals.specs.Refusals.{number_of}
 use Rattle.ranking.specs.Profiles.{zero_profile}
 use Rattle.ranking.specs.Harmony.{better}
 use Rattle.live.specs.declared.Row.{Row}
-use Rattle.live.specs.declared.Counted.{Counted}
-use Rattle.live.specs.declared.Lead.{Lead}
 pub use Rattle.live_checks.specs.Room.{fits, has_room}
 
 -- what a freed record is set to
@@ -50,6 +50,17 @@ unbeaten ranking rows row = all_of (λ (other : Row). not (better ranking other.
 abbrev pub leader_of : List ℕ → List Row → Option Row
 leader_of ranking rows = first_that (unbeaten ranking rows) rows
 
+-- what add and remove answer, in the paper's terms: the refusal's number, 0 where there is none, and the new row count
+pub record Counted : Type 0 where
+  pub number : ℕ
+  pub count : ℕ
+
+-- what the leader's call answers: the refusal's number, 0 where there is none; whether there is a leader; its row, zeros where there is none
+pub record Lead : Type 0 where
+  pub number : ℕ
+  pub any : Bool
+  pub row : Row
+
 -- the answers: a row count and a leader, or a refusal's number and zeros
 abbrev pub counted : ℕ → Counted
 counted count = record { number = 0; count = count }
@@ -66,3 +77,12 @@ unled n = record { number = n; any = false; row = zero_row }
 abbrev pub lead_answer : Option Row → Lead
 lead_answer none = unled 0
 lead_answer (some row) = led row
+
+abbrev pub counted_of : Result ℕ Refusal → Counted
+counted_of (Ok count) = counted count
+counted_of (Err r) = refused_count (number_of r)
+
+abbrev pub lead_of : Result (Answer Row) Refusal → Lead
+lead_of (Ok (Some row)) = led row
+lead_of (Ok None) = unled 0
+lead_of (Err r) = unled (number_of r)

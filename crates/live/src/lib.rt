@@ -3,14 +3,14 @@
 
 ghost use Rattle.std.specs.Prelude.{◌≡◌, ◌+◌, ◌-◌, ◌<◌, ◌≤◌};
 ghost use Rattle.basics.specs.Words.{true, not, length, take};
-ghost use Rattle.refusals.specs.Refusals.{checked_number, refuse, unless_refused};
+ghost use Rattle.refusals.specs.Refusals.{checked_number, refuse};
 ghost use Rattle.ranking.specs.Rankings.{is_ranking};
-ghost use Rattle.live.specs.Rows.{zero_row, has_id, present, counted, refused_count, unled, led};
+ghost use Rattle.live.specs.Rows.{zero_row, has_id, present, counted_of, led, lead_of};
 ghost use Rattle.live.specs.Steps.{place, closing, putting_in, taking_out, better_of, leader_down};
 ghost use Rattle.live.specs.Calls.{Adds, Removes, leading};
 
 use ranking::Profile;
-use refusals::Checked;
+use refusals::Refusal;
 
 // A row: its id, and the profile that was handed in.
 #[repr(C)]
@@ -18,21 +18,6 @@ use refusals::Checked;
 pub struct Row {
     pub id: u16,
     pub profile: Profile,
-}
-
-// What add and remove answer: the refusal's number, 0 where there is none, and the new row count, 0 on a refusal.
-#[derive(Clone, Copy)]
-pub struct Counted {
-    pub number: u8,
-    pub count: usize,
-}
-
-// What the leader's call answers: the refusal's number, 0 where there is none; whether there is a leader; its row, zeros where there is none.
-#[derive(Clone, Copy)]
-pub struct Lead {
-    pub number: u8,
-    pub any: bool,
-    pub row: Row,
 }
 
 // What a freed record is set to.
@@ -61,66 +46,6 @@ fn better(ranking: &[u8], row: Row, best: Row) -> Row
         return row;
     }
     best
-}
-
-// The answer of a refusal.
-fn refused(answer: Checked) -> Counted
-    ensures { result ≡ refused_count (checked_number answer) }
-{
-    Counted {
-        number: answer.number(),
-        count: 0,
-    }
-}
-
-// The answer of an add, by its check 24: a row more.
-fn one_more(answer: Checked, count: usize) -> Counted
-    requires { count < 32 }
-    ensures { result ≡ unless_refused (checked_number answer) (counted (count + 1)) refused_count }
-{
-    let Checked::Passed = answer else {
-        return refused(answer);
-    };
-    Counted {
-        number: 0,
-        count: count + 1,
-    }
-}
-
-// The answer of a removal, by its check 24: a row less.
-fn one_less(answer: Checked, count: usize) -> Counted
-    requires { checked_number answer ≡ 0 → 0 < count }
-    ensures { result ≡ unless_refused (checked_number answer) (counted (count - 1)) refused_count }
-{
-    let Checked::Passed = answer else {
-        return refused(answer);
-    };
-    Counted {
-        number: 0,
-        count: count - 1,
-    }
-}
-
-// The answer where no row leads: a refusal's, or that of an empty table.
-fn no_leader(answer: Checked) -> Lead
-    ensures { result ≡ unled (checked_number answer) }
-{
-    Lead {
-        number: answer.number(),
-        any: false,
-        row: zero_row(),
-    }
-}
-
-// The answer where a row leads.
-fn led_by(row: Row) -> Lead
-    ensures { result ≡ led row }
-{
-    Lead {
-        number: 0,
-        any: true,
-        row,
-    }
 }
 
 // The place of the first row with an id, or how many rows there are.
@@ -156,31 +81,25 @@ fn close_gap(rows: &mut [Row], at: usize, last: usize)
 }
 
 // Puts a row behind the others unless its id is present: 24.
-fn put_in(rows: &mut [Row], count: usize, row: Row) -> Checked
+fn put_in(rows: &mut [Row], count: usize, row: Row) -> Result<(), Refusal>
     requires { count < length rows.old }
     ensures { (rows.new ≡ putting_in count rows.old row) × (checked_number result ≡ refuse 24 (not (present row.id (take count rows.old)))) }
 {
     let at = find(rows, count, row.id);
-    let answer = live_checks::check_absent(at, count);
-    let Checked::Passed = answer else {
-        return answer;
-    };
+    live_checks::check_absent(at, count)?;
     rows[count] = row;
-    answer
+    Ok(())
 }
 
 // Takes the first row with an id out, if there is one: 24.
-fn take_out(rows: &mut [Row], count: usize, id: u16) -> Checked
+fn take_out(rows: &mut [Row], count: usize, id: u16) -> Result<(), Refusal>
     requires { count ≤ length rows.old }
     ensures { (rows.new ≡ taking_out id count rows.old) × (checked_number result ≡ refuse 24 (present id (take count rows.old))) }
 {
     let at = find(rows, count, id);
-    let answer = live_checks::check_present(at, count);
-    let Checked::Passed = answer else {
-        return answer;
-    };
+    live_checks::check_present(at, count)?;
     close_gap(rows, at, count - 1);
-    answer
+    Ok(())
 }
 
 // The best of some rows, the earliest among equals.
@@ -198,40 +117,47 @@ fn foremost(ranking: &[u8], count: usize, rows: &[Row]) -> Row
 }
 
 // Adds a row behind the others, and answers the new row count: 1, 7, 23, 24.
-pub fn add(machines: u8, ranking: &[u8], count: usize, rows: &mut [Row], row: Row) -> Counted
-    ensures { Adds machines ranking.now count rows.old rows.new row result }
+pub fn add(
+    machines: u8,
+    ranking: &[u8],
+    count: usize,
+    rows: &mut [Row],
+    row: Row,
+) -> Result<usize, Refusal>
+    ensures { Adds machines ranking.now count rows.old rows.new row (counted_of result) }
 {
-    let answer = live_checks::check_room(machines, ranking, count, rows.len());
-    let Checked::Passed = answer else {
-        return refused(answer);
-    };
-    let answer = put_in(rows, count, row);
-    one_more(answer, count)
+    live_checks::check_room(machines, ranking, count, rows.len())?;
+    put_in(rows, count, row)?;
+    Ok(count + 1)
 }
 
 // Takes the first row with an id out, and answers the new row count: 1, 7, 23, 24.
-pub fn remove(machines: u8, ranking: &[u8], count: usize, rows: &mut [Row], id: u16) -> Counted
-    ensures { Removes machines ranking.now count rows.old rows.new id result }
+pub fn remove(
+    machines: u8,
+    ranking: &[u8],
+    count: usize,
+    rows: &mut [Row],
+    id: u16,
+) -> Result<usize, Refusal>
+    ensures { Removes machines ranking.now count rows.old rows.new id (counted_of result) }
 {
-    let answer = live_checks::check_rows(machines, ranking, count, rows.len());
-    let Checked::Passed = answer else {
-        return refused(answer);
-    };
-    let answer = take_out(rows, count, id);
-    one_less(answer, count)
+    live_checks::check_rows(machines, ranking, count, rows.len())?;
+    take_out(rows, count, id)?;
+    Ok(count - 1)
 }
 
 // The row with the best profile under the ranking, the earliest among equals, or none: 1, 7, 23.
-pub fn leader(machines: u8, ranking: &[u8], count: usize, rows: &[Row]) -> Lead
-    ensures { result ≡ leading machines ranking.now count rows.now }
+pub fn leader(
+    machines: u8,
+    ranking: &[u8],
+    count: usize,
+    rows: &[Row],
+) -> Result<Option<Row>, Refusal>
+    ensures { lead_of result ≡ leading machines ranking.now count rows.now }
 {
-    let answer = live_checks::check_rows(machines, ranking, count, rows.len());
-    let Checked::Passed = answer else {
-        return no_leader(answer);
-    };
+    live_checks::check_rows(machines, ranking, count, rows.len())?;
     if count == 0 {
-        return no_leader(answer);
+        return Ok(None);
     }
-    let row = foremost(ranking, count, rows);
-    led_by(row)
+    Ok(Some(foremost(ranking, count, rows)))
 }

@@ -9,7 +9,7 @@ ghost use Rattle.ranking.specs.Harmony.{better};
 ghost use Rattle.live_checks.specs.Room.{fits, has_room};
 
 use ranking::{Order, Profile, harmony, rankings};
-use refusals::{Checked, Refusal, tested};
+use refusals::{Refusal, tested};
 
 // Whether a row takes the lead from one that arrived earlier: its profile is better under the ranking.
 pub fn takes_lead(ranking: &[u8], profile: Profile, best: Profile) -> bool
@@ -25,39 +25,36 @@ pub fn takes_lead(ranking: &[u8], profile: Profile, best: Profile) -> bool
 }
 
 // The checks 1, 7 and 23, the test of the last of which is handed in.
-fn check(machines: u8, ranking: &[u8], sound: bool) -> Checked
+fn check(machines: u8, ranking: &[u8], sound: bool) -> Result<(), Refusal>
     ensures { checked_number result ≡ first_of (refuse 1 (is_machine_count machines) ∷ refuse 7 (is_ranking machines ranking.now) ∷ refuse 23 sound ∷ []) }
 {
-    let answer = rankings::check(machines, ranking);
-    let Checked::Passed = answer else {
-        return answer;
-    };
+    rankings::check(machines, ranking)?;
     tested(sound, Refusal::RowCount)
 }
 
 // The checks 1, 7 and 23 of a removal and of the leader's call.
-pub fn check_rows(machines: u8, ranking: &[u8], count: usize, length: usize) -> Checked
+pub fn check_rows(machines: u8, ranking: &[u8], count: usize, length: usize) -> Result<(), Refusal>
     ensures { checked_number result ≡ first_of (refuse 1 (is_machine_count machines) ∷ refuse 7 (is_ranking machines ranking.now) ∷ refuse 23 (fits count length) ∷ []) }
 {
     check(machines, ranking, (count <= 32) & (count <= length))
 }
 
 // The checks 1, 7 and 23 of an add.
-pub fn check_room(machines: u8, ranking: &[u8], count: usize, length: usize) -> Checked
+pub fn check_room(machines: u8, ranking: &[u8], count: usize, length: usize) -> Result<(), Refusal>
     ensures { checked_number result ≡ first_of (refuse 1 (is_machine_count machines) ∷ refuse 7 (is_ranking machines ranking.now) ∷ refuse 23 (has_room count length) ∷ []) }
 {
     check(machines, ranking, (count < 32) & (count < length))
 }
 
 // Refusal 24 of an add: its id stands at no place among the rows.
-pub fn check_absent(at: usize, count: usize) -> Checked
+pub fn check_absent(at: usize, count: usize) -> Result<(), Refusal>
     ensures { checked_number result ≡ refuse 24 (eqb at count) }
 {
     tested(at == count, Refusal::Presence)
 }
 
 // Refusal 24 of a removal: its id stands at a place among the rows.
-pub fn check_present(at: usize, count: usize) -> Checked
+pub fn check_present(at: usize, count: usize) -> Result<(), Refusal>
     ensures { checked_number result ≡ refuse 24 (not (eqb at count)) }
 {
     tested(at != count, Refusal::Presence)

@@ -3,46 +3,83 @@
 #![tactic(auto)]
 
 ghost use Rattle.std.specs.Prelude.{◌≡◌, [], ◌∷◌};
+ghost use Rattle.refusals.specs.Refusals.{number_of};
 ghost use Rattle.ranking.specs.Harmony.{compared};
 ghost use Rattle.ranking.specs.Conditions.{derived};
+ghost use Rattle.finder.specs.Finder.{found};
+ghost use Rattle.card.specs.Reading.{part_place_of};
+ghost use Rattle.card.specs.Packing.{packed_of};
+ghost use Rattle.candidate.specs.Evaluating.{evaluation_of};
 ghost use Rattle.numbers.specs.Numbers.{evaluation_numbers, place_numbers, order_number, deciding_machine, order_numbers, condition_numbers, as_profile};
 
-use candidate::Evaluation;
-use card::{Packed, PartPlace};
-use ranking::{Comparison, Derived, Finding, Order, Profile};
+use candidate::Evaluated;
+use card::Stretch;
+use ranking::{Condition, Order, Profile};
+use refusals::Refusal;
+
+// A refusal's number as the call's answer.
+pub fn give_refusal(refusal: Refusal) -> u32
+    ensures { result ≡ number_of refusal }
+{
+    u32::from(u8::from(refusal))
+}
 
 // Writes the counts, the pair count and the word length of an evaluation.
-pub fn give_evaluation(evaluation: Evaluation, res: &mut [u16; 8]) -> u32
-    ensures { (result ≡ evaluation.number) × (res.new ≡ evaluation_numbers evaluation) }
+pub fn give_evaluation(answer: Result<Evaluated, Refusal>, res: &mut [u16; 8]) -> u32
+    ensures { (result ≡ (evaluation_of answer).number) × (res.new ≡ evaluation_numbers (evaluation_of answer)) }
 {
-    let profile = evaluation.profile;
-    *res = [
-        profile.count(0),
-        profile.count(1),
-        profile.count(2),
-        profile.count(3),
-        profile.count(4),
-        profile.count(5),
-        evaluation.pairs,
-        evaluation.word_length,
-    ];
-    evaluation.number as u32
+    match answer {
+        Ok(evaluated) => {
+            let profile = evaluated.profile;
+            *res = [
+                profile.count(0),
+                profile.count(1),
+                profile.count(2),
+                profile.count(3),
+                profile.count(4),
+                profile.count(5),
+                evaluated.pairs,
+                evaluated.word_length,
+            ];
+            0
+        }
+        Err(refusal) => {
+            *res = [0; 8];
+            give_refusal(refusal)
+        }
+    }
 }
 
 // Writes the offset and the length of a part.
-pub fn give_place(place: PartPlace, res: &mut [usize; 2]) -> u32
-    ensures { (result ≡ place.number) × (res.new ≡ place_numbers place) }
+pub fn give_place(answer: Result<Stretch, Refusal>, res: &mut [usize; 2]) -> u32
+    ensures { (result ≡ (part_place_of answer).number) × (res.new ≡ place_numbers (part_place_of answer)) }
 {
-    *res = [place.offset, place.length];
-    place.number as u32
+    match answer {
+        Ok(stretch) => {
+            *res = [stretch.offset, stretch.length];
+            0
+        }
+        Err(refusal) => {
+            *res = [0; 2];
+            give_refusal(refusal)
+        }
+    }
 }
 
 // Writes the length of a card that was made.
-pub fn give_packed(packed: Packed, res: &mut [usize; 1]) -> u32
-    ensures { (result ≡ packed.number) × (res.new ≡ packed.length ∷ []) }
+pub fn give_packed(answer: Result<usize, Refusal>, res: &mut [usize; 1]) -> u32
+    ensures { (result ≡ (packed_of answer).number) × (res.new ≡ (packed_of answer).length ∷ []) }
 {
-    *res = [packed.length];
-    packed.number as u32
+    match answer {
+        Ok(length) => {
+            *res = [length];
+            0
+        }
+        Err(refusal) => {
+            *res = [0];
+            give_refusal(refusal)
+        }
+    }
 }
 
 // The profile of six counts.
@@ -76,42 +113,49 @@ fn deciding_machine(order: Order) -> u8
 }
 
 // Writes the order and the machine that decided.
-pub fn give_comparison(comparison: Comparison, res: &mut [u8; 2]) -> u32
-    ensures { (result ≡ (compared comparison).number) × (res.new ≡ order_numbers (compared comparison).order) }
+pub fn give_comparison(answer: Result<Order, Refusal>, res: &mut [u8; 2]) -> u32
+    ensures { (result ≡ (compared answer).number) × (res.new ≡ order_numbers (compared answer).order) }
 {
-    match comparison {
-        Comparison::Ordered(order) => {
+    match answer {
+        Ok(order) => {
             *res = [order_number(order), deciding_machine(order)];
             0
         }
-        Comparison::Refused(refusal) => {
+        Err(refusal) => {
             *res = [0; 2];
-            refusal.number() as u32
+            give_refusal(refusal)
         }
     }
 }
 
 // Writes W and L of a condition.
-pub fn give_derived(answer: Derived, res: &mut [u8; 2]) -> u32
+pub fn give_derived(answer: Result<Condition, Refusal>, res: &mut [u8; 2]) -> u32
     ensures { (result ≡ (derived answer).number) × (res.new ≡ condition_numbers (derived answer).condition) }
 {
     match answer {
-        Derived::Condition(condition) => {
+        Ok(condition) => {
             *res = [condition.fewer, condition.more];
             0
         }
-        Derived::Refused(refusal) => {
-            *res = [0, 0];
-            refusal.number() as u32
+        Err(refusal) => {
+            *res = [0; 2];
+            give_refusal(refusal)
         }
     }
 }
 
 // Writes the ranking that was found.
-pub fn give_finding(found: Finding, res: &mut [u8; 6]) -> u32
-    ensures { (result ≡ found.number) × (res.new ≡ found.ranking) }
+pub fn give_finding(answer: Result<[u8; 6], Refusal>, res: &mut [u8; 6]) -> u32
+    ensures { (result ≡ (found answer).number) × (res.new ≡ (found answer).ranking) }
 {
-    let ranking = found.ranking;
-    *res = ranking;
-    found.number as u32
+    match answer {
+        Ok(ranking) => {
+            *res = ranking;
+            0
+        }
+        Err(refusal) => {
+            *res = [0; 6];
+            give_refusal(refusal)
+        }
+    }
 }

@@ -5,6 +5,7 @@ ghost use Rattle.std.specs.Prelude.{◌≡◌};
 ghost use Rattle.basics.specs.Words.{true, length};
 ghost use Rattle.product.specs.Best.{best};
 ghost use Rattle.product.specs.Sets.{best_of_sets};
+ghost use Rattle.candidate.specs.Evaluating.{evaluation_of};
 ghost use Rattle.candidate.specs.Candidates.{is_some};
 ghost use Rattle.product.specs.Optimizing.{input_refusal};
 ghost use Rattle.tables.specs.LabelCost.{cost_of};
@@ -14,10 +15,10 @@ ghost use Rattle.readout.specs.Searching.{SetsPre, SearchPre, Searched};
 ghost use Rattle.optimizer.specs.Telling.{RankingOfSome, CardOrder, TellsBest};
 
 use basics::index;
-use candidate::{Evaluation, refused};
+use candidate::Evaluated;
 use grid::Grid;
 use ranking::Profile;
-use refusals::Checked;
+use refusals::Refusal;
 use tables::labels::Label;
 
 // The search for accepted sets: labels the nodes, and reads the answer off.
@@ -28,9 +29,9 @@ fn search_sets(
     sets: &[u64],
     work: &mut [u16],
     answer: &mut [u8],
-) -> Evaluation
+) -> Result<Evaluated, Refusal>
     requires { SetsPre card.now ranking.now sets.now work.old grid.size × GridOf card.now grid }
-    ensures { Searched (best_of_sets card.now ranking.now sets.now) sets.now work.old work.new answer.old answer.new result }
+    ensures { Searched (best_of_sets card.now ranking.now sets.now) sets.now work.old work.new answer.old answer.new (evaluation_of result) }
 {
     labelling::label(work, card, grid, ranking, sets);
     readout::read_out(card, grid, ranking, sets, work, answer)
@@ -44,9 +45,9 @@ fn search(
     word: &[u8],
     work: &mut [u16],
     answer: &mut [u8],
-) -> Evaluation
+) -> Result<Evaluated, Refusal>
     requires { SearchPre card.now ranking.now word.now work.old grid.size × GridOf card.now grid }
-    ensures { Searched (best card.now ranking.now word.now) word.now work.old work.new answer.old answer.new result }
+    ensures { Searched (best card.now ranking.now word.now) word.now work.old work.new answer.old answer.new (evaluation_of result) }
 {
     let mut sets = [0u64; 24];
     input::fill_sets(word, &mut sets);
@@ -119,15 +120,10 @@ pub fn optimize(
     word: &[u8],
     work: &mut [u16],
     answer: &mut [u8],
-) -> Evaluation
-    ensures { Optimizes card.now ranking.now word.now work.old work.new answer.old answer.new result }
+) -> Result<Evaluated, Refusal>
+    ensures { Optimizes card.now ranking.now word.now work.old work.new answer.old answer.new (evaluation_of result) }
 {
-    let ready = input::check_input(card, ranking, word, work.len());
-    let checked = ready.checked;
-    let Checked::Passed = checked else {
-        return refused(checked.number());
-    };
-    let grid = ready.grid;
+    let grid = input::check_input(card, ranking, word, work.len())?;
     let nodes = (word.len() + 1) * grid.size;
     search(card, grid, ranking, word, &mut work[..nodes * 8], answer)
 }
@@ -139,15 +135,10 @@ pub fn optimize_sets(
     sets: &[u64],
     work: &mut [u16],
     answer: &mut [u8],
-) -> Evaluation
-    ensures { OptimizesSets card.now ranking.now sets.now work.old work.new answer.old answer.new result }
+) -> Result<Evaluated, Refusal>
+    ensures { OptimizesSets card.now ranking.now sets.now work.old work.new answer.old answer.new (evaluation_of result) }
 {
-    let ready = input::check_sets_input(card, ranking, sets, work.len());
-    let checked = ready.checked;
-    let Checked::Passed = checked else {
-        return refused(checked.number());
-    };
-    let grid = ready.grid;
+    let grid = input::check_sets_input(card, ranking, sets, work.len())?;
     let nodes = (sets.len() + 1) * grid.size;
     search_sets(card, grid, ranking, sets, &mut work[..nodes * 8], answer)
 }

@@ -9,7 +9,7 @@ ghost use Rattle.passing.specs.Places.{PlacesPre, Placed, MarksPre, MarksAdded, 
 ghost use Rattle.passing.specs.Going.{GoPre, GoesOn, EndsPre, EndingAdded};
 
 use basics::index;
-use machine::{Ending, Position};
+use machine::Position;
 use ranking::Profile;
 
 // Writes the places of some states in a column, a place for each machine.
@@ -73,7 +73,7 @@ fn ending_marks(part: &[u8], state: u8) -> u16
     requires { shaped part.now ≡ true }
     ensures { ((n : ℕ) → ending_of (machine_of part.now) state ≡ some n → result ≡ n) × (result < 256) }
 {
-    let Ending::Marks(marks) = Position { state }.ending(part) else {
+    let Some(marks) = Position { state }.ending(part) else {
         return 0;
     };
     marks as u16

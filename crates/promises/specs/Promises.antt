@@ -103,7 +103,7 @@ use Rattle.optimizer.specs.TwoCalls.{TwoCalls, checks_of_word, checks_of_sets}
 use Rattle.optimizer.specs.SetsCalls.{OneSymbolEach}
 -- tableaux
 use Rattle.rows.specs.Tableau.{sound_tableau, every_row}
-use Rattle.tableau.specs.declared.Judged.{Judged}
+use Rattle.tableau.specs.Judging.{Judged}
 use Rattle.tableau.specs.Judging.{is_for_word}
 use Rattle.tableau.specs.Judges.{Judges}
 use Rattle.tableau.specs.Verdicts.{VerdictMeans}
@@ -133,7 +133,7 @@ use Rattle.trimming.specs.TrimmedAnswers.{LongEnough}
 -- weights
 use Rattle.product.specs.Weights.{sound_weights, weighted_sum, by_sum, best_by_weights}
 use Rattle.product.specs.Dominance.{Outweighs}
-use Rattle.weights.specs.declared.Weighing.{Weighing}
+use Rattle.weights.specs.Weighing.{Weighing}
 use Rattle.weights.specs.Weighing.{weighted_refusal, refused_weighing}
 use Rattle.weights.specs.Searching as by_weights_lem
 use Rattle.weights.specs.WeightedBest.{BestOfAllByWeights}

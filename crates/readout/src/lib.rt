@@ -4,6 +4,7 @@
 ghost use Rattle.std.specs.Prelude.{◌≡◌, ◌≤◌};
 ghost use Rattle.basics.specs.Words.{List, ℕ, length};
 ghost use Rattle.product.specs.Sets.{best_of_sets};
+ghost use Rattle.candidate.specs.Evaluating.{evaluation_of};
 ghost use Rattle.product.specs.ProductGraph.{card_start};
 ghost use Rattle.tables.specs.Work.{cost_at};
 ghost use Rattle.labelling.specs.Labelling.{PositionsDone};
@@ -11,9 +12,9 @@ ghost use Rattle.walk.specs.RankedBest.{RankedWalked};
 ghost use Rattle.grid.specs.Grids.{GridOf};
 ghost use Rattle.readout.specs.Searching.{SetsPre, Searched, BestPre};
 
-use candidate::{Evaluation, refused};
+use candidate::Evaluated;
 use grid::Grid;
-use refusals::Checked;
+use refusals::Refusal;
 use walk::Written;
 
 mod checks; // checks.rt: the checks of the best candidate
@@ -64,23 +65,16 @@ pub fn read_out(
     sets: &[u64],
     work: &[u16],
     answer: &mut [u8],
-) -> Evaluation
+) -> Result<Evaluated, Refusal>
     requires { SetsPre card.now ranking.now sets.now work.now grid.size × PositionsDone card.now ranking.now sets.now work.now work.now 0 × GridOf card.now grid }
-    ensures { Searched (best_of_sets card.now ranking.now sets.now) sets.now work.now work.now answer.old answer.new result }
+    ensures { Searched (best_of_sets card.now ranking.now sets.now) sets.now work.now work.now answer.old answer.new (evaluation_of result) }
 {
     let start = start_node(grid);
-    let found = checks::check_best(work, start, answer.len());
-    let Checked::Passed = found else {
-        return refused(found.number());
-    };
+    checks::check_best(work, start, answer.len())?;
     let written = walk_ranked(card, grid, ranking, sets, work, answer);
-    let profile = written.profile;
-    let pairs = written.pairs as u16;
-    let length = sets.len() as u16;
-    Evaluation {
-        number: 0,
-        profile,
-        pairs,
-        word_length: length,
-    }
+    Ok(Evaluated {
+        profile: written.profile,
+        pairs: written.pairs as u16,
+        word_length: sets.len() as u16,
+    })
 }

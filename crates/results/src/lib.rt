@@ -3,43 +3,85 @@
 #![tactic(auto)]
 
 ghost use Rattle.std.specs.Prelude.{◌≡◌, [], ◌∷◌};
-ghost use Rattle.results.specs.Results.{weighing_numbers, judged_numbers, as_row, flag_number, lead_numbers};
+ghost use Rattle.tableau.specs.Judging.{verdict_numbers, judged_of};
+ghost use Rattle.live.specs.Rows.{counted_of, lead_of};
+ghost use Rattle.weights.specs.Weighing.{weighing_of};
+ghost use Rattle.results.specs.Results.{weighing_numbers, judged_numbers, as_row, lead_numbers};
 
-use live::{Counted, Lead, Row};
+use live::Row;
 pub use numbers::{
     give_comparison, give_derived, give_evaluation, give_finding, give_packed, give_place,
-    profile_of,
+    give_refusal, profile_of,
 };
 use ranking::Profile;
-use tableau::Judged;
-use weights::Weighing;
+use refusals::Refusal;
+use rows::Verdict;
+use weights::Weighed;
 
 // Writes the counts, the pair count, the word length and the sum of an answer by weights.
-pub fn give_weighing(weighing: Weighing, res: &mut [u64; 9]) -> u32
-    ensures { (result ≡ weighing.evaluation.number) × (res.new ≡ weighing_numbers weighing) }
+pub fn give_weighing(answer: Result<Weighed, Refusal>, res: &mut [u64; 9]) -> u32
+    ensures { (result ≡ (weighing_of answer).evaluation.number) × (res.new ≡ weighing_numbers (weighing_of answer)) }
 {
-    let evaluation = weighing.evaluation;
-    let profile = evaluation.profile;
-    *res = [
-        profile.count(0) as u64,
-        profile.count(1) as u64,
-        profile.count(2) as u64,
-        profile.count(3) as u64,
-        profile.count(4) as u64,
-        profile.count(5) as u64,
-        evaluation.pairs as u64,
-        evaluation.word_length as u64,
-        weighing.sum,
-    ];
-    evaluation.number as u32
+    match answer {
+        Ok(weighed) => {
+            let evaluated = weighed.evaluated;
+            let profile = evaluated.profile;
+            *res = [
+                u64::from(profile.count(0)),
+                u64::from(profile.count(1)),
+                u64::from(profile.count(2)),
+                u64::from(profile.count(3)),
+                u64::from(profile.count(4)),
+                u64::from(profile.count(5)),
+                u64::from(evaluated.pairs),
+                u64::from(evaluated.word_length),
+                weighed.sum,
+            ];
+            0
+        }
+        Err(refusal) => {
+            *res = [0; 9];
+            give_refusal(refusal)
+        }
+    }
+}
+
+// The number of a verdict.
+fn verdict_number(verdict: Verdict) -> u8
+    ensures { result ≡ (verdict_numbers verdict).verdict }
+{
+    match verdict {
+        Verdict::Right => 1,
+        Verdict::AnotherRow(_) => 2,
+        Verdict::NotInTable => 3,
+    }
+}
+
+// The row that wins, 0 where the verdict names none.
+fn winning_row(verdict: Verdict) -> u8
+    ensures { result ≡ (verdict_numbers verdict).row }
+{
+    match verdict {
+        Verdict::AnotherRow(row) => row,
+        Verdict::Right => 0,
+        Verdict::NotInTable => 0,
+    }
 }
 
 // Writes the verdict and the row.
-pub fn give_judged(judged: Judged, res: &mut [u8; 2]) -> u32
-    ensures { (result ≡ judged.number) × (res.new ≡ judged_numbers judged) }
+pub fn give_judged(answer: Result<Verdict, Refusal>, res: &mut [u8; 2]) -> u32
+    ensures { (result ≡ (judged_of answer).number) × (res.new ≡ judged_numbers (judged_of answer)) }
 {
-    *res = [judged.verdict, judged.row];
-    judged.number as u32
+    match answer {
+        Ok(verdict) => {
+            *res = [verdict_number(verdict), winning_row(verdict)];
+            0
+        }
+        Err(refusal) => {
+            *res = [0; 2];
+            give_refusal(refusal)
+        }
+    }
 }
 
 // The row of an id and six counts.
@@ -57,34 +99,47 @@ pub fn row_of(numbers: &[u16; 7]) -> Row
 }
 
 // Writes a row count.
-pub fn give_count(counted: Counted, res: &mut [usize; 1]) -> u32
-    ensures { (result ≡ counted.number) × (res.new ≡ counted.count ∷ []) }
+pub fn give_count(answer: Result<usize, Refusal>, res: &mut [usize; 1]) -> u32
+    ensures { (result ≡ (counted_of answer).number) × (res.new ≡ (counted_of answer).count ∷ []) }
 {
-    *res = [counted.count];
-    counted.number as u32
-}
-
-// 1 for true, 0 for false.
-fn flag(any: bool) -> u16
-    ensures { result ≡ flag_number any }
-{
-    if any { 1 } else { 0 }
+    match answer {
+        Ok(count) => {
+            *res = [count];
+            0
+        }
+        Err(refusal) => {
+            *res = [0];
+            give_refusal(refusal)
+        }
+    }
 }
 
 // Writes whether there is a leader, its id and its counts.
-pub fn give_lead(lead: Lead, res: &mut [u16; 8]) -> u32
-    ensures { (result ≡ lead.number) × (res.new ≡ lead_numbers lead) }
+pub fn give_lead(answer: Result<Option<Row>, Refusal>, res: &mut [u16; 8]) -> u32
+    ensures { (result ≡ (lead_of answer).number) × (res.new ≡ lead_numbers (lead_of answer)) }
 {
-    let leader = lead.row.profile;
-    *res = [
-        flag(lead.any),
-        lead.row.id,
-        leader.count(0),
-        leader.count(1),
-        leader.count(2),
-        leader.count(3),
-        leader.count(4),
-        leader.count(5),
-    ];
-    lead.number as u32
+    match answer {
+        Ok(Some(row)) => {
+            let leader = row.profile;
+            *res = [
+                1,
+                row.id,
+                leader.count(0),
+                leader.count(1),
+                leader.count(2),
+                leader.count(3),
+                leader.count(4),
+                leader.count(5),
+            ];
+            0
+        }
+        Ok(None) => {
+            *res = [0; 8];
+            0
+        }
+        Err(refusal) => {
+            *res = [0; 8];
+            give_refusal(refusal)
+        }
+    }
 }

@@ -17,7 +17,7 @@ ghost use Rattle.rows.specs.Judging.{is_for_word, same_counts, counts_are_profil
 use basics::index;
 use machine::Pair;
 use ranking::Profile;
-use refusals::{Checked, Refusal};
+use refusals::Refusal;
 
 // What a tableau is said to be.
 #[derive(Clone, Copy)]
@@ -114,34 +114,34 @@ fn is_sound_row(row: &[u8], machines: usize) -> bool
 }
 
 // Refusal 19, of the rows: each has its counts, unused ones 0.
-fn check_rows(tableau: &[u8], machines: usize) -> Checked
+fn check_rows(tableau: &[u8], machines: usize) -> Result<(), Refusal>
     requires { (2 ≤ length tableau.now) × LaidOut (row_count tableau.now) tableau.now × (machines ≤ 6) }
     ensures { checked_number result ≡ refuse 19 (every_row (sound_row machines) tableau.now) }
 {
     let rows = index(tableau[0]);
     for i in 0..rows {
         if !is_sound_row(layout::part(tableau, i), machines) {
-            return Checked::Refused(Refusal::Tableau);
+            return Err(Refusal::Tableau);
         }
     }
-    Checked::Passed
+    Ok(())
 }
 
 // Refusal 19: the layout, and the claimed row.
-fn check_layout(tableau: &[u8], machines: usize) -> Checked
+fn check_layout(tableau: &[u8], machines: usize) -> Result<(), Refusal>
     requires { machines ≤ 6 }
     ensures { checked_number result ≡ refuse 19 (sound_tableau machines tableau.now) }
 {
     if tableau.len() < 2 {
-        return Checked::Refused(Refusal::Tableau);
+        return Err(Refusal::Tableau);
     }
     let count = tableau[0];
     let claimed = tableau[1];
     if !((1 <= count) & (count <= 32) & (claimed < count)) {
-        return Checked::Refused(Refusal::Tableau);
+        return Err(Refusal::Tableau);
     }
     if !layout::is_laid_out(tableau, count) {
-        return Checked::Refused(Refusal::Tableau);
+        return Err(Refusal::Tableau);
     }
     check_rows(tableau, machines)
 }
@@ -152,30 +152,27 @@ fn is_for_word(card: &[u8], word: &[u8], row: &[u8]) -> bool
     ensures { result ≡ is_for_word card.now word.now row.now }
 {
     let bytes = &row[12..];
-    let answer = candidate::check_candidate(bytes, card::symbol_count(card));
-    let Checked::Passed = answer else {
+    if candidate::check_candidate(bytes, card::symbol_count(card)).is_err() {
         return false;
-    };
-    let scored = candidate::score(card, bytes);
-    let answer = scored.checked;
-    let Checked::Passed = answer else {
+    }
+    if candidate::score(card, bytes).is_err() {
         return false;
-    };
+    }
     spells(bytes, word)
 }
 
 // Refusal 20: each row's candidate.
-fn check_candidates(card: &[u8], word: &[u8], tableau: &[u8]) -> Checked
+fn check_candidates(card: &[u8], word: &[u8], tableau: &[u8]) -> Result<(), Refusal>
     requires { (card_refusal card.now ≡ 0) × Readable tableau.now }
     ensures { checked_number result ≡ refuse 20 (every_row (is_for_word card.now word.now) tableau.now) }
 {
     let candidates = index(tableau[0]);
     for i in 0..candidates {
         if !is_for_word(card, word, layout::part(tableau, i)) {
-            return Checked::Refused(Refusal::RowCandidate);
+            return Err(Refusal::RowCandidate);
         }
     }
-    Checked::Passed
+    Ok(())
 }
 
 // Whether a row's counts are its candidate's profile.
@@ -183,23 +180,24 @@ fn are_its_profile(card: &[u8], row: &[u8]) -> bool
     requires { (card_refusal card.now ≡ 0) × (12 ≤ length row.now) × CompleteRow card.now row.now }
     ensures { result ≡ counts_are_profile card.now row.now }
 {
-    let scored = candidate::score(card, &row[12..]);
-    let profile = scored.profile;
+    let Ok(profile) = candidate::score(card, &row[12..]) else {
+        return false;
+    };
     same_counts(counts(row), profile)
 }
 
 // Refusal 21: each row's counts.
-fn check_profiles(card: &[u8], tableau: &[u8]) -> Checked
+fn check_profiles(card: &[u8], tableau: &[u8]) -> Result<(), Refusal>
     requires { (card_refusal card.now ≡ 0) × Readable tableau.now × ((i : ℕ) → i < row_count tableau.now → CompleteRow card.now (row_of tableau.now i)) }
     ensures { checked_number result ≡ refuse 21 (every_row (counts_are_profile card.now) tableau.now) }
 {
     let profiles = index(tableau[0]);
     for i in 0..profiles {
         if !are_its_profile(card, layout::part(tableau, i)) {
-            return Checked::Refused(Refusal::RowCounts);
+            return Err(Refusal::RowCounts);
         }
     }
-    Checked::Passed
+    Ok(())
 }
 
 // Whether a row has the profile.
@@ -229,17 +227,11 @@ pub fn verdict_of(tableau: &[u8], best: Profile) -> Verdict
 }
 
 // The first of refusals 19, 20 and 21 that a tableau meets, each for all rows before the next, for an accepted card.
-pub fn check_tableau(card: &[u8], word: &[u8], tableau: &[u8]) -> Checked
+pub fn check_tableau(card: &[u8], word: &[u8], tableau: &[u8]) -> Result<(), Refusal>
     requires { card_refusal card.now ≡ 0 }
     ensures { checked_number result ≡ first_of (refuse 19 (sound_tableau (machine_count card.now) tableau.now) ∷ refuse 20 (every_row (is_for_word card.now word.now) tableau.now) ∷ refuse 21 (every_row (counts_are_profile card.now) tableau.now) ∷ []) }
 {
-    let answer = check_layout(tableau, card::machine_count(card));
-    let Checked::Passed = answer else {
-        return answer;
-    };
-    let answer = check_candidates(card, word, tableau);
-    let Checked::Passed = answer else {
-        return answer;
-    };
+    check_layout(tableau, card::machine_count(card))?;
+    check_candidates(card, word, tableau)?;
     check_profiles(card, tableau)
 }

@@ -1,14 +1,14 @@
 -- What judging a tableau answers.
-use Rattle.std.specs.Prelude.{◌∷◌}
+use Rattle.std.specs.Prelude.{Result, Ok, Err, ◌∷◌}
 use Rattle.basics.specs.Words.{Bool, false, List, [], Option, some, none, ℕ}
-use Rattle.refusals.specs.Refusals.{refuse, first_of, unless_refused}
+use Rattle.refusals.specs.declared.Refusal.{Refusal}
+use Rattle.refusals.specs.Refusals.{number_of, refuse, first_of, unless_refused}
 use Rattle.card.specs.Layout.{machine_count}
 use Rattle.candidate.specs.Evaluating.{profile_with}
 use Rattle.product.specs.Best.{Contender, best}
 use Rattle.product.specs.Optimizing.{input_refusal}
 use Rattle.rows.specs.declared.Verdict.{Verdict}
 use Rattle.rows.specs.declared.Verdict.TheVariants.{Right, AnotherRow, NotInTable}
-use Rattle.tableau.specs.declared.Judged.{Judged}
 use Rattle.tableau.specs.Tableau.{counts_of, every_row, sound_tableau}
 pub use Rattle.rows.specs.Judging.{counts_are_profile, otherwise, right_or}
 unfoldable pub use Rattle.rows.specs.Judging.{is_for_word, same_counts, first_row, verdict_of}
@@ -28,6 +28,12 @@ judging_refusal card ranking word room tableau =
     ∷ refuse 21 (every_row (counts_are_profile card) tableau)
     ∷ [])
 
+-- what judging answers, in the paper's terms: the refusal's number, 0 where there is none; the verdict; the first row that wins, for another row
+pub record Judged : Type 0 where
+  pub number : ℕ
+  pub verdict : ℕ
+  pub row : ℕ
+
 -- the answer in numbers: 1 right, 2 another row, with the row that wins, 3 not in the table
 abbrev pub verdict_numbers : Verdict → Judged
 verdict_numbers Right = record { number = 0; verdict = 1; row = 0 }
@@ -36,6 +42,10 @@ verdict_numbers NotInTable = record { number = 0; verdict = 3; row = 0 }
 
 abbrev pub refused_judging : ℕ → Judged
 refused_judging n = record { number = n; verdict = 0; row = 0 }
+
+abbrev pub judged_of : Result Verdict Refusal → Judged
+judged_of (Ok v) = verdict_numbers v
+judged_of (Err r) = refused_judging (number_of r)
 
 -- the whole answer
 unfoldable pub judging : List ℕ → List ℕ → List ℕ → ℕ → List ℕ → Judged

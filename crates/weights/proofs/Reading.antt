@@ -38,7 +38,7 @@ use Rattle.weighted.specs.Labelling.{LabelPre}
 use Rattle.walk.specs.declared.Written.{Written}
 use Rattle.walk.specs.WalkLabels.{WalkLabels, WalkPre}
 use Rattle.walk.specs.Walked.{Walked}
-use Rattle.weights.specs.declared.Weighing.{Weighing}
+use Rattle.weights.specs.Weighing.{Weighing}
 use Rattle.weights.specs.Weighing.{refused_weighing, sum_of, answered_sum}
 use Rattle.weights.specs.WeightedWalk.{weighted_walk_labels, weighted_walk_pre, weighted_walked}
 use Rattle.weights.specs.Searching.{number_refusal, SetsPre, Searched}

@@ -21,7 +21,7 @@ use Rattle.optimizer.specs.Demand3 as ranked-demand
 use Rattle.product.specs.Weights.{best_by_weights}
 use Rattle.product.specs.Dominance.{Outweighs}
 use Rattle.product.specs.Laws.SoundWeights.{weighs}
-use Rattle.weights.specs.declared.Weighing.{Weighing}
+use Rattle.weights.specs.Weighing.{Weighing}
 use Rattle.weights.specs.WeightedBest.{IsBestByWeights, weighted_best_is_best_of_all}
 use Rattle.weights.specs.Agreement.{largest, agreement}
 use Rattle.weights.specs.Searching.{Optimizes}

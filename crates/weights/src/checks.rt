@@ -9,71 +9,58 @@ ghost use Rattle.weights.specs.Weighing.{weighted_refusal};
 ghost use Rattle.weights.specs.Searching.{number_refusal};
 
 use grid::Grid;
-use input::Ready;
-use refusals::{Checked, Refusal};
+use refusals::Refusal;
 use tables::NO_SUM;
 
 // The largest weight.
 const LIMIT: u32 = 4000000000;
 
 // Refusal 26: whether there is one weight for each machine, none above the limit.
-fn check_weights(machines: usize, weights: &[u32]) -> Checked
+fn check_weights(machines: usize, weights: &[u32]) -> Result<(), Refusal>
     ensures { checked_number result ≡ refuse 26 (sound_weights machines weights.now) }
 {
     if weights.len() != machines {
-        return Checked::Refused(Refusal::Weights);
+        return Err(Refusal::Weights);
     }
     let mut i = 0;
     while i < weights.len() {
         if weights[i] > LIMIT {
-            return Checked::Refused(Refusal::Weights);
+            return Err(Refusal::Weights);
         }
         i += 1;
     }
-    Checked::Passed
+    Ok(())
 }
 
 // The first of refusals 26, 8 and 9.
-fn check_word(grid: Grid, weights: &[u32], word: &[u8], room: usize) -> Checked
+fn check_word(grid: Grid, weights: &[u32], word: &[u8], room: usize) -> Result<(), Refusal>
     requires { FewSizes grid }
     ensures { checked_number result ≡ first_of (refuse 26 (sound_weights grid.machines weights.now) ∷ refuse 8 (sound_word grid.symbols word.now) ∷ refuse 9 (leb (2 * ((length word.now + 1) * grid.size)) room) ∷ []) }
 {
-    let answer = check_weights(grid.machines, weights);
-    let Checked::Passed = answer else {
-        return answer;
-    };
-    let answer = product::check_word(word, grid.symbols);
-    let Checked::Passed = answer else {
-        return answer;
-    };
+    check_weights(grid.machines, weights)?;
+    product::check_word(word, grid.symbols)?;
     input::check_work(grid, word.len(), 2, room)
 }
 
 // The first of refusals 1 to 6, 26, 8 and 9 that the input meets, for a work slice of `room` numbers.
-pub fn check_input(card: &[u8], weights: &[u32], word: &[u8], room: usize) -> Ready
+pub fn check_input(card: &[u8], weights: &[u32], word: &[u8], room: usize) -> Result<Grid, Refusal>
     ensures { Readies card.now (weighted_refusal card.now weights.now word.now room) result }
 {
-    let checked = card::check(card);
-    let Checked::Passed = checked else {
-        return Ready {
-            checked,
-            grid: grid::no_grid(),
-        };
-    };
+    card::check(card)?;
     let grid = grid::grid_of(card);
-    let checked = check_word(grid, weights, word, room);
-    Ready { checked, grid }
+    check_word(grid, weights, word, room)?;
+    Ok(grid)
 }
 
 // The first of refusals 10 and 12 that the search meets, by the number of the start's label, for an answer slice of `room` bytes.
-pub fn check_best(number: u64, room: usize) -> Checked
+pub fn check_best(number: u64, room: usize) -> Result<(), Refusal>
     ensures { checked_number result ≡ number_refusal number room }
 {
     if number >= NO_SUM {
-        return Checked::Refused(Refusal::NoCandidate);
+        return Err(Refusal::NoCandidate);
     }
     if room / 2 < (number % 4096) as usize {
-        return Checked::Refused(Refusal::Answer);
+        return Err(Refusal::Answer);
     }
-    Checked::Passed
+    Ok(())
 }

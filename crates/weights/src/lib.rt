@@ -9,30 +9,20 @@ ghost use Rattle.grid.specs.Grids.{GridOf};
 ghost use Rattle.product.specs.Weights.{by_sum, best_by_weights};
 ghost use Rattle.product.specs.WeightedPaths.{weighted_graph};
 ghost use Rattle.tables.specs.SumLabels.{label_of};
-ghost use Rattle.weights.specs.Weighing.{refused_weighing};
+ghost use Rattle.weights.specs.Weighing.{weighing_of};
 ghost use Rattle.weights.specs.Searching.{SetsPre, SearchPre, Searched, Optimizes};
 
-use candidate::Evaluation;
+use candidate::Evaluated;
 use grid::Grid;
-use refusals::Checked;
+use refusals::Refusal;
 
 mod checks; // checks.rt: the checks of the input and of the best candidate
 
-// What the call answers: the evaluation of the best candidate, and its sum in thousandths.
+// What the call says of the best candidate: its evaluation, and its sum in thousandths.
 #[derive(Clone, Copy)]
-pub struct Weighing {
-    pub evaluation: Evaluation,
+pub struct Weighed {
+    pub evaluated: Evaluated,
     pub sum: u64,
-}
-
-// The answer of a refusal.
-fn refused(number: u8) -> Weighing
-    ensures { result ≡ refused_weighing number }
-{
-    Weighing {
-        evaluation: candidate::refused(number),
-        sum: 0,
-    }
 }
 
 // Reads the answer off the labels of all nodes, and writes the best candidate if there is one and it has room: 10 and 12. Equal sums need not be equal
@@ -44,18 +34,15 @@ fn read_out(
     sets: &[u64],
     work: &[u64],
     answer: &mut [u8],
-) -> Weighing
+) -> Result<Weighed, Refusal>
     requires { SetsPre card.now weights.now sets.now work.now grid.size × Done (weighted_graph card.now weights.now sets.now) (position_of card.now) (label_of work.now) 0 × GridOf card.now grid }
-    ensures { Searched weights.now (best_of_sets_in (by_sum weights.now) card.now sets.now) sets.now work.now work.now answer.old answer.new result }
+    ensures { Searched weights.now (best_of_sets_in (by_sum weights.now) card.now sets.now) sets.now work.now work.now answer.old answer.new (weighing_of result) }
 {
     let all = grid.counts;
     let machines = grid.machines;
     let counts = &all[..machines];
     let number = work[tables::start_node(counts)];
-    let found = checks::check_best(number, answer.len());
-    let Checked::Passed = found else {
-        return refused(found.number());
-    };
+    checks::check_best(number, answer.len())?;
     let numbers = weighted::weights_of(counts, weights);
     let no_counts = [0u16; 1];
     let written = walk::walk(
@@ -68,18 +55,14 @@ fn read_out(
         grid.size,
         answer,
     );
-    let profile = written.profile;
-    let pairs = written.pairs as u16;
-    let length = sets.len() as u16;
-    Weighing {
-        evaluation: Evaluation {
-            number: 0,
-            profile,
-            pairs,
-            word_length: length,
+    Ok(Weighed {
+        evaluated: Evaluated {
+            profile: written.profile,
+            pairs: written.pairs as u16,
+            word_length: sets.len() as u16,
         },
         sum: number / 4096,
-    }
+    })
 }
 
 // The search for accepted sets: labels the nodes, and reads the answer off.
@@ -90,9 +73,9 @@ fn search_sets(
     sets: &[u64],
     work: &mut [u64],
     answer: &mut [u8],
-) -> Weighing
+) -> Result<Weighed, Refusal>
     requires { SetsPre card.now weights.now sets.now work.old grid.size × GridOf card.now grid }
-    ensures { Searched weights.now (best_of_sets_in (by_sum weights.now) card.now sets.now) sets.now work.old work.new answer.old answer.new result }
+    ensures { Searched weights.now (best_of_sets_in (by_sum weights.now) card.now sets.now) sets.now work.old work.new answer.old answer.new (weighing_of result) }
 {
     weighted::label(work, card, grid, weights, sets);
     read_out(card, grid, weights, sets, work, answer)
@@ -106,9 +89,9 @@ fn search(
     word: &[u8],
     work: &mut [u64],
     answer: &mut [u8],
-) -> Weighing
+) -> Result<Weighed, Refusal>
     requires { SearchPre card.now weights.now word.now work.old grid.size × GridOf card.now grid }
-    ensures { Searched weights.now (best_by_weights card.now weights.now word.now) word.now work.old work.new answer.old answer.new result }
+    ensures { Searched weights.now (best_by_weights card.now weights.now word.now) word.now work.old work.new answer.old answer.new (weighing_of result) }
 {
     let mut sets = [0u64; 24];
     input::fill_sets(word, &mut sets);
@@ -122,15 +105,10 @@ pub fn optimize(
     word: &[u8],
     work: &mut [u64],
     answer: &mut [u8],
-) -> Weighing
-    ensures { Optimizes card.now weights.now word.now work.old work.new answer.old answer.new result }
+) -> Result<Weighed, Refusal>
+    ensures { Optimizes card.now weights.now word.now work.old work.new answer.old answer.new (weighing_of result) }
 {
-    let ready = checks::check_input(card, weights, word, work.len());
-    let checked = ready.checked;
-    let Checked::Passed = checked else {
-        return refused(checked.number());
-    };
-    let grid = ready.grid;
+    let grid = checks::check_input(card, weights, word, work.len())?;
     let nodes = (word.len() + 1) * grid.size;
     search(card, grid, weights, word, &mut work[..nodes], answer)
 }
