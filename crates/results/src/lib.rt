@@ -18,6 +18,9 @@ use refusals::Refusal;
 use rows::Verdict;
 use weights::Weighed;
 
+// There is a leader; 0 where there is none.
+const LEADS: u16 = 1;
+
 // Writes the counts, the pair count, the word length and the sum of an answer by weights.
 pub fn give_weighing(answer: Result<Weighed, Refusal>, res: &mut [u64; 9]) -> u32
     ensures { (result ≡ (weighing_of answer).evaluation.number) × (res.new ≡ weighing_numbers (weighing_of answer)) }
@@ -122,7 +125,7 @@ pub fn give_lead(answer: Result<Option<Row>, Refusal>, res: &mut [u16; 8]) -> u3
         Ok(Some(row)) => {
             let leader = row.profile;
             *res = [
-                1,
+                LEADS,
                 row.id,
                 leader.count(0),
                 leader.count(1),
