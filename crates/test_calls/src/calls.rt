@@ -3,10 +3,11 @@
 use crate::printing::{write, write_spaced_byte, write_spaced_number, write_spaced_size};
 use crate::slices::sevens;
 use crate::writing::{
-    wide_sevens, write_best, write_evaluation, write_finding, write_kept, write_order, write_slice,
+    number_of, wide_sevens, write_best, write_evaluation, write_finding, write_kept, write_order, write_slice,
     write_three,
 };
-use ranking::{Comparison, Derived, Profile};
+use ranking::Profile;
+use rows::Verdict;
 
 // What there is to lend.
 const WORK_NUMBERS: usize = 25600;
@@ -132,12 +133,12 @@ fn optimize_weights(
     work: &mut [u64],
     answer: &mut [u8],
 ) {
-    let weighing = weights::optimize(card, weights, word, work, answer);
+    let best = weights::optimize(card, weights, word, work, answer);
     write(rt, b"optimize weights");
-    write_evaluation(rt, weighing.evaluation);
-    write_spaced_number(rt, weighing.sum);
+    write_evaluation(rt, best.map(|weighed| weighed.evaluated));
+    write_spaced_number(rt, best.map_or(0, |weighed| weighed.sum));
     write_slice(rt, answer);
-    write_kept(rt, weighing.evaluation.number, wide_sevens(work));
+    write_kept(rt, number_of(&best), wide_sevens(work));
 }
 
 // With the first weights, as many as `machines`, so many numbers of work, and an answer of so many bytes, each `fill`. Answers whether there is as much to
@@ -184,8 +185,13 @@ fn judge(
 ) {
     write(rt, b"judge");
     let judged = tableau::judge(card, ranking, word, work, tableau);
-    write_three(rt, judged.number, judged.verdict, judged.row);
-    write_kept(rt, judged.number, sevens(work));
+    match judged {
+        Ok(Verdict::Right) => write_three(rt, 0, 1, 0),
+        Ok(Verdict::AnotherRow(row)) => write_three(rt, 0, 2, row),
+        Ok(Verdict::NotInTable) => write_three(rt, 0, 3, 0),
+        Err(refusal) => write_three(rt, u8::from(refusal), 0, 0),
+    }
+    write_kept(rt, number_of(&judged), sevens(work));
 }
 
 // With so many numbers of work. Answers whether there is as much to lend.
@@ -213,16 +219,16 @@ pub fn evaluate(rt: &impl Print, card: &[u8], candidate: &[u8]) {
 pub fn read_part(rt: &impl Print, card: &[u8], machine: u8) {
     let place = card::read_part(card, machine);
     write(rt, b"part");
-    write_spaced_byte(rt, place.number);
-    write_spaced_size(rt, place.offset);
-    write_spaced_size(rt, place.length);
+    write_spaced_byte(rt, number_of(&place));
+    write_spaced_size(rt, place.map_or(0, |stretch| stretch.offset));
+    write_spaced_size(rt, place.map_or(0, |stretch| stretch.length));
 }
 
 fn pack(rt: &impl Print, symbols: u8, lengths: &[u16], parts: &[u8], target: &mut [u8]) {
     let packed = card::pack(symbols, lengths, parts, target);
     write(rt, b"pack");
-    write_spaced_byte(rt, packed.number);
-    write_spaced_size(rt, packed.length);
+    write_spaced_byte(rt, number_of(&packed));
+    write_spaced_size(rt, packed.unwrap_or(0));
     write_slice(rt, target);
 }
 
@@ -256,8 +262,8 @@ pub fn lend_and_pack(
 fn join(rt: &impl Print, card: &[u8], first: u8, second: u8, target: &mut [u8]) {
     let joined = join::join(card, first, second, target);
     write(rt, b"join");
-    write_spaced_byte(rt, joined.number);
-    write_spaced_size(rt, joined.length);
+    write_spaced_byte(rt, number_of(&joined));
+    write_spaced_size(rt, joined.unwrap_or(0));
     write_slice(rt, target);
 }
 
@@ -281,24 +287,16 @@ pub fn lend_and_join(
 pub fn compare(rt: &impl Print, machines: u8, ranking: &[u8], first: Profile, second: Profile) {
     write(rt, b"compare");
     match ranking::harmony::compare(machines, ranking, first, second) {
-        Comparison::Ordered(order) => {
-            write_order(rt, order);
-        }
-        Comparison::Refused(refusal) => {
-            write_three(rt, refusal.number(), 0, 0);
-        }
+        Ok(order) => write_order(rt, order),
+        Err(refusal) => write_three(rt, u8::from(refusal), 0, 0),
     }
 }
 
 pub fn derive(rt: &impl Print, machines: u8, first: Profile, second: Profile) {
     write(rt, b"condition");
     match ranking::conditions::derive(machines, first, second) {
-        Derived::Condition(condition) => {
-            write_three(rt, 0, condition.fewer, condition.more);
-        }
-        Derived::Refused(refusal) => {
-            write_three(rt, refusal.number(), 0, 0);
-        }
+        Ok(condition) => write_three(rt, 0, condition.fewer, condition.more),
+        Err(refusal) => write_three(rt, u8::from(refusal), 0, 0),
     }
 }
 

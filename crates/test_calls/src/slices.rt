@@ -32,11 +32,5 @@ pub fn read_file(rt: &impl Files, name: &str, bytes: &mut [u8]) -> usize
 
 // How many numbers are 7: what work slices are filled with.
 pub fn sevens(numbers: &[u16]) -> usize {
-    let mut count = 0;
-    for at in 0..numbers.len() {
-        if numbers[at] == 7 {
-            count += 1;
-        }
-    }
-    count
+    numbers.iter().filter(|&&number| number == 7).count()
 }

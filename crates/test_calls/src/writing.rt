@@ -6,8 +6,9 @@ use crate::printing::{
     write_spaced_size,
 };
 use crate::slices::sevens;
-use candidate::Evaluation;
-use ranking::{Finding, Order, Profile};
+use candidate::Evaluated;
+use ranking::{Order, Profile};
+use refusals::Refusal;
 
 // What slices are written modulo.
 const PRIME: u64 = 1000000007;
@@ -40,23 +41,37 @@ fn write_profile(rt: &impl Print, profile: Profile) {
     write_next_count(rt, profile.counts[5]);
 }
 
-// Number, profile, pair count, word length.
-pub fn write_evaluation(rt: &impl Print, evaluation: Evaluation) {
-    write_spaced_byte(rt, evaluation.number);
-    write_profile(rt, evaluation.profile);
-    write_spaced_count(rt, evaluation.pairs);
-    write_spaced_count(rt, evaluation.word_length);
+// An answer's number: 0 where nothing is refused.
+pub fn number_of<T>(answer: &Result<T, Refusal>) -> u8 {
+    match answer {
+        Ok(_) => 0,
+        Err(refusal) => u8::from(*refusal),
+    }
+}
+
+// Number, profile, pair count, word length: zeros of a refusal.
+pub fn write_evaluation(rt: &impl Print, answer: Result<Evaluated, Refusal>) {
+    write_spaced_byte(rt, number_of(&answer));
+    let evaluated = answer.unwrap_or(Evaluated {
+        profile: Profile::ZERO,
+        pairs: 0,
+        word_length: 0,
+    });
+    write_profile(rt, evaluated.profile);
+    write_spaced_count(rt, evaluated.pairs);
+    write_spaced_count(rt, evaluated.word_length);
 }
 
 // Number and ranking.
-pub fn write_finding(rt: &impl Print, finding: Finding) {
-    write_spaced_byte(rt, finding.number);
-    write_spaced_byte(rt, finding.ranking[0]);
-    write_next_machine(rt, finding.ranking[1]);
-    write_next_machine(rt, finding.ranking[2]);
-    write_next_machine(rt, finding.ranking[3]);
-    write_next_machine(rt, finding.ranking[4]);
-    write_next_machine(rt, finding.ranking[5]);
+pub fn write_finding(rt: &impl Print, found: Result<[u8; 6], Refusal>) {
+    write_spaced_byte(rt, number_of(&found));
+    let ranking = found.unwrap_or([0; 6]);
+    write_spaced_byte(rt, ranking[0]);
+    write_next_machine(rt, ranking[1]);
+    write_next_machine(rt, ranking[2]);
+    write_next_machine(rt, ranking[3]);
+    write_next_machine(rt, ranking[4]);
+    write_next_machine(rt, ranking[5]);
 }
 
 // A number, and the two fields of a result.
@@ -75,30 +90,18 @@ pub fn write_order(rt: &impl Print, order: Order) {
     }
 }
 
-fn wide(byte: u8) -> u64
-    ensures { result < 256 }
-{
-    byte as u64
-}
-
 // A slice in short: its bytes as the digits of a number to base 257, modulo a prime.
 pub fn write_slice(rt: &impl Print, bytes: &[u8]) {
     let mut sum: u64 = 0;
-    for at in 0..bytes.len() {
-        sum = (257 * sum + wide(bytes[at])) % PRIME;
+    for &byte in bytes {
+        sum = (257 * sum + u64::from(byte)) % PRIME;
     }
     write_spaced_number(rt, sum);
 }
 
 // How many numbers are 7.
 pub fn wide_sevens(numbers: &[u64]) -> usize {
-    let mut count = 0;
-    for at in 0..numbers.len() {
-        if numbers[at] == 7 {
-            count += 1;
-        }
-    }
-    count
+    numbers.iter().filter(|&&number| number == 7).count()
 }
 
 // How many numbers of the work slice are still 7, where the call has to keep it: it is left open once check 9 is passed.
@@ -109,8 +112,13 @@ pub fn write_kept(rt: &impl Print, number: u8, count: usize) {
 }
 
 // What a search answers, and the slices that it was lent.
-pub fn write_best(rt: &impl Print, evaluation: Evaluation, work: &[u16], answer: &[u8]) {
-    write_evaluation(rt, evaluation);
+pub fn write_best(
+    rt: &impl Print,
+    best: Result<Evaluated, Refusal>,
+    work: &[u16],
+    answer: &[u8],
+) {
+    write_evaluation(rt, best);
     write_slice(rt, answer);
-    write_kept(rt, evaluation.number, sevens(work));
+    write_kept(rt, number_of(&best), sevens(work));
 }

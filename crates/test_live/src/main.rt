@@ -4,17 +4,20 @@
 #![tactic(auto)]
 
 ghost use Rattle.std.specs.Prelude.{◌≡◌, ◌++◌, ◌≤◌, take, drop};
+ghost use Rattle.live.specs.Rows.{counted_of, lead_of};
 ghost use Rattle.live.specs.Calls.{adding, added_list, removing, removed_list, leading};
 
-use live::{Counted, Lead, Row};
+use live::Row;
 use ranking::Profile;
+use refusals::Refusal;
 use test_calls::printing::{write, write_number};
+use test_calls::writing::number_of;
 
 // A list of 34 records, and what the last call on it answered. A call is lent the first so many of them: 34, or 3.
 #[derive(Clone, Copy)]
 pub struct Board {
     pub rows: [Row; 34],
-    pub answer: Counted,
+    pub answer: Result<usize, Refusal>,
 }
 
 // The calls on the first records of a list.
@@ -27,7 +30,7 @@ fn add_to(
     row: Row,
 ) -> Board
     requires { records ≤ 34 }
-    ensures { (result.answer ≡ adding machines ranking.now count (take records board.rows) row) × (result.rows ≡ added_list machines ranking.now count (take records board.rows) row ++ drop records board.rows) }
+    ensures { (counted_of result.answer ≡ adding machines ranking.now count (take records board.rows) row) × (result.rows ≡ added_list machines ranking.now count (take records board.rows) row ++ drop records board.rows) }
 {
     let mut rows = board.rows;
     let answer = live::add(machines, ranking, count, &mut rows[..records], row);
@@ -43,16 +46,22 @@ fn remove_from(
     id: u16,
 ) -> Board
     requires { records ≤ 34 }
-    ensures { (result.answer ≡ removing machines ranking.now count (take records board.rows) id) × (result.rows ≡ removed_list machines ranking.now count (take records board.rows) id ++ drop records board.rows) }
+    ensures { (counted_of result.answer ≡ removing machines ranking.now count (take records board.rows) id) × (result.rows ≡ removed_list machines ranking.now count (take records board.rows) id ++ drop records board.rows) }
 {
     let mut rows = board.rows;
     let answer = live::remove(machines, ranking, count, &mut rows[..records], id);
     Board { rows, answer }
 }
 
-fn leader_of(board: Board, records: usize, machines: u8, ranking: &[u8], count: usize) -> Lead
+fn leader_of(
+    board: Board,
+    records: usize,
+    machines: u8,
+    ranking: &[u8],
+    count: usize,
+) -> Result<Option<Row>, Refusal>
     requires { records ≤ 34 }
-    ensures { result ≡ leading machines ranking.now count (take records board.rows) }
+    ensures { lead_of result ≡ leading machines ranking.now count (take records board.rows) }
 {
     let rows = board.rows;
     live::leader(machines, ranking, count, &rows[..records])
@@ -75,10 +84,7 @@ fn unused() -> Row {
 fn new() -> Board {
     Board {
         rows: [unused(); 34],
-        answer: Counted {
-            number: 0,
-            count: 0,
-        },
+        answer: Ok(0),
     }
 }
 
@@ -113,11 +119,11 @@ fn write_row(rt: &impl Print, row: Row) {
     write_number(rt, profile.count(5) as u64);
 }
 
-fn write_answer(rt: &impl Print, answer: Counted) {
+fn write_answer(rt: &impl Print, answer: Result<usize, Refusal>) {
     write(rt, b": ");
-    write_number(rt, answer.number as u64);
+    write_number(rt, u64::from(number_of(&answer)));
     write(rt, b" ");
-    write_number(rt, answer.count as u64);
+    write_number(rt, answer.unwrap_or(0) as u64);
     write(rt, b" |");
 }
 
@@ -143,16 +149,19 @@ fn show_short(rt: &impl Print, board: Board) {
     write(rt, b"\n");
 }
 
-fn show_lead(rt: &impl Print, lead: Lead) {
+fn show_lead(rt: &impl Print, lead: Result<Option<Row>, Refusal>) {
     write(rt, b": ");
-    write_number(rt, lead.number as u64);
-    if lead.any {
-        write(rt, b" leads");
-    } else {
-        write(rt, b" none");
+    write_number(rt, u64::from(number_of(&lead)));
+    match lead {
+        Ok(Some(row)) => {
+            write(rt, b" leads");
+            write_row(rt, row);
+        }
+        _ => {
+            write(rt, b" none");
+            write_row(rt, row(0, 0, 0, 0));
+        }
     }
-    let row = lead.row;
-    write_row(rt, row);
     write(rt, b"\n");
 }
 

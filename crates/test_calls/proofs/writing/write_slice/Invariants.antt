@@ -1,5 +1,5 @@
 use Rattle.std.specs.Prelude.{◌<◌}
 use Rattle.test_calls.proofs.writing.write_slice.Given as goal
 
-abbrev pub invariant-loop-at : goal.invariant-loop-at
-invariant-loop-at g l = l.sum < 1000000007
+abbrev pub invariant-loop-byte : goal.invariant-loop-at
+invariant-loop-byte g l = l.sum < 1000000007
