@@ -34,19 +34,14 @@ fn write_best(card: &[u8], ranking: &[u8], word: &[u8], out: &mut [u8]) -> Reply
     let mut answer = [0u8; ANSWER_BYTES];
     let best = optimizer::optimize(card, ranking, word, &mut work, &mut answer);
     let size = writing::write_answer(best, machine_count(card), &answer, out);
-    let Ok(evaluated) = best else {
-        let counts = Profile::ZERO.counts;
-        return Reply {
-            size,
-            answered: false,
-            counts,
-        };
+    let profile = match best {
+        Ok(evaluated) => evaluated.profile,
+        Err(_) => Profile::ZERO,
     };
-    let profile = evaluated.profile;
     let counts = profile.counts;
     Reply {
         size,
-        answered: true,
+        answered: best.is_ok(),
         counts,
     }
 }

@@ -7,7 +7,9 @@ use native.Mathlib.Omega.{arith}
 use lib.Dec.{lit<}
 use Rattle.refusals.specs.declared.Refusal.{Refusal}
 use Rattle.refusals.specs.declared.Refusal.TheVariants.{Counts, Layout, PartLength, Field, Clash, Product, Ranking, Word, Work, NoCandidate, Answer, Candidate, NotComplete, Conditions, NoRanking, Parts, Target, Tableau, RowCandidate, RowCounts, Line, RowCount, Presence, Sets, Weights, Machines, JoinedSize}
-use Rattle.std.proofs.Common.{Result, Ok, Err}
+use Rattle.std.proofs.Common.{Result, Ok, Err, true≢false}
+use Rattle.std.proofs.lemmas.Bool.{false≢true}
+use Rattle.std.specs.Result.{is_err}
 use Rattle.refusals.specs.Refusals.{number_of, checked_number, refuse, first_of, unless_refused}
 
 -- no refusal has the number 0
@@ -112,3 +114,12 @@ module _ {A : Type 0} {s : Result A Refusal} {r : Refusal} (told : s ≡ Err r) 
   -- the call's answer where it decides for the whole call
   pub refuses : {B : Type 0} (n : ℕ) (b : B) (f : ℕ → B) → checked_number s ≡ n → unless_refused n b f ≡ f (number_of r)
   refuses n b f e = not_accepted n b f (refused_number e) ∙ ap f (sym e ∙ ap checked_number told)
+
+-- what a test of an answer says of its number
+pub err_number : {A : Type 0} (s : Result A Refusal) → is_err s ≡ true → 0 < checked_number s
+err_number (Ok a) e = absurd (false≢true e)
+err_number (Err r) e = number_positive r
+
+pub ok_number : {A : Type 0} (s : Result A Refusal) → is_err s ≡ false → checked_number s ≡ 0
+ok_number (Ok a) e = refl
+ok_number (Err r) e = absurd (true≢false e)

@@ -10,38 +10,31 @@ use Rattle.lesson.proofs.Tallies.{fewer}
 use Rattle.lesson.proofs.answer_next.Goals as goal
 
 -- check 22, by the tally: it is full
-pub returns-in_default-clause-text : goal.returns-in_default-clause-text
-returns-in_default-clause-text c =
-    let tested = c.tested-answer.ensures ∙ ap (λ (b : Bool). refuse 22 (not b)) c.is_full.ensures in
-    let full : is_full c.args.tally ≡ true = not-false (is_full c.args.tally) (was_false c.in_default.is 22 (not (is_full c.args.tally)) tested) in
-    let number : c.number.result ≡ 22 = c.number.ensures ∙ tested ∙ ap (λ (b : Bool). refuse 22 (not b)) full in
+pub returns-then-is_full-clause-text : goal.returns-then-is_full-clause-text
+returns-then-is_full-clause-text c =
+    let full : is_full c.args.tally ≡ true = sym c.is_full.ensures ∙ c.if-is_full.true in
     prints
-    (ap refused_line number ∙ sym (text_full c.args.card.now c.args.tally c.args.line.now full ∙ ap past_text c.requires.2))
+    (ap refused_line c.from.ensures ∙ sym (text_full c.args.card.now c.args.tally c.args.line.now full ∙ ap past_text c.requires.2))
     c.write_refused-size.ensures.length
     c.write_refused-size.ensures.out
     c.write_refused-size.auto.out
 
-pub returns-in_default-clause-tally : goal.returns-in_default-clause-tally
-returns-in_default-clause-tally c =
-    let full : is_full c.args.tally ≡ true = not-false (is_full c.args.tally) (was_false c.in_default.is 22 (not (is_full c.args.tally)) (c.tested-answer.ensures ∙ ap (λ (b : Bool). refuse 22 (not b)) c.is_full.ensures)) in
-    (c.passed-tally.ensures.0 ∙ sym (tally_full c.args.card.now c.args.tally c.args.line.now full), c.passed-tally.ensures.1)
+pub returns-then-is_full-clause-tally : goal.returns-then-is_full-clause-tally
+returns-then-is_full-clause-tally c =
+    (c.passed-tally.ensures.0 ∙ sym (tally_full c.args.card.now c.args.tally c.args.line.now (sym c.is_full.ensures ∙ c.if-is_full.true)), c.passed-tally.ensures.1)
 
 -- it is not full
 pub count-tally-requires : goal.count-tally-requires
-count-tally-requires c =
-    let open-still : is_full c.args.tally ≡ false = not-true (is_full c.args.tally) (was_true c.in-Passed.is 22 (not (is_full c.args.tally)) (lit< tt) (c.tested-answer.ensures ∙ ap (λ (b : Bool). refuse 22 (not b)) c.is_full.ensures)) in
-    (c.requires.1, fewer c.args.tally open-still)
+count-tally-requires c = (c.requires.1, fewer c.args.tally (sym c.is_full.ensures ∙ c.if-is_full.false))
 
 pub returns-clause-text : goal.returns-clause-text
 returns-clause-text c =
-    let open-still : is_full c.args.tally ≡ false = not-true (is_full c.args.tally) (was_true c.in-Passed.is 22 (not (is_full c.args.tally)) (lit< tt) (c.tested-answer.ensures ∙ ap (λ (b : Bool). refuse 22 (not b)) c.is_full.ensures)) in
     prints
-    (sym (text_open c.args.card.now c.args.tally c.args.line.now open-still))
+    (sym (text_open c.args.card.now c.args.tally c.args.line.now (sym c.is_full.ensures ∙ c.if-is_full.false)))
     c.answer_line-reply.ensures.text.size
     c.answer_line-reply.ensures.text.bytes
     c.answer_line-reply.auto.out
 
 pub returns-clause-tally : goal.returns-clause-tally
 returns-clause-tally c =
-    let open-still : is_full c.args.tally ≡ false = not-true (is_full c.args.tally) (was_true c.in-Passed.is 22 (not (is_full c.args.tally)) (lit< tt) (c.tested-answer.ensures ∙ ap (λ (b : Bool). refuse 22 (not b)) c.is_full.ensures)) in
-    (c.count-tally.ensures.0 ∙ ap (counted c.args.tally) c.answer_line-reply.ensures.counts ∙ sym (tally_open c.args.card.now c.args.tally c.args.line.now open-still), c.count-tally.ensures.1)
+    (c.count-tally.ensures.0 ∙ ap (counted c.args.tally) c.answer_line-reply.ensures.counts ∙ sym (tally_open c.args.card.now c.args.tally c.args.line.now (sym c.is_full.ensures ∙ c.if-is_full.false)), c.count-tally.ensures.1)
