@@ -10,19 +10,19 @@ loop-j-init c =
 
 pub overflow_mul-step : goal.overflow_mul-step
 overflow_mul-step c =
-    omega (arith, column_few c.index.result c.args.width (omega (arith, c.index.ensures.0, c.requires.columns.outputs c.loop-j.j)) c.requires.columns.narrow)
+    omega (arith, column_few c.from.result c.args.width (omega (arith, c.from.ensures, c.requires.columns.outputs c.loop-j.j)) c.requires.columns.narrow)
 
 pub overflow_add-step : goal.overflow_add-step
 overflow_add-step c =
-    omega (arith, c.requires.within, c.requires.columns.narrow, column_few c.index.result c.args.width (omega (arith, c.index.ensures.0, c.requires.columns.outputs c.loop-j.j)) c.requires.columns.narrow)
+    omega (arith, c.requires.within, c.requires.columns.narrow, column_few c.from.result c.args.width (omega (arith, c.from.ensures, c.requires.columns.outputs c.loop-j.j)) c.requires.columns.narrow)
 
-pub offset_bounds-steps-index : goal.offset_bounds-steps-index
-offset_bounds-steps-index c =
-    omega (arith, c.requires.within, c.requires.columns.narrow, column_few c.index.result c.args.width (omega (arith, c.index.ensures.0, c.requires.columns.outputs c.loop-j.j)) c.requires.columns.narrow)
+pub offset_bounds-steps-from : goal.offset_bounds-steps-from
+offset_bounds-steps-from c =
+    omega (arith, c.requires.within, c.requires.columns.narrow, column_few c.from.result c.args.width (omega (arith, c.from.ensures, c.requires.columns.outputs c.loop-j.j)) c.requires.columns.narrow)
 
-pub bounds-steps-index : goal.bounds-steps-index
-bounds-steps-index c =
-    column_in c.index.result c.args.width _ _ (omega (arith, c.index.ensures.0, c.requires.columns.outputs c.loop-j.j)) c.requires.within c.requires.columns.room
+pub bounds-steps-from : goal.bounds-steps-from
+bounds-steps-from c =
+    column_in c.from.result c.args.width _ _ (omega (arith, c.from.ensures, c.requires.columns.outputs c.loop-j.j)) c.requires.within c.requires.columns.room
 
 pub high_cell-requires : goal.high_cell-requires
 high_cell-requires c =
@@ -43,7 +43,7 @@ bounds-low-j c =
 pub loop-j-preserved : goal.loop-j-preserved
 loop-j-preserved c =
     let t = c.loop-j-test.true in
-    let i = c.index.ensures.0 in (
+    let i = c.from.ensures in (
       row_next _ _ c.loop-j.invariant.0 t _ (c.high_cell.ensures ∙ ap (λ (n : ℕ). high_cell c.args.scale c.args.upper (step_at c.args.steps.now c.args.width n c.args.place)) i),
       row_next _ _ c.loop-j.invariant.1 t _ (c.low_cell.ensures ∙ ap (λ (n : ℕ). low_cell c.args.lower (step_at c.args.steps.now c.args.width n c.args.place)) i),
       simp length-set c.loop-j.invariant.2,
