@@ -12,7 +12,7 @@ fn is_same(steps: &[u16], width: usize, a: usize, b: usize) -> bool
     requires { Wide steps.now width × (a < 64) × (b < 64) }
     ensures { result ≡ true → SameColumn steps.now width a b }
 {
-    steps[a * width..a * width + width] == steps[b * width..b * width + width]
+    steps[a * width..][..width] == steps[b * width..][..width]
 }
 
 // The key of an output's column: outputs with the same column have the same key.
@@ -20,9 +20,8 @@ fn key_of(steps: &[u16], width: usize, output: usize) -> usize
     requires { Wide steps.now width × (output < 64) }
     ensures { result < 256 }
 {
-    let first = output * width;
     let mut sum = 0;
-    for (place, &step) in steps[first..first + width].iter().enumerate() {
+    for (place, &step) in steps[output * width..][..width].iter().enumerate() {
         sum += usize::from(step) * (2 * place + 1);
     }
     sum % 256
@@ -57,7 +56,7 @@ pub fn worth(steps: &[u16], width: usize, outputs: u64) -> u64
         let output = sets::least(left);
         let rest = sets::without_least(left);
         if !is_known(steps, width, kept, output, &mut last) {
-            kept = kept | sets::set_of(output as u8);
+            kept |= sets::set_of(output as u8);
         }
         left = rest;
     }
