@@ -2,7 +2,7 @@
 #![tactic(auto)]
 
 ghost use Rattle.std.specs.Prelude.{◌≡◌, ◌+◌, ◌*◌, ◌^◌, ◌<◌, ◌≤◌};
-ghost use Rattle.basics.specs.Words.{ℕ, length, replicate};
+ghost use Rattle.basics.specs.Words.{ℕ};
 ghost use Rattle.machine.specs.Part.{machine_of, state_count};
 ghost use Rattle.card.specs.Card.{machines_of};
 ghost use Rattle.product.specs.Nodes.{state_counts};
@@ -13,7 +13,6 @@ ghost use Rattle.columns.specs.AtHand.{AtHandPre, FilledAtHand, FromPre, FromEnt
 ghost use Rattle.columns.specs.Prepared.{Prepared};
 ghost use Rattle.columns.specs.Endings.{EndingNumber, PartEndingsPre, PartEndings, EndingsPre, EndingsFilled};
 
-use basics::index;
 use cells::fours;
 use machine::{Arc, Pair, sets};
 use outputs::worth;
@@ -24,24 +23,7 @@ pub fn width_of(counts: &[u8]) -> usize
     requires { CountsOfSome counts.now }
     ensures { (result ≡ places counts.now) × (result ≤ 40) }
 {
-    let mut width = 0;
-    let mut m = 0;
-    while m < counts.len() {
-        width += index(counts[m]);
-        m += 1;
-    }
-    width
-}
-
-// Writes no step everywhere.
-fn clear(steps: &mut [u16])
-    ensures { steps.new ≡ replicate (length steps.old) 65535 }
-{
-    let mut i = 0;
-    while i < steps.len() {
-        steps[i] = NO_STEP;
-        i += 1;
-    }
+    counts.iter().map(|count| usize::from(*count)).sum()
 }
 
 // A step as one number.
@@ -49,7 +31,7 @@ fn step_code(to: u8, marks: u8) -> u16
     requires { (to < 32) × (marks ≤ 15) }
     ensures { result ≡ to * 16 + marks }
 {
-    (to as u16) * 16 + marks as u16
+    u16::from(to) * 16 + u16::from(marks)
 }
 
 // Writes a step at each output of a set, in one place of the columns.
@@ -75,7 +57,7 @@ fn enter_arc(steps: &mut [u16], width: usize, first: usize, arc: Arc, input: u64
     enter_step(
         steps,
         width,
-        first + index(arc.from),
+        first + usize::from(arc.from),
         outputs,
         step_code(arc.to, arc.marks),
     );
@@ -96,17 +78,10 @@ fn fill_machine(
     ensures { (x : ℕ) → input ≡ 2 ^ x → MachineFilled (machine_of part.now) x width first steps.old steps.new result }
 {
     let mut taken: u64 = 0;
-    let mut left = machine::arc_count(part);
-    while left > 0 {
-        left -= 1;
-        let outputs = enter_arc(
-            steps,
-            width,
-            first,
-            machine::nth_arc(part, states, left),
-            input,
-        );
-        taken = taken | outputs;
+    for i in (0..machine::arc_count(part)).rev() {
+        let arc = machine::nth_arc(part, states, i);
+        let outputs = enter_arc(steps, width, first, arc, input);
+        taken |= outputs;
     }
     taken
 }
@@ -128,16 +103,13 @@ pub fn fill(steps: &mut [u16], card: &[u8], counts: &[u8], width: usize, input: 
     ensures { Filled (machines_of card.now) input width steps.new result }
 {
     let set = sets::set_of(input);
-    clear(steps);
+    steps.fill(NO_STEP);
     let mut taken = partners(input);
     let mut first = 0;
-    let mut m = 0;
-    while m < counts.len() {
-        let states = index(counts[m]);
-        let outputs = fill_machine(steps, width, first, card::part(card, m), states, set);
-        taken = taken & outputs;
+    for (m, &count) in counts.iter().enumerate() {
+        let states = usize::from(count);
+        taken &= fill_machine(steps, width, first, card::part(card, m), states, set);
         first += states;
-        m += 1;
     }
     taken
 }
@@ -172,18 +144,10 @@ fn fill_state(
     ensures { (x : ℕ) → input ≡ 2 ^ x → StateFilled (machine_of part.now) state x width place steps.old steps.new result }
 {
     let mut taken: u64 = 0;
-    let mut left = machine::arc_count(part);
-    while left > 0 {
-        left -= 1;
-        let entered = enter_from(
-            steps,
-            width,
-            place,
-            machine::nth_arc(part, states, left),
-            state,
-            input,
-        );
-        taken = taken | entered;
+    for i in (0..machine::arc_count(part)).rev() {
+        let arc = machine::nth_arc(part, states, i);
+        let entered = enter_from(steps, width, place, arc, state, input);
+        taken |= entered;
     }
     taken
 }
@@ -196,14 +160,11 @@ pub fn fill_at(steps: &mut [u16], card: &[u8], counts: &[u8], states: &[u8], inp
 {
     let width = states.len();
     let set = sets::set_of(input);
-    clear(steps);
+    steps.fill(NO_STEP);
     let mut taken = partners(input);
-    let mut m = 0;
-    while m < width {
-        let count = index(counts[m]);
-        let outputs = fill_state(steps, width, m, card::part(card, m), count, states[m], set);
-        taken = taken & outputs;
-        m += 1;
+    for (m, &state) in states.iter().enumerate() {
+        let count = usize::from(counts[m]);
+        taken &= fill_state(steps, width, m, card::part(card, m), count, state, set);
     }
     taken
 }
@@ -224,7 +185,11 @@ pub fn prepare(steps: &mut [u16], card: &[u8], counts: &[u8], width: usize, inpu
 fn ending_number(byte: u8) -> u16
     ensures { EndingNumber byte result }
 {
-    if byte == 0 { NO_STEP } else { byte as u16 - 1 }
+    if byte == 0 {
+        NO_STEP
+    } else {
+        u16::from(byte) - 1
+    }
 }
 
 // Writes the endings of a machine, from the place `first` on.
@@ -232,10 +197,8 @@ fn fill_part_endings(steps: &mut [u16], first: usize, part: &[u8], states: usize
     requires { PartEndingsPre steps.old first part.now × (states ≡ state_count part.now) }
     ensures { PartEndings (machine_of part.now) first steps.old steps.new }
 {
-    let mut state = 0;
-    while state < states {
+    for state in 0..states {
         steps[first + state] = ending_number(part[2 + state]);
-        state += 1;
     }
 }
 
@@ -245,11 +208,9 @@ pub fn fill_endings(steps: &mut [u16], card: &[u8], counts: &[u8])
     ensures { EndingsFilled (machines_of card.now) steps.old steps.new }
 {
     let mut first = 0;
-    let mut m = 0;
-    while m < counts.len() {
-        let states = index(counts[m]);
+    for (m, &count) in counts.iter().enumerate() {
+        let states = usize::from(count);
         fill_part_endings(steps, first, card::part(card, m), states);
         first += states;
-        m += 1;
     }
 }
