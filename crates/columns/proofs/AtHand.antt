@@ -1,6 +1,6 @@
 -- Filling the columns of the states at hand: one arc more, and machine by machine. Assumes nothing.
 use Rattle.std.specs.Prelude.{◌≡◌, ◌&&◌, ◌∷◌, ◌⊎◌, ◌+◌, ◌*◌, ◌<◌, ◌≤◌}
-use Rattle.basics.proofs.Words.{refl, sym, ◌∙◌, ap, Bool, true, false, cond, List, some, none, inl, inr, ℕ, suc, arith, length, get_or, drop, replicate, get_or-replicate, length-replicate, drop-cons, drop-length, ℕ_discrete, member, eq-eqb, ne_eqb, left_fails, right_fails, no_member, member_or, member_and}
+use Rattle.basics.proofs.Words.{refl, sym, ◌∙◌, ap, subst, Bool, true, false, cond, List, some, none, inl, inr, ℕ, suc, arith, length, get_or, drop, replicate, get_or-replicate, length-replicate, drop-cons, drop-length, ℕ_discrete, member, eq-eqb, ne_eqb, left_fails, right_fails, no_member, member_or, member_and}
 use lib.Bits.{bit_and, bit_or}
 use Rattle.machine.specs.declared.Arc.{Arc}
 use Rattle.machine.specs.Symbols.{empty_symbol}
@@ -36,7 +36,11 @@ from_another {xs} {W} {place} arc s x n = record {
   taken = λ y. no_member y ∙ sym (ap (λ (b : Bool). b && takes arc (record { input = x; output = y })) (ne_eqb arc.from s n));
 }
 
--- an arc of the state writes its step at the outputs for the input
+-- an arc of the state writes what it writes from its own
+pub from_state : {xs ys : List ℕ} {W place outputs : ℕ} (arc : Arc) (s x : ℕ) → arc.from ≡ s → FromEntered xs ys W place arc arc.from x outputs → FromEntered xs ys W place arc s x outputs
+from_state {xs} {ys} {W} {place} {outputs} arc s x z E = subst (λ (n : ℕ). FromEntered xs ys W place arc n x outputs) z E
+
+-- an arc writes its step at the outputs for the input
 pub from_entered : {xs ys : List ℕ} {W place outputs e : ℕ} (arc : Arc) (s x : ℕ) → arc.from ≡ s → e ≡ arc.to * 16 + arc.marks
     → ((y : ℕ) → member outputs y ≡ takes arc (record { input = x; output = y })) → Entered xs ys W place outputs e → FromEntered xs ys W place arc s x outputs
 from_entered {xs} {ys} {W} {place} {outputs} {e} arc s x z q o E = record { size = E.size; here = at; others = E.others; small = E.small; taken = taken }

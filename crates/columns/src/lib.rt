@@ -8,7 +8,7 @@ ghost use Rattle.card.specs.Card.{machines_of};
 ghost use Rattle.product.specs.Nodes.{state_counts};
 ghost use Rattle.tables.specs.Tables.{CountsOfSome};
 ghost use Rattle.cells.specs.Cells.{places};
-ghost use Rattle.columns.specs.Filling.{FirstSet, EnterPre, Entered, ArcPre, ArcEntered, MachinePre, MachineFilled, FillPre, Filled};
+ghost use Rattle.columns.specs.Filling.{FirstSet, EnterPre, Entered, MachinePre, MachineFilled, FillPre, Filled};
 ghost use Rattle.columns.specs.AtHand.{AtHandPre, FilledAtHand, FromPre, FromEntered, StatePre, StateFilled};
 ghost use Rattle.columns.specs.Prepared.{Prepared};
 ghost use Rattle.columns.specs.Endings.{EndingNumber, PartEndingsPre, PartEndings, EndingsPre, EndingsFilled};
@@ -47,20 +47,14 @@ fn enter_step(steps: &mut [u16], width: usize, place: usize, outputs: u64, step:
     }
 }
 
-// Writes the step by an arc at each pair of the input that the arc takes, by the set of the input; the machine's places start at `first`. The outputs
-// of those pairs.
-fn enter_arc(steps: &mut [u16], width: usize, first: usize, arc: Arc, input: u64) -> u64
-    requires { ArcPre steps.old width first arc }
-    ensures { (x : ℕ) → input ≡ 2 ^ x → ArcEntered steps.old steps.new width first arc x result }
+// Writes the step by an arc, in one place of the columns, at each pair of the input that the arc takes, by the set of the input. The outputs of those
+// pairs.
+fn enter_arc(steps: &mut [u16], width: usize, place: usize, arc: Arc, input: u64) -> u64
+    requires { FromPre steps.old width place arc }
+    ensures { (x : ℕ) → input ≡ 2 ^ x → FromEntered steps.old steps.new width place arc arc.from x result }
 {
     let outputs = arc.outputs_for(input);
-    enter_step(
-        steps,
-        width,
-        first + usize::from(arc.from),
-        outputs,
-        step_code(arc.to, arc.marks),
-    );
+    enter_step(steps, width, place, outputs, step_code(arc.to, arc.marks));
     outputs
 }
 
@@ -80,7 +74,8 @@ fn fill_machine(
     let mut taken: u64 = 0;
     for i in (0..machine::arc_count(part)).rev() {
         let arc = machine::nth_arc(part, states, i);
-        let outputs = enter_arc(steps, width, first, arc, input);
+        let place = first + usize::from(arc.from);
+        let outputs = enter_arc(steps, width, place, arc, input);
         taken |= outputs;
     }
     taken
@@ -114,21 +109,6 @@ pub fn fill(steps: &mut [u16], card: &[u8], counts: &[u8], width: usize, input: 
     taken
 }
 
-// Writes the step by an arc, if it is an arc of the state, in one place at each pair of the input that the arc takes, by the set of the input. The
-// outputs of those pairs.
-fn enter_from(steps: &mut [u16], width: usize, place: usize, arc: Arc, state: u8, input: u64) -> u64
-    requires { FromPre steps.old width place arc }
-    ensures { (x : ℕ) → input ≡ 2 ^ x → FromEntered steps.old steps.new width place arc state x result }
-{
-    let from = arc.from;
-    if from != state {
-        return 0;
-    }
-    let outputs = arc.outputs_for(input);
-    enter_step(steps, width, place, outputs, step_code(arc.to, arc.marks));
-    outputs
-}
-
 // Fills a place, blank so far, with the steps of a machine from one state, by the set of the input: the arcs from the last to the first, as above. The
 // outputs taken from that state.
 fn fill_state(
@@ -146,8 +126,9 @@ fn fill_state(
     let mut taken: u64 = 0;
     for i in (0..machine::arc_count(part)).rev() {
         let arc = machine::nth_arc(part, states, i);
-        let entered = enter_from(steps, width, place, arc, state, input);
-        taken |= entered;
+        if arc.from == state {
+            taken |= enter_arc(steps, width, place, arc, input);
+        }
     }
     taken
 }

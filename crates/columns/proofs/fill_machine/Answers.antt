@@ -3,7 +3,7 @@ use Rattle.basics.proofs.Words.{refl, ◌∙◌, arith}
 use Rattle.machine.specs.Part.{state_count, arc_count, arcs_of}
 use Rattle.machine.specs.Accepted.{accepted}
 use Rattle.machine.specs.Laws.Arcs.{arcs_count}
-use Rattle.columns.proofs.Arcs.{arc_pre, arc_from, arcs_none, arcs_next, arcs_all}
+use Rattle.columns.proofs.Arcs.{arc_pre, arc_from, place_pre, arc_entered, arcs_none, arcs_next, arcs_all}
 use Rattle.columns.proofs.fill_machine.Goals as goal
 
 pub arc_count-i-requires : goal.arc_count-i-requires
@@ -21,9 +21,14 @@ pub nth_arc-arc-requires : goal.nth_arc-arc-requires
 nth_arc-arc-requires c =
     ((accepted c.requires.0.accepted.0 c.args.part.now c.requires.0.accepted.1).shape, c.requires.1, omega (arith, c.loop-i.invariant.0, c.loop-i-test.true))
 
+pub overflow_add-place : goal.overflow_add-place
+overflow_add-place c =
+    let A = arc_pre c.requires.0 c.loop-i.steps c.loop-i.invariant.1 (c.loop-i.i - 1) (omega (arith, c.loop-i.invariant.0, c.loop-i-test.true)) c.nth_arc-arc.result (c.nth_arc-arc.ensures c.nth_arc-arc.result) in
+    omega (arith, c.from.ensures, A.place, A.width)
+
 pub enter_arc-outputs-requires : goal.enter_arc-outputs-requires
 enter_arc-outputs-requires c =
-    arc_pre c.requires.0 c.loop-i.steps c.loop-i.invariant.1 (c.loop-i.i - 1) (omega (arith, c.loop-i.invariant.0, c.loop-i-test.true)) c.nth_arc-arc.result (c.nth_arc-arc.ensures c.nth_arc-arc.result)
+    place_pre (omega (arith, c.from.ensures)) (arc_pre c.requires.0 c.loop-i.steps c.loop-i.invariant.1 (c.loop-i.i - 1) (omega (arith, c.loop-i.invariant.0, c.loop-i-test.true)) c.nth_arc-arc.result (c.nth_arc-arc.ensures c.nth_arc-arc.result))
 
 pub loop-i-preserved : goal.loop-i-preserved
 loop-i-preserved c =
@@ -35,7 +40,7 @@ loop-i-preserved c =
       λ x e.
           arcs_next c.args.steps.now (arcs_of part) (state_count part) c.args.width c.args.first x c.requires.0.enough (c.loop-i.i - 1) c.loop-i.i a c.loop-i.taken c.enter_arc-outputs.result
           (omega (arith, t)) (omega (arith, c.loop-i.invariant.0, t, arcs_count part (2 + state_count part) (arc_count part))) (c.nth_arc-arc.ensures a)
-          (arc_from c.requires.0 (c.loop-i.i - 1) (omega (arith, c.loop-i.invariant.0, t)) a (c.nth_arc-arc.ensures a)) (c.loop-i.invariant.2 x e) (c.enter_arc-outputs.ensures x e),
+          (arc_from c.requires.0 (c.loop-i.i - 1) (omega (arith, c.loop-i.invariant.0, t)) a (c.nth_arc-arc.ensures a)) (c.loop-i.invariant.2 x e) (arc_entered a x (omega (arith, c.from.ensures)) (c.enter_arc-outputs.ensures x e)),
     )
 
 pub shape_of-steps : goal.shape_of-steps
