@@ -1,4 +1,3 @@
-use Rattle.std.specs.Prelude.{◌-◌}
 use Rattle.adding.proofs.Rows.{StateTo}
 use Rattle.adding.proofs.add_state.Given as goal
 
