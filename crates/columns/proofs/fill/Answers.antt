@@ -9,10 +9,6 @@ use Rattle.columns.specs.Filling.{MachineFilled}
 use Rattle.columns.proofs.Filling.{narrow, filled_start, machine_below, places_there, machine_pre, filled_next, filled_end}
 use Rattle.columns.proofs.fill.Goals as goal
 
-pub set_of-set-requires : goal.set_of-set-requires
-set_of-set-requires c =
-    c.requires.input
-
 pub loop-m-init : goal.loop-m-init
 loop-m-init c =
     let n = length c.args.steps.now in
@@ -38,11 +34,3 @@ loop-m-preserved c =
     let h : MachineFilled (machine_at (machines_of card) c.loop-m.m) c.args.input c.args.width c.loop-m.first c.loop-m.steps c.fill_machine-taken.new.steps c.fill_machine-taken.result =
     rw (machine_at_lem card c.loop-m.m (machine_below c.requires c.loop-m.invariant.1 t) no_machine, ← c.part.ensures) (c.fill_machine-taken.ensures c.args.input c.set_of-set.ensures) in
     (c.fill_machine-taken.auto.steps ∙ c.loop-m.invariant.0, filled_next c.requires c.loop-m.invariant.1 t c.from-states.result c.fill_machine-taken.result c.from-states.ensures h)
-
-pub shape_of-steps : goal.shape_of-steps
-shape_of-steps c =
-    c.loop-m.invariant.0 ∙ c.fill.auto.self
-
-pub returns : goal.returns
-returns c =
-    filled_end c.requires c.loop-m.invariant.1 c.loop-m-test.false

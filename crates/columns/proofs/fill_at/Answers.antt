@@ -9,20 +9,11 @@ use Rattle.columns.specs.AtHand.{StateFilled}
 use Rattle.columns.proofs.AtHand.{counts_long, hand_start, machine_there, state_pre, hand_next, hand_end}
 use Rattle.columns.proofs.fill_at.Goals as goal
 
-pub set_of-set-requires : goal.set_of-set-requires
-set_of-set-requires c =
-    c.requires.0.input
-
 pub loop-m-init : goal.loop-m-init
 loop-m-init c =
     let n = length c.args.steps.now in
     let blank : c.fill.new.self ≡ replicate {A = ℕ} n 65535 = search rules in
     (refl, hand_start c.requires.0 c.requires.1 n c.partners-taken.result blank refl c.partners-taken.ensures)
-
--- there is a count for each machine
-pub bounds-counts-m : goal.bounds-counts-m
-bounds-counts-m c =
-    omega (arith, c.loop-m-test.true, counts_long c.requires.0 c.requires.1)
 
 pub part-requires : goal.part-requires
 part-requires c =
@@ -40,11 +31,3 @@ loop-m-preserved c =
     let h : StateFilled (machine_at (machines_of card) c.loop-m.m) (get_or states c.loop-m.m 0) c.args.input (length states) c.loop-m.m c.loop-m.steps c.fill_state-taken.new.steps c.fill_state-taken.result =
     rw (machine_at_lem card c.loop-m.m (machine_there c.requires.0 c.requires.1 c.loop-m.invariant.1 t) no_machine, ← c.part.ensures) (c.fill_state-taken.ensures c.args.input c.set_of-set.ensures) in
     (c.fill_state-taken.auto.steps ∙ c.loop-m.invariant.0, hand_next c.requires.0 c.requires.1 c.loop-m.invariant.1 t c.fill_state-taken.result h)
-
-pub shape_of-steps : goal.shape_of-steps
-shape_of-steps c =
-    c.loop-m.invariant.0 ∙ c.fill.auto.self
-
-pub returns : goal.returns
-returns c =
-    hand_end c.requires.0 c.requires.1 c.loop-m.invariant.1 c.loop-m-test.false

@@ -30,10 +30,3 @@ loop-m-preserved c =
     let h : PartEndings (machine_at (machines_of card) c.loop-m.m) c.loop-m.first c.loop-m.steps c.fill_part_endings.new.steps =
     rw (machine_at_lem card c.loop-m.m (machine_below c.requires c.loop-m.invariant t) no_machine, ← c.part.ensures) c.fill_part_endings.ensures in
     endings_next c.requires c.loop-m.invariant t c.from-states.result c.from-states.ensures h
-
-pub shape_of-steps : goal.shape_of-steps
-shape_of-steps c = c.loop-m.invariant.size
-
-pub returns : goal.returns
-returns c =
-    endings_end c.requires c.loop-m.invariant c.loop-m-test.false

@@ -21,11 +21,6 @@ pub nth_arc-arc-requires : goal.nth_arc-arc-requires
 nth_arc-arc-requires c =
     ((accepted c.requires.0.accepted.0 c.args.part.now c.requires.0.accepted.1).shape, c.requires.1, omega (arith, c.loop-i.invariant.0, c.loop-i-test.true))
 
-pub overflow_add-place : goal.overflow_add-place
-overflow_add-place c =
-    let A = arc_pre c.requires.0 c.loop-i.steps c.loop-i.invariant.1 (c.loop-i.i - 1) (omega (arith, c.loop-i.invariant.0, c.loop-i-test.true)) c.nth_arc-arc.result (c.nth_arc-arc.ensures c.nth_arc-arc.result) in
-    omega (arith, c.from.ensures, A.place, A.width)
-
 pub enter_arc-outputs-requires : goal.enter_arc-outputs-requires
 enter_arc-outputs-requires c =
     place_pre (omega (arith, c.from.ensures)) (arc_pre c.requires.0 c.loop-i.steps c.loop-i.invariant.1 (c.loop-i.i - 1) (omega (arith, c.loop-i.invariant.0, c.loop-i-test.true)) c.nth_arc-arc.result (c.nth_arc-arc.ensures c.nth_arc-arc.result))
@@ -42,9 +37,6 @@ loop-i-preserved c =
           (omega (arith, t)) (omega (arith, c.loop-i.invariant.0, t, arcs_count part (2 + state_count part) (arc_count part))) (c.nth_arc-arc.ensures a)
           (arc_from c.requires.0 (c.loop-i.i - 1) (omega (arith, c.loop-i.invariant.0, t)) a (c.nth_arc-arc.ensures a)) (c.loop-i.invariant.2 x e) (arc_entered a x (omega (arith, c.from.ensures)) (c.enter_arc-outputs.ensures x e)),
     )
-
-pub shape_of-steps : goal.shape_of-steps
-shape_of-steps c = c.loop-i.invariant.1
 
 pub returns : goal.returns
 returns c =

@@ -53,9 +53,6 @@ loop-i-preserved c =
           (c.loop-i.invariant.2 x e) (from_another a c.args.state x c.if-arc-state.false)),
     )
 
-pub shape_of-steps : goal.shape_of-steps
-shape_of-steps c = c.loop-i.invariant.1
-
 pub returns : goal.returns
 returns c =
     λ x e. state_all c.args.steps.now c.args.part.now c.args.state c.args.width c.args.place x c.loop-i-test.false (c.loop-i.invariant.2 x e)
