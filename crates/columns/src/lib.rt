@@ -110,7 +110,7 @@ pub fn fill(steps: &mut [u16], card: &[u8], counts: &[u8], width: usize, input: 
 }
 
 // Fills a place, blank so far, with the steps of a machine from one state, by the set of the input: the arcs from the last to the first, as above. The
-// outputs taken from that state.
+// outputs taken from that state. A loop beside that of `fill_machine`: one for both would lend the columns to a closure, and be no plainer.
 fn fill_state(
     steps: &mut [u16],
     width: usize,
