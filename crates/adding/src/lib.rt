@@ -7,7 +7,6 @@ ghost use Rattle.basics.specs.Words.{ℕ, length, get_or};
 ghost use Rattle.adding.specs.Cells.{high_cell, low_cell};
 ghost use Rattle.adding.specs.Adding.{CellsPre, CellsAt, AddCellsPre, CellsAdded, AddStatePre, StateAdded, MachinePre, MachineAdded, MachinesPre, MachinesAdded};
 
-use basics::index;
 use tables::NO_STEP;
 
 // From here on a high number stands for nothing: no step, no label.
@@ -21,14 +20,14 @@ pub fn high_cell(step: u16, scale: u64, weight: u64) -> u64
     if step == NO_STEP {
         return NOWHERE;
     }
-    (step / 16) as u64 * scale + (step % 16) as u64 * weight
+    u64::from(step / 16) * scale + u64::from(step % 16) * weight
 }
 
 pub fn low_cell(step: u16, weight: u64) -> u64
     requires { weight ≤ 2 ^ 48 }
     ensures { result ≡ low_cell weight step }
 {
-    (step % 16) as u64 * weight
+    u64::from(step % 16) * weight
 }
 
 // The steps of four outputs at one place of their columns, as cells. The outputs come by value: lent, they would be read again after each number written.
@@ -46,12 +45,10 @@ fn cells_at(
     requires { CellsPre steps.now four high.old low.old width place scale upper lower }
     ensures { CellsAt steps.now four high.new low.new width place scale upper lower }
 {
-    let mut j = 0;
-    while j < 4 {
-        let step = steps[index(four[j]) * width + place];
+    for j in 0..4 {
+        let step = steps[usize::from(four[j]) * width + place];
         high[j] = high_cell(step, scale, upper);
         low[j] = low_cell(step, lower);
-        j += 1;
     }
 }
 
@@ -77,10 +74,8 @@ fn add_state(table: &mut [u64], cells: &[u64], codes: usize, first: usize)
     requires { AddStatePre table.old cells.now codes first }
     ensures { StateAdded table.old table.new cells.now codes first }
 {
-    let mut code = 0;
-    while code < codes {
+    for code in 0..codes {
         add_cells(table, code, first + code, cells);
-        code += 1;
     }
 }
 
@@ -104,9 +99,7 @@ fn add_machine(
 {
     let mut high_cells = [0u64; 4];
     let mut low_cells = [0u64; 4];
-    let mut state = states;
-    while state > 0 {
-        state -= 1;
+    for state in (0..states).rev() {
         cells_at(
             steps,
             width,
@@ -128,11 +121,7 @@ fn begin(table: &mut [u64])
     requires { 4 ≤ length table.old }
     ensures { (length table.new ≡ length table.old) × ((j : ℕ) → j < 4 → get_or table.new j 0 ≡ 0) }
 {
-    let mut j = 0;
-    while j < 4 {
-        table[j] = 0;
-        j += 1;
-    }
+    table[..4].fill(0);
 }
 
 // The joint steps with four outputs of some machines that follow one another, for each code of their states. Their places end before `end`.
@@ -154,10 +143,8 @@ pub fn add_machines(
     begin(low);
     let mut codes = 1;
     let mut place = end;
-    let mut m = counts.len();
-    while m > 0 {
-        m -= 1;
-        let states = index(counts[m]);
+    for m in (0..counts.len()).rev() {
+        let states = usize::from(counts[m]);
         place -= states;
         let at = 3 * m;
         add_machine(

@@ -7,7 +7,7 @@ ghost use Rattle.cells.specs.Fours.{after_least, next_four, without_four};
 fn least(set: u64) -> u8
     ensures { result ≡ least_symbol set }
 {
-    u64::trailing_zeros(set) as u8
+    set.trailing_zeros() as u8
 }
 
 // A set without its least output.

@@ -4,18 +4,14 @@ ghost use Rattle.basics.specs.Words.{length};
 ghost use Rattle.tables.specs.Tables.{CountsOfSome};
 ghost use Rattle.cells.specs.Scales.{ScalesWritten};
 
-use basics::index;
-
 // Writes the scales, the first of three numbers for each machine: the product of the state counts behind it.
 pub fn write_scales(weights: &mut [u64], counts: &[u8])
     requires { CountsOfSome counts.now × (3 * length counts.now ≤ length weights.old) }
     ensures { ScalesWritten counts.now weights.old weights.new 0 }
 {
     let mut scale = 1;
-    let mut m = counts.len();
-    while m > 0 {
-        m -= 1;
-        weights[3 * m] = scale as u64;
-        scale *= index(counts[m]);
+    for m in (0..counts.len()).rev() {
+        weights[3 * m] = scale;
+        scale *= u64::from(counts[m]);
     }
 }

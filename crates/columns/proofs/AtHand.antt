@@ -1,6 +1,6 @@
 -- Filling the columns of the states at hand: one arc more, and machine by machine. Assumes nothing.
 use Rattle.std.specs.Prelude.{◌≡◌, ◌&&◌, ◌∷◌, ◌⊎◌, ◌+◌, ◌*◌, ◌<◌, ◌≤◌}
-use Rattle.basics.proofs.Words.{refl, sym, ◌∙◌, ap, Bool, true, false, cond, List, some, none, inl, inr, ℕ, suc, arith, length, get_or, drop, replicate, get_or-replicate, length-replicate, drop-cons, drop-length, ℕ_discrete, member, eq-eqb, ne_eqb, left_fails, right_fails, no_member, member_or, member_and}
+use Rattle.basics.proofs.Words.{refl, sym, ◌∙◌, ap, subst, Bool, true, false, cond, List, some, none, inl, inr, ℕ, suc, arith, length, get_or, drop, replicate, get_or-replicate, length-replicate, drop-cons, drop-length, ℕ_discrete, member, ne_eqb, left_fails, right_fails, no_member, member_or, member_and}
 use lib.Bits.{bit_and, bit_or}
 use Rattle.machine.specs.declared.Arc.{Arc}
 use Rattle.machine.specs.Symbols.{empty_symbol}
@@ -17,14 +17,10 @@ use Rattle.tables.specs.Laws.Cards.{machine_states}
 use Rattle.tables.proofs.Machines.{count_at_lem, counts_length}
 use Rattle.cells.specs.Cells.{step_at}
 use Rattle.cells.specs.Laws.Numbers.{column_in}
-use Rattle.columns.specs.Filling.{Small, EnterPre, Entered, FirstSet}
+use Rattle.columns.specs.Filling.{Small, FirstSet}
 use Rattle.columns.proofs.Arcs.{arc_sound}
 use Rattle.columns.proofs.Filling.{small_blank}
 use Rattle.columns.specs.AtHand.{AtHandPre, FromPre, FromEntered, StatePre, StateFilled, Stuck, FilledAtHand}
-
--- what writing an arc's step asks
-pub from_pre : {xs : List ℕ} {W place : ℕ} {arc : Arc} → FromPre xs W place arc → (e : ℕ) → e ≡ arc.to * 16 + arc.marks → EnterPre xs W place e
-from_pre pre e q = record { width = pre.width; room = pre.room; there = pre.there; fits = omega (arith, pre.to, pre.marks) }
 
 -- an arc of another state writes nothing
 pub from_another : {xs : List ℕ} {W place : ℕ} (arc : Arc) (s x : ℕ) → (arc.from ≡ s → ⊥) → FromEntered xs xs W place arc s x 0
@@ -36,19 +32,9 @@ from_another {xs} {W} {place} arc s x n = record {
   taken = λ y. no_member y ∙ sym (ap (λ (b : Bool). b && takes arc (record { input = x; output = y })) (ne_eqb arc.from s n));
 }
 
--- an arc of the state writes its step at the outputs for the input
-pub from_entered : {xs ys : List ℕ} {W place outputs e : ℕ} (arc : Arc) (s x : ℕ) → arc.from ≡ s → e ≡ arc.to * 16 + arc.marks
-    → ((y : ℕ) → member outputs y ≡ takes arc (record { input = x; output = y })) → Entered xs ys W place outputs e → FromEntered xs ys W place arc s x outputs
-from_entered {xs} {ys} {W} {place} {outputs} {e} arc s x z q o E = record { size = E.size; here = at; others = E.others; small = E.small; taken = taken }
-  where
-    taken : (y : ℕ) → member outputs y ≡ takes_from arc s (record { input = x; output = y })
-    taken y = o y ∙ sym (ap (λ (b : Bool). b && takes arc (record { input = x; output = y })) (eq-eqb arc.from s z))
-
-    at : (y : ℕ) → step_at ys W y place ≡ cond (takes_from arc s (record { input = x; output = y })) (step_code (some (arc.to, arc.marks))) (step_at xs W y place)
-    at y =
-        E.here y
-        ∙ ap (λ (b : Bool). cond b e (step_at xs W y place)) (taken y)
-        ∙ ap (λ (n : ℕ). cond (takes_from arc s (record { input = x; output = y })) n (step_at xs W y place)) q
+-- an arc of the state writes what it writes from its own
+pub from_state : {xs ys : List ℕ} {W place outputs : ℕ} (arc : Arc) (s x : ℕ) → arc.from ≡ s → FromEntered xs ys W place arc arc.from x outputs → FromEntered xs ys W place arc s x outputs
+from_state {xs} {ys} {W} {place} {outputs} arc s x z E = subst (λ (n : ℕ). FromEntered xs ys W place arc n x outputs) z E
 
 -- an arc of a machine's part
 pub arc_of : {xs part : List ℕ} {W place : ℕ} → StatePre xs part W place → (ys : List ℕ) → length ys ≡ length xs → (i : ℕ) → i < arc_count part → (a : Arc) → get_or (arcs_of part) i a ≡ a → FromPre ys W place a

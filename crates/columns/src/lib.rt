@@ -2,18 +2,17 @@
 #![tactic(auto)]
 
 ghost use Rattle.std.specs.Prelude.{◌≡◌, ◌+◌, ◌*◌, ◌^◌, ◌<◌, ◌≤◌};
-ghost use Rattle.basics.specs.Words.{ℕ, length, replicate};
+ghost use Rattle.basics.specs.Words.{ℕ};
 ghost use Rattle.machine.specs.Part.{machine_of, state_count};
 ghost use Rattle.card.specs.Card.{machines_of};
 ghost use Rattle.product.specs.Nodes.{state_counts};
 ghost use Rattle.tables.specs.Tables.{CountsOfSome};
 ghost use Rattle.cells.specs.Cells.{places};
-ghost use Rattle.columns.specs.Filling.{FirstSet, EnterPre, Entered, ArcPre, ArcEntered, MachinePre, MachineFilled, FillPre, Filled};
+ghost use Rattle.columns.specs.Filling.{FirstSet, EnterPre, Entered, MachinePre, MachineFilled, FillPre, Filled};
 ghost use Rattle.columns.specs.AtHand.{AtHandPre, FilledAtHand, FromPre, FromEntered, StatePre, StateFilled};
 ghost use Rattle.columns.specs.Prepared.{Prepared};
 ghost use Rattle.columns.specs.Endings.{EndingNumber, PartEndingsPre, PartEndings, EndingsPre, EndingsFilled};
 
-use basics::index;
 use cells::fours;
 use machine::{Arc, Pair, sets};
 use outputs::worth;
@@ -24,24 +23,7 @@ pub fn width_of(counts: &[u8]) -> usize
     requires { CountsOfSome counts.now }
     ensures { (result ≡ places counts.now) × (result ≤ 40) }
 {
-    let mut width = 0;
-    let mut m = 0;
-    while m < counts.len() {
-        width += index(counts[m]);
-        m += 1;
-    }
-    width
-}
-
-// Writes no step everywhere.
-fn clear(steps: &mut [u16])
-    ensures { steps.new ≡ replicate (length steps.old) 65535 }
-{
-    let mut i = 0;
-    while i < steps.len() {
-        steps[i] = NO_STEP;
-        i += 1;
-    }
+    counts.iter().map(|count| usize::from(*count)).sum()
 }
 
 // A step as one number.
@@ -49,7 +31,7 @@ fn step_code(to: u8, marks: u8) -> u16
     requires { (to < 32) × (marks ≤ 15) }
     ensures { result ≡ to * 16 + marks }
 {
-    (to as u16) * 16 + marks as u16
+    u16::from(to) * 16 + u16::from(marks)
 }
 
 // Writes a step at each output of a set, in one place of the columns.
@@ -65,20 +47,14 @@ fn enter_step(steps: &mut [u16], width: usize, place: usize, outputs: u64, step:
     }
 }
 
-// Writes the step by an arc at each pair of the input that the arc takes, by the set of the input; the machine's places start at `first`. The outputs
-// of those pairs.
-fn enter_arc(steps: &mut [u16], width: usize, first: usize, arc: Arc, input: u64) -> u64
-    requires { ArcPre steps.old width first arc }
-    ensures { (x : ℕ) → input ≡ 2 ^ x → ArcEntered steps.old steps.new width first arc x result }
+// Writes the step by an arc, in one place of the columns, at each pair of the input that the arc takes, by the set of the input. The outputs of those
+// pairs.
+fn enter_arc(steps: &mut [u16], width: usize, place: usize, arc: Arc, input: u64) -> u64
+    requires { FromPre steps.old width place arc }
+    ensures { (x : ℕ) → input ≡ 2 ^ x → FromEntered steps.old steps.new width place arc arc.from x result }
 {
     let outputs = arc.outputs_for(input);
-    enter_step(
-        steps,
-        width,
-        first + index(arc.from),
-        outputs,
-        step_code(arc.to, arc.marks),
-    );
+    enter_step(steps, width, place, outputs, step_code(arc.to, arc.marks));
     outputs
 }
 
@@ -96,17 +72,11 @@ fn fill_machine(
     ensures { (x : ℕ) → input ≡ 2 ^ x → MachineFilled (machine_of part.now) x width first steps.old steps.new result }
 {
     let mut taken: u64 = 0;
-    let mut left = machine::arc_count(part);
-    while left > 0 {
-        left -= 1;
-        let outputs = enter_arc(
-            steps,
-            width,
-            first,
-            machine::nth_arc(part, states, left),
-            input,
-        );
-        taken = taken | outputs;
+    for i in (0..machine::arc_count(part)).rev() {
+        let arc = machine::nth_arc(part, states, i);
+        let place = first + usize::from(arc.from);
+        let outputs = enter_arc(steps, width, place, arc, input);
+        taken |= outputs;
     }
     taken
 }
@@ -128,37 +98,19 @@ pub fn fill(steps: &mut [u16], card: &[u8], counts: &[u8], width: usize, input: 
     ensures { Filled (machines_of card.now) input width steps.new result }
 {
     let set = sets::set_of(input);
-    clear(steps);
+    steps.fill(NO_STEP);
     let mut taken = partners(input);
     let mut first = 0;
-    let mut m = 0;
-    while m < counts.len() {
-        let states = index(counts[m]);
-        let outputs = fill_machine(steps, width, first, card::part(card, m), states, set);
-        taken = taken & outputs;
+    for (m, &count) in counts.iter().enumerate() {
+        let states = usize::from(count);
+        taken &= fill_machine(steps, width, first, card::part(card, m), states, set);
         first += states;
-        m += 1;
     }
     taken
 }
 
-// Writes the step by an arc, if it is an arc of the state, in one place at each pair of the input that the arc takes, by the set of the input. The
-// outputs of those pairs.
-fn enter_from(steps: &mut [u16], width: usize, place: usize, arc: Arc, state: u8, input: u64) -> u64
-    requires { FromPre steps.old width place arc }
-    ensures { (x : ℕ) → input ≡ 2 ^ x → FromEntered steps.old steps.new width place arc state x result }
-{
-    let from = arc.from;
-    if from != state {
-        return 0;
-    }
-    let outputs = arc.outputs_for(input);
-    enter_step(steps, width, place, outputs, step_code(arc.to, arc.marks));
-    outputs
-}
-
 // Fills a place, blank so far, with the steps of a machine from one state, by the set of the input: the arcs from the last to the first, as above. The
-// outputs taken from that state.
+// outputs taken from that state. A loop beside that of `fill_machine`: one for both would lend the columns to a closure, and be no plainer.
 fn fill_state(
     steps: &mut [u16],
     width: usize,
@@ -172,18 +124,11 @@ fn fill_state(
     ensures { (x : ℕ) → input ≡ 2 ^ x → StateFilled (machine_of part.now) state x width place steps.old steps.new result }
 {
     let mut taken: u64 = 0;
-    let mut left = machine::arc_count(part);
-    while left > 0 {
-        left -= 1;
-        let entered = enter_from(
-            steps,
-            width,
-            place,
-            machine::nth_arc(part, states, left),
-            state,
-            input,
-        );
-        taken = taken | entered;
+    for i in (0..machine::arc_count(part)).rev() {
+        let arc = machine::nth_arc(part, states, i);
+        if arc.from == state {
+            taken |= enter_arc(steps, width, place, arc, input);
+        }
     }
     taken
 }
@@ -196,14 +141,11 @@ pub fn fill_at(steps: &mut [u16], card: &[u8], counts: &[u8], states: &[u8], inp
 {
     let width = states.len();
     let set = sets::set_of(input);
-    clear(steps);
+    steps.fill(NO_STEP);
     let mut taken = partners(input);
-    let mut m = 0;
-    while m < width {
-        let count = index(counts[m]);
-        let outputs = fill_state(steps, width, m, card::part(card, m), count, states[m], set);
-        taken = taken & outputs;
-        m += 1;
+    for (m, &state) in states.iter().enumerate() {
+        let count = usize::from(counts[m]);
+        taken &= fill_state(steps, width, m, card::part(card, m), count, state, set);
     }
     taken
 }
@@ -224,7 +166,11 @@ pub fn prepare(steps: &mut [u16], card: &[u8], counts: &[u8], width: usize, inpu
 fn ending_number(byte: u8) -> u16
     ensures { EndingNumber byte result }
 {
-    if byte == 0 { NO_STEP } else { byte as u16 - 1 }
+    if byte == 0 {
+        NO_STEP
+    } else {
+        u16::from(byte) - 1
+    }
 }
 
 // Writes the endings of a machine, from the place `first` on.
@@ -232,10 +178,8 @@ fn fill_part_endings(steps: &mut [u16], first: usize, part: &[u8], states: usize
     requires { PartEndingsPre steps.old first part.now × (states ≡ state_count part.now) }
     ensures { PartEndings (machine_of part.now) first steps.old steps.new }
 {
-    let mut state = 0;
-    while state < states {
+    for state in 0..states {
         steps[first + state] = ending_number(part[2 + state]);
-        state += 1;
     }
 }
 
@@ -245,11 +189,9 @@ pub fn fill_endings(steps: &mut [u16], card: &[u8], counts: &[u8])
     ensures { EndingsFilled (machines_of card.now) steps.old steps.new }
 {
     let mut first = 0;
-    let mut m = 0;
-    while m < counts.len() {
-        let states = index(counts[m]);
+    for (m, &count) in counts.iter().enumerate() {
+        let states = usize::from(count);
         fill_part_endings(steps, first, card::part(card, m), states);
         first += states;
-        m += 1;
     }
 }

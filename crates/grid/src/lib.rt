@@ -25,13 +25,11 @@ pub fn grid_of(card: &[u8]) -> Grid
     let mut counts = [0u8; 6];
     let mut states = 0;
     let mut size = 1;
-    let mut m = 0;
-    while m < machines {
+    for m in 0..machines {
         let count = machine::state_count(card::part(card, m));
         counts[m] = count as u8;
         states += count;
         size *= count;
-        m += 1;
     }
     Grid {
         machines,

@@ -56,10 +56,8 @@ fn try_code(
         high: own[at],
         low: own[at + 1],
     };
-    let mut j = 0;
-    while j < 4 {
+    for j in 0..4 {
         label = try_lane(label, next, high, low, a + j, b + j);
-        j += 1;
     }
     own[at] = label.high;
     own[at + 1] = label.low;
@@ -80,10 +78,8 @@ fn try_row(
 {
     let first = a * back;
     let at = a * 4;
-    let mut b = 0;
-    while b < back {
+    for b in 0..back {
         try_code(own, next, first + b, high, low, at, (front + b) * 4);
-        b += 1;
     }
 }
 
@@ -92,14 +88,7 @@ fn any_step(high: &[u64], at: usize) -> bool
     requires { (at < 65536) × (at + 4 ≤ length high.now) }
     ensures { result ≡ false → (j : ℕ) → j < 4 → nowhere ≤ get_or high.now (at + j) 0 }
 {
-    let mut j = 0;
-    while j < 4 {
-        if high[at + j] < NOWHERE {
-            return true;
-        }
-        j += 1;
-    }
-    false
+    high[at..at + 4].iter().any(|number| *number < NOWHERE)
 }
 
 // Tries the codes of a front code by four outputs, if something leads on from there.
@@ -132,9 +121,7 @@ pub fn try_four(
     requires { TryPre own.old next.now high.now low.now front back × SkipPre own.old next.now high.now front back 0 (front * back) }
     ensures { TriedIn own.old own.new next.now high.now low.now front back 0 (front * back) }
 {
-    let mut a = 0;
-    while a < front {
+    for a in 0..front {
         try_front(own, next, front, back, high, low, a);
-        a += 1;
     }
 }

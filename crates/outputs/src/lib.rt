@@ -5,7 +5,6 @@ ghost use Rattle.std.specs.Prelude.{◌≡◌, ◌<◌, ◌≤◌};
 ghost use Rattle.basics.specs.Words.{true, ℕ, length, member};
 ghost use Rattle.outputs.specs.Outputs.{SameColumn, Told, Worth, Wide};
 
-use basics::index;
 use machine::sets;
 
 // Whether two outputs have the same column.
@@ -13,14 +12,7 @@ fn is_same(steps: &[u16], width: usize, a: usize, b: usize) -> bool
     requires { Wide steps.now width × (a < 64) × (b < 64) }
     ensures { result ≡ true → SameColumn steps.now width a b }
 {
-    let mut place = 0;
-    while place < width {
-        if steps[a * width + place] != steps[b * width + place] {
-            return false;
-        }
-        place += 1;
-    }
-    true
+    steps[a * width..][..width] == steps[b * width..][..width]
 }
 
 // The key of an output's column: outputs with the same column have the same key.
@@ -29,10 +21,8 @@ fn key_of(steps: &[u16], width: usize, output: usize) -> usize
     ensures { result < 256 }
 {
     let mut sum = 0;
-    let mut place = 0;
-    while place < width {
-        sum += steps[output * width + place] as usize * (2 * place + 1);
-        place += 1;
+    for (place, &step) in steps[output * width..][..width].iter().enumerate() {
+        sum += usize::from(step) * (2 * place + 1);
     }
     sum % 256
 }
@@ -46,7 +36,7 @@ fn is_known(steps: &[u16], width: usize, kept: u64, output: usize, last: &mut [u
     let key = key_of(steps, width, output);
     let other = last[key] % 64;
     if sets::holds(kept, sets::set_of(other)) {
-        if is_same(steps, width, index(other), output) {
+        if is_same(steps, width, usize::from(other), output) {
             return true;
         }
     }
@@ -66,7 +56,7 @@ pub fn worth(steps: &[u16], width: usize, outputs: u64) -> u64
         let output = sets::least(left);
         let rest = sets::without_least(left);
         if !is_known(steps, width, kept, output, &mut last) {
-            kept = kept | sets::set_of(output as u8);
+            kept |= sets::set_of(output as u8);
         }
         left = rest;
     }

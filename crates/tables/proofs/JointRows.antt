@@ -8,9 +8,6 @@ pub record RowTo (f : ℕ → ℕ) (n : ℕ) (ys : List ℕ) (y : ℕ) : Type 0 
   pub done : (k : ℕ) → k < y → get_or ys k 0 ≡ f k
 
 module _ (f : ℕ → ℕ) (n : ℕ) where
-  pub row_start : {ys : List ℕ} → n ≤ length ys → RowTo f n ys 0
-  row_start h = record { within = omega arith; size = h; done = λ k l. absurd (omega arith) }
-
   pub row_next : {ys : List ℕ} {y : ℕ} → RowTo f n ys y → y < n → (v : ℕ) → v ≡ f y → RowTo f n (set ys y v) (y + 1)
   row_next {ys} {y} R h v e = record { within = omega arith; size = omega (arith, length-set ys y v, R.size); done = λ k l. done k l (ℕ_discrete k y) }
     where

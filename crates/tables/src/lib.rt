@@ -8,7 +8,6 @@ ghost use Rattle.product.specs.Nodes.{state_counts};
 ghost use Rattle.product.specs.ProductGraph.{start_node};
 ghost use Rattle.tables.specs.Places.{six_places};
 
-use basics::index;
 use machine::Position;
 
 pub mod labels; // labels.rt: labels of nodes in a lent slice
@@ -23,12 +22,10 @@ pub const NO_SUM: u64 = 18446744073709551615;
 pub fn start_node(counts: &[u8]) -> usize
     ensures { (ms : List Machine) → counts.now ≡ state_counts ms → result ≡ start_node ms }
 {
-    let start = index(Position::start().state);
+    let start = usize::from(Position::start().state);
     let mut code = 0;
-    let mut m = 0;
-    while m < counts.len() {
-        code = code * index(counts[m]) + start;
-        m += 1;
+    for &count in counts {
+        code = code * usize::from(count) + start;
     }
     code
 }
@@ -37,7 +34,7 @@ pub fn start_node(counts: &[u8]) -> usize
 fn place(ranking: &[u8], i: usize) -> u8
     ensures { result ≡ get_or ranking.now i 6 }
 {
-    if i < ranking.len() { ranking[i] } else { 6 }
+    ranking.get(i).copied().unwrap_or(6)
 }
 
 // A ranking as six places.

@@ -11,6 +11,3 @@ invariant-loop-state l =
     × (length l.high_cells ≡ 4)
     × (length l.low_cells ≡ 4)
     × (l.state ≤ l.states)
-
-abbrev pub decreases-loop-state : goal.decreases-loop-state
-decreases-loop-state l = l.state

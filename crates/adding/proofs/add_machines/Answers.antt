@@ -2,7 +2,7 @@ use Rattle.std.specs.Prelude.{◌≡◌, ◌-◌}
 use Rattle.basics.proofs.Words.{refl, ◌∙◌, suc, arith, mul_comm}
 use Rattle.product.specs.Laws.Nodes.{product_positive}
 use Rattle.adding.specs.Cells.{high_at, low_at}
-use Rattle.adding.proofs.Filling.{reached_start, machine_below, place_enough, reached_next, sums_start, sums_next, sums_end, codes_few, machine_pre}
+use Rattle.adding.proofs.Filling.{reached_start, place_enough, reached_next, sums_start, sums_next, sums_end, codes_few, machine_pre}
 use Rattle.adding.proofs.add_machines.Goals as goal
 
 pub begin-requires : goal.begin-requires
@@ -22,49 +22,9 @@ loop-m-init c = (
   refl,
 )
 
-pub bounds-counts-m : goal.bounds-counts-m
-bounds-counts-m c =
-    machine_below c.requires.enough c.loop-m.invariant.0 (c.loop-m.m - 1) (omega (arith, c.loop-m-test.true))
-
 pub overflow_sub-place : goal.overflow_sub-place
 overflow_sub-place c =
-    place_enough c.requires.enough c.loop-m.invariant.0 (c.loop-m.m - 1) (omega (arith, c.loop-m-test.true)) _ c.index-states.ensures.0
-
-pub overflow_mul-at : goal.overflow_mul-at
-overflow_mul-at c =
-    omega (arith, c.requires.size, c.requires.machines, machine_below c.requires.enough c.loop-m.invariant.0 (c.loop-m.m - 1) (omega (arith, c.loop-m-test.true)))
-
-pub offset_bounds-weights-at : goal.offset_bounds-weights-at
-offset_bounds-weights-at c =
-    omega (arith, c.requires.size, c.requires.machines, machine_below c.requires.enough c.loop-m.invariant.0 (c.loop-m.m - 1) (omega (arith, c.loop-m-test.true)))
-
-pub bounds-weights-at : goal.bounds-weights-at
-bounds-weights-at c =
-    omega (arith, c.requires.size, c.requires.machines, machine_below c.requires.enough c.loop-m.invariant.0 (c.loop-m.m - 1) (omega (arith, c.loop-m-test.true)))
-
-pub overflow_add-at : goal.overflow_add-at
-overflow_add-at c =
-    omega (arith, c.requires.size, c.requires.machines, machine_below c.requires.enough c.loop-m.invariant.0 (c.loop-m.m - 1) (omega (arith, c.loop-m-test.true)))
-
-pub offset_bounds-weights-at-in-loop-m : goal.offset_bounds-weights-at-in-loop-m
-offset_bounds-weights-at-in-loop-m c =
-    omega (arith, c.requires.size, c.requires.machines, machine_below c.requires.enough c.loop-m.invariant.0 (c.loop-m.m - 1) (omega (arith, c.loop-m-test.true)))
-
-pub bounds-weights-at-in-loop-m : goal.bounds-weights-at-in-loop-m
-bounds-weights-at-in-loop-m c =
-    omega (arith, c.requires.size, c.requires.machines, machine_below c.requires.enough c.loop-m.invariant.0 (c.loop-m.m - 1) (omega (arith, c.loop-m-test.true)))
-
-pub overflow_add-at-in-loop-m : goal.overflow_add-at-in-loop-m
-overflow_add-at-in-loop-m c =
-    omega (arith, c.requires.size, c.requires.machines, machine_below c.requires.enough c.loop-m.invariant.0 (c.loop-m.m - 1) (omega (arith, c.loop-m-test.true)))
-
-pub offset_bounds-weights-at-in-loop-m-2 : goal.offset_bounds-weights-at-in-loop-m-2
-offset_bounds-weights-at-in-loop-m-2 c =
-    omega (arith, c.requires.size, c.requires.machines, machine_below c.requires.enough c.loop-m.invariant.0 (c.loop-m.m - 1) (omega (arith, c.loop-m-test.true)))
-
-pub bounds-weights-at-in-loop-m-2 : goal.bounds-weights-at-in-loop-m-2
-bounds-weights-at-in-loop-m-2 c =
-    omega (arith, c.requires.size, c.requires.machines, machine_below c.requires.enough c.loop-m.invariant.0 (c.loop-m.m - 1) (omega (arith, c.loop-m-test.true)))
+    place_enough c.requires.enough c.loop-m.invariant.0 (c.loop-m.m - 1) (omega (arith, c.loop-m-test.true)) _ c.from-states.ensures
 
 pub add_machine-requires : goal.add_machine-requires
 add_machine-requires c =
@@ -73,7 +33,7 @@ add_machine-requires c =
     let el = i.4 ∙ c.begin-2.ensures.0 in
     let m = c.loop-m.m - 1 in
     let t : c.loop-m.m ≡ suc m = omega (arith, c.loop-m-test.true) in
-    let is = c.index-states.ensures.0 in
+    let is = c.from-states.ensures in
     machine_pre c.requires eh el i.0 i.1 i.2 m t _ is
 
 pub overflow_mul-codes : goal.overflow_mul-codes
@@ -83,8 +43,8 @@ overflow_mul-codes c =
     let el = i.4 ∙ c.begin-2.ensures.0 in
     let m = c.loop-m.m - 1 in
     let t : c.loop-m.m ≡ suc m = omega (arith, c.loop-m-test.true) in
-    let is = c.index-states.ensures.0 in
-    omega (arith, codes_few c.requires eh el i.0 i.1 i.2 m t _ is, mul_comm c.loop-m.codes c.index-states.result)
+    let is = c.from-states.ensures in
+    omega (arith, codes_few c.requires eh el i.0 i.1 i.2 m t _ is, mul_comm c.loop-m.codes c.from-states.result)
 
 pub loop-m-preserved : goal.loop-m-preserved
 loop-m-preserved c =
@@ -93,21 +53,13 @@ loop-m-preserved c =
     let el = i.4 ∙ c.begin-2.ensures.0 in
     let m = c.loop-m.m - 1 in
     let t : c.loop-m.m ≡ suc m = omega (arith, c.loop-m-test.true) in
-    let is = c.index-states.ensures.0 in (
+    let is = c.from-states.ensures in (
       reached_next c.requires.enough i.0 m t _ is,
       sums_next c.requires.enough i.0 m t _ is (high_at c.args.steps.now c.args.weights.now c.args.width) c.requires.some i.1 c.add_machine.ensures.highs,
       sums_next c.requires.enough i.0 m t _ is (low_at c.args.steps.now c.args.weights.now c.args.width) c.requires.some i.2 c.add_machine.ensures.lows,
       c.add_machine.ensures.highs.size ∙ i.3,
       c.add_machine.ensures.lows.size ∙ i.4,
     )
-
-pub shape_of-high : goal.shape_of-high
-shape_of-high c =
-    c.loop-m.invariant.3 ∙ c.begin.ensures.0
-
-pub shape_of-low : goal.shape_of-low
-shape_of-low c =
-    c.loop-m.invariant.4 ∙ c.begin-2.ensures.0
 
 pub returns : goal.returns
 returns c =

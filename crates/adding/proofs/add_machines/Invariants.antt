@@ -11,6 +11,3 @@ invariant-loop-m l =
     × SumsFrom (low_at l.steps l.weights l.width) l.four l.counts l.low l.codes l.place l.m
     × (length l.high ≡ length l.initial.high)
     × (length l.low ≡ length l.initial.low)
-
-abbrev pub decreases-loop-m : goal.decreases-loop-m
-decreases-loop-m l = l.m

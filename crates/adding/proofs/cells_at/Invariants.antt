@@ -1,4 +1,4 @@
-use Rattle.std.specs.Prelude.{◌≡◌, ◌-◌}
+use Rattle.std.specs.Prelude.{◌≡◌}
 use Rattle.basics.proofs.Words.{ℕ, length, get_or}
 use Rattle.tables.proofs.JointRows.{RowTo}
 use Rattle.adding.specs.Cells.{high_cell, low_cell, step_at}
@@ -10,6 +10,3 @@ invariant-loop-j l =
     × RowTo (λ k. low_cell l.lower (step_at l.steps l.width (get_or {A = ℕ} l.four k 0) l.place)) 4 l.low l.j
     × (length l.high ≡ length l.initial.high)
     × (length l.low ≡ length l.initial.low)
-
-abbrev pub decreases-loop-j : goal.decreases-loop-j
-decreases-loop-j l = 4 - l.j

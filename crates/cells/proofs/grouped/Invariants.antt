@@ -1,10 +1,5 @@
-use Rattle.std.specs.Prelude.{◌-◌}
-use Rattle.basics.proofs.Words.{length}
 use Rattle.cells.proofs.Choosing.{Choosing}
 use Rattle.cells.proofs.grouped.Given as goal
 
 abbrev pub invariant-loop-m : goal.invariant-loop-m
 invariant-loop-m l = Choosing l.counts l.size l.best l.places l.codes l.m
-
-abbrev pub decreases-loop-m : goal.decreases-loop-m
-decreases-loop-m l = length l.counts - l.m

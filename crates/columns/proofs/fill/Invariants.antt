@@ -5,6 +5,3 @@ use Rattle.columns.proofs.fill.Given as goal
 
 abbrev pub invariant-loop-m : goal.invariant-loop-m
 invariant-loop-m l = (length l.steps ≡ length l.initial.steps) × FilledTo l.card l.counts l.steps l.width l.input l.first l.m l.taken
-
-abbrev pub decreases-loop-m : goal.decreases-loop-m
-decreases-loop-m l = length l.counts - l.m

@@ -5,6 +5,3 @@ use Rattle.columns.proofs.fill_at.Given as goal
 
 abbrev pub invariant-loop-m : goal.invariant-loop-m
 invariant-loop-m l = (length l.steps ≡ length l.initial.steps) × AtHandTo l.card l.states l.steps l.input l.m l.taken
-
-abbrev pub decreases-loop-m : goal.decreases-loop-m
-decreases-loop-m l = length l.states - l.m

@@ -5,6 +5,3 @@ use Rattle.columns.proofs.fill_endings.Given as goal
 
 abbrev pub invariant-loop-m : goal.invariant-loop-m
 invariant-loop-m l = EndingsTo l.card l.counts l.initial.steps l.steps l.first l.m
-
-abbrev pub decreases-loop-m : goal.decreases-loop-m
-decreases-loop-m l = length l.counts - l.m

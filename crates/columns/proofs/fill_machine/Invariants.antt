@@ -4,8 +4,5 @@ use Rattle.machine.specs.Part.{state_count, arc_count, arcs_of}
 use Rattle.columns.proofs.Arcs.{ArcsIn}
 use Rattle.columns.proofs.fill_machine.Given as goal
 
-abbrev pub invariant-loop-left : goal.invariant-loop-left
-invariant-loop-left l = (l.left ≤ arc_count l.part) × (length l.steps ≡ length l.initial.steps) × ((x : ℕ) → l.input ≡ 2 ^ x → ArcsIn l.initial.steps l.steps (arcs_of l.part) (state_count l.part) l.width l.first x l.left l.taken)
-
-abbrev pub decreases-loop-left : goal.decreases-loop-left
-decreases-loop-left l = l.left
+abbrev pub invariant-loop-i : goal.invariant-loop-i
+invariant-loop-i l = (l.i ≤ arc_count l.part) × (length l.steps ≡ length l.initial.steps) × ((x : ℕ) → l.input ≡ 2 ^ x → ArcsIn l.initial.steps l.steps (arcs_of l.part) (state_count l.part) l.width l.first x l.i l.taken)

@@ -6,6 +6,3 @@ returns-then-input-eq-EMPTY c = not_empty _ _ c.if-input-eq-EMPTY.true c.without
 
 pub returns-else-input-eq-EMPTY : goal.returns-else-input-eq-EMPTY
 returns-else-input-eq-EMPTY c = every_output _ c.if-input-eq-EMPTY.false
-
-pub without_empty-requires : goal.without_empty-requires
-without_empty-requires c = tt

@@ -1,24 +1,11 @@
-use Rattle.std.specs.Prelude.{◌+◌, ◌%◌}
-use Rattle.basics.proofs.Words.{sym, arith, get_or}
+use Rattle.basics.proofs.Words.{sym, arith}
 use Rattle.lanes.specs.Trying.{way_of}
 use Rattle.lanes.specs.Laws.Least.{keeps_high, keeps_low, falls_high, falls_low}
 use Rattle.lanes.proofs.try_lane.Goals as goal
 
-pub overflow_add-way : goal.overflow_add-way
-overflow_add-way c =
-    omega (arith, c.requires.high_few, c.requires.fits.highs ((get_or c.args.high.now c.args.a 0 + get_or c.args.high.now c.args.b 0) % 128))
-
 pub returns-then-least-way : goal.returns-then-least-way
 returns-then-least-way c =
     let w = way_of c.args.next.now c.args.high.now c.args.low.now c.args.a c.args.b in sym (keeps_high w c.args.label c.if-least-way.true)
-
-pub overflow_add-rest-3 : goal.overflow_add-rest-3
-overflow_add-rest-3 c =
-    omega (arith, c.requires.low_few, c.requires.fits.lows ((get_or c.args.high.now c.args.a 0 + get_or c.args.high.now c.args.b 0) % 128))
-
-pub overflow_add-rest-4 : goal.overflow_add-rest-4
-overflow_add-rest-4 c =
-    omega (arith, c.requires.low_few, c.requires.fits.lows ((get_or c.args.high.now c.args.a 0 + get_or c.args.high.now c.args.b 0) % 128))
 
 pub returns-then-way-least : goal.returns-then-way-least
 returns-then-way-least c =

@@ -1,46 +1,25 @@
-use Rattle.basics.proofs.Words.{refl, arith, clash}
-use borrow.Author.Count.{below_more}
-use Rattle.adding.specs.Laws.Numbers.{column_few, column_in}
+use Rattle.std.specs.Prelude.{◌≡◌, ◌-◌, ◌*◌, ◌<◌, ◌≤◌}
+use Rattle.std.specs.Cmp.Lexicographic.{same_text}
+use Rattle.basics.proofs.Words.{sym, ap, ◌∙◌, arith, List, ℕ, length, get_or, take, drop, get_or-take, get_or-drop}
+use Rattle.adding.specs.Cells.{step_at}
+use Rattle.adding.specs.Laws.Numbers.{column_in}
+use Rattle.outputs.specs.Outputs.{Wide}
 use Rattle.outputs.proofs.is_same.Goals as goal
 
-pub loop-place-init : goal.loop-place-init
-loop-place-init c = (omega arith, λ r h. absurd (omega arith))
+-- an output's column
+abbrev column : List ℕ → ℕ → ℕ → List ℕ
+column steps W y = take W (take (length steps - y * W) (drop (y * W) steps))
 
-pub overflow_mul-a : goal.overflow_mul-a
-overflow_mul-a c = omega (arith, column_few c.args.a c.args.width (omega (arith, c.requires.1)) (omega (arith, c.requires.0.width)))
-
-pub overflow_add-a : goal.overflow_add-a
-overflow_add-a c = omega (arith, column_few c.args.a c.args.width (omega (arith, c.requires.1)) (omega (arith, c.requires.0.width)), c.requires.0.width)
-
-pub offset_bounds-steps-a : goal.offset_bounds-steps-a
-offset_bounds-steps-a c = omega (arith, column_few c.args.a c.args.width (omega (arith, c.requires.1)) (omega (arith, c.requires.0.width)), c.requires.0.width)
-
-pub bounds-steps-a : goal.bounds-steps-a
-bounds-steps-a c =
-    column_in c.args.a c.args.width c.loop-place.place _ (omega (arith, c.requires.1)) c.loop-place-test.true c.requires.0.room
-
-pub overflow_mul-b : goal.overflow_mul-b
-overflow_mul-b c =
-    omega (arith, column_few c.args.b c.args.width (omega (arith, c.requires.2)) (omega (arith, c.requires.0.width)))
-
-pub overflow_add-b : goal.overflow_add-b
-overflow_add-b c =
-    omega (arith, column_few c.args.b c.args.width (omega (arith, c.requires.2)) (omega (arith, c.requires.0.width)), c.requires.0.width)
-
-pub offset_bounds-steps-b : goal.offset_bounds-steps-b
-offset_bounds-steps-b c =
-    omega (arith, column_few c.args.b c.args.width (omega (arith, c.requires.2)) (omega (arith, c.requires.0.width)), c.requires.0.width)
-
-pub bounds-steps-b : goal.bounds-steps-b
-bounds-steps-b c =
-    column_in c.args.b c.args.width c.loop-place.place _ (omega (arith, c.requires.2)) c.loop-place-test.true c.requires.0.room
-
-pub returns-then-steps-a : goal.returns-then-steps-a
-returns-then-steps-a c = λ e. absurd (clash e refl)
-
-pub loop-place-preserved : goal.loop-place-preserved
-loop-place-preserved c =
-    (omega (arith, c.loop-place-test.true), below_more _ _ c.loop-place.invariant.1 c.if-steps-a.false)
+in_column : (steps : List ℕ) (W y p : ℕ) → Wide steps W → y < 64 → p < W → get_or (column steps W y) p 0 ≡ step_at steps W y p
+in_column steps W y p wide l h =
+    get_or-take W (take (length steps - y * W) (drop (y * W) steps)) p 0 h
+    ∙ get_or-take (length steps - y * W) (drop (y * W) steps) p 0 (omega (arith, column_in y W p _ (omega arith) h wide.room))
+    ∙ get_or-drop (y * W) steps p 0
 
 pub returns : goal.returns
-returns c = λ e r h. c.loop-place.invariant.1 r (omega (arith, c.loop-place-test.false))
+returns c =
+    λ e p h.
+    let steps = c.args.steps.now in
+    let W = c.args.width in
+    let q : column steps W c.args.a ≡ column steps W c.args.b = same_text (column steps W c.args.a) (column steps W c.args.b) (sym e ∙ c.eq.ensures) in
+    sym (in_column steps W c.args.a p c.requires.0 c.requires.1 h) ∙ ap (λ (l : List ℕ). get_or l p 0) q ∙ in_column steps W c.args.b p c.requires.0 c.requires.2 h

@@ -3,4 +3,4 @@ use Rattle.tables.proofs.Starting.{start_is_zero}
 use Rattle.tables.proofs.start_node.Goals as goal
 
 pub returns : goal.returns
-returns c ms e = c.loop-m.invariant.1 ∙ sym (start_is_zero ms)
+returns c ms e = c.loop-count.invariant.1 ∙ sym (start_is_zero ms)

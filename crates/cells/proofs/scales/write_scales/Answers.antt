@@ -19,11 +19,11 @@ bounds-counts-m c = omega (arith, c.loop-m.invariant.within, c.loop-m-test.true)
 
 pub overflow_mul-scale : goal.overflow_mul-scale
 overflow_mul-scale c =
-    omega (arith, next_few c.requires.0 c.requires.1 c.loop-m.invariant (c.loop-m.m - 1) (omega (arith, c.loop-m-test.true)) c.index-scale.result c.index-scale.ensures.0)
+    omega (arith, next_few c.requires.0 c.requires.1 c.loop-m.invariant (c.loop-m.m - 1) (omega (arith, c.loop-m-test.true)) c.from-scale.result c.from-scale.ensures)
 
 pub loop-m-preserved : goal.loop-m-preserved
 loop-m-preserved c =
-    scaling_next c.requires.0 c.requires.1 c.loop-m.invariant (c.loop-m.m - 1) (omega (arith, c.loop-m-test.true)) c.index-scale.result c.index-scale.ensures.0
+    scaling_next c.requires.0 c.requires.1 c.loop-m.invariant (c.loop-m.m - 1) (omega (arith, c.loop-m-test.true)) c.from-scale.result c.from-scale.ensures
 
 pub shape_of-weights : goal.shape_of-weights
 shape_of-weights c = c.loop-m.invariant.written.size

@@ -3,6 +3,3 @@ use Rattle.cells.proofs.scales.write_scales.Given as goal
 
 abbrev pub invariant-loop-m : goal.invariant-loop-m
 invariant-loop-m l = Scaling l.counts l.initial.weights l.weights l.scale l.m
-
-abbrev pub decreases-loop-m : goal.decreases-loop-m
-decreases-loop-m l = l.m
