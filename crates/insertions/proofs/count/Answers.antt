@@ -1,4 +1,4 @@
-use Rattle.basics.proofs.Words.{refl, ◌∙◌, ap, arith}
+use Rattle.basics.proofs.Words.{refl, rules, ◌∙◌, ap, arith}
 use Rattle.cells.specs.Fours.{next_four}
 use Rattle.cells.specs.Laws.Fours.{without_less}
 use Rattle.insertions.proofs.Fours.{fours_small}
@@ -6,13 +6,9 @@ use Rattle.insertions.proofs.Blocks.{asks_four, high_pre, codes_few}
 use Rattle.insertions.proofs.Loops.{zeros_of, count_start, room_for_four, four_counted, add_pre, counted}
 use Rattle.insertions.proofs.count.Goals as goal
 
-pub clear-requires : goal.clear-requires
-clear-requires c =
-    c.requires.0
-
 pub loop-left-init : goal.loop-left-init
 loop-left-init c =
-    (count_start (zeros_of c.args.ends.now c.requires.0 c.clear.ensures), refl, refl)
+    (count_start (zeros_of c.args.ends.now c.requires.0 (search rules)), refl, refl)
 
 pub add_four-requires : goal.add_four-requires
 add_four-requires c =
@@ -51,11 +47,6 @@ pub fill_on-requires : goal.fill_on-requires
 fill_on-requires c =
     let R = c.requires.1 in (c.add_up.ensures.size, omega arith, omega (arith, R.groups.size_is, codes_few R))
 
-pub overflow_cast-result : goal.overflow_cast-result
-overflow_cast-result c =
-    let C = counted c.requires.1 (omega arith) c.loop-left.invariant.0 (omega (arith, c.loop-left-test.false)) c.add_up.ensures c.fill_on.ensures in
-    omega (arith, C.few, codes_few c.requires.1)
-
 pub shape_of-high : goal.shape_of-high
 shape_of-high c =
     c.loop-left.invariant.1
@@ -66,4 +57,4 @@ shape_of-low c =
 
 pub returns : goal.returns
 returns c =
-    (counted c.requires.1 (omega arith) c.loop-left.invariant.0 (omega (arith, c.loop-left-test.false)) c.add_up.ensures c.fill_on.ensures, refl)
+    (counted c.requires.1 (omega arith) c.loop-left.invariant.0 (omega (arith, c.loop-left-test.false)) c.add_up.ensures c.fill_on.ensures, search rules)

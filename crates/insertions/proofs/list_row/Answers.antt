@@ -13,7 +13,7 @@ overflow_mul-first c =
 pub loop-b-init : goal.loop-b-init
 loop-b-init c =
     let f = lanes_from c.args.high.now c.args.low.now c.args.front c.args.back (c.args.a * c.args.back) in
-    (omega arith, placed_start f c.args.entries.now c.args.ends.now _ (omega arith), bumped_start 1 f c.args.ends.now _ (omega arith))
+    (placed_start f c.args.entries.now c.args.ends.now _ (omega arith), bumped_start 1 f c.args.ends.now _ (omega arith))
 
 pub overflow_add-first : goal.overflow_add-first
 overflow_add-first c =
@@ -38,7 +38,7 @@ list_code-requires c =
     let low = c.args.low.now in
     let f = lanes_from high low c.args.front c.args.back (c.args.a * c.args.back) in
     let g = code_lane high low (c.args.a * c.args.back + c.loop-b.b) (c.args.a * 4) ((c.args.front + c.loop-b.b) * 4) in
-    (entry_next f g (c.loop-b.b * 4) 4 (c.args.back * 4) (omega (arith, t)) c.loop-b.invariant.1 c.loop-b.invariant.2 (code_lanes high low c.args.front c.args.back c.args.a c.loop-b.b t) c.requires.0, lanes_pre c.requires.1 c.args.a c.loop-b.b c.requires.3 t, lanes_pre c.requires.2 c.args.a c.loop-b.b c.requires.3 t)
+    (entry_next f g (c.loop-b.b * 4) 4 (c.args.back * 4) (omega (arith, t)) c.loop-b.invariant.0 c.loop-b.invariant.1 (code_lanes high low c.args.front c.args.back c.args.a c.loop-b.b t) c.requires.0, lanes_pre c.requires.1 c.args.a c.loop-b.b c.requires.3 t, lanes_pre c.requires.2 c.args.a c.loop-b.b c.requires.3 t)
 
 pub loop-b-preserved : goal.loop-b-preserved
 loop-b-preserved c =
@@ -51,17 +51,17 @@ loop-b-preserved c =
     let g = code_lane high low (c.args.a * c.args.back + c.loop-b.b) (c.args.a * 4) ((c.args.front + c.loop-b.b) * 4) in
     let A = code_lanes high low c.args.front c.args.back c.args.a c.loop-b.b t in
     let d = c.list_code.ensures in
-    let p = c.loop-b.invariant.1 in
-    let q = c.loop-b.invariant.2 in
+    let p = c.loop-b.invariant.0 in
+    let q = c.loop-b.invariant.1 in
     let n = code_next c.loop-b.b in
-    (omega (arith, t), d.0 ∙ (λ i. placed g 4 (p i) (q i)) ∙ placed_on f g es ns (c.loop-b.b * 4) 4 A ∙ (λ i. placed f (n i) es ns), d.1 ∙ ap (bumped 1 g 4) q ∙ bumped_on 1 f g ns (c.loop-b.b * 4) 4 (equal_alike f g (c.loop-b.b * 4) 4 A) ∙ (λ i. bumped 1 f (n i) ns))
+    (d.0 ∙ (λ i. placed g 4 (p i) (q i)) ∙ placed_on f g es ns (c.loop-b.b * 4) 4 A ∙ (λ i. placed f (n i) es ns), d.1 ∙ ap (bumped 1 g 4) q ∙ bumped_on 1 f g ns (c.loop-b.b * 4) 4 (equal_alike f g (c.loop-b.b * 4) 4 A) ∙ (λ i. bumped 1 f (n i) ns))
 
 pub shape_of-entries : goal.shape_of-entries
 shape_of-entries c =
-    ap length c.loop-b.invariant.1 ∙ placed_size (lanes_from c.args.high.now c.args.low.now c.args.front c.args.back (c.args.a * c.args.back)) c.args.entries.now c.args.ends.now (c.loop-b.b * 4)
+    ap length c.loop-b.invariant.0 ∙ placed_size (lanes_from c.args.high.now c.args.low.now c.args.front c.args.back (c.args.a * c.args.back)) c.args.entries.now c.args.ends.now (c.loop-b.b * 4)
 
 pub returns : goal.returns
 returns c =
     let f = lanes_from c.args.high.now c.args.low.now c.args.front c.args.back (c.args.a * c.args.back) in
-    let e : c.loop-b.b ≡ c.args.back = omega (arith, c.loop-b.invariant.0, c.loop-b-test.false) in
-    (c.loop-b.invariant.1 ∙ ap (λ (n : ℕ). placed f (n * 4) c.args.entries.now c.args.ends.now) e, c.loop-b.invariant.2 ∙ ap (λ (n : ℕ). bumped 1 f (n * 4) c.args.ends.now) e)
+    let e : c.loop-b.b ≡ c.args.back = omega arith in
+    (c.loop-b.invariant.0 ∙ ap (λ (n : ℕ). placed f (n * 4) c.args.entries.now c.args.ends.now) e, c.loop-b.invariant.1 ∙ ap (λ (n : ℕ). bumped 1 f (n * 4) c.args.ends.now) e)
