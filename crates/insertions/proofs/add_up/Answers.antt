@@ -12,6 +12,3 @@ overflow_add-ends c =
 pub loop-i-preserved : goal.loop-i-preserved
 loop-i-preserved c =
     add_next c.requires c.loop-i.invariant c.loop-i-test.true
-
-pub returns : goal.returns
-returns c = add_end c.loop-i.invariant c.loop-i-test.false

@@ -21,8 +21,3 @@ loop-a-preserved c =
     let f = four_lane c.args.high.now [] c.args.front c.args.back in
     let g = lanes_from c.args.high.now [] c.args.front c.args.back (c.loop-a.a * c.args.back) in
     (c.count_row.ensures ∙ ap (bumped 2 g (c.args.back * 4)) c.loop-a.invariant ∙ bumped_on 2 f g ns (c.loop-a.a * c.args.back * 4) (c.args.back * 4) (λ j h. (refl, refl)) ∙ ap (λ (n : ℕ). bumped 2 f n ns) (row_next c.loop-a.a c.args.back))
-
-pub returns : goal.returns
-returns c =
-    let e : c.loop-a.a ≡ c.args.front = omega arith in
-    c.loop-a.invariant ∙ ap (λ (n : ℕ). bumped 2 (four_lane c.args.high.now [] c.args.front c.args.back) (n * c.args.back * 4) c.args.ends.now) e

@@ -6,27 +6,8 @@ use Rattle.insertions.proofs.Lanes.{bumped_start, bumped_on, equal_alike, count_
 use Rattle.insertions.proofs.Rows.{code_lanes, front_few, back_few, row_last, lanes_pre, code_next}
 use Rattle.insertions.proofs.count_row.Goals as goal
 
-pub overflow_mul-first : goal.overflow_mul-first
-overflow_mul-first c = omega (arith, row_last c.requires.1 c.args.a c.requires.2, c.requires.1.few)
-
 pub loop-b-init : goal.loop-b-init
 loop-b-init c = (bumped_start 2 (lanes_from c.args.high.now [] c.args.front c.args.back (c.args.a * c.args.back)) c.args.ends.now _ (omega arith))
-
-pub overflow_add-first : goal.overflow_add-first
-overflow_add-first c =
-    omega (arith, row_last c.requires.1 c.args.a c.requires.2, c.requires.1.few, c.loop-b-test.true)
-
-pub overflow_mul-a : goal.overflow_mul-a
-overflow_mul-a c =
-    omega (arith, front_few c.requires.1, c.requires.2)
-
-pub overflow_add-front : goal.overflow_add-front
-overflow_add-front c =
-    omega (arith, front_few c.requires.1, back_few c.requires.1, c.loop-b-test.true)
-
-pub overflow_mul-front : goal.overflow_mul-front
-overflow_mul-front c =
-    omega (arith, front_few c.requires.1, back_few c.requires.1, c.loop-b-test.true)
 
 pub count_code-requires : goal.count_code-requires
 count_code-requires c =
@@ -41,8 +22,3 @@ loop-b-preserved c =
     let f = lanes_from high [] c.args.front c.args.back (c.args.a * c.args.back) in
     let g = code_lane high [] (c.args.a * c.args.back + c.loop-b.b) (c.args.a * 4) ((c.args.front + c.loop-b.b) * 4) in
     (c.count_code.ensures ∙ ap (bumped 2 g 4) c.loop-b.invariant ∙ bumped_on 2 f g ns (c.loop-b.b * 4) 4 (equal_alike f g (c.loop-b.b * 4) 4 (code_lanes high [] c.args.front c.args.back c.args.a c.loop-b.b t)) ∙ ap (λ (n : ℕ). bumped 2 f n ns) (code_next c.loop-b.b))
-
-pub returns : goal.returns
-returns c =
-    let e : c.loop-b.b ≡ c.args.back = omega arith in
-    c.loop-b.invariant ∙ ap (λ (n : ℕ). bumped 2 (lanes_from c.args.high.now [] c.args.front c.args.back (c.args.a * c.args.back)) (n * 4) c.args.ends.now) e

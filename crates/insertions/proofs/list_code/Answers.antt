@@ -10,14 +10,6 @@ loop-j-init c =
     let f = code_lane c.args.high.now c.args.low.now c.args.code c.args.a c.args.b in
     (sym (placed_none f c.args.entries.now c.args.ends.now), sym (bumped_none 1 f c.args.ends.now))
 
-pub overflow_add-high : goal.overflow_add-high
-overflow_add-high c =
-    omega (arith, c.requires.1.sums c.loop-j.j c.loop-j-test.true)
-
-pub overflow_add-low : goal.overflow_add-low
-overflow_add-low c =
-    omega (arith, c.requires.2.sums c.loop-j.j c.loop-j-test.true)
-
 pub list_lane-requires : goal.list_lane-requires
 list_lane-requires c =
     let f = code_lane c.args.high.now c.args.low.now c.args.code c.args.a c.args.b in
@@ -30,13 +22,3 @@ loop-j-preserved c =
     let p = c.loop-j.invariant.0 in
     let q = c.loop-j.invariant.1 in
     (d.0 ∙ (λ i. put (f c.loop-j.j) (p i) (q i)) ∙ sym (placed_next f c.args.entries.now c.args.ends.now c.loop-j.j), d.1 ∙ ap (bump 1 (f c.loop-j.j)) q ∙ sym (bumped_next 1 f c.args.ends.now c.loop-j.j))
-
-pub shape_of-entries : goal.shape_of-entries
-shape_of-entries c =
-    ap length c.loop-j.invariant.0 ∙ placed_size (code_lane c.args.high.now c.args.low.now c.args.code c.args.a c.args.b) c.args.entries.now c.args.ends.now c.loop-j.j
-
-pub returns : goal.returns
-returns c =
-    let f = code_lane c.args.high.now c.args.low.now c.args.code c.args.a c.args.b in
-    let e : c.loop-j.j ≡ 4 = omega arith in
-    (c.loop-j.invariant.0 ∙ ap (λ (n : ℕ). placed f n c.args.entries.now c.args.ends.now) e, c.loop-j.invariant.1 ∙ ap (λ (n : ℕ). bumped 1 f n c.args.ends.now) e)

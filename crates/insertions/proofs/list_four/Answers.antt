@@ -31,13 +31,3 @@ loop-a-preserved c =
     let m = c.args.back * 4 in
     let done = c.loop-a.a * c.args.back * 4 in
     (d.0 ∙ (λ i. placed g m (p i) (q i)) ∙ placed_on f g es ns done m (λ j h. refl) ∙ (λ i. placed f (n i) es ns), d.1 ∙ ap (bumped 1 g m) q ∙ bumped_on 1 f g ns done m (λ j h. (refl, refl)) ∙ (λ i. bumped 1 f (n i) ns))
-
-pub shape_of-entries : goal.shape_of-entries
-shape_of-entries c =
-    ap length c.loop-a.invariant.0 ∙ placed_size (four_lane c.args.high.now c.args.low.now c.args.front c.args.back) c.args.entries.now c.args.ends.now (c.loop-a.a * c.args.back * 4)
-
-pub returns : goal.returns
-returns c =
-    let f = four_lane c.args.high.now c.args.low.now c.args.front c.args.back in
-    let e : c.loop-a.a ≡ c.args.front = omega arith in
-    (c.loop-a.invariant.0 ∙ ap (λ (n : ℕ). placed f (n * c.args.back * 4) c.args.entries.now c.args.ends.now) e, c.loop-a.invariant.1 ∙ ap (λ (n : ℕ). bumped 1 f (n * c.args.back * 4) c.args.ends.now) e)
