@@ -12,18 +12,11 @@ place c =
     let at_list_of = c.list_of-at in
     lane_room (lane_of c.args.code c.args.step c.args.rest) c.requires (sym c.moves.ensures ∙ c.if-moves.true) at_list_of.result at_list_of.ensures.0
 
-pub entry_of-requires : goal.entry_of-requires
-entry_of-requires c =
-    c.requires.codes 0 (omega arith)
-
 pub bounds-entries-from : goal.bounds-entries-from
 bounds-entries-from c = omega (arith, c.from.ensures, (place c).0)
 
 pub overflow_add-ends : goal.overflow_add-ends
 overflow_add-ends c = omega (arith, (place c).1)
-
-pub shape_of-entries : goal.shape_of-entries
-shape_of-entries c = simp length-set
 
 pub returns-then-moves : goal.returns-then-moves
 returns-then-moves c =
