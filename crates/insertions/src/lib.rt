@@ -57,6 +57,7 @@ fn count_lane(ends: &mut [u16; 514], code: usize, step: u64)
 }
 
 // Counts the insertions from a code with four outputs. The steps are the sums of those at a place of either group.
+// This walk and the one of `list_code` are two: one that takes a closure would have a contract with the room that each step asks for and leaves, no plainer.
 fn count_code(ends: &mut [u16; 514], code: usize, high: &[u64], a: usize, b: usize)
     requires { CountRoom ends.old 4 × LanesPre high.now a b }
     ensures { ends.new ≡ bumped 2 (code_lane high.now [] code a b) 4 ends.old }

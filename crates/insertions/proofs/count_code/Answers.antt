@@ -6,7 +6,7 @@ use Rattle.insertions.proofs.Lanes.{bump_same, bumped_none, bumped_next, count_n
 use Rattle.insertions.proofs.count_code.Goals as goal
 
 pub loop-j-init : goal.loop-j-init
-loop-j-init c = (sym (bumped_none 2 (code_lane c.args.high.now [] c.args.code c.args.a c.args.b) c.args.ends.now))
+loop-j-init c = sym (bumped_none 2 (code_lane c.args.high.now [] c.args.code c.args.a c.args.b) c.args.ends.now)
 
 pub count_lane-requires : goal.count_lane-requires
 count_lane-requires c =
@@ -15,4 +15,4 @@ count_lane-requires c =
 pub loop-j-preserved : goal.loop-j-preserved
 loop-j-preserved c =
     let f = code_lane c.args.high.now [] c.args.code c.args.a c.args.b in
-    (c.count_lane.ensures ∙ bump_same 2 _ (f c.loop-j.j) c.loop-j.ends refl refl ∙ ap (bump 2 (f c.loop-j.j)) c.loop-j.invariant ∙ sym (bumped_next 2 f c.args.ends.now c.loop-j.j))
+    c.count_lane.ensures ∙ bump_same 2 _ (f c.loop-j.j) c.loop-j.ends refl refl ∙ ap (bump 2 (f c.loop-j.j)) c.loop-j.invariant ∙ sym (bumped_next 2 f c.args.ends.now c.loop-j.j)

@@ -8,7 +8,7 @@ use Rattle.insertions.proofs.count_four.Goals as goal
 
 pub loop-a-init : goal.loop-a-init
 loop-a-init c =
-    (bumped_start 2 (four_lane c.args.high.now [] c.args.front c.args.back) c.args.ends.now _ (omega arith))
+    bumped_start 2 (four_lane c.args.high.now [] c.args.front c.args.back) c.args.ends.now _ (omega arith)
 
 pub count_row-requires : goal.count_row-requires
 count_row-requires c =
@@ -20,4 +20,4 @@ loop-a-preserved c =
     let ns = c.args.ends.now in
     let f = four_lane c.args.high.now [] c.args.front c.args.back in
     let g = lanes_from c.args.high.now [] c.args.front c.args.back (c.loop-a.a * c.args.back) in
-    (c.count_row.ensures ∙ ap (bumped 2 g (c.args.back * 4)) c.loop-a.invariant ∙ bumped_on 2 f g ns (c.loop-a.a * c.args.back * 4) (c.args.back * 4) (λ j h. (refl, refl)) ∙ ap (λ (n : ℕ). bumped 2 f n ns) (row_next c.loop-a.a c.args.back))
+    c.count_row.ensures ∙ ap (bumped 2 g (c.args.back * 4)) c.loop-a.invariant ∙ bumped_on 2 f g ns (c.loop-a.a * c.args.back * 4) (c.args.back * 4) (λ j h. (refl, refl)) ∙ ap (λ (n : ℕ). bumped 2 f n ns) (row_next c.loop-a.a c.args.back)

@@ -7,7 +7,7 @@ use Rattle.insertions.proofs.Rows.{code_lanes, front_few, back_few, row_last, la
 use Rattle.insertions.proofs.count_row.Goals as goal
 
 pub loop-b-init : goal.loop-b-init
-loop-b-init c = (bumped_start 2 (lanes_from c.args.high.now [] c.args.front c.args.back (c.args.a * c.args.back)) c.args.ends.now _ (omega arith))
+loop-b-init c = bumped_start 2 (lanes_from c.args.high.now [] c.args.front c.args.back (c.args.a * c.args.back)) c.args.ends.now _ (omega arith)
 
 pub count_code-requires : goal.count_code-requires
 count_code-requires c =
@@ -21,4 +21,4 @@ loop-b-preserved c =
     let ns = c.args.ends.now in
     let f = lanes_from high [] c.args.front c.args.back (c.args.a * c.args.back) in
     let g = code_lane high [] (c.args.a * c.args.back + c.loop-b.b) (c.args.a * 4) ((c.args.front + c.loop-b.b) * 4) in
-    (c.count_code.ensures ∙ ap (bumped 2 g 4) c.loop-b.invariant ∙ bumped_on 2 f g ns (c.loop-b.b * 4) 4 (equal_alike f g (c.loop-b.b * 4) 4 (code_lanes high [] c.args.front c.args.back c.args.a c.loop-b.b t)) ∙ ap (λ (n : ℕ). bumped 2 f n ns) (code_next c.loop-b.b))
+    c.count_code.ensures ∙ ap (bumped 2 g 4) c.loop-b.invariant ∙ bumped_on 2 f g ns (c.loop-b.b * 4) 4 (equal_alike f g (c.loop-b.b * 4) 4 (code_lanes high [] c.args.front c.args.back c.args.a c.loop-b.b t)) ∙ ap (λ (n : ℕ). bumped 2 f n ns) (code_next c.loop-b.b)

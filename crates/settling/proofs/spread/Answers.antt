@@ -6,10 +6,6 @@ pub returns-then-high-ge-NOWHERE : goal.returns-then-high-ge-NOWHERE
 returns-then-high-ge-NOWHERE c =
     no_label c.requires c.if-high-ge-NOWHERE.true
 
-pub last_list-last-requires : goal.last_list-last-requires
-last_list-last-requires c =
-    (c.if-high-ge-NOWHERE.false, c.requires.sound.highs_few.most 0)
-
 pub loop-at-init : goal.loop-at-init
 loop-at-init c =
     (omega (arith, c.from-start.ensures), spreading_start (its_label c.requires c.if-high-ge-NOWHERE.false) _ c.from-start.ensures)
