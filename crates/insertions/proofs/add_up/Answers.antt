@@ -1,5 +1,5 @@
 use Rattle.basics.proofs.Words.{arith}
-use Rattle.insertions.proofs.Adding.{add_start, add_fits, add_next, add_end}
+use Rattle.insertions.proofs.Adding.{add_start, add_fits, add_next}
 use Rattle.insertions.proofs.add_up.Goals as goal
 
 pub loop-i-init : goal.loop-i-init

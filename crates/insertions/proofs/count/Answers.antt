@@ -1,8 +1,6 @@
 use Rattle.basics.proofs.Words.{refl, rules, ◌∙◌, ap, arith}
 use Rattle.cells.specs.Fours.{next_four}
-use Rattle.cells.specs.Laws.Fours.{without_less}
-use Rattle.insertions.proofs.Fours.{fours_small}
-use Rattle.insertions.proofs.Blocks.{asks_four, high_pre, codes_few}
+use Rattle.insertions.proofs.Blocks.{asks_four, high_pre}
 use Rattle.insertions.proofs.Loops.{zeros_of, count_start, room_for_four, four_counted, add_pre, counted}
 use Rattle.insertions.proofs.count.Goals as goal
 

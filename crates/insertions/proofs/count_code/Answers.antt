@@ -1,6 +1,5 @@
-use Rattle.std.specs.Prelude.{◌≡◌}
-use Rattle.basics.proofs.Words.{refl, sym, ◌∙◌, ap, [], ℕ, arith}
-use Rattle.insertions.specs.Lanes.{bumped, bump}
+use Rattle.basics.proofs.Words.{refl, sym, ◌∙◌, ap, [], arith}
+use Rattle.insertions.specs.Lanes.{bump}
 use Rattle.insertions.specs.Tables.{code_lane}
 use Rattle.insertions.proofs.Lanes.{bump_same, bumped_none, bumped_next, count_next}
 use Rattle.insertions.proofs.count_code.Goals as goal

@@ -1,4 +1,4 @@
-use Rattle.std.specs.Prelude.{◌≡◌, ◌*◌}
+use Rattle.std.specs.Prelude.{◌*◌}
 use Rattle.basics.proofs.Words.{refl, ◌∙◌, ap, [], ℕ, arith}
 use Rattle.insertions.specs.Lanes.{bumped}
 use Rattle.insertions.specs.Tables.{four_lane, lanes_from}

@@ -1,5 +1,5 @@
 use Rattle.std.specs.Prelude.{◌+◌}
-use Rattle.basics.proofs.Words.{sym, ◌∙◌, ap, ℕ, arith, get_or, set}
+use Rattle.basics.proofs.Words.{sym, ◌∙◌, ap, ℕ, get_or, set}
 use Rattle.insertions.specs.Lanes.{lane_of}
 use Rattle.insertions.proofs.Lanes.{bump_moves, bump_stays}
 use Rattle.insertions.proofs.count_lane.Goals as goal

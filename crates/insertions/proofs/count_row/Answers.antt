@@ -1,9 +1,9 @@
-use Rattle.std.specs.Prelude.{◌≡◌, ◌+◌, ◌*◌}
+use Rattle.std.specs.Prelude.{◌+◌, ◌*◌}
 use Rattle.basics.proofs.Words.{◌∙◌, ap, [], ℕ, arith}
 use Rattle.insertions.specs.Lanes.{bumped}
 use Rattle.insertions.specs.Tables.{code_lane, lanes_from}
 use Rattle.insertions.proofs.Lanes.{bumped_start, bumped_on, equal_alike, count_next}
-use Rattle.insertions.proofs.Rows.{code_lanes, front_few, back_few, row_last, lanes_pre, code_next}
+use Rattle.insertions.proofs.Rows.{code_lanes, lanes_pre, code_next}
 use Rattle.insertions.proofs.count_row.Goals as goal
 
 pub loop-b-init : goal.loop-b-init

@@ -1,10 +1,6 @@
-use Rattle.std.specs.Prelude.{◌*◌}
-use Rattle.basics.proofs.Words.{refl, ◌∙◌, ap, arith, length, product}
+use Rattle.basics.proofs.Words.{refl, ◌∙◌, ap, arith}
 use Rattle.cells.specs.Fours.{next_four}
-use Rattle.cells.specs.Laws.Fours.{without_less}
-use Rattle.insertions.specs.Tables.{kept_lane}
-use Rattle.insertions.proofs.Lanes.{placed_size}
-use Rattle.insertions.proofs.Fours.{fours_small, fours_same}
+use Rattle.insertions.proofs.Fours.{fours_same}
 use Rattle.insertions.proofs.Blocks.{asks_four, high_pre, low_pre}
 use Rattle.insertions.proofs.Loops.{list_start, room_to_list, four_listed, all_fours}
 use Rattle.insertions.proofs.Theorem.{listed_by}

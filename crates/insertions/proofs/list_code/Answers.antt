@@ -1,8 +1,8 @@
 use Rattle.std.specs.Prelude.{◌≡◌, ◌+◌}
-use Rattle.basics.proofs.Words.{sym, ◌∙◌, ap, ℕ, arith, length}
-use Rattle.insertions.specs.Lanes.{bumped, placed, bump, put}
+use Rattle.basics.proofs.Words.{sym, ◌∙◌, ap, arith}
+use Rattle.insertions.specs.Lanes.{bump, put}
 use Rattle.insertions.specs.Tables.{code_lane}
-use Rattle.insertions.proofs.Lanes.{bumped_none, bumped_next, placed_none, placed_next, placed_size, entry_next}
+use Rattle.insertions.proofs.Lanes.{bumped_none, bumped_next, placed_none, placed_next, entry_next}
 use Rattle.insertions.proofs.list_code.Goals as goal
 
 pub loop-j-init : goal.loop-j-init

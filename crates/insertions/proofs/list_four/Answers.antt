@@ -1,8 +1,8 @@
-use Rattle.std.specs.Prelude.{◌≡◌, ◌*◌}
-use Rattle.basics.proofs.Words.{refl, ◌∙◌, ap, ℕ, arith, length}
+use Rattle.std.specs.Prelude.{◌*◌}
+use Rattle.basics.proofs.Words.{refl, ◌∙◌, ap, arith}
 use Rattle.insertions.specs.Lanes.{bumped, placed}
 use Rattle.insertions.specs.Tables.{four_lane, lanes_from}
-use Rattle.insertions.proofs.Lanes.{bumped_start, placed_start, bumped_on, placed_on, placed_size, entry_next}
+use Rattle.insertions.proofs.Lanes.{bumped_start, placed_start, bumped_on, placed_on, entry_next}
 use Rattle.insertions.proofs.Rows.{row_last, row_next}
 use Rattle.insertions.proofs.list_four.Goals as goal
 

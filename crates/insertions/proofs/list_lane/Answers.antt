@@ -1,5 +1,5 @@
 use Rattle.std.specs.Prelude.{◌+◌, ◌<◌}
-use Rattle.basics.proofs.Words.{sym, ◌∙◌, ap, ℕ, arith, length, get_or, set, length-set}
+use Rattle.basics.proofs.Words.{sym, ◌∙◌, ap, ℕ, arith, length, get_or, set}
 use Rattle.insertions.specs.Lanes.{lane_of, entry_of}
 use Rattle.insertions.proofs.Lanes.{bump_moves, bump_stays, put_moves, put_stays, lane_room}
 use Rattle.insertions.proofs.list_lane.Goals as goal

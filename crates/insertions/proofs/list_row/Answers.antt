@@ -1,9 +1,9 @@
-use Rattle.std.specs.Prelude.{◌≡◌, ◌+◌, ◌*◌}
-use Rattle.basics.proofs.Words.{◌∙◌, ap, ℕ, arith, length}
+use Rattle.std.specs.Prelude.{◌+◌, ◌*◌}
+use Rattle.basics.proofs.Words.{◌∙◌, ap, arith}
 use Rattle.insertions.specs.Lanes.{bumped, placed}
 use Rattle.insertions.specs.Tables.{code_lane, lanes_from}
-use Rattle.insertions.proofs.Lanes.{bumped_start, placed_start, bumped_on, placed_on, placed_size, equal_alike, entry_next}
-use Rattle.insertions.proofs.Rows.{code_lanes, front_few, back_few, row_last, lanes_pre, code_next}
+use Rattle.insertions.proofs.Lanes.{bumped_start, placed_start, bumped_on, placed_on, equal_alike, entry_next}
+use Rattle.insertions.proofs.Rows.{code_lanes, lanes_pre, code_next}
 use Rattle.insertions.proofs.list_row.Goals as goal
 
 pub loop-b-init : goal.loop-b-init

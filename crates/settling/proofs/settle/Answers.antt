@@ -14,9 +14,6 @@ pub loop-last-preserved : goal.loop-last-preserved
 loop-last-preserved c =
     settling_step c.loop-last.invariant c.take_one.ensures _ (λ w a n. omega arith)
 
-pub first_open-next-requires : goal.first_open-next-requires
-first_open-next-requires c = c.loop-last.invariant.sizes.bits
-
 pub is_open-requires : goal.is_open-requires
 is_open-requires c =
     (omega (arith, c.requires.few), (c.loop-next.invariant _ _ c.loop-last.invariant).sizes.bits)
