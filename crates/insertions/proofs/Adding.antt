@@ -73,30 +73,6 @@ add_end A h = record { size = A.size; sum = λ k l. A.sum k (omega arith) }
 
 -- ---- the last sum, behind
 
-pub record FillTo (xs ys : List ℕ) (n i : ℕ) : Type 0 where
-  pub first : n ≤ i
-  pub size : length ys ≡ 514
-  pub before : (k : ℕ) → k < n → get_or ys k 0 ≡ get_or xs k 0
-  pub done : (k : ℕ) → n ≤ k → k < i → get_or ys k 0 ≡ get_or xs (n - 1) 0
-
-pub fill_start : {xs : List ℕ} {n : ℕ} → length xs ≡ 514 → FillTo xs xs n n
-fill_start e = record { first = omega arith; size = e; before = λ k h. refl; done = λ k h l. absurd (omega arith) }
-
-pub fill_next : {xs ys : List ℕ} {n i : ℕ} → FillTo xs ys n i → i < 514 → FillTo xs (set ys i (get_or xs (n - 1) 0)) n (i + 1)
-fill_next {xs} {ys} {n} {i} F h = record {
-  first = omega (arith, F.first);
-  size = length-set ys i (get_or xs (n - 1) 0) ∙ F.size;
-  before = λ k l. get_or-set_other ys i k (get_or xs (n - 1) 0) 0 (λ e. omega (arith, F.first)) ∙ F.before k l;
-  done = λ k l m. go k l m (ℕ_discrete k i);
-}
-  where
-    go : (k : ℕ) → n ≤ k → k < i + 1 → Dec (k ≡ i) → get_or (set ys i (get_or xs (n - 1) 0)) k 0 ≡ get_or xs (n - 1) 0
-    go k l m (yes e) = rw (e, get_or-set_same ys i (get_or xs (n - 1) 0) 0 (omega (arith, F.size)))
-    go k l m (no c) = get_or-set_other ys i k (get_or xs (n - 1) 0) 0 c ∙ F.done k l (omega arith)
-
-pub fill_end : {xs ys : List ℕ} {n i : ℕ} → FillTo xs ys n i → 514 ≤ i → FilledOn xs ys n
-fill_end F h = record { size = F.size; before = F.before; behind = λ k l m. F.done k l (omega arith) }
-
 -- where there is nothing from n on, that is the sum of all
 pub all_added : {xs ys zs : List ℕ} {n : ℕ} → 1 ≤ n → ((i : ℕ) → n ≤ i → get_or xs i 0 ≡ 0) → AddedUp xs ys n → FilledOn ys zs n → (i : ℕ) → i < 514 → get_or zs i 0 ≡ sum_to xs (i + 1)
 all_added {xs} {ys} {zs} {n} some z A F i h = go (dec_lt i n)

@@ -2,7 +2,7 @@
 #![tactic(auto)]
 
 ghost use Rattle.std.specs.Prelude.{◌≡◌, ◌+◌, ◌*◌, ◌^◌, ◌<◌, ◌≤◌};
-ghost use Rattle.basics.specs.Words.{[], length, get_or, replicate};
+ghost use Rattle.basics.specs.Words.{[], length, get_or};
 ghost use Rattle.insertions.specs.Lanes.{lane_of, is_move, list_of, narrowed, entry_of, bump, put, bumped, placed};
 ghost use Rattle.insertions.specs.Tables.{code_lane, four_lane, lanes_from, CountRoom, EntryRoom, LanesPre, TablePre};
 ghost use Rattle.insertions.specs.Listing.{AddPre, AddedUp, FilledOn, ListPre, Counted, ListedBy};
@@ -34,11 +34,7 @@ fn moves(code: usize, step: u64) -> bool
 fn list_of(step: u64) -> usize
     ensures { (result ≡ list_of step) × (result < 512) }
 {
-    let first = step / FIRST;
-    if first > 3 {
-        return (step % 128 * 4 + 3) as usize;
-    }
-    (step % 128 * 4 + first) as usize
+    (step % 128 * 4 + u64::min(step / FIRST, 3)) as usize
 }
 
 // An insertion as an entry of a list.
@@ -61,14 +57,13 @@ fn count_lane(ends: &mut [u16; 514], code: usize, step: u64)
 }
 
 // Counts the insertions from a code with four outputs. The steps are the sums of those at a place of either group.
+// This walk and the one of `list_code` are two: one that takes a closure would have a contract with the room that each step asks for and leaves, no plainer.
 fn count_code(ends: &mut [u16; 514], code: usize, high: &[u64], a: usize, b: usize)
     requires { CountRoom ends.old 4 × LanesPre high.now a b }
     ensures { ends.new ≡ bumped 2 (code_lane high.now [] code a b) 4 ends.old }
 {
-    let mut j = 0;
-    while j < 4 {
+    for j in 0..4 {
         count_lane(ends, code, high[a + j] + high[b + j]);
-        j += 1;
     }
 }
 
@@ -78,10 +73,8 @@ fn count_row(ends: &mut [u16; 514], front: usize, back: usize, high: &[u64], a: 
     ensures { ends.new ≡ bumped 2 (lanes_from high.now [] front back (a * back)) (back * 4) ends.old }
 {
     let first = a * back;
-    let mut b = 0;
-    while b < back {
+    for b in 0..back {
         count_code(ends, first + b, high, a * 4, (front + b) * 4);
-        b += 1;
     }
 }
 
@@ -90,22 +83,8 @@ fn count_four(ends: &mut [u16; 514], front: usize, back: usize, high: &[u64])
     requires { CountRoom ends.old (front * back * 4) × TablePre high.now front back }
     ensures { ends.new ≡ bumped 2 (four_lane high.now [] front back) (front * back * 4) ends.old }
 {
-    let mut a = 0;
-    while a < front {
+    for a in 0..front {
         count_row(ends, front, back, high, a);
-        a += 1;
-    }
-}
-
-// Clears the lists.
-fn clear(ends: &mut [u16; 514])
-    requires { length ends.old ≡ 514 }
-    ensures { ends.new ≡ replicate (length ends.old) 0 }
-{
-    let mut i = 0;
-    while i < 514 {
-        ends[i] = 0;
-        i += 1;
     }
 }
 
@@ -114,10 +93,8 @@ fn add_up(ends: &mut [u16; 514], last: usize)
     requires { AddPre ends.old last }
     ensures { AddedUp ends.old ends.new last }
 {
-    let mut i = 1;
-    while i < last {
+    for i in 1..last {
         ends[i] += ends[i - 1];
-        i += 1;
     }
 }
 
@@ -127,11 +104,7 @@ fn fill_on(ends: &mut [u16; 514], first: usize)
     ensures { FilledOn ends.old ends.new first }
 {
     let end = ends[first - 1];
-    let mut i = first;
-    while i < 514 {
-        ends[i] = end;
-        i += 1;
-    }
+    ends[first..].fill(end);
 }
 
 // Counts the insertions of the kept outputs by their lists: where each list starts, one place behind it. How many there are. `high` and `low` are lent,
@@ -150,7 +123,7 @@ pub fn count(
     requires { (length ends.old ≡ 514) × ListPre steps.now counts.now weights.now width kept g × ((g.front + g.back) * 4 ≤ length high.old) × ((g.front + g.back) * 4 ≤ length low.old) }
     ensures { Counted steps.now counts.now weights.now width kept ends.new × (result ≡ get_or ends.new 513 0) }
 {
-    clear(ends);
+    ends.fill(0);
     let front = g.front;
     let back = g.back;
     let mut left = kept;
@@ -163,7 +136,7 @@ pub fn count(
     let lists = g.size * 4 + 2;
     add_up(ends, lists);
     fill_on(ends, lists);
-    ends[513] as usize
+    usize::from(ends[513])
 }
 
 // Writes a step, if it is an insertion to be listed, behind those of its list.
@@ -174,7 +147,7 @@ fn list_lane(entries: &mut [u32], ends: &mut [u16; 514], code: usize, step: u64,
     if moves(code, step) {
         let at = list_of(step) + 1;
         let place = ends[at];
-        entries[place as usize] = entry_of(code, step, rest);
+        entries[usize::from(place)] = entry_of(code, step, rest);
         ends[at] = place + 1;
     }
 }
@@ -192,8 +165,7 @@ fn list_code(
     requires { EntryRoom (code_lane high.now low.now code a b) 4 entries.old ends.old × LanesPre high.now a b × LanesPre low.now a b }
     ensures { (entries.new ≡ placed (code_lane high.now low.now code a b) 4 entries.old ends.old) × (ends.new ≡ bumped 1 (code_lane high.now low.now code a b) 4 ends.old) }
 {
-    let mut j = 0;
-    while j < 4 {
+    for j in 0..4 {
         list_lane(
             entries,
             ends,
@@ -201,7 +173,6 @@ fn list_code(
             high[a + j] + high[b + j],
             low[a + j] + low[b + j],
         );
-        j += 1;
     }
 }
 
@@ -219,10 +190,8 @@ fn list_row(
     ensures { (entries.new ≡ placed (lanes_from high.now low.now front back (a * back)) (back * 4) entries.old ends.old) × (ends.new ≡ bumped 1 (lanes_from high.now low.now front back (a * back)) (back * 4) ends.old) }
 {
     let first = a * back;
-    let mut b = 0;
-    while b < back {
+    for b in 0..back {
         list_code(entries, ends, first + b, high, low, a * 4, (front + b) * 4);
-        b += 1;
     }
 }
 
@@ -238,10 +207,8 @@ fn list_four(
     requires { EntryRoom (four_lane high.now low.now front back) (front * back * 4) entries.old ends.old × TablePre high.now front back × TablePre low.now front back }
     ensures { (entries.new ≡ placed (four_lane high.now low.now front back) (front * back * 4) entries.old ends.old) × (ends.new ≡ bumped 1 (four_lane high.now low.now front back) (front * back * 4) ends.old) }
 {
-    let mut a = 0;
-    while a < front {
+    for a in 0..front {
         list_row(entries, ends, front, back, high, low, a);
-        a += 1;
     }
 }
 

@@ -1,5 +1,5 @@
 use Rattle.basics.proofs.Words.{arith}
-use Rattle.insertions.proofs.Adding.{add_start, add_fits, add_next, add_end}
+use Rattle.insertions.proofs.Adding.{add_start, add_fits, add_next}
 use Rattle.insertions.proofs.add_up.Goals as goal
 
 pub loop-i-init : goal.loop-i-init
@@ -12,6 +12,3 @@ overflow_add-ends c =
 pub loop-i-preserved : goal.loop-i-preserved
 loop-i-preserved c =
     add_next c.requires c.loop-i.invariant c.loop-i-test.true
-
-pub returns : goal.returns
-returns c = add_end c.loop-i.invariant c.loop-i-test.false

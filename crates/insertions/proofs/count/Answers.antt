@@ -1,18 +1,12 @@
-use Rattle.basics.proofs.Words.{refl, ◌∙◌, ap, arith}
+use Rattle.basics.proofs.Words.{refl, rules, ◌∙◌, ap, arith}
 use Rattle.cells.specs.Fours.{next_four}
-use Rattle.cells.specs.Laws.Fours.{without_less}
-use Rattle.insertions.proofs.Fours.{fours_small}
-use Rattle.insertions.proofs.Blocks.{asks_four, high_pre, codes_few}
+use Rattle.insertions.proofs.Blocks.{asks_four, high_pre}
 use Rattle.insertions.proofs.Loops.{zeros_of, count_start, room_for_four, four_counted, add_pre, counted}
 use Rattle.insertions.proofs.count.Goals as goal
 
-pub clear-requires : goal.clear-requires
-clear-requires c =
-    c.requires.0
-
 pub loop-left-init : goal.loop-left-init
 loop-left-init c =
-    (count_start (zeros_of c.args.ends.now c.requires.0 c.clear.ensures), refl, refl)
+    (count_start (zeros_of c.args.ends.now c.requires.0 (search rules)), refl, refl)
 
 pub add_four-requires : goal.add_four-requires
 add_four-requires c =
@@ -22,10 +16,6 @@ pub count_four-requires : goal.count_four-requires
 count_four-requires c =
     (room_for_four c.requires.1 (omega arith) c.loop-left.invariant.0, high_pre c.requires.1 c.loop-left.invariant.0.fours (c.next_four-four.ensures ∙ ap next_four c.loop-left.invariant.0.fours_to.left_is) c.add_four.ensures (omega (arith, c.requires.2, c.add_four.auto.high, c.loop-left.invariant.1)))
 
-pub loop-left-smaller : goal.loop-left-smaller
-loop-left-smaller c =
-    omega (arith, c.without_four-left.ensures, without_less c.loop-left.left (omega (arith, c.loop-left.invariant.0.fours_to.left_is, fours_small {kept = c.args.kept} (omega arith) c.loop-left.invariant.0.fours)) (omega (arith, c.loop-left-test.true)))
-
 pub loop-left-preserved : goal.loop-left-preserved
 loop-left-preserved c =
     let j = c.add_four in (
@@ -34,36 +24,10 @@ loop-left-preserved c =
       j.auto.low ∙ c.loop-left.invariant.2,
     )
 
--- there are at most 128 codes
-pub overflow_mul-lists : goal.overflow_mul-lists
-overflow_mul-lists c =
-    let R = c.requires.1 in omega (arith, R.groups.size_is, codes_few R)
-
-pub overflow_add-lists : goal.overflow_add-lists
-overflow_add-lists c =
-    let R = c.requires.1 in omega (arith, R.groups.size_is, codes_few R)
-
 pub add_up-requires : goal.add_up-requires
 add_up-requires c =
     add_pre c.requires.1 (omega arith) c.loop-left.invariant.0
 
-pub fill_on-requires : goal.fill_on-requires
-fill_on-requires c =
-    let R = c.requires.1 in (c.add_up.ensures.size, omega arith, omega (arith, R.groups.size_is, codes_few R))
-
-pub overflow_cast-result : goal.overflow_cast-result
-overflow_cast-result c =
-    let C = counted c.requires.1 (omega arith) c.loop-left.invariant.0 (omega (arith, c.loop-left-test.false)) c.add_up.ensures c.fill_on.ensures in
-    omega (arith, C.few, codes_few c.requires.1)
-
-pub shape_of-high : goal.shape_of-high
-shape_of-high c =
-    c.loop-left.invariant.1
-
-pub shape_of-low : goal.shape_of-low
-shape_of-low c =
-    c.loop-left.invariant.2
-
 pub returns : goal.returns
 returns c =
-    (counted c.requires.1 (omega arith) c.loop-left.invariant.0 (omega (arith, c.loop-left-test.false)) c.add_up.ensures c.fill_on.ensures, refl)
+    (counted c.requires.1 (omega arith) c.loop-left.invariant.0 (omega (arith, c.loop-left-test.false)) c.add_up.ensures c.fill_on.ensures, search rules)

@@ -1,4 +1,4 @@
-use Rattle.std.specs.Prelude.{◌≡◌, ◌*◌}
+use Rattle.std.specs.Prelude.{◌*◌}
 use Rattle.basics.proofs.Words.{refl, ◌∙◌, ap, [], ℕ, arith}
 use Rattle.insertions.specs.Lanes.{bumped}
 use Rattle.insertions.specs.Tables.{four_lane, lanes_from}
@@ -8,21 +8,16 @@ use Rattle.insertions.proofs.count_four.Goals as goal
 
 pub loop-a-init : goal.loop-a-init
 loop-a-init c =
-    (omega arith, bumped_start 2 (four_lane c.args.high.now [] c.args.front c.args.back) c.args.ends.now _ (omega arith))
+    bumped_start 2 (four_lane c.args.high.now [] c.args.front c.args.back) c.args.ends.now _ (omega arith)
 
 pub count_row-requires : goal.count_row-requires
 count_row-requires c =
     let t = c.loop-a-test.true in
-    (count_next 2 (four_lane c.args.high.now [] c.args.front c.args.back) (c.loop-a.a * c.args.back * 4) (c.args.back * 4) (c.args.front * c.args.back * 4) (omega arith) (omega (arith, row_last c.requires.1 c.loop-a.a t)) c.loop-a.invariant.1 c.requires.0, c.requires.1, t)
+    (count_next 2 (four_lane c.args.high.now [] c.args.front c.args.back) (c.loop-a.a * c.args.back * 4) (c.args.back * 4) (c.args.front * c.args.back * 4) (omega arith) (omega (arith, row_last c.requires.1 c.loop-a.a t)) c.loop-a.invariant c.requires.0, c.requires.1, t)
 
 pub loop-a-preserved : goal.loop-a-preserved
 loop-a-preserved c =
     let ns = c.args.ends.now in
     let f = four_lane c.args.high.now [] c.args.front c.args.back in
     let g = lanes_from c.args.high.now [] c.args.front c.args.back (c.loop-a.a * c.args.back) in
-    (omega (arith, c.loop-a-test.true), c.count_row.ensures ∙ ap (bumped 2 g (c.args.back * 4)) c.loop-a.invariant.1 ∙ bumped_on 2 f g ns (c.loop-a.a * c.args.back * 4) (c.args.back * 4) (λ j h. (refl, refl)) ∙ ap (λ (n : ℕ). bumped 2 f n ns) (row_next c.loop-a.a c.args.back))
-
-pub returns : goal.returns
-returns c =
-    let e : c.loop-a.a ≡ c.args.front = omega (arith, c.loop-a.invariant.0, c.loop-a-test.false) in
-    c.loop-a.invariant.1 ∙ ap (λ (n : ℕ). bumped 2 (four_lane c.args.high.now [] c.args.front c.args.back) (n * c.args.back * 4) c.args.ends.now) e
+    c.count_row.ensures ∙ ap (bumped 2 g (c.args.back * 4)) c.loop-a.invariant ∙ bumped_on 2 f g ns (c.loop-a.a * c.args.back * 4) (c.args.back * 4) (λ j h. (refl, refl)) ∙ ap (λ (n : ℕ). bumped 2 f n ns) (row_next c.loop-a.a c.args.back)

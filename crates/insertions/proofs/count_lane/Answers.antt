@@ -1,12 +1,8 @@
 use Rattle.std.specs.Prelude.{◌+◌}
-use Rattle.basics.proofs.Words.{sym, ◌∙◌, ap, ℕ, arith, get_or, set}
+use Rattle.basics.proofs.Words.{sym, ◌∙◌, ap, ℕ, get_or, set}
 use Rattle.insertions.specs.Lanes.{lane_of}
 use Rattle.insertions.proofs.Lanes.{bump_moves, bump_stays}
 use Rattle.insertions.proofs.count_lane.Goals as goal
-
-pub overflow_add-ends : goal.overflow_add-ends
-overflow_add-ends c =
-    omega (arith, c.requires.fits (c.list_of-at.result + 2))
 
 pub returns-then-moves : goal.returns-then-moves
 returns-then-moves c =

@@ -1,37 +1,18 @@
-use Rattle.std.specs.Prelude.{◌≡◌, ◌+◌, ◌*◌}
+use Rattle.std.specs.Prelude.{◌+◌, ◌*◌}
 use Rattle.basics.proofs.Words.{◌∙◌, ap, [], ℕ, arith}
 use Rattle.insertions.specs.Lanes.{bumped}
 use Rattle.insertions.specs.Tables.{code_lane, lanes_from}
 use Rattle.insertions.proofs.Lanes.{bumped_start, bumped_on, equal_alike, count_next}
-use Rattle.insertions.proofs.Rows.{code_lanes, front_few, back_few, row_last, lanes_pre, code_next}
+use Rattle.insertions.proofs.Rows.{code_lanes, lanes_pre, code_next}
 use Rattle.insertions.proofs.count_row.Goals as goal
 
-pub overflow_mul-first : goal.overflow_mul-first
-overflow_mul-first c = omega (arith, row_last c.requires.1 c.args.a c.requires.2, c.requires.1.few)
-
 pub loop-b-init : goal.loop-b-init
-loop-b-init c = (omega arith, bumped_start 2 (lanes_from c.args.high.now [] c.args.front c.args.back (c.args.a * c.args.back)) c.args.ends.now _ (omega arith))
-
-pub overflow_add-first : goal.overflow_add-first
-overflow_add-first c =
-    omega (arith, row_last c.requires.1 c.args.a c.requires.2, c.requires.1.few, c.loop-b-test.true)
-
-pub overflow_mul-a : goal.overflow_mul-a
-overflow_mul-a c =
-    omega (arith, front_few c.requires.1, c.requires.2)
-
-pub overflow_add-front : goal.overflow_add-front
-overflow_add-front c =
-    omega (arith, front_few c.requires.1, back_few c.requires.1, c.loop-b-test.true)
-
-pub overflow_mul-front : goal.overflow_mul-front
-overflow_mul-front c =
-    omega (arith, front_few c.requires.1, back_few c.requires.1, c.loop-b-test.true)
+loop-b-init c = bumped_start 2 (lanes_from c.args.high.now [] c.args.front c.args.back (c.args.a * c.args.back)) c.args.ends.now _ (omega arith)
 
 pub count_code-requires : goal.count_code-requires
 count_code-requires c =
     let t = c.loop-b-test.true in
-    (count_next 2 (lanes_from c.args.high.now [] c.args.front c.args.back (c.args.a * c.args.back)) (c.loop-b.b * 4) 4 (c.args.back * 4) (omega arith) (omega (arith, t)) c.loop-b.invariant.1 c.requires.0, lanes_pre c.requires.1 c.args.a c.loop-b.b c.requires.2 t)
+    (count_next 2 (lanes_from c.args.high.now [] c.args.front c.args.back (c.args.a * c.args.back)) (c.loop-b.b * 4) 4 (c.args.back * 4) (omega arith) (omega (arith, t)) c.loop-b.invariant c.requires.0, lanes_pre c.requires.1 c.args.a c.loop-b.b c.requires.2 t)
 
 pub loop-b-preserved : goal.loop-b-preserved
 loop-b-preserved c =
@@ -40,9 +21,4 @@ loop-b-preserved c =
     let ns = c.args.ends.now in
     let f = lanes_from high [] c.args.front c.args.back (c.args.a * c.args.back) in
     let g = code_lane high [] (c.args.a * c.args.back + c.loop-b.b) (c.args.a * 4) ((c.args.front + c.loop-b.b) * 4) in
-    (omega (arith, t), c.count_code.ensures ∙ ap (bumped 2 g 4) c.loop-b.invariant.1 ∙ bumped_on 2 f g ns (c.loop-b.b * 4) 4 (equal_alike f g (c.loop-b.b * 4) 4 (code_lanes high [] c.args.front c.args.back c.args.a c.loop-b.b t)) ∙ ap (λ (n : ℕ). bumped 2 f n ns) (code_next c.loop-b.b))
-
-pub returns : goal.returns
-returns c =
-    let e : c.loop-b.b ≡ c.args.back = omega (arith, c.loop-b.invariant.0, c.loop-b-test.false) in
-    c.loop-b.invariant.1 ∙ ap (λ (n : ℕ). bumped 2 (lanes_from c.args.high.now [] c.args.front c.args.back (c.args.a * c.args.back)) (n * 4) c.args.ends.now) e
+    c.count_code.ensures ∙ ap (bumped 2 g 4) c.loop-b.invariant ∙ bumped_on 2 f g ns (c.loop-b.b * 4) 4 (equal_alike f g (c.loop-b.b * 4) 4 (code_lanes high [] c.args.front c.args.back c.args.a c.loop-b.b t)) ∙ ap (λ (n : ℕ). bumped 2 f n ns) (code_next c.loop-b.b)

@@ -1,10 +1,6 @@
-use Rattle.std.specs.Prelude.{◌*◌}
-use Rattle.basics.proofs.Words.{refl, ◌∙◌, ap, arith, length, product}
+use Rattle.basics.proofs.Words.{refl, ◌∙◌, ap, arith}
 use Rattle.cells.specs.Fours.{next_four}
-use Rattle.cells.specs.Laws.Fours.{without_less}
-use Rattle.insertions.specs.Tables.{kept_lane}
-use Rattle.insertions.proofs.Lanes.{placed_size}
-use Rattle.insertions.proofs.Fours.{fours_small, fours_same}
+use Rattle.insertions.proofs.Fours.{fours_same}
 use Rattle.insertions.proofs.Blocks.{asks_four, high_pre, low_pre}
 use Rattle.insertions.proofs.Loops.{list_start, room_to_list, four_listed, all_fours}
 use Rattle.insertions.proofs.Theorem.{listed_by}
@@ -27,10 +23,6 @@ list_four-requires c =
       low_pre c.requires.0 q d c.add_four.ensures (omega (arith, c.requires.4, c.add_four.auto.low, c.loop-left.invariant.2)),
     )
 
-pub loop-left-smaller : goal.loop-left-smaller
-loop-left-smaller c =
-    omega (arith, c.without_four-left.ensures, without_less c.loop-left.left (omega (arith, c.loop-left.invariant.0.fours_to.left_is, fours_small {kept = c.args.kept} (omega arith) c.loop-left.invariant.0.fours)) (omega (arith, c.loop-left-test.true)))
-
 pub loop-left-preserved : goal.loop-left-preserved
 loop-left-preserved c =
     let j = c.add_four in
@@ -39,16 +31,6 @@ loop-left-preserved c =
       j.auto.high ∙ c.loop-left.invariant.1,
       j.auto.low ∙ c.loop-left.invariant.2,
     )
-
-pub shape_of-entries : goal.shape_of-entries
-shape_of-entries c =
-    ap length c.loop-left.invariant.0.entries_are ∙ placed_size (kept_lane c.args.steps.now c.args.weights.now c.args.counts.now c.args.width c.args.kept) c.args.entries.now c.args.ends.now (c.loop-left.invariant.0.fours * product c.args.counts.now * 4)
-
-pub shape_of-high : goal.shape_of-high
-shape_of-high c = c.loop-left.invariant.1
-
-pub shape_of-low : goal.shape_of-low
-shape_of-low c = c.loop-left.invariant.2
 
 pub returns : goal.returns
 returns c =

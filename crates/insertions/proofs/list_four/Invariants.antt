@@ -1,11 +1,8 @@
-use Rattle.std.specs.Prelude.{◌≡◌, ◌-◌, ◌*◌, ◌≤◌}
+use Rattle.std.specs.Prelude.{◌≡◌, ◌*◌}
 use Rattle.insertions.specs.Lanes.{bumped, placed}
 use Rattle.insertions.specs.Tables.{four_lane}
 use Rattle.insertions.proofs.list_four.Given as goal
 
 abbrev pub invariant-loop-a : goal.invariant-loop-a
 invariant-loop-a l =
-    (l.a ≤ l.front) × (l.entries ≡ placed (four_lane l.high l.low l.front l.back) (l.a * l.back * 4) l.initial.entries l.initial.ends) × (l.ends ≡ bumped 1 (four_lane l.high l.low l.front l.back) (l.a * l.back * 4) l.initial.ends)
-
-abbrev pub decreases-loop-a : goal.decreases-loop-a
-decreases-loop-a l = l.front - l.a
+    (l.entries ≡ placed (four_lane l.high l.low l.front l.back) (l.a * l.back * 4) l.initial.entries l.initial.ends) × (l.ends ≡ bumped 1 (four_lane l.high l.low l.front l.back) (l.a * l.back * 4) l.initial.ends)

@@ -1,35 +1,15 @@
-use Rattle.std.specs.Prelude.{◌≡◌, ◌+◌, ◌*◌}
-use Rattle.basics.proofs.Words.{◌∙◌, ap, ℕ, arith, length}
+use Rattle.std.specs.Prelude.{◌+◌, ◌*◌}
+use Rattle.basics.proofs.Words.{◌∙◌, ap, arith}
 use Rattle.insertions.specs.Lanes.{bumped, placed}
 use Rattle.insertions.specs.Tables.{code_lane, lanes_from}
-use Rattle.insertions.proofs.Lanes.{bumped_start, placed_start, bumped_on, placed_on, placed_size, equal_alike, entry_next}
-use Rattle.insertions.proofs.Rows.{code_lanes, front_few, back_few, row_last, lanes_pre, code_next}
+use Rattle.insertions.proofs.Lanes.{bumped_start, placed_start, bumped_on, placed_on, equal_alike, entry_next}
+use Rattle.insertions.proofs.Rows.{code_lanes, lanes_pre, code_next}
 use Rattle.insertions.proofs.list_row.Goals as goal
-
-pub overflow_mul-first : goal.overflow_mul-first
-overflow_mul-first c =
-    omega (arith, row_last c.requires.1 c.args.a c.requires.3, c.requires.1.few)
 
 pub loop-b-init : goal.loop-b-init
 loop-b-init c =
     let f = lanes_from c.args.high.now c.args.low.now c.args.front c.args.back (c.args.a * c.args.back) in
-    (omega arith, placed_start f c.args.entries.now c.args.ends.now _ (omega arith), bumped_start 1 f c.args.ends.now _ (omega arith))
-
-pub overflow_add-first : goal.overflow_add-first
-overflow_add-first c =
-    omega (arith, row_last c.requires.1 c.args.a c.requires.3, c.requires.1.few, c.loop-b-test.true)
-
-pub overflow_mul-a : goal.overflow_mul-a
-overflow_mul-a c =
-    omega (arith, front_few c.requires.1, c.requires.3)
-
-pub overflow_add-front : goal.overflow_add-front
-overflow_add-front c =
-    omega (arith, front_few c.requires.1, back_few c.requires.1, c.loop-b-test.true)
-
-pub overflow_mul-front : goal.overflow_mul-front
-overflow_mul-front c =
-    omega (arith, front_few c.requires.1, back_few c.requires.1, c.loop-b-test.true)
+    (placed_start f c.args.entries.now c.args.ends.now _ (omega arith), bumped_start 1 f c.args.ends.now _ (omega arith))
 
 pub list_code-requires : goal.list_code-requires
 list_code-requires c =
@@ -38,7 +18,7 @@ list_code-requires c =
     let low = c.args.low.now in
     let f = lanes_from high low c.args.front c.args.back (c.args.a * c.args.back) in
     let g = code_lane high low (c.args.a * c.args.back + c.loop-b.b) (c.args.a * 4) ((c.args.front + c.loop-b.b) * 4) in
-    (entry_next f g (c.loop-b.b * 4) 4 (c.args.back * 4) (omega (arith, t)) c.loop-b.invariant.1 c.loop-b.invariant.2 (code_lanes high low c.args.front c.args.back c.args.a c.loop-b.b t) c.requires.0, lanes_pre c.requires.1 c.args.a c.loop-b.b c.requires.3 t, lanes_pre c.requires.2 c.args.a c.loop-b.b c.requires.3 t)
+    (entry_next f g (c.loop-b.b * 4) 4 (c.args.back * 4) (omega (arith, t)) c.loop-b.invariant.0 c.loop-b.invariant.1 (code_lanes high low c.args.front c.args.back c.args.a c.loop-b.b t) c.requires.0, lanes_pre c.requires.1 c.args.a c.loop-b.b c.requires.3 t, lanes_pre c.requires.2 c.args.a c.loop-b.b c.requires.3 t)
 
 pub loop-b-preserved : goal.loop-b-preserved
 loop-b-preserved c =
@@ -51,17 +31,7 @@ loop-b-preserved c =
     let g = code_lane high low (c.args.a * c.args.back + c.loop-b.b) (c.args.a * 4) ((c.args.front + c.loop-b.b) * 4) in
     let A = code_lanes high low c.args.front c.args.back c.args.a c.loop-b.b t in
     let d = c.list_code.ensures in
-    let p = c.loop-b.invariant.1 in
-    let q = c.loop-b.invariant.2 in
+    let p = c.loop-b.invariant.0 in
+    let q = c.loop-b.invariant.1 in
     let n = code_next c.loop-b.b in
-    (omega (arith, t), d.0 ∙ (λ i. placed g 4 (p i) (q i)) ∙ placed_on f g es ns (c.loop-b.b * 4) 4 A ∙ (λ i. placed f (n i) es ns), d.1 ∙ ap (bumped 1 g 4) q ∙ bumped_on 1 f g ns (c.loop-b.b * 4) 4 (equal_alike f g (c.loop-b.b * 4) 4 A) ∙ (λ i. bumped 1 f (n i) ns))
-
-pub shape_of-entries : goal.shape_of-entries
-shape_of-entries c =
-    ap length c.loop-b.invariant.1 ∙ placed_size (lanes_from c.args.high.now c.args.low.now c.args.front c.args.back (c.args.a * c.args.back)) c.args.entries.now c.args.ends.now (c.loop-b.b * 4)
-
-pub returns : goal.returns
-returns c =
-    let f = lanes_from c.args.high.now c.args.low.now c.args.front c.args.back (c.args.a * c.args.back) in
-    let e : c.loop-b.b ≡ c.args.back = omega (arith, c.loop-b.invariant.0, c.loop-b-test.false) in
-    (c.loop-b.invariant.1 ∙ ap (λ (n : ℕ). placed f (n * 4) c.args.entries.now c.args.ends.now) e, c.loop-b.invariant.2 ∙ ap (λ (n : ℕ). bumped 1 f (n * 4) c.args.ends.now) e)
+    (d.0 ∙ (λ i. placed g 4 (p i) (q i)) ∙ placed_on f g es ns (c.loop-b.b * 4) 4 A ∙ (λ i. placed f (n i) es ns), d.1 ∙ ap (bumped 1 g 4) q ∙ bumped_on 1 f g ns (c.loop-b.b * 4) 4 (equal_alike f g (c.loop-b.b * 4) 4 A) ∙ (λ i. bumped 1 f (n i) ns))

@@ -1,4 +1,4 @@
-use Rattle.basics.proofs.Words.{refl, arith}
+use Rattle.basics.proofs.Words.{refl}
 use Rattle.settling.proofs.OpenCodes.{one_in, one_same}
 use Rattle.settling.proofs.OpenCodes.{part_less}
 use Rattle.settling.proofs.choose_in.Goals as goal
@@ -10,8 +10,3 @@ loop-left-init c = (one_in _ _ _ _ c.least.ensures.1 c.least.ensures.2 refl, par
 pub loop-left-preserved : goal.loop-left-preserved
 loop-left-preserved c =
     ((elim c.if-is_before.branch [ then-is_before w ↦ one_in _ _ _ _ c.least-in-loop-left.ensures.1 (c.loop-left.invariant.1 _ c.least-in-loop-left.ensures.2) w.best-is | else-is_before w ↦ one_same _ _ _ _ c.loop-left.invariant.0 w.best-is ]), part_less _ _ _ _ c.loop-left.invariant.1 c.without_least-left-in-loop-left.ensures.1)
-
-pub is_before-requires : goal.is_before-requires
-is_before-requires c =
-    let o = c.loop-left.invariant.0 in
-    (omega (arith, c.least-in-loop-left.ensures.1, c.requires.1), omega (arith, o.is, o.small, c.requires.1))

@@ -6,8 +6,8 @@ use Rattle.settling.proofs.low_price.Goals as goal
 
 pub returns-then-ranked : goal.returns-then-ranked
 returns-then-ranked c = (
-  ap (λ (n : ℕ). n * 65536) c.widen.ensures ∙ ranked_low c.args.marks _ c.wide.ensures.0 ∙ ap (λ (b : Bool). marks_price (lows_by b) c.args.marks) (sym c.if-ranked.true),
-  omega (arith, widened_few c.wide.result c.widen.result (omega (arith, c.wide.ensures.0, c.requires)) c.widen.ensures),
+  ap (λ (n : ℕ). n * 65536) c.widen.ensures ∙ ranked_low c.args.marks _ c.from.ensures ∙ ap (λ (b : Bool). marks_price (lows_by b) c.args.marks) (sym c.if-ranked.true),
+  omega (arith, widened_few c.from.result c.widen.result (omega (arith, c.from.ensures, c.requires)) c.widen.ensures),
 )
 
 pub returns : goal.returns

@@ -1,4 +1,4 @@
-use Rattle.std.specs.Prelude.{◌*◌, ◌-◌, ◌≤◌}
+use Rattle.std.specs.Prelude.{◌*◌, ◌≤◌}
 use Rattle.basics.proofs.Words.{get_or}
 use Rattle.settling.specs.Insertions.{lists_of}
 use Rattle.settling.proofs.Spreading.{Spreading}
@@ -7,6 +7,3 @@ use Rattle.settling.proofs.spread.Given as goal
 abbrev pub invariant-loop-at : goal.invariant-loop-at
 invariant-loop-at l =
     (get_or l.ends (4 * l.to) 0 ≤ l.at) × Spreading (lists_of l.entries l.ends l.highs l.ranked) l.initial.own l.own l.initial.opened l.opened l.to l.at (l.high, l.low)
-
-abbrev pub decreases-loop-at : goal.decreases-loop-at
-decreases-loop-at l = l.end - l.at
