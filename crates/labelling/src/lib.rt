@@ -15,12 +15,16 @@ use machine::Pair;
 // The numbers in the tables where a position has at most 16 codes: 65 for each of at most 21 states, 63 insertions a code, 4 for each of at most 17 codes
 // of both groups.
 const FEW_STEPS: usize = 65 * 21;
+
 const FEW_ENTRIES: usize = 63 * 16;
+
 const FEW_JOINT: usize = 4 * 17;
 
 // And for any number of codes: at most 40 states, 128 codes, and 66 of both groups.
 const ALL_STEPS: usize = 65 * 40;
+
 const ALL_ENTRIES: usize = 63 * 128;
+
 const ALL_JOINT: usize = 4 * 66;
 
 // Settles a position that was entered, by insertions in lists, and closes it.

@@ -24,6 +24,7 @@ pub struct Written {
 
 // The numbers in the columns of the insertions: 65 a state, of which there are 21 at most where a position has at most 16 codes, and 40 at most in all.
 const FEW_STEPS: usize = 65 * 21;
+
 const ALL_STEPS: usize = 65 * 40;
 
 // The inputs of the pairs at a position: the empty symbol, and the symbols of the set there.
