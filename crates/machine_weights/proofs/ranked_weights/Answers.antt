@@ -2,7 +2,7 @@ use Rattle.std.specs.Prelude.{◌≡◌, ◌*◌, ◌-◌, ◌≤◌}
 use Rattle.basics.proofs.Words.{refl, ◌∙◌, ap, List, ℕ, arith, length}
 use Rattle.settling.specs.Prices.{ranked_highs, ranked_lows}
 use Rattle.insertions.specs.RankedWeights.{weight_by}
-use Rattle.machine_weights.proofs.Weighing.{highs_six, lows_six, weights_start, machine_few, machine_at_lem, scale_few, weights_next, weights_are, weights_ranked}
+use Rattle.machine_weights.proofs.Weighing.{highs_six, lows_six, weights_start, machine_few, scale_few, weights_next, weights_are, weights_ranked}
 use Rattle.machine_weights.proofs.ranked_weights.Goals as goal
 
 pub loop-m-init : goal.loop-m-init

@@ -1,4 +1,3 @@
-use Rattle.std.specs.Prelude.{◌≡◌, ◌≢◌}
 use Rattle.basics.proofs.Words.{sym, ◌∙◌, length, eqb-true, eq-eqb, clash}
 use Rattle.tight.specs.Laws.Labels.{cell_by_counts, cell_by_sums}
 use Rattle.tight.proofs.label_at.Goals as goal

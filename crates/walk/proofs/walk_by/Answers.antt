@@ -1,15 +1,10 @@
-use Rattle.std.specs.Prelude.{◌≡◌, ◌&&◌, ◌≢◌, ◌+◌, ◌*◌, ◌%◌, ◌<◌, ◌≤◌}
-use Rattle.basics.specs.Words.{refl, sym, ◌∙◌, ap, subst, true, not, List, ⊎_elim, ℕ, arith, length, length-set, eqb, member}
-use Rattle.machine.specs.Symbols.{empty_symbol}
-use Rattle.paths.specs.Costs.{Labels}
-use Rattle.paths.specs.Ranked.{ranked_costs}
-use Rattle.paths.specs.Walk.{Tight}
-use Rattle.product.specs.Laws.LeastPair.{Finding, some_left}
-use Rattle.entering.specs.Entering.{cell_graph}
-use Rattle.walk.proofs.Nodes.{At, node_of, Ground, Reached, reached_same, pairs_written}
+use Rattle.std.specs.Prelude.{◌≡◌, ◌&&◌, ◌≢◌, ◌+◌, ◌%◌, ◌<◌}
+use Rattle.basics.specs.Words.{refl, sym, ◌∙◌, ap, subst, true, not, ℕ, arith, length, length-set, eqb, member}
+use Rattle.product.specs.Laws.LeastPair.{some_left}
+use Rattle.walk.proofs.Nodes.{At, reached_same, pairs_written}
 use Rattle.walk.proofs.Passing.{states_are, states_count, hand_pre, symbol_within, symbol_way, places_pre, insertion_way, ways_start, way_least, way_none, way_go, way_falls, way_next}
 use Rattle.walk.proofs.Ends.{ends_pre, walked_end}
-use Rattle.walk.proofs.Walking.{ground, ground_there, counts_ok, machines_are, machines_few, machines_of_lem, machines_within, insertions_fill, nodes, base_few, sets_few, start_there, starts_walk}
+use Rattle.walk.proofs.Walking.{ground, ground_there, counts_ok, machines_are, machines_few, machines_of_lem, machines_within, nodes, base_few, sets_few, start_there, starts_walk}
 use Rattle.walk.proofs.walk_by.Goals as goal
 use Rattle.walk.proofs.walk_by.Goals.{then-input-eq-EMPTY+in_default, else-input-eq-EMPTY+in_default-least_tight}
 

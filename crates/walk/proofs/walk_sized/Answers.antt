@@ -1,5 +1,4 @@
-use Rattle.std.specs.Prelude.{◌≤◌}
-use Rattle.basics.proofs.Words.{refl, ℕ, arith}
+use Rattle.basics.proofs.Words.{refl}
 use Rattle.walk.proofs.Walking.{front_length, front_room}
 use Rattle.walk.proofs.walk_sized.Goals as goal
 

@@ -1,4 +1,4 @@
-use Rattle.basics.proofs.Words.{sym, ◌∙◌, arith, length-set}
+use Rattle.basics.proofs.Words.{arith, length-set}
 use Rattle.entering.proofs.LastPosition.{code_places, written_start, written_next, written_end}
 use Rattle.entering.proofs.endings.write_endings.Goals as goal
 
