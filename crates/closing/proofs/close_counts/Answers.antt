@@ -15,9 +15,6 @@ store-requires c =
 pub loop-code-preserved : goal.loop-code-preserved
 loop-code-preserved c = stored_next c.loop-code.invariant c.store.ensures
 
-pub shape_of-work : goal.shape_of-work
-shape_of-work c = c.loop-code.invariant.size
-
 pub returns : goal.returns
 returns c =
     let e : c.loop-code.code ≡ c.args.size = omega arith in

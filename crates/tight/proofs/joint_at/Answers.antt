@@ -26,17 +26,9 @@ pub returns-then-step : goal.returns-then-step
 returns-then-step c =
     joint_none c.requires.0 c.requires.1 _ c.requires.3 c.loop-m.invariant.0 c.loop-m.invariant.1 c.loop-m-test.true _ c.from.ensures c.if-step.true
 
-pub high_cell-high-requires : goal.high_cell-high-requires
-high_cell-high-requires c =
-    let w = c.requires.1 in (w.scale _ c.loop-m-test.true, w.high_few _)
-
 pub overflow_add-high : goal.overflow_add-high
 overflow_add-high c =
     omega (arith, highs_fit c.requires.0 c.requires.1 _ c.requires.3 c.loop-m.invariant.0 c.loop-m.invariant.1 c.loop-m-test.true _ c.from.ensures c.if-step.false _ c.high_cell-high.ensures)
-
-pub low_cell-low-requires : goal.low_cell-low-requires
-low_cell-low-requires c =
-    c.requires.1.low_few _
 
 pub overflow_add-low : goal.overflow_add-low
 overflow_add-low c =

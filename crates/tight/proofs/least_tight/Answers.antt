@@ -6,13 +6,6 @@ use Rattle.tight.proofs.least_tight.Goals.{in-Some+else-keeps, in_default}
 pub loop-left-init : goal.loop-left-init
 loop-left-init c = trying_start
 
-pub least-output-requires : goal.least-output-requires
-least-output-requires c = c.loop-left-test.true
-
-pub joint_at-requires : goal.joint_at-requires
-joint_at-requires c =
-    (c.requires.columns, c.requires.weights, omega (arith, c.least-output.ensures.1), c.requires.small)
-
 pub overflow_add-base : goal.overflow_add-base
 overflow_add-base c =
     let J = c.in-Some.ensures in
@@ -37,13 +30,6 @@ returns-then-keeps c =
     let J = c.in-Some.ensures in
     let e = c.least-output.ensures in
     trying_found c.loop-left.invariant _ e.0 e.1 e.2 J.1 _ c.label_at-rest.ensures (c.keeps.ensures.0 c.if-keeps.true)
-
-pub without_least-left-requires : goal.without_least-left-requires
-without_least-left-requires c =
-    c.loop-left-test.true
-
-pub loop-left-smaller : goal.loop-left-smaller
-loop-left-smaller c = c.without_least-left.ensures.0
 
 pub loop-left-preserved : goal.loop-left-preserved
 loop-left-preserved c =
