@@ -60,7 +60,7 @@ fn high_at(weights: &[u64], machine: usize) -> u64
     weights.get(3 * machine + 1).copied().unwrap_or(0)
 }
 
-// What marks of six machines count in high.
+// What marks of six machines count in high. Six calls, and no chain: a chain over 0..6 is no plainer.
 pub fn six_highs(weights: &[u64]) -> [u64; 6]
     ensures { result ≡ six_highs weights.now }
 {

@@ -74,6 +74,7 @@ fn walk_by(
         let mut left = inputs_at(sets, position);
         position = 'least: loop {
             let input = sets::least(left) as u8;
+            // Two branches alike: a choice between two slices is a form that the borrow checker does not cover (docs/DECISIONS.md, 37).
             if input == Pair::EMPTY {
                 if let Some(least) = tight::least_tight(
                     Cell { high, low },

@@ -1,4 +1,4 @@
-use Rattle.basics.proofs.Words.{arith, length-set, rules}
+use Rattle.basics.proofs.Words.{arith, rules}
 use Rattle.tables.proofs.Work.{written, stored}
 use Rattle.closing.proofs.ClosingCodes.{first_few, label_stored, none_stored}
 use Rattle.closing.proofs.store.Goals as goal

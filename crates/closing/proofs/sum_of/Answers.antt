@@ -1,4 +1,4 @@
-use Rattle.basics.specs.Words.{sym, arith}
+use Rattle.basics.specs.Words.{sym}
 use Rattle.closing.proofs.ClosingSums.{sum_there, sum_none}
 use Rattle.closing.proofs.sum_of.Goals as goal
 
