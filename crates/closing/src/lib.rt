@@ -6,10 +6,7 @@ ghost use Rattle.tables.specs.Work.{HasNode};
 ghost use Rattle.cells.specs.Cells.{nowhere};
 ghost use Rattle.closing.specs.Closing.{or_none, sum_of, CountsPre, CountsClosed, SumsPre, SumsClosed, CountsStored, PassPre, Passed, PassAllPre, AllPassed};
 
-use cells::{Cell, NOWHERE};
-
-// The high number of a code that has no label.
-const NO_LABEL: u64 = NOWHERE + 255;
+use cells::{Cell, NO_LABEL, NOWHERE};
 
 // Writes a label at a node: 1 and its seven counts, 16 bits each; 0 where there is none.
 fn store(work: &mut [u16], node: usize, high: u64, low: u64)
@@ -65,10 +62,8 @@ pub fn pass_all(own: &mut [u64; 256], next: &mut [u64; 256], size: usize)
     requires { PassAllPre own.old next.old size }
     ensures { AllPassed own.old own.new next.old next.new size }
 {
-    let mut code = 0;
-    while code < size {
+    for code in 0..size {
         pass_on(own, next, code);
-        code += 1;
     }
 }
 
@@ -83,10 +78,8 @@ pub fn close_counts(
     requires { CountsPre work.old own.old base size × PassAllPre own.old next.old size }
     ensures { CountsClosed work.old work.new own.old base size × AllPassed own.old own.new next.old next.new size }
 {
-    let mut code = 0;
-    while code < size {
+    for code in 0..size {
         store(work, base + code, own[code * 2], own[code * 2 + 1]);
-        code += 1;
     }
     pass_all(own, next, size);
 }
@@ -113,10 +106,8 @@ pub fn close_sums(
     requires { SumsPre work.old own.old base size × PassAllPre own.old next.old size }
     ensures { SumsClosed work.old work.new own.old base size × AllPassed own.old own.new next.old next.new size }
 {
-    let mut code = 0;
-    while code < size {
+    for code in 0..size {
         work[base + code] = sum_of(own[code * 2], own[code * 2 + 1]);
-        code += 1;
     }
     pass_all(own, next, size);
 }

@@ -5,10 +5,7 @@ ghost use Rattle.columns.specs.Filling.{Small};
 ghost use Rattle.entering.specs.Entering.{Ready, EndingsEntered};
 ghost use Rattle.entering.specs.Endings.{ending_cell, WritePre, EndingsWritten};
 
-use cells::{Cell, Groups, NOWHERE};
-
-// The high number of a code that has no label.
-const NO_LABEL: u64 = NOWHERE + 255;
+use cells::{Cell, Groups, NO_LABEL, NOWHERE};
 
 // The label of an ending, by its two numbers.
 fn ending_label(ending: u64, rest: u64) -> Cell
@@ -34,15 +31,13 @@ fn write_endings(own: &mut [u64], g: Groups, high: &[u64], low: &[u64])
     let front = g.front;
     let back = g.back;
     let size = g.size;
-    let mut code = 0;
-    while code < size {
+    for code in 0..size {
         let a = code / back * 4;
         let b = (front + code % back) * 4;
         let label = ending_label(high[a] + high[b], low[a] + low[b]);
         let at = code * 2;
         own[at] = label.high;
         own[at + 1] = label.low;
-        code += 1;
     }
 }
 

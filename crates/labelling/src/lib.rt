@@ -2,7 +2,7 @@
 // of two work slices, the other being empty: as ranked counts, or as one number by weights.
 #![tactic(auto)]
 
-ghost use Rattle.std.specs.Prelude.{◌+◌, ◌*◌, ◌≤◌};
+ghost use Rattle.std.specs.Prelude.{◌+◌, ◌*◌, ◌≤◌, min};
 ghost use Rattle.basics.specs.Words.{length, take};
 ghost use Rattle.cells.specs.Groups.{GroupsOf};
 ghost use Rattle.grid.specs.Grids.{GridOf};
@@ -11,6 +11,21 @@ ghost use Rattle.labelling.specs.Labelling.{LabelPre, PositionsDone, FinishPre, 
 use cells::Groups;
 use grid::Grid;
 use machine::Pair;
+
+// The numbers in the tables where a position has at most 16 codes: 65 for each of at most 21 states, 63 insertions a code, 4 for each of at most 17 codes
+// of both groups.
+const FEW_STEPS: usize = 65 * 21;
+
+const FEW_ENTRIES: usize = 63 * 16;
+
+const FEW_JOINT: usize = 4 * 17;
+
+// And for any number of codes: at most 40 states, 128 codes, and 66 of both groups.
+const ALL_STEPS: usize = 65 * 40;
+
+const ALL_ENTRIES: usize = 63 * 128;
+
+const ALL_JOINT: usize = 4 * 66;
 
 // Settles a position that was entered, by insertions in lists, and closes it.
 fn finish(
@@ -61,7 +76,6 @@ fn label_positions(
     let counts = &all[..machines];
     let mut own = [0u64; 256];
     let mut next = [0u64; 256];
-    let mut position = sets.len();
     entering::endings::enter_endings(
         &mut own,
         steps,
@@ -77,15 +91,14 @@ fn label_positions(
         ranked,
         sums,
         highs,
-        position * size,
+        sets.len() * size,
         size,
         &mut own,
         &mut next,
         entries,
         ends,
     );
-    while position > 0 {
-        position -= 1;
+    for position in (0..sets.len()).rev() {
         entering::enter_symbols(
             &mut own,
             &next,
@@ -147,8 +160,8 @@ fn label_with(
     );
 }
 
-// Labels all nodes of at most 16 codes.
-fn label_few(
+// Labels all nodes with tables of these sizes: for the columns, for the insertions and for the joint steps.
+fn label_sized<const STEPS: usize, const ENTRIES: usize, const JOINT: usize>(
     ranked: &mut [u16],
     sums: &mut [u64],
     card: &[u8],
@@ -158,49 +171,17 @@ fn label_few(
     marks: &[u64],
     sets: &[u64],
 )
-    requires { SearchPre ranked.old sums.old card.now grid weights.now highs marks.now sets.now × (grid.size ≤ 16) }
+    requires search { SearchPre ranked.old sums.old card.now grid weights.now highs marks.now sets.now }
+    requires columns_fit { (65 * grid.states ≤ STEPS) × (STEPS ≤ ALL_STEPS) }
+    requires entries_fit { (63 * grid.size ≤ ENTRIES) × (ENTRIES ≤ ALL_ENTRIES) }
+    requires joint_fit { (4 * min 66 (grid.size + 1) ≤ JOINT) × (JOINT ≤ ALL_JOINT) }
     ensures { AllLabelled card.now weights.now sets.now ranked.old ranked.new sums.old sums.new }
 {
     let places = 65 * grid.states;
-    let mut steps = [65535u16; 1365];
-    let mut entries = [0u32; 1008];
-    let mut high = [0u64; 68];
-    let mut low = [0u64; 68];
-    label_with(
-        ranked,
-        sums,
-        card,
-        grid,
-        weights,
-        highs,
-        marks,
-        sets,
-        &mut steps[..places],
-        &mut entries,
-        &mut high,
-        &mut low,
-    );
-}
-
-// Labels all nodes of any number of codes.
-fn label_many(
-    ranked: &mut [u16],
-    sums: &mut [u64],
-    card: &[u8],
-    grid: Grid,
-    weights: &[u64],
-    highs: [u64; 6],
-    marks: &[u64],
-    sets: &[u64],
-)
-    requires { SearchPre ranked.old sums.old card.now grid weights.now highs marks.now sets.now }
-    ensures { AllLabelled card.now weights.now sets.now ranked.old ranked.new sums.old sums.new }
-{
-    let places = 65 * grid.states;
-    let mut steps = [65535u16; 2600];
-    let mut entries = [0u32; 8064];
-    let mut high = [0u64; 264];
-    let mut low = [0u64; 264];
+    let mut steps = [65535u16; STEPS];
+    let mut entries = [0u32; ENTRIES];
+    let mut high = [0u64; JOINT];
+    let mut low = [0u64; JOINT];
     label_with(
         ranked,
         sums,
@@ -232,9 +213,13 @@ pub fn label_all(
     ensures { AllLabelled card.now weights.now sets.now ranked.old ranked.new sums.old sums.new }
 {
     if grid.size <= 16 {
-        label_few(ranked, sums, card, grid, weights, highs, marks, sets);
+        label_sized::<FEW_STEPS, FEW_ENTRIES, FEW_JOINT>(
+            ranked, sums, card, grid, weights, highs, marks, sets,
+        );
     } else {
-        label_many(ranked, sums, card, grid, weights, highs, marks, sets);
+        label_sized::<ALL_STEPS, ALL_ENTRIES, ALL_JOINT>(
+            ranked, sums, card, grid, weights, highs, marks, sets,
+        );
     }
 }
 

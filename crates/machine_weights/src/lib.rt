@@ -12,8 +12,6 @@ ghost use Rattle.settling.specs.Prices.{SixWeights};
 ghost use Rattle.insertions.specs.RankedWeights.{weight_by, RankedWeights};
 ghost use Rattle.machine_weights.specs.Highs.{six_highs};
 
-use basics::index;
-
 // What a mark counts in a high number, by the place of its machine in the ranking: 16 bits for each of the first three, above the 8 of a code.
 pub const HIGHS: [u64; 6] = [1099511627776, 16777216, 256, 0, 0, 0];
 
@@ -26,12 +24,10 @@ fn weight(places: &[u8; 6], weights: &[u64; 6], machine: u8) -> u64
     ensures { result ≡ weight_by places.now weights.now machine }
 {
     let mut sum = 0;
-    let mut i = 0;
-    while i < 6 {
-        if places[i] == machine {
+    for (i, &place) in places.iter().enumerate() {
+        if place == machine {
             sum += weights[i];
         }
-        i += 1;
     }
     sum
 }
@@ -46,14 +42,12 @@ pub fn ranked_weights(counts: &[u8], ranking: &[u8]) -> [u64; 18]
     let lows = LOWS;
     let mut weights = [0u64; 18];
     let mut scale = 1;
-    let mut m = counts.len();
-    while m > 0 {
-        m -= 1;
+    for m in (0..counts.len()).rev() {
         let at = 3 * m;
         weights[at] = scale as u64;
         weights[at + 1] = weight(&places, &highs, m as u8);
         weights[at + 2] = weight(&places, &lows, m as u8);
-        scale *= index(counts[m]);
+        scale *= usize::from(counts[m]);
     }
     weights
 }
@@ -63,14 +57,10 @@ fn high_at(weights: &[u64], machine: usize) -> u64
     requires { machine < 6 }
     ensures { result ≡ high_of weights.now machine }
 {
-    let at = 3 * machine + 1;
-    if at < weights.len() {
-        return weights[at];
-    }
-    0
+    weights.get(3 * machine + 1).copied().unwrap_or(0)
 }
 
-// What marks of six machines count in high.
+// What marks of six machines count in high. Six calls, and no chain: a chain over 0..6 is no plainer.
 pub fn six_highs(weights: &[u64]) -> [u64; 6]
     ensures { result ≡ six_highs weights.now }
 {

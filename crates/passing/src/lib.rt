@@ -8,7 +8,6 @@ ghost use Rattle.machine.specs.Part.{shaped, machine_of};
 ghost use Rattle.passing.specs.Places.{PlacesPre, Placed, MarksPre, MarksAdded, MovedPre, Moved};
 ghost use Rattle.passing.specs.Going.{GoPre, GoesOn, EndsPre, EndingAdded};
 
-use basics::index;
 use machine::Position;
 use ranking::Profile;
 
@@ -18,11 +17,9 @@ pub fn places_of(places: &mut [u8], states: &[u8], counts: &[u8])
     ensures { Placed counts.now states.now places.new }
 {
     let mut first = 0;
-    let mut m = 0;
-    while m < counts.len() {
+    for (m, &count) in counts.iter().enumerate() {
         places[m] = first + states[m];
-        first += counts[m];
-        m += 1;
+        first += count;
     }
 }
 
@@ -38,12 +35,10 @@ pub fn pass(
     requires { MovedPre steps.now places.now width output × MarksPre marks.old × (length states.old ≡ 6) }
     ensures { Moved steps.now places.now width output states.new × MarksAdded marks.old steps.now places.now width output marks.new }
 {
-    let mut m = 0;
-    while m < places.len() {
-        let step = steps[output * width + index(places[m])];
+    for (m, &place) in places.iter().enumerate() {
+        let step = steps[output * width + usize::from(place)];
         states[m] = (step / 16) as u8;
-        marks[m] = marks[m] + step % 16;
-        m += 1;
+        marks[m] += step % 16;
     }
 }
 
@@ -85,11 +80,8 @@ pub fn with_ending(profile: Profile, card: &[u8], states: &[u8]) -> Profile
     ensures { EndingAdded card.now states.now profile result }
 {
     let mut sums = profile.counts;
-    let mut m = 0;
-    while m < states.len() {
-        let marks = ending_marks(card::part(card, m), states[m]);
-        sums[m] = sums[m] + marks;
-        m += 1;
+    for (m, &state) in states.iter().enumerate() {
+        sums[m] += ending_marks(card::part(card, m), state);
     }
     Profile { counts: sums }
 }

@@ -1,5 +1,5 @@
 -- Whether a step keeps to the labels, as the test finds out; the least output. Assumes nothing.
-use Rattle.std.specs.Prelude.{◌≡◌, ◌&&◌, ◌+◌, ◌%◌, ◌<◌, ◌≤◌}
+use Rattle.std.specs.Prelude.{◌≡◌, ◌&&◌, ◌+◌, ◌%◌, ◌<◌, ◌≤◌, Some, None}
 use Rattle.basics.proofs.Words.{refl, sym, ◌∙◌, ap, Bool, true, false, not, List, ℕ, arith, eqb, member, eqb-true, eq-eqb, left, right, both, clash, no_member}
 use Rattle.machine.specs.SymbolSets.{least_symbol}
 use Rattle.machine.specs.Laws.SymbolSets.{below_least}
@@ -7,7 +7,7 @@ use Rattle.machine.specs.Laws.SetLoops.{with_true}
 use Rattle.cells.specs.declared.Cell.{Cell}
 use Rattle.cells.specs.Cells.{nowhere}
 use Rattle.tight.specs.Labels.{cell_of}
-use Rattle.tight.specs.Joint.{JointAt}
+use Rattle.tight.specs.Joint.{high_by, JointAt}
 use Rattle.tight.specs.Keeping.{KeepsBy, LeadsOn, KeepsPre, KeepsAt, LeastPre, LeastOf}
 
 -- ---- the test
@@ -26,13 +26,13 @@ module _ (x y : Cell) (h l : ℕ) where
   pub keeps_test : test ≡ false → ¬ (KeepsBy x y h l)
   keeps_test t b = clash (both (eq-eqb (y.high + h) (x.high + h % 256) b.high_sum) (eq-eqb (y.low + l + 1) x.low b.low_sum)) t
 
+-- no joint step, nothing kept
+pub not_keeps : (x : Cell) (ranked sums steps ps ws : List ℕ) (base W y : ℕ) → nowhere ≤ high_by steps ps ws W y → ¬ (KeepsAt x ranked sums steps ps ws base W y)
+not_keeps x ranked sums steps ps ws base W y n b = omega (arith, b.step)
+
 -- ---- by a joint step that stands for the sums
 
 module _ (ranked sums : List ℕ) (base : ℕ) {steps ps ws : List ℕ} {W y : ℕ} {step : Cell} (J : JointAt steps ps ws W y step) {x : Cell} where
-  -- no step
-  pub not_keeps : nowhere ≤ step.high → ¬ (KeepsAt x ranked sums steps ps ws base W y)
-  not_keeps k b = omega (arith, J.nothing k, b.step)
-
   module _ (k : step.high < nowhere) where
     pub step_leads : LeastPre x ranked sums steps ps ws base W → y ≤ 64 → LeadsOn ranked sums base step.high step.low
     step_leads pre h = let a = J.high k in let b = J.low k in rw (a, b) (pre.leads y h (omega arith))
@@ -58,25 +58,18 @@ module _ {x : Cell} {ranked sums steps ps ws : List ℕ} {base W outputs : ℕ} 
   trying_start = record { inside = λ y m. m; passed = λ y m n b k. clash m n }
 
   module _ {set : ℕ} (T : Trying x ranked sums steps ps ws base W outputs set) where
-    pub trying_end : set ≤ 0 → LeastOf x ranked sums steps ps ws base W outputs (record { output = 64; code = 0; high = 0; low = 0 })
-    trying_end z = record {
-      most = omega arith;
-      inside = λ h. absurd (omega arith);
-      keeps = λ h. absurd (omega arith);
-      code = λ h. absurd (omega arith);
-      label = λ h. absurd (omega arith);
-      passed = λ y h m. T.passed y m (let e : set ≡ 0 = omega arith in rw e (no_member y)) h;
-    }
+    pub trying_end : set ≤ 0 → LeastOf x ranked sums steps ps ws base W outputs None
+    trying_end z y h m = T.passed y m (let e : set ≡ 0 = omega arith in rw e (no_member y)) h
 
     module _ (y : ℕ) (is : y ≡ least_symbol set) (few : y < 64) (there : member set y ≡ true) where
       pub trying_found : {step : Cell} (J : JointAt steps ps ws W y step) (r : Cell) → r ≡ cell_of ranked sums (base + step.high % 256) → KeepsBy x r step.high step.low
-          → LeastOf x ranked sums steps ps ws base W outputs (record { output = y; code = step.high % 256; high = r.high; low = r.low })
+          → LeastOf x ranked sums steps ps ws base W outputs (Some (record { output = y; code = step.high % 256; high = r.high; low = r.low }))
       trying_found {step} J r e b = record {
-        most = omega arith;
-        inside = λ h. T.inside y there;
-        keeps = λ h. step_keeps ranked sums base J b.step r e b;
-        code = λ h. ap (λ (n : ℕ). n % 256) (J.high b.step);
-        label = λ h. e;
+        few = few;
+        inside = T.inside y there;
+        keeps = step_keeps ranked sums base J b.step r e b;
+        code = ap (λ (n : ℕ). n % 256) (J.high b.step);
+        label = e;
         passed = λ z h m. T.passed z m (below_least 64 set z (omega (arith, is))) (omega arith);
       }
 

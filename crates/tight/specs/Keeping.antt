@@ -1,5 +1,5 @@
 -- Whether a joint step keeps to the labels, by the numbers, and the least output that does.
-use Rattle.std.specs.Prelude.{◌≡◌, ◌+◌, ◌-◌, ◌%◌, ◌^◌, ◌<◌, ◌≤◌}
+use Rattle.std.specs.Prelude.{◌≡◌, ◌+◌, ◌-◌, ◌%◌, ◌^◌, ◌<◌, ◌≤◌, Option, Some, None}
 use Rattle.basics.specs.Words.{true, List, ℕ, length, member}
 use Rattle.cells.specs.declared.Cell.{Cell}
 use Rattle.cells.specs.Cells.{nowhere}
@@ -45,11 +45,20 @@ pub record LeastPre (x : Cell) (ranked sums steps ps ws : List ℕ) (base W : �
   pub label : x.high < nowhere
   pub leads : (y : ℕ) → y ≤ 64 → high_by steps ps ws W y < nowhere → LeadsOn ranked sums base (high_by steps ps ws W y) (low_by steps ps ws W y)
 
--- it is the least of these outputs that keeps to the labels, with the code and the label that it leads to; none below 64 does where it is 64
-pub record LeastOf (x : Cell) (ranked sums steps ps ws : List ℕ) (base W outputs : ℕ) (r : Least) : Type 0 where
-  pub most : r.output ≤ 64
-  pub inside : r.output < 64 → member outputs r.output ≡ true
-  pub keeps : r.output < 64 → KeepsAt x ranked sums steps ps ws base W r.output
-  pub code : r.output < 64 → r.code ≡ high_by steps ps ws W r.output % 256
-  pub label : r.output < 64 → record { high = r.high; low = r.low } ≡ cell_of ranked sums (base + r.code)
-  pub passed : (y : ℕ) → y < r.output → member outputs y ≡ true → ¬ (KeepsAt x ranked sums steps ps ws base W y)
+-- none of these outputs below n keeps to the labels
+abbrev pub NoneBelow : (x : Cell) (ranked sums steps ps ws : List ℕ) (base W outputs n : ℕ) → Type 0
+NoneBelow x ranked sums steps ps ws base W outputs n = (y : ℕ) → y < n → member outputs y ≡ true → ¬ (KeepsAt x ranked sums steps ps ws base W y)
+
+-- it is the least of these outputs that keeps to the labels, with the code and the label that it leads to
+pub record LeastAt (x : Cell) (ranked sums steps ps ws : List ℕ) (base W outputs : ℕ) (r : Least) : Type 0 where
+  pub few : r.output < 64
+  pub inside : member outputs r.output ≡ true
+  pub keeps : KeepsAt x ranked sums steps ps ws base W r.output
+  pub code : r.code ≡ high_by steps ps ws W r.output % 256
+  pub label : record { high = r.high; low = r.low } ≡ cell_of ranked sums (base + r.code)
+  pub passed : NoneBelow x ranked sums steps ps ws base W outputs r.output
+
+-- the least of these outputs, or none below 64 keeps to the labels
+abbrev pub LeastOf : (x : Cell) (ranked sums steps ps ws : List ℕ) (base W outputs : ℕ) → Option Least → Type 0
+LeastOf x ranked sums steps ps ws base W outputs None = NoneBelow x ranked sums steps ps ws base W outputs 64
+LeastOf x ranked sums steps ps ws base W outputs (Some r) = LeastAt x ranked sums steps ps ws base W outputs r

@@ -2,24 +2,21 @@
 // they lead to.
 #![tactic(auto)]
 
-ghost use Rattle.std.specs.Prelude.{◌≡◌, ◌*◌, ◌+◌, ◌^◌, ◌<◌, ◌≤◌};
+ghost use Rattle.std.specs.Prelude.{◌≡◌, ◌*◌, ◌+◌, ◌^◌, ◌<◌, ◌≤◌, MatchOption};
 ghost use Rattle.basics.specs.Words.{true, false, ℕ, length};
 ghost use Rattle.columns.specs.Filling.{Small};
 ghost use Rattle.tables.specs.Work.{HasNode};
 ghost use Rattle.tight.specs.Labels.{counts_cell, sum_cell, cell_of, HasLabel};
+ghost use Rattle.cells.specs.Cells.{nowhere};
 ghost use Rattle.passing.specs.Places.{ColumnsPre};
-ghost use Rattle.tight.specs.Joint.{WeightsFit, JointAt};
+ghost use Rattle.tight.specs.Joint.{WeightsFit, high_by, JointAt};
 ghost use Rattle.tight.specs.Keeping.{KeepsBy, KeepsPre, LeastPre, LeastOf};
 
-use basics::index;
-use cells::{Cell, NOWHERE};
+use cells::{Cell, NO_LABEL};
 use machine::sets;
 use tables::{NO_STEP, NO_SUM};
 
-// The high number of a code that has no label.
-const NO_LABEL: u64 = NOWHERE + 255;
-
-// An output, 64 where there is none; the code that it leads to, and the label of that code.
+// An output, the code that it leads to, and the label of that code.
 #[derive(Clone, Copy)]
 pub struct Least {
     pub output: usize,
@@ -32,7 +29,7 @@ pub struct Least {
 fn both(first: u16, second: u16) -> u64
     ensures { (result ≡ first * 65536 + second) × (result < 2 ^ 32) }
 {
-    first as u64 * 65536 + second as u64
+    u64::from(first) * 65536 + u64::from(second)
 }
 
 // The label of a node by its counts.
@@ -80,34 +77,35 @@ pub fn label_at(ranked: &[u16], sums: &[u64], node: usize) -> Cell
     requires { HasLabel ranked.now sums.now node × (node < 3200) }
     ensures { result ≡ cell_of ranked.now sums.now node }
 {
-    if sums.len() == 0 {
+    if sums.is_empty() {
         return counts_cell(ranked, node);
     }
     sum_cell(sums, node)
 }
 
-// The joint step of a column at these places.
-fn joint_at(steps: &[u16], width: usize, output: usize, places: &[u8], weights: &[u64]) -> Cell
+// The joint step of a column at these places, where every machine takes one.
+fn joint_at(
+    steps: &[u16],
+    width: usize,
+    output: usize,
+    places: &[u8],
+    weights: &[u64],
+) -> Option<Cell>
     requires { ColumnsPre steps.now places.now width × WeightsFit weights.now (length places.now) × (output ≤ 64) × Small steps.now }
-    ensures { JointAt steps.now places.now weights.now width output result }
+    ensures { MatchOption result (nowhere ≤ high_by steps.now places.now weights.now width output) (λ step. (step.high < nowhere) × JointAt steps.now places.now weights.now width output step) }
 {
     let mut high = 0;
     let mut low = 0;
-    let mut m = 0;
-    while m < places.len() {
-        let step = steps[output * width + index(places[m])];
+    for (m, &place) in places.iter().enumerate() {
+        let step = steps[output * width + usize::from(place)];
         if step == NO_STEP {
-            return Cell {
-                high: NOWHERE,
-                low: 0,
-            };
+            return None;
         }
         let at = 3 * m;
         high += adding::high_cell(step, weights[at], weights[at + 1]);
         low += adding::low_cell(step, weights[at + 2]);
-        m += 1;
     }
-    Cell { high, low }
+    Some(Cell { high, low })
 }
 
 // Whether a joint step keeps to the labels: the label is what the step counts, a pair, and the label that it leads to.
@@ -130,32 +128,26 @@ pub fn least_tight(
     outputs: u64,
     places: &[u8],
     weights: &[u64],
-) -> Least
+) -> Option<Least>
     requires { LeastPre label ranked.now sums.now steps.now places.now weights.now base width }
     ensures { LeastOf label ranked.now sums.now steps.now places.now weights.now base width outputs result }
 {
     let mut left = outputs;
     while left > 0 {
         let output = sets::least(left);
-        let step = joint_at(steps, width, output, places, weights);
-        if step.high < NOWHERE {
+        if let Some(step) = joint_at(steps, width, output, places, weights) {
             let code = (step.high % 256) as usize;
             let rest = label_at(ranked, sums, base + code);
             if keeps(label, rest, step) {
-                return Least {
+                return Some(Least {
                     output,
                     code,
                     high: rest.high,
                     low: rest.low,
-                };
+                });
             }
         }
         left = sets::without_least(left);
     }
-    Least {
-        output: 64,
-        code: 0,
-        high: 0,
-        low: 0,
-    }
+    None
 }

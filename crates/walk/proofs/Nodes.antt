@@ -30,7 +30,7 @@ use Rattle.entering.specs.Entering.{cell_graph}
 use Rattle.tight.specs.declared.Least.{Least}
 use Rattle.tight.specs.Labels.{cell_of, HasLabel}
 use Rattle.tight.specs.Joint.{high_by, low_by}
-use Rattle.tight.specs.Keeping.{Fits, KeepsAt, LeastPre, LeastOf}
+use Rattle.tight.specs.Keeping.{Fits, KeepsAt, NoneBelow, LeastPre, LeastAt}
 use Rattle.walk.specs.WalkLabels.{pair_count, Labelled}
 use Rattle.passing.specs.Going.{GoPre, GoesOn}
 use Rattle.walk.proofs.Sizes.{pairs_few, pairs_sized}
@@ -169,92 +169,94 @@ module _ {ranked sums card ws sets : List ℕ} {size : ℕ} {L : Labels (ranked_
                 label_is = tight.label_is;
               }))
 
-      -- ---- the least output found
+      -- ---- the least output found, or none
 
-      module _ {r : Least} (F : LeastOf at.label ranked sums steps ps ws (j * size) W kept r) where
-        pub none_least : 64 ≤ r.output → (q : Pair) → q.input ≡ x → ¬ (Tight (cell_graph ws card sets) L (at.position * size + at.code) q)
-        none_least e q z t = none_below 64 (omega arith) (λ y h. F.passed y (omega (arith, F.most))) q z (omega (arith, (tight_pair q t).output_there, symbols_few K.setting)) t
+      pub none_least : NoneBelow at.label ranked sums steps ps ws (j * size) W kept 64 → (q : Pair) → q.input ≡ x → ¬ (Tight (cell_graph ws card sets) L (at.position * size + at.code) q)
+      none_least f q z t = none_below 64 (omega arith) f q z (omega (arith, (tight_pair q t).output_there, symbols_few K.setting)) t
 
-        module _ (h : r.output < 64) where
-          pair_found : is_pair (record { input = x; output = r.output }) ≡ true
-          pair_found = kept_pair r.output (F.inside h)
+      module _ {r : Least} (F : LeastAt at.label ranked sums steps ps ws (j * size) W kept r) where
+        most : r.output ≤ 64
+        most = omega (arith, F.few)
 
-          found : TightTo K.weights.whole (joint r.output F.most) (cell_graph ws card sets) L here (j * size) (record { input = x; output = r.output }) (edges r.output pair_found) (λ c. cell_of ranked sums (j * size + c)) owns are at.label R.cell R.follows.rest R.follows.walking.label R.label
-          found = keeps_tight K.weights.whole (joint r.output F.most) (cell_graph ws card sets) L here (j * size) (record { input = x; output = r.output }) (edges r.output pair_found) (λ c. cell_of ranked sums (j * size + c)) owns are at.label R.cell R.follows.rest R.follows.walking.label R.label (F.keeps h)
+        pair_found : is_pair (record { input = x; output = r.output }) ≡ true
+        pair_found = kept_pair r.output F.inside
 
-          pub found_passed : (q : Pair) → q.input ≡ x → q.output < r.output → ¬ (Tight (cell_graph ws card sets) L (at.position * size + at.code) q)
-          found_passed = none_below r.output F.most F.passed
+        found : TightTo K.weights.whole (joint r.output most) (cell_graph ws card sets) L here (j * size) (record { input = x; output = r.output }) (edges r.output pair_found) (λ c. cell_of ranked sums (j * size + c)) owns are at.label R.cell R.follows.rest R.follows.walking.label R.label
+        found = keeps_tight K.weights.whole (joint r.output most) (cell_graph ws card sets) L here (j * size) (record { input = x; output = r.output }) (edges r.output pair_found) (λ c. cell_of ranked sums (j * size + c)) owns are at.label R.cell R.follows.rest R.follows.walking.label R.label F.keeps
 
-          code_found : r.code ≡ found.move.target
-          code_found = F.code h ∙ found.code
+        pub found_passed : (q : Pair) → q.input ≡ x → q.output < r.output → ¬ (Tight (cell_graph ws card sets) L (at.position * size + at.code) q)
+        found_passed = none_below r.output most F.passed
 
-          label_found : record { high = r.high; low = r.low } ≡ cell_of ranked sums (j * size + high_by steps ps ws W r.output % 256)
-          label_found = F.label h ∙ ap (λ (c : ℕ). cell_of ranked sums (j * size + c)) (F.code h)
+        code_found : r.code ≡ found.move.target
+        code_found = F.code ∙ found.code
 
-          -- one pair less is left
-          pub low_falls : r.low < at.label.low
-          low_falls = omega (arith, ap (λ (c : Cell). c.low) label_found, (F.keeps h).low_sum)
+        label_found : record { high = r.high; low = r.low } ≡ cell_of ranked sums (j * size + high_by steps ps ws W r.output % 256)
+        label_found = F.label ∙ ap (λ (c : ℕ). cell_of ranked sums (j * size + c)) F.code
 
-          module _ (least : (q : Pair) → pairs.◌◃◌ q (record { input = x; output = r.output }) → ¬ (Tight (cell_graph ws card sets) L (at.position * size + at.code) q)) where
-            abbrev t : LeastTight (cell_graph ws card sets) L (at.position * size + at.code) (record { input = x; output = r.output })
-            t = record { tight = found.tight; least = least }
+        -- one pair less is left
+        pub low_falls : r.low < at.label.low
+        low_falls = omega (arith, ap (λ (c : Cell). c.low) label_found, F.keeps.low_sum)
 
-            pub go_pre : GoPre at.states at.passed steps ps answer W r.output at.pairs
-            go_pre = record {
-              moves = record { columns = H.columns; output = F.most; there = steps_few M H r.output F.most found.move found.move_is };
-              output = h;
-              marks_fit = record { size = R.passed_size; fits = λ m. omega (arith, R.passed m, R.few m, pairs_written) };
-              size = R.states_size;
-              room = following_room (cell_graph ws card sets) L (card_start card) before (pairs_sized K) R.follows t;
-              few = omega (arith, pairs_written);
+        module _ (least : (q : Pair) → pairs.◌◃◌ q (record { input = x; output = r.output }) → ¬ (Tight (cell_graph ws card sets) L (at.position * size + at.code) q)) where
+          abbrev t : LeastTight (cell_graph ws card sets) L (at.position * size + at.code) (record { input = x; output = r.output })
+          t = record { tight = found.tight; least = least }
+
+          pub go_pre : GoPre at.states at.passed steps ps answer W r.output at.pairs
+          go_pre = record {
+            moves = record { columns = H.columns; output = most; there = steps_few M H r.output most found.move found.move_is };
+            output = F.few;
+            marks_fit = record { size = R.passed_size; fits = λ m. omega (arith, R.passed m, R.few m, pairs_written) };
+            size = R.states_size;
+            room = following_room (cell_graph ws card sets) L (card_start card) before (pairs_sized K) R.follows t;
+            few = omega (arith, pairs_written);
+          }
+
+          module _ {states' marks' answer' : List ℕ} (E : GoesOn at.passed steps ps answer states' marks' answer' W x r.output at.pairs) where
+            node_next : found.tight.to.target ≡ j * size + r.code
+            node_next = found.target ∙ ap (λ (c : ℕ). j * size + c) (sym F.code)
+
+            sums_next : (m : ℕ) → get_or marks' m 0 ≡ get_or at.passed m 0 + get_or found.move.marks m 0
+            sums_next m = E.added.sums m ∙ ap (λ (l : List ℕ). get_or at.passed m 0 + get_or l m 0) (marks_held M H r.output most found.move found.move_is)
+
+            states_after : take (length (machines_of card)) states' ≡ states_of (state_counts (machines_of card)) r.code
+            states_after =
+                ap (λ (n : ℕ). take n states') (sym H.places)
+                ∙ E.moved.are
+                ∙ states_held M H r.output most found.move found.move_is
+                ∙ sym (states_next M at.code (record { input = x; output = r.output }) found.move found.move_is (coded_by (machines_of card) at.code (record { input = x; output = r.output }) found.move found.move_is))
+                ∙ ap (states_of (state_counts (machines_of card))) (sym code_found)
+
+            pub goes_next : Reached card ws sets before answer' size L (node_of j r.code states' r.high r.low (at.pairs + 1) marks')
+            goes_next = record {
+              position = within;
+              code = omega (arith, code_found, code_step_below M.sound at.code (record { input = x; output = r.output }) found.move found.move_is, K.setting.states);
+              states_size = E.moved.size;
+              states = states_after;
+              follows = record {
+                cost = R.follows.cost;
+                cost_is = R.follows.cost_is;
+                fits = R.follows.fits;
+                written = R.follows.written ++ record { input = x; output = r.output } ∷ [];
+                count = omega (arith, R.follows.count, length-append R.follows.written (record { input = x; output = r.output } ∷ []));
+                bytes = E.bytes ∙ pair_more R.follows.written (record { input = x; output = r.output }) before answer at.pairs R.follows.count (omega (arith, go_pre.room, R.follows.answer_size)) R.follows.bytes;
+                answer_size = ap length E.bytes ∙ simp length-set R.follows.answer_size;
+                rest = found.tight.rest;
+                walking = subst (λ (n : ℕ). Walking (cell_graph ws card sets) L pair_count (card_start card) R.follows.cost (R.follows.written ++ record { input = x; output = r.output } ∷ []) n found.tight.rest) node_next
+                    (walking_next (cell_graph ws card sets) L (pairs_sized K) (card_start card) R.follows.cost R.follows.written here R.follows.rest (record { input = x; output = r.output }) R.follows.walking t);
+              };
+              cell = subst OwnCell (sym label_found) (owns (high_by steps ps ws W r.output % 256) (joint r.output most).code);
+              label = ap label_from label_found ∙ found.rest;
+              marks = merge R.marks found.move.marks;
+              goes_on = goes_on;
+              passed_size = E.added.size;
+              passed = λ m. omega (arith, sums_next m, R.passed m, merge_count R.marks found.move.marks m);
+              few = λ m. omega (arith, R.few m, marks_few M at.code (record { input = x; output = r.output }) found.move found.move_is m, merge_count R.marks found.move.marks m);
             }
-
-            module _ {states' marks' answer' : List ℕ} (E : GoesOn at.passed steps ps answer states' marks' answer' W x r.output at.pairs) where
-              node_next : found.tight.to.target ≡ j * size + r.code
-              node_next = found.target ∙ ap (λ (c : ℕ). j * size + c) (sym (F.code h))
-
-              sums_next : (m : ℕ) → get_or marks' m 0 ≡ get_or at.passed m 0 + get_or found.move.marks m 0
-              sums_next m = E.added.sums m ∙ ap (λ (l : List ℕ). get_or at.passed m 0 + get_or l m 0) (marks_held M H r.output F.most found.move found.move_is)
-
-              states_after : take (length (machines_of card)) states' ≡ states_of (state_counts (machines_of card)) r.code
-              states_after =
-                  ap (λ (n : ℕ). take n states') (sym H.places)
-                  ∙ E.moved.are
-                  ∙ states_held M H r.output F.most found.move found.move_is
-                  ∙ sym (states_next M at.code (record { input = x; output = r.output }) found.move found.move_is (coded_by (machines_of card) at.code (record { input = x; output = r.output }) found.move found.move_is))
-                  ∙ ap (states_of (state_counts (machines_of card))) (sym code_found)
-
-              pub goes_next : Reached card ws sets before answer' size L (node_of j r.code states' r.high r.low (at.pairs + 1) marks')
-              goes_next = record {
-                position = within;
-                code = omega (arith, code_found, code_step_below M.sound at.code (record { input = x; output = r.output }) found.move found.move_is, K.setting.states);
-                states_size = E.moved.size;
-                states = states_after;
-                follows = record {
-                  cost = R.follows.cost;
-                  cost_is = R.follows.cost_is;
-                  fits = R.follows.fits;
-                  written = R.follows.written ++ record { input = x; output = r.output } ∷ [];
-                  count = omega (arith, R.follows.count, length-append R.follows.written (record { input = x; output = r.output } ∷ []));
-                  bytes = E.bytes ∙ pair_more R.follows.written (record { input = x; output = r.output }) before answer at.pairs R.follows.count (omega (arith, go_pre.room, R.follows.answer_size)) R.follows.bytes;
-                  answer_size = ap length E.bytes ∙ simp length-set R.follows.answer_size;
-                  rest = found.tight.rest;
-                  walking = subst (λ (n : ℕ). Walking (cell_graph ws card sets) L pair_count (card_start card) R.follows.cost (R.follows.written ++ record { input = x; output = r.output } ∷ []) n found.tight.rest) node_next
-                      (walking_next (cell_graph ws card sets) L (pairs_sized K) (card_start card) R.follows.cost R.follows.written here R.follows.rest (record { input = x; output = r.output }) R.follows.walking t);
-                };
-                cell = subst OwnCell (sym label_found) (owns (high_by steps ps ws W r.output % 256) (joint r.output F.most).code);
-                label = ap label_from label_found ∙ found.rest;
-                marks = merge R.marks found.move.marks;
-                goes_on = goes_on;
-                passed_size = E.added.size;
-                passed = λ m. omega (arith, sums_next m, R.passed m, merge_count R.marks found.move.marks m);
-                few = λ m. omega (arith, R.few m, marks_few M at.code (record { input = x; output = r.output }) found.move found.move_is m, merge_count R.marks found.move.marks m);
-              }
-                where
-                  goes_on : (qs : List Pair) (xs : List ℕ) → joint_marks (machines_of card) (states_of (state_counts (machines_of card)) r.code) qs ≡ some xs
-                      → joint_marks (machines_of card) (starts (machines_of card)) ((R.follows.written ++ record { input = x; output = r.output } ∷ []) ++ qs) ≡ some (merge (merge R.marks found.move.marks) xs)
-                  goes_on qs xs h =
-                      let n = next_marks M at.code (record { input = x; output = r.output }) found.move found.move_is qs xs (ap (λ (c : ℕ). joint_marks (machines_of card) (states_of (state_counts (machines_of card)) c) qs) (sym code_found) ∙ h) in
-                      ap (joint_marks (machines_of card) (starts (machines_of card))) (append_assoc R.follows.written (record { input = x; output = r.output } ∷ []) qs)
-                      ∙ R.goes_on (record { input = x; output = r.output } ∷ qs) (merge found.move.marks xs) n
-                      ∙ ap {B = Option (List ℕ)} some (sym (counts_associative R.marks found.move.marks xs))
+              where
+                goes_on : (qs : List Pair) (xs : List ℕ) → joint_marks (machines_of card) (states_of (state_counts (machines_of card)) r.code) qs ≡ some xs
+                    → joint_marks (machines_of card) (starts (machines_of card)) ((R.follows.written ++ record { input = x; output = r.output } ∷ []) ++ qs) ≡ some (merge (merge R.marks found.move.marks) xs)
+                goes_on qs xs h =
+                    let n = next_marks M at.code (record { input = x; output = r.output }) found.move found.move_is qs xs (ap (λ (c : ℕ). joint_marks (machines_of card) (states_of (state_counts (machines_of card)) c) qs) (sym code_found) ∙ h) in
+                    ap (joint_marks (machines_of card) (starts (machines_of card))) (append_assoc R.follows.written (record { input = x; output = r.output } ∷ []) qs)
+                    ∙ R.goes_on (record { input = x; output = r.output } ∷ qs) (merge found.move.marks xs) n
+                    ∙ ap {B = Option (List ℕ)} some (sym (counts_associative R.marks found.move.marks xs))

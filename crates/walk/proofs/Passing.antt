@@ -32,7 +32,7 @@ use Rattle.entering.specs.Entering.{cell_graph}
 use Rattle.tight.specs.declared.Least.{Least}
 use Rattle.tight.specs.Labels.{HasLabel}
 use Rattle.passing.specs.Places.{places_from, PlacesPre, Placed}
-use Rattle.tight.specs.Keeping.{LeastPre, LeastOf}
+use Rattle.tight.specs.Keeping.{NoneBelow, LeastPre, LeastAt}
 use Rattle.passing.specs.Going.{GoPre, GoesOn}
 use Rattle.walk.specs.WalkLabels.{pair_count}
 use Rattle.passing.proofs.Placing.{places_length, place_at}
@@ -241,21 +241,22 @@ module _ {ranked sums card ws sets : List ℕ} {size : ℕ} {L : Labels (ranked_
     pub way_least : ((u : ℕ) → u < (length sets + 1) * size → HasLabel ranked sums u) → LeastPre at.label ranked sums steps ps ws (j * size) W
     way_least = least_pre G R Y.holds Y.within Y.edges
 
-    module _ {r : Least} (F : LeastOf at.label ranked sums steps ps ws (j * size) W kept r) {left : ℕ} (T : Finding sets (Tight (cell_graph ws card sets) L (at.position * size + at.code)) at.position left) where
+    module _ {left : ℕ} (T : Finding sets (Tight (cell_graph ws card sets) L (at.position * size + at.code)) at.position left) where
       -- the input has none
-      pub way_none : 64 ≤ r.output → (after : ℕ) → ((n : ℕ) → member after n ≡ (member left n && not (eqb n x))) → Finding sets (Tight (cell_graph ws card sets) L (at.position * size + at.code)) at.position after
-      way_none e = finding_next T x (none_least G R Y.holds Y.within Y.edges F e)
+      pub way_none : NoneBelow at.label ranked sums steps ps ws (j * size) W kept 64 → (after : ℕ) → ((n : ℕ) → member after n ≡ (member left n && not (eqb n x))) → Finding sets (Tight (cell_graph ws card sets) L (at.position * size + at.code)) at.position after
+      way_none f = finding_next T x (none_least G R Y.holds Y.within Y.edges f)
 
-      pub way_falls : r.output < 64 → r.low < at.label.low
-      way_falls h = low_falls G R Y.holds Y.within Y.edges F h
+      module _ {r : Least} (F : LeastAt at.label ranked sums steps ps ws (j * size) W kept r) where
+        pub way_falls : r.low < at.label.low
+        way_falls = low_falls G R Y.holds Y.within Y.edges F
 
-      module _ (h : r.output < 64) (first : x ≡ least_symbol left) where
-        least : (q : Pair) → pairs.◌◃◌ q (record { input = x; output = r.output }) → ¬ (Tight (cell_graph ws card sets) L (at.position * size + at.code) q)
-        least = first_is_least T (record { input = x; output = r.output }) first (found_passed G R Y.holds Y.within Y.edges F h)
+        module _ (first : x ≡ least_symbol left) where
+          least : (q : Pair) → pairs.◌◃◌ q (record { input = x; output = r.output }) → ¬ (Tight (cell_graph ws card sets) L (at.position * size + at.code) q)
+          least = first_is_least T (record { input = x; output = r.output }) first (found_passed G R Y.holds Y.within Y.edges F)
 
-        pub way_go : GoPre at.states at.passed steps ps answer W r.output at.pairs
-        way_go = go_pre G R Y.holds Y.within Y.edges F h least
+          pub way_go : GoPre at.states at.passed steps ps answer W r.output at.pairs
+          way_go = go_pre G R Y.holds Y.within Y.edges F least
 
-        pub way_next : {states' marks' answer' : List ℕ} → GoesOn at.passed steps ps answer states' marks' answer' W x r.output at.pairs
-            → Reached card ws sets before answer' size L (node_of j r.code states' r.high r.low (at.pairs + 1) marks')
-        way_next = goes_next G R Y.holds Y.within Y.edges F h least
+          pub way_next : {states' marks' answer' : List ℕ} → GoesOn at.passed steps ps answer states' marks' answer' W x r.output at.pairs
+              → Reached card ws sets before answer' size L (node_of j r.code states' r.high r.low (at.pairs + 1) marks')
+          way_next = goes_next G R Y.holds Y.within Y.edges F least

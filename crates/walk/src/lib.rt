@@ -22,14 +22,16 @@ pub struct Written {
     pub profile: Profile,
 }
 
+// The numbers in the columns of the insertions: 65 a state, of which there are 21 at most where a position has at most 16 codes, and 40 at most in all.
+const FEW_STEPS: usize = 65 * 21;
+
+const ALL_STEPS: usize = 65 * 40;
+
 // The inputs of the pairs at a position: the empty symbol, and the symbols of the set there.
 fn inputs_at(sets: &[u64], position: usize) -> u64
     ensures { (x : ℕ) → member result x ≡ (eqb x empty_symbol || member (get_or sets.now position 0) x) }
 {
-    if position < sets.len() {
-        return machine::sets::EMPTY | sets[position];
-    }
-    machine::sets::EMPTY
+    machine::sets::EMPTY | sets.get(position).copied().unwrap_or(0)
 }
 
 // Walks with a slice for the columns of the insertions, whose length is just enough: it is cleared first. At each node the least pair that keeps to the
@@ -72,8 +74,9 @@ fn walk_by(
         let mut left = inputs_at(sets, position);
         position = 'least: loop {
             let input = sets::least(left) as u8;
+            // Two branches alike: a choice between two slices is a form that the borrow checker does not cover (docs/DECISIONS.md, 37).
             if input == Pair::EMPTY {
-                let least = tight::least_tight(
+                if let Some(least) = tight::least_tight(
                     Cell { high, low },
                     ranked,
                     sums,
@@ -83,8 +86,7 @@ fn walk_by(
                     kept,
                     &places[..machines],
                     weights,
-                );
-                if least.output < 64 {
+                ) {
                     passing::go_on(
                         &mut states,
                         &mut marks,
@@ -111,7 +113,7 @@ fn walk_by(
                     &states[..machines],
                     input,
                 );
-                let least = tight::least_tight(
+                if let Some(least) = tight::least_tight(
                     Cell { high, low },
                     ranked,
                     sums,
@@ -121,8 +123,7 @@ fn walk_by(
                     outputs,
                     &hand[..machines],
                     weights,
-                );
-                if least.output < 64 {
+                ) {
                     passing::go_on(
                         &mut states,
                         &mut marks,
@@ -149,8 +150,8 @@ fn walk_by(
     Written { pairs, profile }
 }
 
-// Walks where a position has at most 16 codes.
-fn walk_few(
+// Walks with an array for the columns of the insertions, of which `room` numbers are used.
+fn walk_sized<const ROOM: usize>(
     ranked: &[u16],
     sums: &[u64],
     card: &[u8],
@@ -161,39 +162,10 @@ fn walk_few(
     room: usize,
     answer: &mut [u8],
 ) -> Written
-    requires { WalkPre ranked.now sums.now card.now counts.now weights.now sets.now size (length answer.old) × (size ≤ 16) × (room ≡ 65 * places counts.now) }
+    requires { WalkPre ranked.now sums.now card.now counts.now weights.now sets.now size (length answer.old) × (room ≡ 65 * places counts.now) × (room ≤ ROOM) × (ROOM ≤ ALL_STEPS) }
     ensures { (L : Labels (ranked_costs 1)) → WalkLabels ranked.now sums.now card.now counts.now weights.now sets.now (length answer.old) L → Walked card.now weights.now sets.now answer.old answer.new L result }
 {
-    let mut insertions = [65535u16; 1365];
-    walk_by(
-        ranked,
-        sums,
-        card,
-        counts,
-        weights,
-        sets,
-        size,
-        &mut insertions[..room],
-        answer,
-    )
-}
-
-// Walks where a position has any number of codes.
-fn walk_many(
-    ranked: &[u16],
-    sums: &[u64],
-    card: &[u8],
-    counts: &[u8],
-    weights: &[u64],
-    sets: &[u64],
-    size: usize,
-    room: usize,
-    answer: &mut [u8],
-) -> Written
-    requires { WalkPre ranked.now sums.now card.now counts.now weights.now sets.now size (length answer.old) × (room ≡ 65 * places counts.now) }
-    ensures { (L : Labels (ranked_costs 1)) → WalkLabels ranked.now sums.now card.now counts.now weights.now sets.now (length answer.old) L → Walked card.now weights.now sets.now answer.old answer.new L result }
-{
-    let mut insertions = [65535u16; 2600];
+    let mut insertions = [65535u16; ROOM];
     walk_by(
         ranked,
         sums,
@@ -224,11 +196,11 @@ pub fn walk(
 {
     let room = 65 * columns::width_of(counts);
     if size <= 16 {
-        walk_few(
+        walk_sized::<FEW_STEPS>(
             ranked, sums, card, counts, weights, sets, size, room, answer,
         )
     } else {
-        walk_many(
+        walk_sized::<ALL_STEPS>(
             ranked, sums, card, counts, weights, sets, size, room, answer,
         )
     }

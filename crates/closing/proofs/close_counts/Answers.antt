@@ -5,27 +5,17 @@ use Rattle.closing.proofs.ClosingCodes.{stored_start, has_node, stored_next}
 use Rattle.closing.proofs.close_counts.Goals as goal
 
 pub loop-code-init : goal.loop-code-init
-loop-code-init c = (omega arith, stored_start _ _ _)
+loop-code-init c = stored_start _ _ _
 
 pub store-requires : goal.store-requires
 store-requires c =
     let k = c.loop-code-test.true in
-    (has_node c.loop-code.invariant.1 c.requires.0 k, c.requires.0.high _ k)
+    (has_node c.loop-code.invariant c.requires.0 k, c.requires.0.high _ k)
 
 pub loop-code-preserved : goal.loop-code-preserved
-loop-code-preserved c =
-    let k = c.loop-code-test.true in
-    (omega (arith, k), stored_next c.loop-code.invariant.1 c.store.ensures)
-
-pub pass_all-requires : goal.pass_all-requires
-pass_all-requires c =
-    c.requires.1
-
-pub shape_of-work : goal.shape_of-work
-shape_of-work c =
-    c.loop-code.invariant.1.size
+loop-code-preserved c = stored_next c.loop-code.invariant c.store.ensures
 
 pub returns : goal.returns
 returns c =
-    let e : c.loop-code.code ≡ c.args.size = omega (arith, c.loop-code.invariant.0, c.loop-code-test.false) in
-    (subst (CountsClosed _ _ _ _) e c.loop-code.invariant.1, c.pass_all.ensures)
+    let e : c.loop-code.code ≡ c.args.size = omega arith in
+    (subst (CountsClosed _ _ _ _) e c.loop-code.invariant, c.pass_all.ensures)

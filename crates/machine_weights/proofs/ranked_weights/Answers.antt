@@ -2,7 +2,7 @@ use Rattle.std.specs.Prelude.{◌≡◌, ◌*◌, ◌-◌, ◌≤◌}
 use Rattle.basics.proofs.Words.{refl, ◌∙◌, ap, List, ℕ, arith, length}
 use Rattle.settling.specs.Prices.{ranked_highs, ranked_lows}
 use Rattle.insertions.specs.RankedWeights.{weight_by}
-use Rattle.machine_weights.proofs.Weighing.{highs_six, lows_six, weights_start, machine_few, machine_at_lem, scale_few, weights_next, weights_are, weights_ranked}
+use Rattle.machine_weights.proofs.Weighing.{highs_six, lows_six, weights_start, machine_few, scale_few, weights_next, weights_are, weights_ranked}
 use Rattle.machine_weights.proofs.ranked_weights.Goals as goal
 
 pub loop-m-init : goal.loop-m-init
@@ -47,21 +47,15 @@ offset_bounds-weights-at-in-loop-m-2 c = omega (arith, machine_few c.requires.0 
 pub bounds-weights-at-in-loop-m-2 : goal.bounds-weights-at-in-loop-m-2
 bounds-weights-at-in-loop-m-2 c = omega (arith, machine_few c.requires.0 c.loop-m.invariant, c.loop-m-test.true)
 
-pub bounds-counts-m : goal.bounds-counts-m
-bounds-counts-m c = machine_at_lem c.loop-m.invariant c.loop-m-test.true
-
 pub overflow_mul-scale : goal.overflow_mul-scale
 overflow_mul-scale c =
-    let q : c.loop-m.scale * c.index-scale.result ≤ 128 = rw c.index-scale.ensures.0 (scale_few c.requires.0 c.loop-m.invariant c.loop-m-test.true) in
+    let q : c.loop-m.scale * c.from-scale.result ≤ 128 = rw c.from-scale.ensures (scale_few c.requires.0 c.loop-m.invariant c.loop-m-test.true) in
     omega (arith, q)
-
-pub loop-m-smaller : goal.loop-m-smaller
-loop-m-smaller c = omega (arith, c.loop-m-test.true)
 
 pub loop-m-preserved : goal.loop-m-preserved
 loop-m-preserved c =
     let e = c.six_places-places.ensures in
-    weights_next c.requires.0 c.loop-m.invariant c.loop-m-test.true (c.weight.ensures ∙ ap (λ (r : List ℕ). weight_by r ranked_highs (c.loop-m.m - 1)) e) (c.weight-in-loop-m.ensures ∙ ap (λ (r : List ℕ). weight_by r ranked_lows (c.loop-m.m - 1)) e) c.index-scale.ensures.0
+    weights_next c.requires.0 c.loop-m.invariant c.loop-m-test.true (c.weight.ensures ∙ ap (λ (r : List ℕ). weight_by r ranked_highs (c.loop-m.m - 1)) e) (c.weight-in-loop-m.ensures ∙ ap (λ (r : List ℕ). weight_by r ranked_lows (c.loop-m.m - 1)) e) c.from-scale.ensures
 
 pub returns : goal.returns
 returns c =

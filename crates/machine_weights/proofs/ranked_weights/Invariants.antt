@@ -4,6 +4,3 @@ use Rattle.machine_weights.proofs.ranked_weights.Given as goal
 
 abbrev pub invariant-loop-m : goal.invariant-loop-m
 invariant-loop-m l = WeightsFrom l.counts (six_places l.ranking) l.weights l.m l.scale
-
-abbrev pub decreases-loop-m : goal.decreases-loop-m
-decreases-loop-m l = l.m

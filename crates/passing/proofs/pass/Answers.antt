@@ -10,18 +10,18 @@ pub overflow_mul-step : goal.overflow_mul-step
 overflow_mul-step c = omega (arith, column_few c.requires.0.columns _ c.requires.0.output)
 
 pub overflow_add-step : goal.overflow_add-step
-overflow_add-step c = omega (arith, column_few c.requires.0.columns _ c.requires.0.output, c.index.ensures.1)
+overflow_add-step c = omega (arith, column_few c.requires.0.columns _ c.requires.0.output)
 
 pub offset_bounds-steps-output : goal.offset_bounds-steps-output
-offset_bounds-steps-output c = omega (arith, column_few c.requires.0.columns _ c.requires.0.output, c.index.ensures.1)
+offset_bounds-steps-output c = omega (arith, column_few c.requires.0.columns _ c.requires.0.output)
 
 pub bounds-steps-output : goal.bounds-steps-output
 bounds-steps-output c =
-    column_in c.requires.0.columns _ c.requires.0.output _ c.loop-m-test.true _ c.index.ensures.0
+    column_in c.requires.0.columns _ c.requires.0.output _ c.loop-m-test.true _ c.from.ensures
 
 pub overflow_cast-states : goal.overflow_cast-states
 overflow_cast-states c =
-    omega (arith, step_few c.requires.0 c.requires.1 c.loop-m.invariant c.loop-m-test.true _ c.index.ensures.0)
+    omega (arith, step_few c.requires.0 c.requires.1 c.loop-m.invariant c.loop-m-test.true _ c.from.ensures)
 
 pub bounds-states-m : goal.bounds-states-m
 bounds-states-m c =
@@ -41,7 +41,7 @@ bounds-marks-m-in-loop-m c =
 
 pub loop-m-preserved : goal.loop-m-preserved
 loop-m-preserved c =
-    passed_next c.requires.0 c.requires.1 c.loop-m.invariant c.loop-m-test.true _ c.index.ensures.0
+    passed_next c.requires.0 c.requires.1 c.loop-m.invariant c.loop-m-test.true _ c.from.ensures
 
 pub shape_of-states : goal.shape_of-states
 shape_of-states c =

@@ -14,9 +14,6 @@ overflow_add-places c = omega (arith, place_few c.requires c.loop-m.invariant c.
 pub bounds-places-m : goal.bounds-places-m
 bounds-places-m c = omega (arith, in_six c.requires c.loop-m.invariant c.loop-m-test.true, c.loop-m.invariant.size)
 
-pub bounds-counts-m : goal.bounds-counts-m
-bounds-counts-m c = c.loop-m-test.true
-
 pub overflow_add-first : goal.overflow_add-first
 overflow_add-first c = omega (arith, next_few c.requires c.loop-m.invariant c.loop-m-test.true)
 

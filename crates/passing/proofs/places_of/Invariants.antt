@@ -1,10 +1,5 @@
-use Rattle.std.specs.Prelude.{◌-◌}
-use Rattle.basics.proofs.Words.{length}
 use Rattle.passing.proofs.Placing.{PlacedTo}
 use Rattle.passing.proofs.places_of.Given as goal
 
 abbrev pub invariant-loop-m : goal.invariant-loop-m
 invariant-loop-m l = PlacedTo l.counts l.states l.places l.first l.m
-
-abbrev pub decreases-loop-m : goal.decreases-loop-m
-decreases-loop-m l = length l.counts - l.m

@@ -16,11 +16,8 @@ pub part-requires : goal.part-requires
 part-requires c =
     (c.requires.accepted, machine_there c.requires _ c.loop-m-test.true)
 
-pub bounds-states-m : goal.bounds-states-m
-bounds-states-m c = c.loop-m-test.true
-
-pub ending_marks-marks-requires : goal.ending_marks-marks-requires
-ending_marks-marks-requires c =
+pub ending_marks-requires : goal.ending_marks-requires
+ending_marks-requires c =
     let card = c.args.card.now in
     rw c.part.ensures (part_accepted (symbol_count card) (part_of card c.loop-m.m) ((accepted card c.requires.accepted).part c.loop-m.m (machine_there c.requires _ c.loop-m-test.true))).shape
 
@@ -34,32 +31,20 @@ bounds-sums-m c =
 
 pub overflow_add-sums : goal.overflow_add-sums
 overflow_add-sums c =
-    omega (arith, c.ending_marks-marks.ensures.1, sum_fits c.requires c.loop-m.invariant)
-
-pub offset_bounds-sums-m-in-loop-m : goal.offset_bounds-sums-m-in-loop-m
-offset_bounds-sums-m-in-loop-m c =
-    omega (arith, in_sums c.requires c.loop-m.invariant c.loop-m-test.true, c.loop-m.invariant.size)
+    omega (arith, c.ending_marks.ensures.1, sum_fits c.requires c.loop-m.invariant)
 
 pub bounds-sums-m-in-loop-m : goal.bounds-sums-m-in-loop-m
 bounds-sums-m-in-loop-m c =
     omega (arith, in_sums c.requires c.loop-m.invariant c.loop-m-test.true, c.loop-m.invariant.size)
-
-pub overflow_add-m : goal.overflow_add-m
-overflow_add-m c =
-    omega (arith, in_sums c.requires c.loop-m.invariant c.loop-m-test.true, c.loop-m.invariant.size)
-
-pub loop-m-smaller : goal.loop-m-smaller
-loop-m-smaller c =
-    omega (arith, c.loop-m-test.true)
 
 pub loop-m-preserved : goal.loop-m-preserved
 loop-m-preserved c =
     let card = c.args.card.now in
     let m = c.loop-m.m in
     let h = c.loop-m-test.true in
-    ended_next c.requires c.loop-m.invariant h c.ending_marks-marks.result _
+    ended_next c.requires c.loop-m.invariant h c.ending_marks.result _
     (λ n e.
-    c.ending_marks-marks.ensures.0 n
+    c.ending_marks.ensures.0 n
     (ap (λ (l : List ℕ). ending_of (machine_of l) (get_or c.args.states.now m 0)) c.part.ensures
     ∙ ap (λ (x : Machine). ending_of x (get_or c.args.states.now m 0)) (sym (machine_at_lem card m (machine_there c.requires m h) no_machine))
     ∙ e))

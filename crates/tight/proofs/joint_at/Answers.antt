@@ -12,42 +12,34 @@ overflow_mul-step c =
 
 pub overflow_add-step : goal.overflow_add-step
 overflow_add-step c =
-    omega (arith, column_few c.requires.0 _ c.requires.2, c.index.ensures.1)
+    omega (arith, column_few c.requires.0 _ c.requires.2)
 
 pub offset_bounds-steps-output : goal.offset_bounds-steps-output
 offset_bounds-steps-output c =
-    omega (arith, column_few c.requires.0 _ c.requires.2, c.index.ensures.1)
+    omega (arith, column_few c.requires.0 _ c.requires.2)
 
 pub bounds-steps-output : goal.bounds-steps-output
 bounds-steps-output c =
-    column_in c.requires.0 _ c.requires.2 _ c.loop-m-test.true _ c.index.ensures.0
+    column_in c.requires.0 _ c.requires.2 _ c.loop-m-test.true _ c.from.ensures
 
 pub returns-then-step : goal.returns-then-step
 returns-then-step c =
-    joint_none c.requires.0 c.requires.1 _ c.requires.3 c.loop-m.invariant.0 c.loop-m.invariant.1 c.loop-m-test.true _ c.index.ensures.0 c.if-step.true
-
-pub high_cell-high-requires : goal.high_cell-high-requires
-high_cell-high-requires c =
-    let w = c.requires.1 in (w.scale _ c.loop-m-test.true, w.high_few _)
+    joint_none c.requires.0 c.requires.1 _ c.requires.3 c.loop-m.invariant.0 c.loop-m.invariant.1 c.loop-m-test.true _ c.from.ensures c.if-step.true
 
 pub overflow_add-high : goal.overflow_add-high
 overflow_add-high c =
-    omega (arith, highs_fit c.requires.0 c.requires.1 _ c.requires.3 c.loop-m.invariant.0 c.loop-m.invariant.1 c.loop-m-test.true _ c.index.ensures.0 _ c.high_cell-high.ensures)
-
-pub low_cell-low-requires : goal.low_cell-low-requires
-low_cell-low-requires c =
-    c.requires.1.low_few _
+    omega (arith, highs_fit c.requires.0 c.requires.1 _ c.requires.3 c.loop-m.invariant.0 c.loop-m.invariant.1 c.loop-m-test.true _ c.from.ensures c.if-step.false _ c.high_cell-high.ensures)
 
 pub overflow_add-low : goal.overflow_add-low
 overflow_add-low c =
-    omega (arith, lows_fit c.requires.0 c.requires.1 _ c.requires.3 c.loop-m.invariant.0 c.loop-m.invariant.1 c.loop-m-test.true _ c.index.ensures.0 _ c.low_cell-low.ensures)
+    omega (arith, lows_fit c.requires.0 c.requires.1 _ c.requires.3 c.loop-m.invariant.0 c.loop-m.invariant.1 c.loop-m-test.true _ c.from.ensures _ c.low_cell-low.ensures)
 
 pub loop-m-preserved : goal.loop-m-preserved
 loop-m-preserved c = (
-  highs_next c.requires.0 c.requires.1 _ c.requires.3 c.loop-m.invariant.0 c.loop-m.invariant.1 c.loop-m-test.true _ c.index.ensures.0 _ c.high_cell-high.ensures,
-  lows_next c.requires.0 c.requires.1 _ c.requires.3 c.loop-m.invariant.0 c.loop-m.invariant.1 c.loop-m-test.true _ c.index.ensures.0 _ c.low_cell-low.ensures,
+  highs_next c.requires.0 c.requires.1 _ c.requires.3 c.loop-m.invariant.0 c.loop-m.invariant.1 c.loop-m-test.true _ c.from.ensures c.if-step.false _ c.high_cell-high.ensures,
+  lows_next c.requires.0 c.requires.1 _ c.requires.3 c.loop-m.invariant.0 c.loop-m.invariant.1 c.loop-m-test.true _ c.from.ensures _ c.low_cell-low.ensures,
 )
 
 pub returns : goal.returns
 returns c =
-    joint_whole c.requires.0 c.requires.1 _ c.requires.3 c.loop-m.invariant.0 c.loop-m.invariant.1 (omega (arith, c.loop-m-test.false))
+    joint_whole c.requires.0 c.requires.1 _ c.requires.3 c.loop-m.invariant.0 c.loop-m.invariant.1 (omega arith) c.loop-m-test.false

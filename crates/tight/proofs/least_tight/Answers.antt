@@ -1,58 +1,43 @@
 use Rattle.basics.specs.Words.{arith}
 use Rattle.tight.proofs.Tests.{not_keeps, step_leads, step_pre, keeps_step, trying_start, trying_end, trying_found, trying_next}
 use Rattle.tight.proofs.least_tight.Goals as goal
-use Rattle.tight.proofs.least_tight.Goals.{then-step-lt-NOWHERE+else-keeps, else-step-lt-NOWHERE}
+use Rattle.tight.proofs.least_tight.Goals.{in-Some+else-keeps, in_default}
 
 pub loop-left-init : goal.loop-left-init
 loop-left-init c = trying_start
 
-pub least-output-requires : goal.least-output-requires
-least-output-requires c = c.loop-left-test.true
-
-pub joint_at-step-requires : goal.joint_at-step-requires
-joint_at-step-requires c =
-    (c.requires.columns, c.requires.weights, omega (arith, c.least-output.ensures.1), c.requires.small)
-
 pub overflow_add-base : goal.overflow_add-base
 overflow_add-base c =
-    let J = c.joint_at-step.ensures in
+    let J = c.in-Some.ensures in
     let e = c.least-output.ensures in
-    omega (arith, (step_leads _ _ _ J c.if-step-lt-NOWHERE.true c.requires (omega (arith, e.1))).few)
+    omega (arith, (step_leads _ _ _ J.1 J.0 c.requires (omega (arith, e.1))).few)
 
 pub label_at-rest-requires : goal.label_at-rest-requires
 label_at-rest-requires c =
-    let J = c.joint_at-step.ensures in
+    let J = c.in-Some.ensures in
     let e = c.least-output.ensures in
-    let L = step_leads _ _ _ J c.if-step-lt-NOWHERE.true c.requires (omega (arith, e.1)) in
+    let L = step_leads _ _ _ J.1 J.0 c.requires (omega (arith, e.1)) in
     (L.node, L.few)
 
 pub keeps-requires : goal.keeps-requires
 keeps-requires c =
-    let J = c.joint_at-step.ensures in
+    let J = c.in-Some.ensures in
     let e = c.least-output.ensures in
-    step_pre _ _ _ J c.if-step-lt-NOWHERE.true c.requires (omega (arith, e.1)) _ c.label_at-rest.ensures
+    step_pre _ _ _ J.1 J.0 c.requires (omega (arith, e.1)) _ c.label_at-rest.ensures
 
 pub returns-then-keeps : goal.returns-then-keeps
 returns-then-keeps c =
-    let J = c.joint_at-step.ensures in
+    let J = c.in-Some.ensures in
     let e = c.least-output.ensures in
-    trying_found c.loop-left.invariant _ e.0 e.1 e.2 J _ c.label_at-rest.ensures (c.keeps.ensures.0 c.if-keeps.true)
-
-pub without_least-left-requires : goal.without_least-left-requires
-without_least-left-requires c =
-    c.loop-left-test.true
-
-pub loop-left-smaller : goal.loop-left-smaller
-loop-left-smaller c = c.without_least-left.ensures.0
+    trying_found c.loop-left.invariant _ e.0 e.1 e.2 J.1 _ c.label_at-rest.ensures (c.keeps.ensures.0 c.if-keeps.true)
 
 pub loop-left-preserved : goal.loop-left-preserved
 loop-left-preserved c =
-    let J = c.joint_at-step.ensures in
     let e = c.least-output.ensures in
     trying_next c.loop-left.invariant _ e.0 e.1 e.2
-    (elim c.if-step-lt-NOWHERE.branch [
-      | then-step-lt-NOWHERE+else-keeps w ↦ (λ b. w.keeps.ensures.1 w.if-keeps.false (keeps_step _ _ _ J w.if-step-lt-NOWHERE.true _ w.label_at-rest.ensures b))
-      | else-step-lt-NOWHERE w ↦ not_keeps _ _ _ J (omega (arith, w.if-step-lt-NOWHERE.false))
+    (elim c.match-joint_at.branch [
+      | in-Some+else-keeps w ↦ (λ b. w.keeps.ensures.1 w.if-keeps.false (keeps_step _ _ _ w.in-Some.ensures.1 w.in-Some.ensures.0 _ w.label_at-rest.ensures b))
+      | in_default w ↦ not_keeps _ _ _ _ _ _ _ _ _ w.in_default.ensures
     ])
     _ c.without_least-left.ensures.1
 

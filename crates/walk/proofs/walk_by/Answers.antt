@@ -1,17 +1,12 @@
-use Rattle.std.specs.Prelude.{◌≡◌, ◌&&◌, ◌≢◌, ◌+◌, ◌*◌, ◌%◌, ◌<◌, ◌≤◌}
-use Rattle.basics.specs.Words.{refl, sym, ◌∙◌, ap, subst, true, not, List, ⊎_elim, ℕ, arith, length, length-set, eqb, member}
-use Rattle.machine.specs.Symbols.{empty_symbol}
-use Rattle.paths.specs.Costs.{Labels}
-use Rattle.paths.specs.Ranked.{ranked_costs}
-use Rattle.paths.specs.Walk.{Tight}
-use Rattle.product.specs.Laws.LeastPair.{Finding, some_left}
-use Rattle.entering.specs.Entering.{cell_graph}
-use Rattle.walk.proofs.Nodes.{At, node_of, Ground, Reached, reached_same, pairs_written}
+use Rattle.std.specs.Prelude.{◌≡◌, ◌&&◌, ◌≢◌, ◌+◌, ◌%◌, ◌<◌}
+use Rattle.basics.specs.Words.{refl, sym, ◌∙◌, ap, subst, true, not, ℕ, arith, length, length-set, eqb, member}
+use Rattle.product.specs.Laws.LeastPair.{some_left}
+use Rattle.walk.proofs.Nodes.{At, reached_same, pairs_written}
 use Rattle.walk.proofs.Passing.{states_are, states_count, hand_pre, symbol_within, symbol_way, places_pre, insertion_way, ways_start, way_least, way_none, way_go, way_falls, way_next}
 use Rattle.walk.proofs.Ends.{ends_pre, walked_end}
-use Rattle.walk.proofs.Walking.{ground, ground_there, counts_ok, machines_are, machines_few, machines_of_lem, machines_within, insertions_fill, nodes, base_few, sets_few, start_there, starts_walk}
+use Rattle.walk.proofs.Walking.{ground, ground_there, counts_ok, machines_are, machines_few, machines_of_lem, machines_within, nodes, base_few, sets_few, start_there, starts_walk}
 use Rattle.walk.proofs.walk_by.Goals as goal
-use Rattle.walk.proofs.walk_by.Goals.{then-input-eq-EMPTY+else-least-lt64, else-input-eq-EMPTY+else-least-lt64-2}
+use Rattle.walk.proofs.walk_by.Goals.{then-input-eq-EMPTY+in_default, else-input-eq-EMPTY+in_default-least_tight}
 
 pub width_of-width-requires : goal.width_of-width-requires
 width_of-width-requires c =
@@ -53,19 +48,19 @@ pub slice_bounds-least_tight-end : goal.slice_bounds-least_tight-end
 slice_bounds-least_tight-end c =
     machines_of_lem c.requires.0 _ c.places_of.ensures.size
 
-pub least_tight-least-requires : goal.least_tight-least-requires
-least_tight-least-requires c =
+pub least_tight-requires : goal.least_tight-requires
+least_tight-requires c =
     let G = ground_there c.requires.0 in
     let O = c.loop-low.invariant.0 _ G in
     let R = reached_same c.least.invariant.1 (c.least.invariant.2 _) O in
     way_least G R (insertion_way G O c.requires.0.counts_are refl c.places_of.ensures c.prepare-kept.ensures c.if-input-eq-EMPTY.true) (nodes c.requires.0)
 
-pub slice_bounds-places-end-then-least-lt64 : goal.slice_bounds-places-end-then-least-lt64
-slice_bounds-places-end-then-least-lt64 c =
+pub slice_bounds-places-end-in-Some : goal.slice_bounds-places-end-in-Some
+slice_bounds-places-end-in-Some c =
     machines_within c.requires.0 c.places_of.new.places c.places_of.ensures.size
 
-pub slice_bounds-go_on-end-then-least-lt64-2 : goal.slice_bounds-go_on-end-then-least-lt64-2
-slice_bounds-go_on-end-then-least-lt64-2 c =
+pub slice_bounds-go_on-end-in-Some-2 : goal.slice_bounds-go_on-end-in-Some-2
+slice_bounds-go_on-end-in-Some-2 c =
     machines_of_lem c.requires.0 _ c.places_of.ensures.size
 
 pub go_on-requires : goal.go_on-requires
@@ -73,7 +68,7 @@ go_on-requires c =
     let G = ground_there c.requires.0 in
     let O = c.loop-low.invariant.0 _ G in
     let R = reached_same c.least.invariant.1 (c.least.invariant.2 _) O in
-    way_go G R (insertion_way G O c.requires.0.counts_are refl c.places_of.ensures c.prepare-kept.ensures c.if-input-eq-EMPTY.true) c.least_tight-least.ensures (c.least.invariant.0 _ G _ _ O) c.if-least-lt64.true c.least-input.ensures.0
+    way_go G R (insertion_way G O c.requires.0.counts_are refl c.places_of.ensures c.prepare-kept.ensures c.if-input-eq-EMPTY.true) (c.least.invariant.0 _ G _ _ O) c.in-Some.ensures c.least-input.ensures.0
 
 pub overflow_add-written : goal.overflow_add-written
 overflow_add-written c =
@@ -122,32 +117,32 @@ pub slice_bounds-least_tight-end-else-input-eq-EMPTY-2 : goal.slice_bounds-least
 slice_bounds-least_tight-end-else-input-eq-EMPTY-2 c =
     machines_of_lem c.requires.0 _ refl
 
-pub least_tight-least-requires-else-input-eq-EMPTY : goal.least_tight-least-requires-else-input-eq-EMPTY
-least_tight-least-requires-else-input-eq-EMPTY c =
+pub least_tight-requires-else-input-eq-EMPTY : goal.least_tight-requires-else-input-eq-EMPTY
+least_tight-requires-else-input-eq-EMPTY c =
     let G = ground_there c.requires.0 in
     let O = c.loop-low.invariant.0 _ G in
     let R = reached_same c.least.invariant.1 (c.least.invariant.2 _) O in
     let T = c.least.invariant.0 _ G _ _ O in
     way_least G R (symbol_way G R (machines_are c.requires.0) (c.fill_at-outputs.auto.steps ∙ c.least.invariant.3) c.fill_at-outputs.ensures T c.least-input.ensures.2 c.if-input-eq-EMPTY.false) (nodes c.requires.0)
 
-pub slice_bounds-hand-end-then-least-lt64-2 : goal.slice_bounds-hand-end-then-least-lt64-2
-slice_bounds-hand-end-then-least-lt64-2 c =
+pub slice_bounds-hand-end-in-Some-least_tight : goal.slice_bounds-hand-end-in-Some-least_tight
+slice_bounds-hand-end-in-Some-least_tight c =
     machines_few c.requires.0
 
-pub slice_bounds-go_on-end-then-least-lt64-2-5 : goal.slice_bounds-go_on-end-then-least-lt64-2-5
-slice_bounds-go_on-end-then-least-lt64-2-5 c =
+pub slice_bounds-go_on-end-in-Some-least_tight-4 : goal.slice_bounds-go_on-end-in-Some-least_tight-4
+slice_bounds-go_on-end-in-Some-least_tight-4 c =
     machines_of_lem c.requires.0 _ refl
 
-pub go_on-requires-then-least-lt64-2 : goal.go_on-requires-then-least-lt64-2
-go_on-requires-then-least-lt64-2 c =
+pub go_on-requires-in-Some-least_tight : goal.go_on-requires-in-Some-least_tight
+go_on-requires-in-Some-least_tight c =
     let G = ground_there c.requires.0 in
     let O = c.loop-low.invariant.0 _ G in
     let R = reached_same c.least.invariant.1 (c.least.invariant.2 _) O in
     let T = c.least.invariant.0 _ G _ _ O in
-    way_go G R (symbol_way G R (machines_are c.requires.0) (c.fill_at-outputs.auto.steps ∙ c.least.invariant.3) c.fill_at-outputs.ensures T c.least-input.ensures.2 c.if-input-eq-EMPTY.false) c.least_tight-least-else-input-eq-EMPTY.ensures T c.if-least-lt64-2.true c.least-input.ensures.0
+    way_go G R (symbol_way G R (machines_are c.requires.0) (c.fill_at-outputs.auto.steps ∙ c.least.invariant.3) c.fill_at-outputs.ensures T c.least-input.ensures.2 c.if-input-eq-EMPTY.false) T c.in-Some-least_tight.ensures c.least-input.ensures.0
 
-pub overflow_add-written-then-least-lt64-2 : goal.overflow_add-written-then-least-lt64-2
-overflow_add-written-then-least-lt64-2 c =
+pub overflow_add-written-in-Some-least_tight : goal.overflow_add-written-in-Some-least_tight
+overflow_add-written-in-Some-least_tight c =
     let G = ground_there c.requires.0 in
     let O = c.loop-low.invariant.0 _ G in
     let R = reached_same c.least.invariant.1 (c.least.invariant.2 _) O in
@@ -162,28 +157,28 @@ least-preserved c =
       λ L G code before O.
           let R = reached_same c.least.invariant.1 (c.least.invariant.2 code) O in
           let T = c.least.invariant.0 L G code before O in
-          (elim c.if-input-eq-EMPTY.branch [ then-input-eq-EMPTY+else-least-lt64 w ↦ way_none G R (insertion_way G O C refl c.places_of.ensures c.prepare-kept.ensures w.if-input-eq-EMPTY.true) w.least_tight-least.ensures T w.if-least-lt64.false _ after | else-input-eq-EMPTY+else-least-lt64-2 w ↦ way_none G R (symbol_way G R e (w.fill_at-outputs.auto.steps ∙ c.least.invariant.3) w.fill_at-outputs.ensures T x.2 w.if-input-eq-EMPTY.false) w.least_tight-least-else-input-eq-EMPTY.ensures T w.if-least-lt64-2.false _ after ]),
+          (elim c.if-input-eq-EMPTY.branch [ then-input-eq-EMPTY+in_default w ↦ way_none G R (insertion_way G O C refl c.places_of.ensures c.prepare-kept.ensures w.if-input-eq-EMPTY.true) T w.in_default.ensures _ after | else-input-eq-EMPTY+in_default-least_tight w ↦ way_none G R (symbol_way G R e (w.fill_at-outputs.auto.steps ∙ c.least.invariant.3) w.fill_at-outputs.ensures T x.2 w.if-input-eq-EMPTY.false) T w.in_default-least_tight.ensures _ after ]),
       c.least.invariant.1,
       c.least.invariant.2,
-      (elim c.if-input-eq-EMPTY.branch [ then-input-eq-EMPTY+else-least-lt64 w ↦ ap length w.steps-is ∙ c.least.invariant.3 | else-input-eq-EMPTY+else-least-lt64-2 w ↦ ap length w.steps-is ∙ w.fill_at-outputs.auto.steps ∙ c.least.invariant.3 ]),
+      (elim c.if-input-eq-EMPTY.branch [ then-input-eq-EMPTY+in_default w ↦ ap length w.steps-is ∙ c.least.invariant.3 | else-input-eq-EMPTY+in_default-least_tight w ↦ ap length w.steps-is ∙ w.fill_at-outputs.auto.steps ∙ c.least.invariant.3 ]),
     )
 
-pub loop-low-smaller-then-least-lt64 : goal.loop-low-smaller-then-least-lt64
-loop-low-smaller-then-least-lt64 c =
+pub loop-low-smaller-in-Some : goal.loop-low-smaller-in-Some
+loop-low-smaller-in-Some c =
     let G = ground_there c.requires.0 in
     let O = c.loop-low.invariant.0 _ G in
     let R = reached_same c.least.invariant.1 (c.least.invariant.2 _) O in
     let T = c.least.invariant.0 _ G _ _ O in
     let same : c.least.low ≡ c.loop-low.low = ap (λ (a : At). a.label.low) (c.least.invariant.2 0) in
-    subst (λ (n : ℕ). c.least_tight-least.result.low < n) same (way_falls G R (insertion_way G O c.requires.0.counts_are refl c.places_of.ensures c.prepare-kept.ensures c.if-input-eq-EMPTY.true) c.least_tight-least.ensures T c.if-least-lt64.true)
+    subst (λ (n : ℕ). c.in-Some.least.low < n) same (way_falls G R (insertion_way G O c.requires.0.counts_are refl c.places_of.ensures c.prepare-kept.ensures c.if-input-eq-EMPTY.true) T c.in-Some.ensures)
 
-pub loop-low-preserved-then-least-lt64 : goal.loop-low-preserved-then-least-lt64
-loop-low-preserved-then-least-lt64 c = (
+pub loop-low-preserved-in-Some : goal.loop-low-preserved-in-Some
+loop-low-preserved-in-Some c = (
   λ L G.
       let O = c.loop-low.invariant.0 L G in
       let R = reached_same c.least.invariant.1 (c.least.invariant.2 _) O in
       let T = c.least.invariant.0 L G _ _ O in
-      way_next G R (insertion_way G O c.requires.0.counts_are refl c.places_of.ensures c.prepare-kept.ensures c.if-input-eq-EMPTY.true) c.least_tight-least.ensures T c.if-least-lt64.true c.least-input.ensures.0 c.go_on.ensures,
+      way_next G R (insertion_way G O c.requires.0.counts_are refl c.places_of.ensures c.prepare-kept.ensures c.if-input-eq-EMPTY.true) T c.in-Some.ensures c.least-input.ensures.0 c.go_on.ensures,
   c.least.invariant.3,
   ap length c.go_on.ensures.bytes ∙ simp length-set (ap length c.least.invariant.1 ∙ c.loop-low.invariant.2),
 )
@@ -195,7 +190,7 @@ loop-low-smaller c =
     let R = reached_same c.least.invariant.1 (c.least.invariant.2 _) O in
     let T = c.least.invariant.0 _ G _ _ O in
     let same : c.least.low ≡ c.loop-low.low = ap (λ (a : At). a.label.low) (c.least.invariant.2 0) in
-    subst (λ (n : ℕ). c.least_tight-least-else-input-eq-EMPTY.result.low < n) same (way_falls G R (symbol_way G R (machines_are c.requires.0) (c.fill_at-outputs.auto.steps ∙ c.least.invariant.3) c.fill_at-outputs.ensures T c.least-input.ensures.2 c.if-input-eq-EMPTY.false) c.least_tight-least-else-input-eq-EMPTY.ensures T c.if-least-lt64-2.true)
+    subst (λ (n : ℕ). c.in-Some-least_tight.least.low < n) same (way_falls G R (symbol_way G R (machines_are c.requires.0) (c.fill_at-outputs.auto.steps ∙ c.least.invariant.3) c.fill_at-outputs.ensures T c.least-input.ensures.2 c.if-input-eq-EMPTY.false) T c.in-Some-least_tight.ensures)
 
 pub loop-low-preserved : goal.loop-low-preserved
 loop-low-preserved c = (
@@ -203,9 +198,9 @@ loop-low-preserved c = (
       let O = c.loop-low.invariant.0 L G in
       let R = reached_same c.least.invariant.1 (c.least.invariant.2 _) O in
       let T = c.least.invariant.0 L G _ _ O in
-      way_next G R (symbol_way G R (machines_are c.requires.0) (c.fill_at-outputs.auto.steps ∙ c.least.invariant.3) c.fill_at-outputs.ensures T c.least-input.ensures.2 c.if-input-eq-EMPTY.false) c.least_tight-least-else-input-eq-EMPTY.ensures T c.if-least-lt64-2.true c.least-input.ensures.0 c.go_on-then-least-lt64-2.ensures,
+      way_next G R (symbol_way G R (machines_are c.requires.0) (c.fill_at-outputs.auto.steps ∙ c.least.invariant.3) c.fill_at-outputs.ensures T c.least-input.ensures.2 c.if-input-eq-EMPTY.false) T c.in-Some-least_tight.ensures c.least-input.ensures.0 c.go_on-in-Some-least_tight.ensures,
   c.fill_at-outputs.auto.steps ∙ c.least.invariant.3,
-  ap length c.go_on-then-least-lt64-2.ensures.bytes ∙ simp length-set (ap length c.least.invariant.1 ∙ c.loop-low.invariant.2),
+  ap length c.go_on-in-Some-least_tight.ensures.bytes ∙ simp length-set (ap length c.least.invariant.1 ∙ c.loop-low.invariant.2),
 )
 
 pub slice_bounds-states-end-2 : goal.slice_bounds-states-end-2

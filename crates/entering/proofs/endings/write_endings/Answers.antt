@@ -1,10 +1,9 @@
-use Rattle.basics.proofs.Words.{sym, ◌∙◌, arith, length-set}
+use Rattle.basics.proofs.Words.{arith, length-set}
 use Rattle.entering.proofs.LastPosition.{code_places, written_start, written_next, written_end}
 use Rattle.entering.proofs.endings.write_endings.Goals as goal
 
 pub loop-code-init : goal.loop-code-init
-loop-code-init c =
-    (omega arith, written_start c.requires.0)
+loop-code-init c = written_start c.requires.0
 
 pub overflow_mul-a : goal.overflow_mul-a
 overflow_mul-a c = omega (arith, code_places c.requires.0 {code = c.loop-code.code} (omega (arith, c.loop-code-test.true, c.requires.1)))
@@ -50,21 +49,14 @@ overflow_add-low c =
     omega (arith, (code_places c.requires.0 {code = c.loop-code.code} (omega (arith, c.loop-code-test.true, c.requires.1))).low_fits)
 
 pub bounds-own-at : goal.bounds-own-at
-bounds-own-at c = omega (arith, c.loop-code.invariant.1.size, (code_places c.requires.0 {code = c.loop-code.code} (omega (arith, c.loop-code-test.true, c.requires.1))).code_few)
+bounds-own-at c = omega (arith, c.loop-code.invariant.size, (code_places c.requires.0 {code = c.loop-code.code} (omega (arith, c.loop-code-test.true, c.requires.1))).code_few)
 
 pub bounds-own-at-in-loop-code : goal.bounds-own-at-in-loop-code
-bounds-own-at-in-loop-code c = simp length-set (omega (arith, c.loop-code.invariant.1.size, (code_places c.requires.0 {code = c.loop-code.code} (omega (arith, c.loop-code-test.true, c.requires.1))).code_few))
-
-pub loop-code-smaller : goal.loop-code-smaller
-loop-code-smaller c = omega (arith, c.loop-code-test.true)
+bounds-own-at-in-loop-code c = simp length-set (omega (arith, c.loop-code.invariant.size, (code_places c.requires.0 {code = c.loop-code.code} (omega (arith, c.loop-code-test.true, c.requires.1))).code_few))
 
 pub loop-code-preserved : goal.loop-code-preserved
 loop-code-preserved c =
-    (omega arith, written_next c.requires.0 c.loop-code.invariant.1 (omega (arith, c.loop-code-test.true, c.requires.1)) c.ending_label-label.result c.ending_label-label.ensures)
-
-pub shape_of-own : goal.shape_of-own
-shape_of-own c =
-    c.loop-code.invariant.1.size ∙ sym c.requires.0.size
+    written_next c.requires.0 c.loop-code.invariant (omega (arith, c.loop-code-test.true, c.requires.1)) c.ending_label-label.result c.ending_label-label.ensures
 
 pub returns : goal.returns
-returns c = written_end c.loop-code.invariant.1 c.loop-code.invariant.0 c.loop-code-test.false
+returns c = written_end c.loop-code.invariant (omega arith) c.loop-code-test.false
