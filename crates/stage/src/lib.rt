@@ -57,14 +57,7 @@ fn improves(work: &[u16], node: usize, stage: usize, count: u16, pairs: u16) -> 
     requires { NodePre work.now node stage }
     ensures { Compared work.now node stage (count, pairs) result }
 {
-    if work[node * 8] == 0 {
-        return true;
-    }
-    let its = work[node * 8 + 1 + stage];
-    if count != its {
-        return count < its;
-    }
-    pairs < work[node * 8 + 7]
+    work[node * 8] == 0 || (count, pairs) < (work[node * 8 + 1 + stage], work[node * 8 + 7])
 }
 
 // Writes the node's marks of the stage's constraint, and the number of pairs.
