@@ -1,11 +1,10 @@
 -- Laws of a stage's labels in the work slice: reading, comparing and writing one.
-use Rattle.std.specs.Prelude.{◌≡◌, ◌⊎◌, ◌≢◌, ◌+◌, ◌*◌, ◌≤◌, ◌<◌}
-use Rattle.basics.proofs.Words.{refl, sym, ◌∙◌, ap, subst, Bool, true, false, cond, false≢true, List, Option, none, some, inl, inr, ℕ, arith, length, get_or, set, length-set, eqb, ltb, get_or-set_same, get_or-set_other, ℕ_discrete, dec_lt, eqb-true, eq-eqb, ne_eqb, ltb-true, ltb-false}
-use Rattle.std.specs.Prelude.{Some}
+use Rattle.std.specs.Prelude.{◌≡◌, ◌⊎◌, ◌≢◌, ◌+◌, ◌*◌, ◌≤◌, ◌<◌, Some}
 use Rattle.std.specs.declared.cmp.Ordering.{Ordering}
 use Rattle.std.specs.declared.cmp.Ordering.TheVariants as Ordering
 use Rattle.std.specs.Ordering.{MatchOrdering, is_lt, is_some_and, partial_lt, partial_ordering_then, nat_cmp}
 use Rattle.std.specs.Cmp.{ranks}
+use Rattle.basics.proofs.Words.{refl, sym, ◌∙◌, ap, subst, Bool, true, false, cond, false≢true, List, Option, none, some, inl, inr, ℕ, arith, length, get_or, set, length-set, eqb, ltb, get_or-set_same, get_or-set_other, ℕ_discrete, dec_lt, eqb-true, eq-eqb, ne_eqb, ltb-true, ltb-false}
 use Rattle.paths.specs.Costs.{AtMost, Above, kept, lowered, above_none, above_some}
 use Rattle.paths.specs.Ranked.{Ranked, Less, count_at}
 use Rattle.tables.specs.Marks.{marks_cost}
