@@ -4,9 +4,6 @@ use Rattle.cull.specs.Culling.{CodesEnded}
 use Rattle.cull.proofs.Ending.{ending_places, ended_start, ended_next, ended_end}
 use Rattle.cull.proofs.try_endings.Goals as goal
 
-pub loop-code-init : goal.loop-code-init
-loop-code-init c = (omega arith, ended_start)
-
 pub nonzero_div-a : goal.nonzero_div-a
 nonzero_div-a c =
     omega (arith, c.requires.some_back)
@@ -73,22 +70,13 @@ overflow_add-base c =
 
 pub try_ending-requires : goal.try_ending-requires
 try_ending-requires c =
-    (record { node = omega (arith, c.loop-code-test.true, c.requires.nodes, c.loop-code.invariant.1.size); stage = c.requires.stage }, omega (arith, c.loop-code-test.true, c.requires.few_nodes))
+    (record { node = omega (arith, c.loop-code-test.true, c.requires.nodes, c.loop-code.invariant.size); stage = c.requires.stage }, omega (arith, c.loop-code-test.true, c.requires.few_nodes))
 
-pub overflow_add-code : goal.overflow_add-code
-overflow_add-code c =
-    omega (arith, c.loop-code-test.true, c.requires.few)
-
-pub loop-code-smaller : goal.loop-code-smaller
-loop-code-smaller c =
-    omega (arith, c.loop-code-test.true)
+pub loop-code-init : goal.loop-code-init
+loop-code-init c = ended_start
 
 pub loop-code-preserved : goal.loop-code-preserved
-loop-code-preserved c =
-    (omega (arith, c.loop-code-test.true), ended_next c.loop-code.invariant.1 c.try_ending.ensures)
-
-pub shape_of-work : goal.shape_of-work
-shape_of-work c = c.loop-code.invariant.1.size
+loop-code-preserved c = ended_next c.loop-code.invariant c.try_ending.ensures
 
 pub returns : goal.returns
-returns c = ended_end c.loop-code.invariant.1 (omega (arith, c.loop-code.invariant.0, c.loop-code-test.false))
+returns c = ended_end c.loop-code.invariant (omega (arith, c.loop-code.auto.code-end, c.loop-code-test.false))
