@@ -7,23 +7,6 @@ use Rattle.cull.proofs.Culling.{PositionDone, lent_kept, last_pre, last_entered,
 use Rattle.cull.proofs.label_stage.Goals as goal
 
 -- ---- before the loop
-pub overflow_add-sets : goal.overflow_add-sets
-overflow_add-sets c =
-    omega (arith, c.requires.0.1.given.setting.few)
-
-pub overflow_mul-sets : goal.overflow_mul-sets
-overflow_mul-sets c =
-    omega (arith, few_nodes c.requires.0.1.given.setting)
-
-pub blank-requires : goal.blank-requires
-blank-requires c =
-    omega (arith, c.requires.0.1.given.room)
-
-pub overflow_mul-base : goal.overflow_mul-base
-overflow_mul-base c =
-    let q = c.requires.0.1.given.setting in
-    omega (arith, few_nodes q, position_there q (length c.args.sets.now) (omega arith))
-
 pub enter_last-requires : goal.enter_last-requires
 enter_last-requires c =
     last_pre (last_ready c.requires.0.1 c.blank.ensures) c.requires.1
@@ -36,11 +19,6 @@ settle-requires c =
 -- ---- in the loop
 pub loop-position-init : goal.loop-position-init
 loop-position-init c = λ r Q. last_labelled Q c.requires.1 c.blank.ensures c.enter_last.ensures c.settle.ensures
-
-pub overflow_mul-base-in-loop-position : goal.overflow_mul-base-in-loop-position
-overflow_mul-base-in-loop-position c =
-    let q = c.requires.0.1.given.setting in
-    omega (arith, few_nodes q, position_there q (c.loop-position.position - 1) (omega (arith, c.loop-position.auto.position)))
 
 pub enter_symbols-requires : goal.enter_symbols-requires
 enter_symbols-requires c =
