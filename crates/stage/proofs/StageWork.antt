@@ -1,16 +1,15 @@
 -- Laws of a stage's labels in the work slice: reading, comparing and writing one.
 use Rattle.std.specs.Prelude.{◌≡◌, ◌⊎◌, ◌≢◌, ◌+◌, ◌*◌, ◌≤◌, ◌<◌, Some}
 use Rattle.std.specs.declared.cmp.Ordering.{Ordering}
-use Rattle.std.specs.declared.cmp.Ordering.TheVariants as Ordering
 use Rattle.std.specs.Ordering.{MatchOrdering, is_lt, is_some_and, partial_lt, partial_ordering_then, nat_cmp}
 use Rattle.std.specs.Cmp.{ranks}
-use Rattle.basics.proofs.Words.{refl, sym, ◌∙◌, ap, subst, Bool, true, false, cond, false≢true, List, Option, none, some, inl, inr, ℕ, arith, length, get_or, set, length-set, eqb, ltb, get_or-set_same, get_or-set_other, ℕ_discrete, dec_lt, eqb-true, eq-eqb, ne_eqb, ltb-true, ltb-false}
+use Rattle.basics.proofs.Words.{refl, sym, ◌∙◌, ap, subst, Bool, true, false, cond, false≢true, List, Option, none, some, inl, inr, ℕ, arith, length, get_or, set, length-set, eqb, get_or-set_same, get_or-set_other, ℕ_discrete, dec_lt, eqb-true, eq-eqb, ne_eqb}
 use Rattle.paths.specs.Costs.{AtMost, Above, kept, lowered, above_none, above_some}
 use Rattle.paths.specs.Ranked.{Ranked, Less, count_at}
 use Rattle.tables.specs.Marks.{marks_cost}
 use Rattle.tables.specs.MarksLaws.{nibbles_most}
 use Rattle.tables.specs.Work.{state_of}
-use Rattle.stage.specs.Below.{Below, below_none}
+use Rattle.stage.specs.Below.{Below}
 use Rattle.stage.specs.StageLabels.{count_of, pair_count_of, stage_label}
 use Rattle.stage.specs.Relaxing.{Makes, counts_of, LeftTold, Compared, Written, Lowered, ArcPre, ArcTried}
 use Rattle.stage.proofs.Totals.{height_less, total_less}
@@ -35,9 +34,6 @@ module _ (xs : List ℕ) (k u : ℕ) where
 -- the counts below k are made by the marks m and what comes after
 pub record KeptBelow (xs : List ℕ) (u m : ℕ) (after : ℕ → ℕ) (k : ℕ) : Type 0 where
   pub is : Below (Makes xs u m after) k
-
-pub left_start : {xs : List ℕ} {u m : ℕ} {after : ℕ → ℕ} → KeptBelow xs u m after 0
-left_start {xs} {u} {m} {after} = record { is = below_none (Makes xs u m after) }
 
 pub left_next : {xs : List ℕ} {u m i : ℕ} {after : ℕ → ℕ} {a : ℕ} → KeptBelow xs u m after i → a ≡ count_at 6 i (marks_cost m) → count_of xs i u ≡ a + after i → KeptBelow xs u m after (i + 1)
 left_next {xs} {u} {m} {i} {after} f e h = record { is = λ j l. go j l (ℕ_discrete j i) }
