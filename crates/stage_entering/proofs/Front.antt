@@ -142,9 +142,6 @@ front_room {step = step} Q h s = omega (arith, h, div-le_self step (2 ^ s), (Q.a
 
 -- ---- looking ahead
 
-pub look_start : {xs ahead : List ℕ} {k t : ℕ} → AheadOf xs k t 0 ahead
-look_start = record { each = λ c h. absurd (omega arith) }
-
 pub look_next : {xs ahead : List ℕ} {k t n r : ℕ} → n < length ahead → AheadOf xs k t n ahead → FrontCounts xs k (t + n) r → AheadOf xs k t (n + 1) (set ahead n r)
 look_next {xs} {ahead} {k} {t} {n} {r} h A F = record { each = λ c l. each c l (ℕ_discrete c n) }
   where

@@ -109,9 +109,6 @@ first_sum_lem {a = a} {b = b} P = rw (add-zero a, add-zero b) at (P.sums 0 (omeg
 
 -- ---- the codes of a position
 
-pub codes_start : {xs high low : List ℕ} {front back k b t : ℕ} → CodesTried xs xs high low front back k b t 0
-codes_start {b = b} = record { size = refl; counts = λ i w h. refl; others = λ w d. refl; relaxes = λ S p E A. relaxes_nothing S A (FoursOf p b 0) (λ w q z. omega (arith, z.0, z.1)) }
-
 pub codes_next : {xs ys zs high low : List ℕ} {front back k b t n : ℕ} → CodesTried xs ys high low front back k b t n → LanesTried ys zs high low (n / back * 4) ((front + n % back) * 4) (b + n) t k 4 → CodesTried xs zs high low front back k b t (n + 1)
 codes_next {xs} {ys} {zs} {high} {low} {front} {back} {k} {b} {t} {n} C L = record {
   size = L.size ∙ C.size;

@@ -270,9 +270,6 @@ module _ {xs ys os entries ends : List ℕ} {k b P n : ℕ} (Z : Settling xs ys 
     from = Q.from;
   }
 
-  pub open_there : SettlePre xs entries ends k b P → OpenIn ys os b
-  open_there Q = record { bits = Z.bits; few = omega (arith, Q.few_nodes); there = λ w h. omega (arith, Z.inside w h, Z.size, Q.nodes) }
-
   pub settling_end : n ≤ 0 → ((w : ℕ) → is_open os w ≡ false) → SettledBy xs ys entries ends k b P
   settling_end z o = record { size = Z.size; counts = Z.counts; others = Z.others; falls = Z.falls; attained = Z.attained; closed = λ v at p. Z.relaxed v at (omega arith) p (o v) }
 
