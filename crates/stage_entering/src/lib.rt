@@ -34,7 +34,7 @@ fn own_count(work: &[u16], node: usize, stage: usize) -> u64
     count_at(work, node, stage)
 }
 
-// A node's counts of the first three constraints, or of those up to the stage, as one number.
+// A node's counts of the first three constraints, or of those up to the stage, as one number. No match or loop: each case goes on from the one before.
 fn front_counts(work: &[u16], node: usize, stage: usize) -> u64
     requires { NodePre work.now node stage }
     ensures { FrontCounts work.now stage node result }

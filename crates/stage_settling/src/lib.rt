@@ -20,7 +20,8 @@ fn is_before(work: &[u16], a: usize, b: usize, stage: usize) -> bool
     (work[a * 8 + 1 + stage], work[a * 8 + 7]) < (work[b * 8 + 1 + stage], work[b * 8 + 7])
 }
 
-// A code of one half of the open ones, which is not empty; one with the fewest marks, and then pairs.
+// A code of one half of the open ones, which is not empty; one with the fewest marks, and then pairs. The like in settling reads labels of another
+// form: one function for both would take a closure, with needs of its own for every code, and be no plainer.
 fn choose_in(work: &[u16], set: u64, first: usize, base: usize, stage: usize) -> usize
     requires { (0 < set) × SomeIn work.now set first base × (stage < 6) }
     ensures { OneIn set first result }
