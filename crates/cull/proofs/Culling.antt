@@ -41,9 +41,6 @@ use Rattle.cull.proofs.NextStage.{stage_count_told, fewest_told, least_told, las
 
 -- ---- taking the labels of the stage before
 
-pub blank_start : (xs : List ℕ) → Blanked xs xs 0
-blank_start xs = record { size = refl; states = λ u h. absurd (omega arith); counts = λ i w h. refl }
-
 pub blank_next : {xs ys : List ℕ} {n : ℕ} → n * 8 < length ys → Blanked xs ys n → Blanked xs (set ys (n * 8) 0) (n + 1)
 blank_next {xs} {ys} {n} r B = record {
   size = length-set ys (n * 8) 0 ∙ B.size;
@@ -54,9 +51,6 @@ blank_next {xs} {ys} {n} r B = record {
     state : (u : ℕ) → u < n + 1 → Dec (u ≡ n) → state_of (set ys (n * 8) 0) u ≡ 0
     state u h (yes q) = rw q (get_or-set_same ys (n * 8) 0 0 r)
     state u h (no d) = get_or-set_other ys (n * 8) (u * 8) 0 0 (λ e. d (omega (arith, e))) ∙ B.states u (omega arith)
-
-pub blank_end : {xs ys : List ℕ} {i n : ℕ} → Blanked xs ys i → i ≡ n → Blanked xs ys n
-blank_end B q = rw q at B
 
 -- ---- what is lent stays
 
@@ -304,9 +298,6 @@ module _ {card ranking sets cs ws entries ends xs : List ℕ} {P j : ℕ} (Q : C
   pub counts_few : length cs ≤ 6
   counts_few = omega (arith, counts_length, machines_few Q.setting)
 
-pub clear_start : (xs : List ℕ) (k : ℕ) → PlaceCleared xs xs 0 k
-clear_start xs k = record { size = refl; states = λ w. refl; pair_counts = λ w. refl; counts = λ i w h. refl; cleared = λ w h. absurd (omega arith) }
-
 pub clear_next : {xs ys : List ℕ} {n k : ℕ} → k < 6 → n * 8 + 1 + k < length ys → PlaceCleared xs ys n k → PlaceCleared xs (set ys (n * 8 + 1 + k) 0) (n + 1) k
 clear_next {xs} {ys} {n} {k} few r B = record {
   size = length-set ys (n * 8 + 1 + k) 0 ∙ B.size;
@@ -322,9 +313,6 @@ clear_next {xs} {ys} {n} {k} few r B = record {
     count : (w : ℕ) → w < n + 1 → Dec (w ≡ n) → count_of (set ys (n * 8 + 1 + k) 0) k w ≡ 0
     count w h (yes q) = rw q (get_or-set_same ys (n * 8 + 1 + k) 0 0 r)
     count w h (no d) = get_or-set_other ys (n * 8 + 1 + k) (w * 8 + 1 + k) 0 0 (λ e. d (omega (arith, e))) ∙ B.cleared w (omega arith)
-
-pub clear_end : {xs ys : List ℕ} {i n k : ℕ} → PlaceCleared xs ys i k → i ≡ n → PlaceCleared xs ys n k
-clear_end B q = rw q at B
 
 -- the labels that a stage rests on are the same in another slice
 done_carried : {card ranking sets xs ys zs : List ℕ} {k : ℕ} → length zs ≡ length ys → ((i : ℕ) → i < suc k → stage_label ys i ≡ stage_label zs i) → StageDone card ranking sets xs ys k → StageDone card ranking sets xs zs k

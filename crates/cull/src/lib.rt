@@ -33,10 +33,8 @@ fn blank(work: &mut [u16], count: usize)
     requires { HasNodes work.old count }
     ensures { Blanked work.old work.new count }
 {
-    let mut i = 0;
-    while i < count {
-        work[i * 8] = 0;
-        i += 1;
+    for node in 0..count {
+        work[node * 8] = 0;
     }
 }
 
@@ -45,10 +43,8 @@ fn clear_place(work: &mut [u16], count: usize, place: usize)
     requires { HasNodes work.old count × (place < 6) }
     ensures { PlaceCleared work.old work.new count place }
 {
-    let mut i = 0;
-    while i < count {
-        work[i * 8 + 1 + place] = 0;
-        i += 1;
+    for node in 0..count {
+        work[node * 8 + 1 + place] = 0;
     }
 }
 
@@ -94,12 +90,10 @@ fn try_endings(work: &mut [u16], high: &[u64], low: &[u64], at: Site)
     let base = at.base;
     let stage = at.stage;
     let size = g.size;
-    let mut code = 0;
-    while code < size {
+    for code in 0..size {
         let a = code / back * 4;
         let b = (front + code % back) * 4;
         try_ending(work, high[a] + high[b], low[a] + low[b], base + code, stage);
-        code += 1;
     }
 }
 
@@ -145,8 +139,7 @@ fn label_stage(
 {
     let size = g.size;
     blank(work, (sets.len() + 1) * size);
-    let mut position = sets.len();
-    let base = position * size;
+    let base = sets.len() * size;
     let last = Site {
         groups: g,
         base,
@@ -154,8 +147,7 @@ fn label_stage(
     };
     enter_last(work, card, counts, weights, steps, high, low, last);
     settle(work, entries, ends, base, size, stage);
-    while position > 0 {
-        position -= 1;
+    for position in (0..sets.len()).rev() {
         let base = position * size;
         let at = Site {
             groups: g,
@@ -195,16 +187,14 @@ fn label_stages(
     ensures { (ranking : List ℕ) → CullPre card.now ranking sets.now counts.now weights.now entries.now ends.now work.old g.size 0 → StagesDone card.now ranking sets.now work.old work.new }
 {
     let size = g.size;
-    let mut stage = 0;
-    while stage < counts.len() {
+    let machines = counts.len();
+    for stage in 0..machines {
         label_stage(
             work, card, sets, counts, weights, entries, ends, steps, high, low, g, stage,
         );
-        stage += 1;
     }
-    while stage < 6 {
-        clear_place(work, (sets.len() + 1) * size, stage);
-        stage += 1;
+    for place in machines..6 {
+        clear_place(work, (sets.len() + 1) * size, place);
     }
 }
 

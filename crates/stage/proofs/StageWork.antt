@@ -1,13 +1,15 @@
 -- Laws of a stage's labels in the work slice: reading, comparing and writing one.
-use Rattle.std.specs.Prelude.{◌≡◌, ◌⊎◌, ◌≢◌, ◌+◌, ◌*◌, ◌≤◌, ◌<◌}
-use Rattle.basics.proofs.Words.{refl, sym, ◌∙◌, ap, subst, Bool, true, false, cond, false≢true, List, Option, none, some, inl, inr, ℕ, arith, length, get_or, set, length-set, eqb, ltb, get_or-set_same, get_or-set_other, ℕ_discrete, dec_lt, eqb-true, eq-eqb, ne_eqb, ltb-true, ltb-false}
-use Rattle.paths.specs.Total.{Upto}
+use Rattle.std.specs.Prelude.{◌≡◌, ◌⊎◌, ◌≢◌, ◌+◌, ◌*◌, ◌≤◌, ◌<◌, Some}
+use Rattle.std.specs.declared.cmp.Ordering.{Ordering}
+use Rattle.std.specs.Ordering.{MatchOrdering, is_lt, is_some_and, partial_lt, partial_ordering_then, nat_cmp}
+use Rattle.std.specs.Cmp.{ranks}
+use Rattle.basics.proofs.Words.{refl, sym, ◌∙◌, ap, subst, Bool, true, false, cond, false≢true, List, Option, none, some, inl, inr, ℕ, arith, length, get_or, set, length-set, eqb, get_or-set_same, get_or-set_other, ℕ_discrete, dec_lt, eqb-true, eq-eqb, ne_eqb}
 use Rattle.paths.specs.Costs.{AtMost, Above, kept, lowered, above_none, above_some}
 use Rattle.paths.specs.Ranked.{Ranked, Less, count_at}
 use Rattle.tables.specs.Marks.{marks_cost}
 use Rattle.tables.specs.MarksLaws.{nibbles_most}
 use Rattle.tables.specs.Work.{state_of}
-use Rattle.stage.specs.Below.{Below, below_none}
+use Rattle.stage.specs.Below.{Below}
 use Rattle.stage.specs.StageLabels.{count_of, pair_count_of, stage_label}
 use Rattle.stage.specs.Relaxing.{Makes, counts_of, LeftTold, Compared, Written, Lowered, ArcPre, ArcTried}
 use Rattle.stage.proofs.Totals.{height_less, total_less}
@@ -33,9 +35,6 @@ module _ (xs : List ℕ) (k u : ℕ) where
 pub record KeptBelow (xs : List ℕ) (u m : ℕ) (after : ℕ → ℕ) (k : ℕ) : Type 0 where
   pub is : Below (Makes xs u m after) k
 
-pub left_start : {xs : List ℕ} {u m : ℕ} {after : ℕ → ℕ} → KeptBelow xs u m after 0
-left_start {xs} {u} {m} {after} = record { is = below_none (Makes xs u m after) }
-
 pub left_next : {xs : List ℕ} {u m i : ℕ} {after : ℕ → ℕ} {a : ℕ} → KeptBelow xs u m after i → a ≡ count_at 6 i (marks_cost m) → count_of xs i u ≡ a + after i → KeptBelow xs u m after (i + 1)
 left_next {xs} {u} {m} {i} {after} f e h = record { is = λ j l. go j l (ℕ_discrete j i) }
   where
@@ -59,25 +58,24 @@ makes_broken {xs} {u} i v {a = a} h e p q = left_broken i h e (λ z. false≢tru
 -- ---- comparing
 
 module _ (xs : List ℕ) (k u : ℕ) where
-  pub compared_none : (c : Ranked 1) → state_of xs u ≡ 0 → Compared xs u k c true
-  compared_none c e = record { below = λ _. above_none (Less 1) c (stage_unlabelled xs k u e); upto = λ q. absurd (false≢true (sym q)) }
+  pub compared_none : (c : Ranked 1) → state_of xs u ≡ 0 → Compared xs u k c (eqb (state_of xs u) 0)
+  compared_none c e = record {
+    below = λ _. above_none (Less 1) c (stage_unlabelled xs k u e);
+    upto = λ q. absurd (false≢true (sym q ∙ eq-eqb (state_of xs u) 0 e));
+  }
 
   module _ (a n : ℕ) (labelled : state_of xs u ≢ 0) where
-    pub compared_count : a ≢ count_of xs k u → Compared xs u k (a, n) (ltb a (count_of xs k u))
-    compared_count d = record {
-      below = λ q. above_some (Less 1) (stage_labelled xs k u labelled) (inl (ltb-true a (count_of xs k u) q));
-      upto = λ q. record { val = (count_of xs k u, pair_count_of xs u); is = stage_labelled xs k u labelled; upto = inl (inl (omega (arith, ltb-false a (count_of xs k u) q))) };
-    }
+    -- by the order of the marks and that of the pairs
+    in_order : (r s : Ordering) → MatchOrdering r (a < count_of xs k u) (a ≡ count_of xs k u) (count_of xs k u < a) → MatchOrdering s (n < pair_count_of xs u) (n ≡ pair_count_of xs u) (pair_count_of xs u < n)
+        → Compared xs u k (a, n) (is_some_and is_lt (partial_ordering_then (Some r) (Some s)))
+    in_order Ordering.Less s h l = record { below = λ _. above_some (Less 1) (stage_labelled xs k u labelled) (inl h); upto = λ q. absurd (false≢true (sym q)) }
+    in_order Ordering.Equal Ordering.Less h l = record { below = λ _. above_some (Less 1) (stage_labelled xs k u labelled) (inr (h, l)); upto = λ q. absurd (false≢true (sym q)) }
+    in_order Ordering.Equal Ordering.Equal h l = record { below = λ q. absurd (false≢true q); upto = λ _. record { val = (count_of xs k u, pair_count_of xs u); is = stage_labelled xs k u labelled; upto = inr (λ i. (sym h i, sym l i)) } }
+    in_order Ordering.Equal Ordering.Greater h l = record { below = λ q. absurd (false≢true q); upto = λ _. record { val = (count_of xs k u, pair_count_of xs u); is = stage_labelled xs k u labelled; upto = inl (inr (sym h, l)) } }
+    in_order Ordering.Greater s h l = record { below = λ q. absurd (false≢true q); upto = λ _. record { val = (count_of xs k u, pair_count_of xs u); is = stage_labelled xs k u labelled; upto = inl (inl h) } }
 
-    pub compared_pairs : a ≡ count_of xs k u → Compared xs u k (a, n) (ltb n (pair_count_of xs u))
-    compared_pairs e = record {
-      below = λ q. above_some (Less 1) (stage_labelled xs k u labelled) (inr (e, ltb-true n (pair_count_of xs u) q));
-      upto = λ q. record { val = (count_of xs k u, pair_count_of xs u); is = stage_labelled xs k u labelled; upto = go (ℕ_discrete (pair_count_of xs u) n) (ltb-false n (pair_count_of xs u) q) };
-    }
-      where
-        go : Dec (pair_count_of xs u ≡ n) → pair_count_of xs u ≤ n → Upto (Less 1) (count_of xs k u, pair_count_of xs u) (a, n)
-        go (yes z) h = inr (λ i. (sym e i, z i))
-        go (no z) h = inl (inr (sym e, omega arith))
+    pub compared_less : Compared xs u k (a, n) (partial_lt (λ (c d : ℕ × ℕ). partial_ordering_then (Some (nat_cmp c.0 d.0)) (Some (nat_cmp c.1 d.1))) (a, n) (count_of xs k u, pair_count_of xs u))
+    compared_less = in_order (nat_cmp a (count_of xs k u)) (nat_cmp n (pair_count_of xs u)) (ranks a (count_of xs k u)) (ranks n (pair_count_of xs u))
 
 -- ---- writing
 

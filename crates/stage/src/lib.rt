@@ -14,41 +14,16 @@ pub fn marks_at(marks: u32, place: usize) -> u16
     requires { (marks < 16 ^ 6) × (place < 6) }
     ensures { result ≡ count_at 6 place (marks_cost marks) }
 {
-    if place == 0 {
-        return (marks / 1048576) as u16;
-    }
-    let five = marks % 1048576;
-    if place == 1 {
-        return (five / 65536) as u16;
-    }
-    let four = five % 65536;
-    if place == 2 {
-        return (four / 4096) as u16;
-    }
-    let three = four % 4096;
-    if place == 3 {
-        return (three / 256) as u16;
-    }
-    let two = three % 256;
-    if place == 4 {
-        return (two / 16) as u16;
-    }
-    (two % 16) as u16
-}
-
-// A 16-bit number that sums do not overflow.
-fn wide(x: u16) -> u32
-    ensures { (result ≡ x) × (result < 65536) }
-{
-    x as u32
+    ((marks >> (20 - 4 * place)) % 16) as u16
 }
 
 // Whether the marks of the constraint at a place, with the target's fewest, make the node's.
-fn makes(work: &[u16], node: usize, target: usize, place: usize, marks: u32) -> bool
-    requires { HasNode work.now node × HasNode work.now target × (place < 6) × (marks < 65536) }
+fn makes(work: &[u16], node: usize, target: usize, place: usize, marks: u16) -> bool
+    requires { HasNode work.now node × HasNode work.now target × (place < 6) }
     ensures { result ≡ eqb (count_of work.now place node) (marks + count_of work.now place target) }
 {
-    wide(work[node * 8 + 1 + place]) == marks + wide(work[target * 8 + 1 + place])
+    u32::from(work[node * 8 + 1 + place])
+        == u32::from(marks) + u32::from(work[target * 8 + 1 + place])
 }
 
 // Whether the stages before kept an arc with those marks from the node to the target: with the target's fewest marks its marks make the node's.
@@ -56,35 +31,10 @@ fn arc_left(work: &[u16], node: usize, target: usize, marks: u32, stage: usize) 
     requires { HasNode work.now node × HasNode work.now target × (marks < 16 ^ 6) × (stage < 6) }
     ensures { LeftTold work.now node marks stage (counts_of work.now target) result }
 {
-    if stage == 0 {
-        return true;
-    }
-    if !makes(work, node, target, 0, marks / 1048576) {
-        return false;
-    }
-    if stage == 1 {
-        return true;
-    }
-    if !makes(work, node, target, 1, marks % 1048576 / 65536) {
-        return false;
-    }
-    if stage == 2 {
-        return true;
-    }
-    if !makes(work, node, target, 2, marks % 65536 / 4096) {
-        return false;
-    }
-    if stage == 3 {
-        return true;
-    }
-    if !makes(work, node, target, 3, marks % 4096 / 256) {
-        return false;
-    }
-    if stage == 4 {
-        return true;
-    }
-    if !makes(work, node, target, 4, marks % 256 / 16) {
-        return false;
+    for place in 0..stage {
+        if !makes(work, node, target, place, marks_at(marks, place)) {
+            return false;
+        }
     }
     true
 }
@@ -94,12 +44,10 @@ pub fn ending_left(work: &[u16], node: usize, marks: u32, stage: usize) -> bool
     requires { HasNode work.now node × (marks < 16 ^ 6) × (stage < 6) }
     ensures { LeftTold work.now node marks stage no_counts result }
 {
-    let mut i = 0;
-    while i < stage {
-        if work[node * 8 + 1 + i] != marks_at(marks, i) {
+    for place in 0..stage {
+        if work[node * 8 + 1 + place] != marks_at(marks, place) {
             return false;
         }
-        i += 1;
     }
     true
 }
@@ -109,14 +57,7 @@ fn improves(work: &[u16], node: usize, stage: usize, count: u16, pairs: u16) -> 
     requires { NodePre work.now node stage }
     ensures { Compared work.now node stage (count, pairs) result }
 {
-    if work[node * 8] == 0 {
-        return true;
-    }
-    let its = work[node * 8 + 1 + stage];
-    if count != its {
-        return count < its;
-    }
-    pairs < work[node * 8 + 7]
+    work[node * 8] == 0 || (count, pairs) < (work[node * 8 + 1 + stage], work[node * 8 + 7])
 }
 
 // Writes the node's marks of the stage's constraint, and the number of pairs.

@@ -142,15 +142,9 @@ front_room {step = step} Q h s = omega (arith, h, div-le_self step (2 ^ s), (Q.a
 
 -- ---- looking ahead
 
-pub look_start : {xs ahead : List ℕ} {k t : ℕ} → AheadOf xs k t 0 ahead
-look_start = record { each = λ c h. absurd (omega arith) }
-
 pub look_next : {xs ahead : List ℕ} {k t n r : ℕ} → n < length ahead → AheadOf xs k t n ahead → FrontCounts xs k (t + n) r → AheadOf xs k t (n + 1) (set ahead n r)
 look_next {xs} {ahead} {k} {t} {n} {r} h A F = record { each = λ c l. each c l (ℕ_discrete c n) }
   where
     each : (c : ℕ) → c < n + 1 → Dec (c ≡ n) → FrontCounts xs k (t + c) (get_or (set ahead n r) c 0)
     each c l (yes q) = subst (λ (j : ℕ). FrontCounts xs k (t + j) (get_or (set ahead n r) j 0)) (sym q) (subst (λ (z : ℕ). FrontCounts xs k (t + n) z) (sym (get_or-set_same ahead n r 0 h)) F)
     each c l (no d) = subst (λ (z : ℕ). FrontCounts xs k (t + c) z) (sym (get_or-set_other ahead n c r 0 d)) (A.each c (omega arith))
-
-pub look_end : {xs ahead : List ℕ} {k t i n : ℕ} → AheadOf xs k t i ahead → n ≤ i → AheadOf xs k t n ahead
-look_end A h = record { each = λ c l. A.each c (omega arith) }

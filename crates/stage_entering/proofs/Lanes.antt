@@ -1,6 +1,6 @@
 -- Trying joint steps: a lane, four lanes of a code, the codes of a position.
 use Rattle.std.specs.Prelude.{◌≡◌, ◌⊎◌, ◌≢◌, ◌+◌, ◌*◌, ◌/◌, ◌%◌, ◌^◌, ◌≤◌, ◌<◌}
-use Rattle.basics.proofs.Words.{refl, sym, ◌∙◌, ap, subst, Bool, false, List, none, some, inl, inr, ℕ, arith, length, get_or, add-zero, mod-lt, mul-add-div_right, mul-add-mod_self_right, div-eq_of_lt, mod-eq_of_lt, suc-mul, div-lt_iff_lt-mul, dec_lt, lt-ltb, le-ltb}
+use Rattle.basics.proofs.Words.{refl, sym, ◌∙◌, ap, subst, Bool, false, List, none, some, inl, inr, ℕ, suc, arith, length, get_or, add-zero, mod-lt, mul-add-div_right, mul-add-mod_self_right, div-eq_of_lt, mod-eq_of_lt, suc-mul, mul-le-mul_right, div-lt_iff_lt-mul, dec_lt, lt-ltb, le-ltb}
 use Rattle.machine.specs.declared.Pair.{Pair}
 use Rattle.cells.specs.Cells.{nowhere}
 use Rattle.insertions.specs.Tables.{LanesPre}
@@ -109,9 +109,6 @@ first_sum_lem {a = a} {b = b} P = rw (add-zero a, add-zero b) at (P.sums 0 (omeg
 
 -- ---- the codes of a position
 
-pub codes_start : {xs high low : List ℕ} {front back k b t : ℕ} → CodesTried xs xs high low front back k b t 0
-codes_start {b = b} = record { size = refl; counts = λ i w h. refl; others = λ w d. refl; relaxes = λ S p E A. relaxes_nothing S A (FoursOf p b 0) (λ w q z. omega (arith, z.0, z.1)) }
-
 pub codes_next : {xs ys zs high low : List ℕ} {front back k b t n : ℕ} → CodesTried xs ys high low front back k b t n → LanesTried ys zs high low (n / back * 4) ((front + n % back) * 4) (b + n) t k 4 → CodesTried xs zs high low front back k b t (n + 1)
 codes_next {xs} {ys} {zs} {high} {low} {front} {back} {k} {b} {t} {n} C L = record {
   size = L.size ∙ C.size;
@@ -167,10 +164,17 @@ code_ready {xs} {ys} {ahead} {high} {low} {at} {n} Q C h = record {
     r : CodePlaces n at.groups.front at.groups.back
     r = code_places Q n h
 
--- the places of a code in either group, counted up
+-- the places of a code in either group
 pub record AtPlaces (code back a b : ℕ) : Type 0 where
   pub is : code ≡ a * back + b
   pub within : b < back
+
+pub at_places : (back a b : ℕ) → b < back → AtPlaces (a * back + b) back a b
+at_places back a b h = record { is = refl; within = h }
+
+-- it is a code of the position
+pub places_below : {front back a b n : ℕ} → n ≡ front * back → a < front → b < back → a * back + b < n
+places_below {front} {back} {a} {b} e h k = let m : suc a * back ≤ front * back = mul-le-mul_right back h in omega (arith, m, suc-mul a back, e)
 
 module _ {code back a b : ℕ} (A : AtPlaces code back a b) where
   pub at_front_lem : code / back ≡ a
@@ -186,15 +190,3 @@ code_at front {ys} {ahead} {high} {low} {code} {back} {a} {b} {u} {t} {k} A Q =
 pub lanes_at : (front : ℕ) {ys zs high low : List ℕ} {code back a b u t k : ℕ} → AtPlaces code back a b → LanesTried ys zs high low (a * 4) ((front + b) * 4) u t k 4 → LanesTried ys zs high low (code / back * 4) ((front + code % back) * 4) u t k 4
 lanes_at front {ys} {zs} {high} {low} {code} {back} {a} {b} {u} {t} {k} A L =
     subst (λ (n : ℕ). LanesTried ys zs high low (n * 4) ((front + code % back) * 4) u t k 4) (sym (at_front_lem A)) (subst (λ (n : ℕ). LanesTried ys zs high low (a * 4) ((front + n) * 4) u t k 4) (sym (at_back A)) L)
-
-pub front_is : {code back front n a b : ℕ} → AtPlaces code back a b → n ≡ front * back → code < n → a < front
-front_is {code} {back} {front} A e h = let q : code / back < front = (div-lt_iff_lt-mul {k = back} {x = code} {y = front} (omega (arith, A.within))).1 (omega (arith, e, h)) in omega (arith, q, at_front_lem A)
-
-pub places_start : {back : ℕ} → 0 < back → AtPlaces 0 back 0 0
-places_start h = record { is = omega arith; within = h }
-
-pub places_row : {code back a b : ℕ} → AtPlaces code back a b → b + 1 ≡ back → AtPlaces (code + 1) back (a + 1) 0
-places_row {back = back} {a = a} A e = record { is = omega (arith, A.is, e, suc-mul a back); within = omega arith }
-
-pub places_next : {code back a b : ℕ} → AtPlaces code back a b → b + 1 ≢ back → AtPlaces (code + 1) back a (b + 1)
-places_next A n = record { is = omega (arith, A.is); within = omega (arith, A.within) }

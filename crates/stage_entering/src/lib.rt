@@ -15,19 +15,12 @@ pub mod pairs; // pairs.rt: the pairs of a card with one input, the insertions i
 
 // ---- a first look at an arc
 
-// A count that others stand behind.
-fn long(x: u16) -> u64
-    ensures { (result ≡ x) × (result < 65536) }
-{
-    x as u64
-}
-
 // A node's count of the constraint at a place.
 fn count_at(work: &[u16], node: usize, place: usize) -> u64
     requires { NodePre work.now node place }
     ensures { (result ≡ count_of work.now place node) × (result < 65536) }
 {
-    long(work[node * 8 + 1 + place])
+    u64::from(work[node * 8 + 1 + place])
 }
 
 // A node's marks in this stage, 65535 where it has no label.
@@ -41,7 +34,7 @@ fn own_count(work: &[u16], node: usize, stage: usize) -> u64
     count_at(work, node, stage)
 }
 
-// A node's counts of the first three constraints, or of those up to the stage, as one number.
+// A node's counts of the first three constraints, or of those up to the stage, as one number. No match or loop: each case goes on from the one before.
 fn front_counts(work: &[u16], node: usize, stage: usize) -> u64
     requires { NodePre work.now node stage }
     ensures { FrontCounts work.now stage node result }
@@ -65,13 +58,11 @@ fn front_counts(work: &[u16], node: usize, stage: usize) -> u64
 fn behind_front(stage: usize) -> u64
     ensures { BehindFront stage result }
 {
-    if stage == 0 {
-        return 40;
+    match stage {
+        0 => 40,
+        1 => 24,
+        _ => 8,
     }
-    if stage == 1 {
-        return 24;
-    }
-    8
 }
 
 // ---- the joint steps of a symbol
@@ -187,26 +178,20 @@ pub fn try_four(work: &mut [u16], ahead: &[u64; 128], high: &[u64], low: &[u64],
     let base = at.base;
     let stage = at.stage;
     let size = g.size;
-    let mut a = 0;
-    let mut b = 0;
-    let mut code = 0;
-    while code < size {
-        try_code(
-            work,
-            ahead,
-            high,
-            low,
-            a * 4,
-            (front + b) * 4,
-            base + code,
-            base + size,
-            stage,
-        );
-        code += 1;
-        b += 1;
-        if b == back {
-            b = 0;
-            a += 1;
+    for a in 0..front {
+        let row = a * back;
+        for b in 0..back {
+            try_code(
+                work,
+                ahead,
+                high,
+                low,
+                a * 4,
+                (front + b) * 4,
+                base + (row + b),
+                base + size,
+                stage,
+            );
         }
     }
 }
@@ -216,10 +201,8 @@ pub fn look_ahead(work: &[u16], ahead: &mut [u64; 128], targets: usize, size: us
     requires { HasNodes work.now (targets + size) × (targets + size ≤ 3200) × (size ≤ 128) × (stage < 6) × (length ahead.old ≡ 128) }
     ensures { AheadOf work.now stage targets size ahead.new }
 {
-    let mut code = 0;
-    while code < size {
+    for code in 0..size {
         ahead[code] = front_counts(work, targets + code, stage);
-        code += 1;
     }
 }
 

@@ -9,7 +9,7 @@ use Rattle.paths.specs.Improvement.{Falls, improves_upto, improve_edge}
 use Rattle.tables.specs.Marks.{marks_cost}
 use Rattle.product.specs.ProductGraph.{pairs}
 use Rattle.settling.specs.Insertions.{code_in, is_listed}
-use Rattle.settling.specs.OpenCodes.{is_open, OneMore, OneLess}
+use Rattle.settling.specs.OpenCodes.{is_open, OneIn, OneMore, OneLess}
 use Rattle.settling.proofs.Insertions.{listed_low, listed_high}
 use Rattle.settling.proofs.OpenCodes.{one_in, chosen_front, chosen_back}
 use Rattle.stage.specs.StageLabels.{count_of, stage_label}
@@ -270,9 +270,6 @@ module _ {xs ys os entries ends : List ℕ} {k b P n : ℕ} (Z : Settling xs ys 
     from = Q.from;
   }
 
-  pub open_there : SettlePre xs entries ends k b P → OpenIn ys os b
-  open_there Q = record { bits = Z.bits; few = omega (arith, Q.few_nodes); there = λ w h. omega (arith, Z.inside w h, Z.size, Q.nodes) }
-
   pub settling_end : n ≤ 0 → ((w : ℕ) → is_open os w ≡ false) → SettledBy xs ys entries ends k b P
   settling_end z o = record { size = Z.size; counts = Z.counts; others = Z.others; falls = Z.falls; attained = Z.attained; closed = λ v at p. Z.relaxed v at (omega arith) p (o v) }
 
@@ -316,9 +313,16 @@ module _ {xs ys os entries ends : List ℕ} {k b P n : ℕ} (Z : Settling xs ys 
 
 -- ---- choosing an open code
 
+module _ (os : List ℕ) (two : length os ≡ 2) {r : ℕ} where
+  pub open_front : OneIn (get_or os 0 0) 0 r → is_open os r ≡ true
+  open_front o = (chosen_front os two r o).found (omega (arith, o.is, o.small))
+
+  pub open_back : OneIn (get_or os 1 0) 64 r → is_open os r ≡ true
+  open_back o = (chosen_back os two r o).found (omega (arith, o.is, o.small))
+
 module _ {xs os : List ℕ} {b : ℕ} (Q : OpenIn xs os b) where
   pub front_in : SomeIn xs (get_or os 0 0) 0 b
-  front_in = record { few = Q.few; half = omega arith; there = λ c h m. Q.there (0 + c) ((chosen_front os Q.bits (0 + c) (one_in (get_or os 0 0) 0 c (0 + c) h m refl)).found (omega arith)) }
+  front_in = record { few = Q.few; half = omega arith; there = λ c h m. Q.there (0 + c) (open_front os Q.bits (one_in (get_or os 0 0) 0 c (0 + c) h m refl)) }
 
   pub back_in : SomeIn xs (get_or os 1 0) 64 b
-  back_in = record { few = Q.few; half = omega arith; there = λ c h m. Q.there (64 + c) ((chosen_back os Q.bits (64 + c) (one_in (get_or os 1 0) 64 c (64 + c) h m refl)).found (omega arith)) }
+  back_in = record { few = Q.few; half = omega arith; there = λ c h m. Q.there (64 + c) (open_back os Q.bits (one_in (get_or os 1 0) 64 c (64 + c) h m refl)) }

@@ -1,13 +1,14 @@
 // Settling a position in a stage of the cull: its labels fall by insertions until none falls.
 #![tactic(auto)]
 
-ghost use Rattle.std.specs.Prelude.{◌<◌};
+ghost use Rattle.std.specs.Prelude.{◌≡◌, ◌<◌, MatchOption};
+ghost use Rattle.basics.specs.Words.{false, true, ℕ};
 ghost use Rattle.tables.specs.Work.{HasNode};
-ghost use Rattle.settling.specs.OpenCodes.{OneIn, Chosen};
+ghost use Rattle.settling.specs.OpenCodes.{OneIn, is_open};
 ghost use Rattle.stage.specs.Relaxing.{NodePre};
 ghost use Rattle.stage_settling.specs.Settling.{OpenIn, SomeIn, EntryPre, EntryTried, SettlePre, SpreadPre, Spread, Taken, SettledBy};
 
-use settling::{first_open, is_open, place, put, take};
+use settling::{first_open, is_open, put, take};
 
 // In an entry of a list of insertions the code that one leads from stands in front of its marks, four bits a place of the ranking.
 const MARKS: u32 = 16777216;
@@ -16,12 +17,11 @@ const MARKS: u32 = 16777216;
 fn is_before(work: &[u16], a: usize, b: usize, stage: usize) -> bool
     requires { NodePre work.now a stage × HasNode work.now b }
 {
-    let here = work[a * 8 + 1 + stage];
-    let there = work[b * 8 + 1 + stage];
-    (here < there) | ((here == there) & (work[a * 8 + 7] < work[b * 8 + 7]))
+    (work[a * 8 + 1 + stage], work[a * 8 + 7]) < (work[b * 8 + 1 + stage], work[b * 8 + 7])
 }
 
-// A code of one half of the open ones, which is not empty; one with the fewest marks, and then pairs.
+// A code of one half of the open ones, which is not empty; one with the fewest marks, and then pairs. The like in settling reads labels of another
+// form: one function for both would take a closure, with needs of its own for every code, and be no plainer.
 fn choose_in(work: &[u16], set: u64, first: usize, base: usize, stage: usize) -> usize
     requires { (0 < set) × SomeIn work.now set first base × (stage < 6) }
     ensures { OneIn set first result }
@@ -38,28 +38,28 @@ fn choose_in(work: &[u16], set: u64, first: usize, base: usize, stage: usize) ->
     best
 }
 
-// An open code, 128 where none is open. Which one matters to the time alone: one with the fewest marks is not taken twice.
-fn choose(work: &[u16], opened: &[u64; 2], base: usize, stage: usize) -> usize
+// An open code, if one is open. Which one matters to the time alone: one with the fewest marks is not taken twice.
+fn choose(work: &[u16], opened: &[u64; 2], base: usize, stage: usize) -> Option<usize>
     requires { OpenIn work.now opened.now base × (stage < 6) }
-    ensures { Chosen opened.now result }
+    ensures { MatchOption result ((w : ℕ) → is_open opened.now w ≡ false) (λ code. is_open opened.now code ≡ true) }
 {
     let front = opened[0];
     let back = opened[1];
     if front == 0 {
         if back == 0 {
-            return 128;
+            return None;
         }
-        return choose_in(work, back, 64, base, stage);
+        return Some(choose_in(work, back, 64, base, stage));
     }
     let best = choose_in(work, front, 0, base, stage);
     if back == 0 {
-        return best;
+        return Some(best);
     }
     let other = choose_in(work, back, 64, base, stage);
     if is_before(work, base + other, base + best, stage) {
-        return other;
+        return Some(other);
     }
-    best
+    Some(best)
 }
 
 // Tries the code of an entry by it, an insertion to the code `to`: where that gives it less it is open.
@@ -93,11 +93,10 @@ fn spread(
     requires { SpreadPre work.old opened.old entries.now ends.now stage base to }
     ensures { Spread work.old work.new opened.old opened.new entries.now ends.now stage base to }
 {
-    let end = place(ends[4 * to + 4]);
-    let mut at = place(ends[4 * to]);
-    while at < end {
+    let start = usize::from(ends[4 * to]);
+    let end = usize::from(ends[4 * to + 4]);
+    for at in start..end {
         try_entry(work, opened, entries[at], base, to, stage);
-        at += 1;
     }
 }
 
@@ -132,23 +131,15 @@ pub fn settle(
     ensures { SettledBy work.old work.new entries.now ends.now stage base size }
 {
     let mut opened = [0u64; 2];
-    let mut left = size;
-    while left > 0 {
-        left -= 1;
-        take_one(work, &mut opened, entries, ends, base, left, stage);
+    for last in (0..size).rev() {
+        take_one(work, &mut opened, entries, ends, base, last, stage);
     }
-    let mut next = first_open(&opened);
-    while next < size {
+    for next in first_open(&opened)..size {
         if is_open(&opened, next) {
             take_one(work, &mut opened, entries, ends, base, next, stage);
         }
-        next += 1;
     }
-    loop {
-        let code = choose(work, &opened, base, stage);
-        if code >= 128 {
-            return;
-        }
+    while let Some(code) = choose(work, &opened, base, stage) {
         take_one(work, &mut opened, entries, ends, base, code, stage);
     }
 }

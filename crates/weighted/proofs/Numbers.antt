@@ -9,9 +9,6 @@ use Rattle.cells.specs.Scales.{ScalesWritten}
 use Rattle.weighted.specs.Laws.Sound.{Sound}
 use Rattle.weighted.specs.WeighsBy.{WeighsBy, HighsWritten}
 
-pub highs_start : (weights xs : List ℕ) → HighsWritten weights xs xs 0
-highs_start weights xs = record { size = refl; high = λ m h. absurd (omega arith); others = λ i h. refl }
-
 pub highs_next : {weights xs ys : List ℕ} {n : ℕ} → HighsWritten weights xs ys n → 3 * n + 1 < length ys → (v : ℕ) → v ≡ 256 * get_or weights n 0 → HighsWritten weights xs (set ys (3 * n + 1) v) (n + 1)
 highs_next {weights} {xs} {ys} {n} H room v e = record {
   size = (simp length-set) ∙ H.size;

@@ -1,7 +1,7 @@
 // The weighted order, in which sums of weights are compared, on the same search as the ranked one.
 #![tactic(auto)]
 
-ghost use Rattle.std.specs.Prelude.{◌≡◌, ◌*◌, ◌^◌, ◌<◌, ◌≤◌};
+ghost use Rattle.std.specs.Prelude.{◌≡◌, ◌*◌, ◌<◌, ◌≤◌};
 ghost use Rattle.basics.specs.Words.{true, length, take};
 ghost use Rattle.tables.specs.Tables.{CountsOfSome};
 ghost use Rattle.cells.specs.Columns.{WeightsOf};
@@ -15,21 +15,13 @@ ghost use Rattle.weighted.specs.Labelling.{LabelPre};
 
 use grid::Grid;
 
-fn wide(x: u32) -> u64
-    ensures { (result ≡ x) × (result < 2 ^ 32) }
-{
-    x as u64
-}
-
 // Writes what a mark of each machine counts in high: 256 times its weight, the second of three numbers.
 fn write_highs(numbers: &mut [u64], weights: &[u32])
     requires { (3 * length weights.now ≤ length numbers.old) × (length weights.now ≤ 6) }
     ensures { HighsWritten weights.now numbers.old numbers.new (length weights.now) }
 {
-    let mut m = 0;
-    while m < weights.len() {
-        numbers[3 * m + 1] = 256 * wide(weights[m]);
-        m += 1;
+    for (m, &weight) in weights.iter().enumerate() {
+        numbers[3 * m + 1] = 256 * u64::from(weight);
     }
 }
 
@@ -50,12 +42,10 @@ fn heaviest(weights: &[u32]) -> usize
     ensures { result < length weights.now }
 {
     let mut first = 0;
-    let mut m = 1;
-    while m < weights.len() {
-        if weights[m] > weights[first] {
+    for (m, &weight) in weights.iter().enumerate() {
+        if weight > weights[first] {
             first = m;
         }
-        m += 1;
     }
     first
 }
@@ -66,9 +56,7 @@ fn places_with(machine: usize) -> [u8; 6]
     ensures { result ≡ first_put machine card_places }
 {
     let mut places = [0u8, 1, 2, 3, 4, 5];
-    let first = places[0];
-    places[0] = places[machine];
-    places[machine] = first;
+    places.swap(0, machine);
     places
 }
 
@@ -78,9 +66,7 @@ fn highs_with(numbers: &[u64], machine: usize) -> [u64; 6]
     ensures { result ≡ first_put machine (six_highs numbers.now) }
 {
     let mut highs = machine_weights::six_highs(numbers);
-    let first = highs[0];
-    highs[0] = highs[machine];
-    highs[machine] = first;
+    highs.swap(0, machine);
     highs
 }
 

@@ -6,10 +6,6 @@ use Rattle.cull.proofs.Culling.{tables_kept, SymbolsTried, symbols_start, nodes_
 use Rattle.cull.proofs.enter_symbols.Goals as goal
 
 -- ---- what each place asks for
-pub overflow_add-base : goal.overflow_add-base
-overflow_add-base c =
-    omega (arith, (nodes_there c.requires.given symbols_start).few)
-
 pub look_ahead-requires : goal.look_ahead-requires
 look_ahead-requires c =
     let A = c.requires.given in
@@ -19,18 +15,12 @@ look_ahead-requires c =
 pub loop-left-init : goal.loop-left-init
 loop-left-init c = (symbols_start, refl, refl, refl, c.look_ahead.ensures)
 
-pub overflow_cast-symbol : goal.overflow_cast-symbol
-overflow_cast-symbol c = omega (arith, c.least-symbol.ensures.1)
-
 pub enter_input-requires : goal.enter_input-requires
 enter_input-requires c =
     let v = c.loop-left.invariant in
     let Q = c.requires in
     let m = c.least-symbol.ensures.2 in
     (input_pre Q.given v.0 m (tables_kept v.1 Q.tables) (v.2 ∙ Q.high_size) (v.3 ∙ Q.low_size) v.4, symbol_reads Q.given v.0 m)
-
-pub loop-left-smaller : goal.loop-left-smaller
-loop-left-smaller c = c.without_least-left.ensures.0
 
 pub loop-left-preserved : goal.loop-left-preserved
 loop-left-preserved c =
@@ -42,18 +32,6 @@ loop-left-preserved c =
       c.enter_input.auto.low ∙ v.3,
       ahead_stays c.args.at c.enter_input.ensures v.4,
     )
-
-pub shape_of-work : goal.shape_of-work
-shape_of-work c = c.loop-left.invariant.0.size
-
-pub shape_of-steps : goal.shape_of-steps
-shape_of-steps c = c.loop-left.invariant.1
-
-pub shape_of-high : goal.shape_of-high
-shape_of-high c = c.loop-left.invariant.2
-
-pub shape_of-low : goal.shape_of-low
-shape_of-low c = c.loop-left.invariant.3
 
 pub returns : goal.returns
 returns c = symbols_end c.loop-left.invariant.0 (omega (arith, c.loop-left-test.false))

@@ -2,18 +2,6 @@ use Rattle.basics.proofs.Words.{sym, ◌∙◌, ℕ, arith, length-replicate, ru
 use Rattle.cull.proofs.Listing.{list_ready, cull_ready, lent_ready}
 use Rattle.cull.proofs.label_by.Goals as goal
 
-pub list_insertions-requires : goal.list_insertions-requires
-list_insertions-requires c =
-    (list_ready c.requires.0, length-replicate {A = ℕ} 514 0, omega (arith, length-replicate {A = ℕ} 8064 0), length-replicate {A = ℕ} 264 0, length-replicate {A = ℕ} 264 0)
-
-pub slice_bounds-label_stages-end-2 : goal.slice_bounds-label_stages-end-2
-slice_bounds-label_stages-end-2 c =
-    sym (c.list_insertions.auto.high ∙ length-replicate {A = ℕ} 264 0)
-
-pub slice_bounds-label_stages-end-3 : goal.slice_bounds-label_stages-end-3
-slice_bounds-label_stages-end-3 c =
-    sym (c.list_insertions.auto.low ∙ length-replicate {A = ℕ} 264 0)
-
 pub label_stages-requires : goal.label_stages-requires
 label_stages-requires c =
     let k = c.list_insertions.auto in (

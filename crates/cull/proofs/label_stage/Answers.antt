@@ -7,23 +7,6 @@ use Rattle.cull.proofs.Culling.{PositionDone, lent_kept, last_pre, last_entered,
 use Rattle.cull.proofs.label_stage.Goals as goal
 
 -- ---- before the loop
-pub overflow_add-sets : goal.overflow_add-sets
-overflow_add-sets c =
-    omega (arith, c.requires.0.1.given.setting.few)
-
-pub overflow_mul-sets : goal.overflow_mul-sets
-overflow_mul-sets c =
-    omega (arith, few_nodes c.requires.0.1.given.setting)
-
-pub blank-requires : goal.blank-requires
-blank-requires c =
-    omega (arith, c.requires.0.1.given.room)
-
-pub overflow_mul-base : goal.overflow_mul-base
-overflow_mul-base c =
-    let q = c.requires.0.1.given.setting in
-    omega (arith, few_nodes q, position_there q (length c.args.sets.now) (omega arith))
-
 pub enter_last-requires : goal.enter_last-requires
 enter_last-requires c =
     last_pre (last_ready c.requires.0.1 c.blank.ensures) c.requires.1
@@ -35,53 +18,33 @@ settle-requires c =
 
 -- ---- in the loop
 pub loop-position-init : goal.loop-position-init
-loop-position-init c = (omega arith, (λ r xs Q D. D), refl, refl, refl)
-
-pub overflow_mul-base-in-loop-position : goal.overflow_mul-base-in-loop-position
-overflow_mul-base-in-loop-position c =
-    let q = c.requires.0.1.given.setting in
-    omega (arith, few_nodes q, position_there q (c.loop-position.position - 1) (omega (arith, c.loop-position.invariant.0)))
-
-pub offset_bounds-sets-position : goal.offset_bounds-sets-position
-offset_bounds-sets-position c = omega (arith, c.loop-position.invariant.0, c.requires.0.1.given.setting.few)
-
-pub bounds-sets-position : goal.bounds-sets-position
-bounds-sets-position c =
-    omega (arith, c.loop-position.invariant.0, c.loop-position-test.true)
+loop-position-init c = λ r Q. last_labelled Q c.requires.1 c.blank.ensures c.enter_last.ensures c.settle.ensures
 
 pub enter_symbols-requires : goal.enter_symbols-requires
 enter_symbols-requires c =
-    let v = c.loop-position.invariant in
     let i = c.loop-position-test.true in
     let Q = c.requires in
+    let l = c.loop-position.auto in
     let k = c.enter_last.auto in
-    let A = c.loop-position.invariant.1 _ _ Q.0.1 (last_labelled Q.0.1 c.requires.1 c.blank.ensures c.enter_last.ensures c.settle.ensures) in
-    symbols_pre (position_ready Q.0.1 c.loop-position.position (omega (arith, i)) v.0 A) (lent_kept Q.1 (v.2 ∙ k.steps) (v.3 ∙ k.high) (v.4 ∙ k.low)) (omega (arith, v.0, i))
+    symbols_pre (position_ready Q.0.1 c.loop-position.position (omega (arith, i)) l.position (c.loop-position.invariant _ Q.0.1)) (lent_kept Q.1 (l.steps ∙ k.steps) (l.high ∙ k.high) (l.low ∙ k.low)) (omega (arith, l.position, i))
 
 pub settle-requires-in-loop-position : goal.settle-requires-in-loop-position
 settle-requires-in-loop-position c =
-    let v = c.loop-position.invariant in
     let i = c.loop-position-test.true in
     let Q = c.requires in
-    let A = c.loop-position.invariant.1 _ _ Q.0.1 (last_labelled Q.0.1 c.requires.1 c.blank.ensures c.enter_last.ensures c.settle.ensures) in
-    let q = position_ready Q.0.1 c.loop-position.position (omega (arith, i)) v.0 A in
-    settle_ready q (position_entered q Q.1 (omega (arith, v.0, i)) c.enter_symbols.ensures)
+    let l = c.loop-position.auto in
+    let q = position_ready Q.0.1 c.loop-position.position (omega (arith, i)) l.position (c.loop-position.invariant _ Q.0.1) in
+    settle_ready q (position_entered q Q.1 (omega (arith, l.position, i)) c.enter_symbols.ensures)
 
 pub loop-position-preserved : goal.loop-position-preserved
 loop-position-preserved c =
-    let v = c.loop-position.invariant in
     let i = c.loop-position-test.true in
     let L = c.requires.1 in
-    let k = c.enter_symbols.auto in (
-      omega (arith, v.0),
-      (λ r xs Q D.
-          let A = v.1 r xs Q D in
-          let q = position_ready Q c.loop-position.position (omega (arith, i)) v.0 A in
-          position_passed A.size (position_labelled q (position_entered q L (omega (arith, v.0, i)) c.enter_symbols.ensures) c.settle-in-loop-position.ensures)),
-      k.steps ∙ v.2,
-      k.high ∙ v.3,
-      k.low ∙ v.4,
-    )
+    let h = c.loop-position.auto.position in
+    λ r Q.
+    let A = c.loop-position.invariant r Q in
+    let q = position_ready Q c.loop-position.position (omega (arith, i)) h A in
+    position_passed A.size (position_labelled q (position_entered q L (omega (arith, h, i)) c.enter_symbols.ensures) c.settle-in-loop-position.ensures)
 
 pub returns : goal.returns
-returns c = λ r Q. stage_end (c.loop-position.invariant.1 r _ Q (last_labelled Q c.requires.1 c.blank.ensures c.enter_last.ensures c.settle.ensures)) (omega arith)
+returns c = λ r Q. stage_end (c.loop-position.invariant r Q) (omega (arith, c.loop-position-test.false))

@@ -1,10 +1,7 @@
-use Rattle.std.specs.Prelude.{◌≡◌, ◌-◌, ◌≤◌}
+use Rattle.std.specs.Prelude.{◌≡◌}
 use Rattle.basics.specs.Words.{length}
 use Rattle.stage_entering.specs.Entering.{AheadOf}
 use Rattle.stage_entering.proofs.look_ahead.Given as goal
 
 abbrev pub invariant-loop-code : goal.invariant-loop-code
-invariant-loop-code l = (l.code ≤ l.size) × (length l.ahead ≡ 128) × AheadOf l.work l.stage l.targets l.code l.ahead
-
-abbrev pub decreases-loop-code : goal.decreases-loop-code
-decreases-loop-code l = l.size - l.code
+invariant-loop-code l = (length l.ahead ≡ 128) × AheadOf l.work l.stage l.targets l.code l.ahead

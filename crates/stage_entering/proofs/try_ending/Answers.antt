@@ -7,21 +7,9 @@ use Rattle.stage_entering.proofs.try_ending.Goals as goal
 pub returns-then-ending-ge-NOWHERE : goal.returns-then-ending-ge-NOWHERE
 returns-then-ending-ge-NOWHERE c = not_final (ending_none _ _ (omega (arith, c.if-ending-ge-NOWHERE.true))) refl
 
-pub ending_left-requires : goal.ending_left-requires
-ending_left-requires c =
-    (c.requires.0.node, omega (arith, subst (λ (m : ℕ). m < 16777216) (sym c.marks_of-marks.ensures) (marks_small _ _)), c.requires.0.stage)
-
 pub returns-then-not-ending_left : goal.returns-then-not-ending_left
 returns-then-not-ending_left c =
     dropped_ending c.marks_of-marks.result (ending_some _ _ (omega (arith, c.if-ending-ge-NOWHERE.false)) ∙ ap some (sym c.marks_of-marks.ensures)) _ c.ending_left.ensures c.if-not-ending_left.true refl
-
-pub marks_at-requires : goal.marks_at-requires
-marks_at-requires c =
-    (omega (arith, subst (λ (m : ℕ). m < 16777216) (sym c.marks_of-marks.ensures) (marks_small _ _)), c.requires.0.stage)
-
-pub lower-requires : goal.lower-requires
-lower-requires c =
-    c.requires.0
 
 pub returns : goal.returns
 returns c =

@@ -7,17 +7,9 @@ use Rattle.stage_entering.proofs.try_lane.Goals as goal
 pub returns-then-step-ge-NOWHERE : goal.returns-then-step-ge-NOWHERE
 returns-then-step-ge-NOWHERE c = lane_nothing (omega (arith, c.if-step-ge-NOWHERE.true))
 
-pub overflow_add-front : goal.overflow_add-front
-overflow_add-front c =
-    omega (arith, front_room c.requires (omega (arith, c.if-step-ge-NOWHERE.false)) c.behind_front.result)
-
 pub returns-then-front-goal : goal.returns-then-front-goal
 returns-then-front-goal c =
     lane_passed c.requires (omega (arith, c.if-step-ge-NOWHERE.false)) c.behind_front.ensures (omega (arith, c.if-front-goal.true))
-
-pub overflow_add-targets : goal.overflow_add-targets
-overflow_add-targets c =
-    omega (arith, c.requires.given.few, c.requires.leads)
 
 pub try_arc-requires : goal.try_arc-requires
 try_arc-requires c =

@@ -11,24 +11,8 @@ pub loop-left-preserved : goal.loop-left-preserved
 loop-left-preserved c =
     ((elim c.if-is_before.branch [ then-is_before w ↦ one_in _ _ _ _ c.least-in-loop-left.ensures.1 (c.loop-left.invariant.1 _ c.least-in-loop-left.ensures.2) w.best-is | else-is_before w ↦ one_same _ _ _ _ c.loop-left.invariant.0 w.best-is ]), part_less _ _ _ _ c.loop-left.invariant.1 c.without_least-left-in-loop-left.ensures.1)
 
-pub overflow_add-base : goal.overflow_add-base
-overflow_add-base c =
-    let Q = c.requires.1 in omega (arith, c.least-in-loop-left.ensures.1, Q.few, Q.half)
-
-pub overflow_add-base-in-loop-left : goal.overflow_add-base-in-loop-left
-overflow_add-base-in-loop-left c =
-    let o = c.loop-left.invariant.0 in
-    let Q = c.requires.1 in
-    omega (arith, o.is, o.small, Q.few, Q.half)
-
 pub is_before-requires : goal.is_before-requires
 is_before-requires c =
     let v = c.loop-left.invariant in
     let o = v.0 in
     (record { node = c.requires.1.there _ c.least-in-loop-left.ensures.1 (v.1 _ c.least-in-loop-left.ensures.2); stage = c.requires.2 }, omega (arith, o.is, c.requires.1.there o.bit o.small o.has))
-
-pub overflow_add-best : goal.overflow_add-best
-overflow_add-best c = omega (arith, c.least.ensures.1, c.requires.1.half)
-
-pub overflow_add-code : goal.overflow_add-code
-overflow_add-code c = omega (arith, c.least-in-loop-left.ensures.1, c.requires.1.half)
