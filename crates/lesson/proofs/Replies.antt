@@ -4,7 +4,8 @@ use Rattle.basics.proofs.Words.{refl, ap, ◌∙◌, Bool, List, Option, some, n
 use Rattle.candidate.specs.Evaluating.{Evaluation}
 use Rattle.card.specs.Layout.{machine_count}
 use Rattle.product.specs.Optimizing.{optimized, optimized_answer}
-use Rattle.lines.specs.declared.Parsed.TheVariants as parsed
+use Rattle.std.specs.Prelude.{Some, None}
+use Rattle.lines.specs.declared.Parsed.{Parsed}
 use Rattle.writing.specs.Buffers.{at_front}
 use Rattle.lines.specs.Parsing.{Request, parsed_answer, ranking_of, word_of}
 use Rattle.writing.specs.Writing.{bad_line, line_of}
@@ -31,7 +32,7 @@ best_line_lem card ranking word {answer} {after} {K} {w} {a} {v} {evaluation} k 
     go : (zeros : List ℕ) → answer ≡ zeros → line_of K evaluation after ≡ line_of (machine_count card) (optimized card ranking word 25600 6398) (optimized_answer card ranking word 25600 zeros)
     go zeros z = cc (k, e, f, hw, hv, ha)
 
-pub bad_reply : (card : List ℕ) (o : Option Request) → parsed_answer o ≡ parsed.BadLine → bad_line ≡ reply card o
+pub bad_reply : (card : List ℕ) (o : Option Request) → parsed_answer o ≡ None → bad_line ≡ reply card o
 bad_reply card none e = refl
 bad_reply card (some request) e = let z : ◌≡◌ {A = ℕ} 0 1 = cc in absurd (omega arith)
 
@@ -39,13 +40,13 @@ bad_reply card (some request) e = let z : ◌≡◌ {A = ℕ} 0 1 = cc in absurd
 pub front : (text old new : List ℕ) (n : ℕ) → n ≡ length text → new ≡ at_front text old → take n new ≡ text
 front text old new n e f = let s : take (length text) (text ++ drop (length text) old) ≡ text = take-append_seam text _ in rw (e, f) s
 
-pub good_reply : (card : List ℕ) (o : Option Request) (rs₀ ws₀ : List ℕ) {n m : ℕ} {rs ws : List ℕ} → parsed_answer o ≡ parsed.Line n m
-    → rs ≡ at_front (ranking_of o) rs₀ → ws ≡ at_front (word_of o) ws₀ → best_line card (take n rs) (take m ws) ≡ reply card o
+pub good_reply : (card : List ℕ) (o : Option Request) (rs₀ ws₀ : List ℕ) {p : Parsed} {rs ws : List ℕ} → parsed_answer o ≡ Some p
+    → rs ≡ at_front (ranking_of o) rs₀ → ws ≡ at_front (word_of o) ws₀ → best_line card (take p.ranking rs) (take p.word ws) ≡ reply card o
 good_reply card none rs₀ ws₀ e f g = let z : ◌≡◌ {A = ℕ} 0 1 = cc in absurd (omega arith)
-good_reply card (some request) rs₀ ws₀ {n} {m} {rs} {ws} e f g =
-    let hn : n ≡ length request.ranking = cc in
-    let hm : m ≡ length request.word = cc in
-    rw (front request.ranking rs₀ rs n hn f, front request.word ws₀ ws m hm g) refl
+good_reply card (some request) rs₀ ws₀ {p} {rs} {ws} e f g =
+    let hn : p.ranking ≡ length request.ranking = cc in
+    let hm : p.word ≡ length request.word = cc in
+    rw (front request.ranking rs₀ rs p.ranking hn f, front request.word ws₀ ws p.word hm g) refl
 
 -- the counts of an answer, and of a line's
 told_counts : (evaluation : Evaluation) → told (eqb evaluation.number 0) evaluation.profile.counts ≡ counts_of evaluation
@@ -64,14 +65,14 @@ best_counts_lem card ranking word {w} {a} {evaluation} e hw ha =
     ∙ ap (λ (k : ℕ). counts_of (optimized card ranking word k a)) hw
     ∙ ap (λ (k : ℕ). counts_of (optimized card ranking word 25600 k)) ha
 
-pub bad_counts : (card : List ℕ) (o : Option Request) → parsed_answer o ≡ parsed.BadLine → none ≡ request_counts card o
+pub bad_counts : (card : List ℕ) (o : Option Request) → parsed_answer o ≡ None → none ≡ request_counts card o
 bad_counts card none e = refl
 bad_counts card (some request) e = let z : ◌≡◌ {A = ℕ} 0 1 = cc in absurd (omega arith)
 
-pub good_counts : (card : List ℕ) (o : Option Request) (rs₀ ws₀ : List ℕ) {n m : ℕ} {rs ws : List ℕ} → parsed_answer o ≡ parsed.Line n m
-    → rs ≡ at_front (ranking_of o) rs₀ → ws ≡ at_front (word_of o) ws₀ → best_counts card (take n rs) (take m ws) ≡ request_counts card o
+pub good_counts : (card : List ℕ) (o : Option Request) (rs₀ ws₀ : List ℕ) {p : Parsed} {rs ws : List ℕ} → parsed_answer o ≡ Some p
+    → rs ≡ at_front (ranking_of o) rs₀ → ws ≡ at_front (word_of o) ws₀ → best_counts card (take p.ranking rs) (take p.word ws) ≡ request_counts card o
 good_counts card none rs₀ ws₀ e f g = let z : ◌≡◌ {A = ℕ} 0 1 = cc in absurd (omega arith)
-good_counts card (some request) rs₀ ws₀ {n} {m} {rs} {ws} e f g =
-    let hn : n ≡ length request.ranking = cc in
-    let hm : m ≡ length request.word = cc in
-    rw (front request.ranking rs₀ rs n hn f, front request.word ws₀ ws m hm g) refl
+good_counts card (some request) rs₀ ws₀ {p} {rs} {ws} e f g =
+    let hn : p.ranking ≡ length request.ranking = cc in
+    let hm : p.word ≡ length request.word = cc in
+    rw (front request.ranking rs₀ rs p.ranking hn f, front request.word ws₀ ws p.word hm g) refl

@@ -7,7 +7,6 @@ ghost use Rattle.card.specs.Layout.{machine_count};
 ghost use Rattle.lesson.specs.Printed.{best_line, printed, Prints};
 ghost use Rattle.lesson.specs.Tally.{best_counts, line_counts, told, line_tally, line_text, shown_machines, closing_text, Fits};
 
-use lines::Parsed;
 use ranking::Profile;
 use refusals::Refusal;
 use tally::{Reply, Tally};
@@ -54,12 +53,7 @@ fn answer_line(card: &[u8], line: &[u8], out: &mut [u8]) -> Reply
 {
     let mut ranking = [0u8; 9];
     let mut word = [0u8; 100];
-    let parsed = lines::parse(line, &mut ranking, &mut word);
-    let Parsed::Line {
-        ranking: digits,
-        word: symbols,
-    } = parsed
-    else {
+    let Some(parsed) = lines::parse(line, &mut ranking, &mut word) else {
         let size = writing::write_bad_line(out);
         let counts = Profile::ZERO.counts;
         return Reply {
@@ -68,7 +62,12 @@ fn answer_line(card: &[u8], line: &[u8], out: &mut [u8]) -> Reply
             counts,
         };
     };
-    write_best(card, &ranking[..digits], &word[..symbols], out)
+    write_best(
+        card,
+        &ranking[..parsed.ranking],
+        &word[..parsed.word],
+        out,
+    )
 }
 
 // What a line leads to: the length of what is printed for it, and the tally after it.

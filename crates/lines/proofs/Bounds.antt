@@ -1,6 +1,7 @@
 -- The bounds of what parsing and the next line answer, for whoever calls them. Assumes nothing.
 use Rattle.std.specs.Prelude.{◌≡◌, ◌++◌, ◌+◌, ◌<◌, ◌≤◌}
 use Rattle.basics.proofs.Words.{refl, Bool, true, false, List, Option, some, none, ℕ, arith, length, drop, length-map, length-take, length-drop, leb, leb-true, leb-false}
+use Rattle.std.specs.Prelude.{Option as Answer, Some, None}
 use Rattle.lines.specs.declared.Parsed.{Parsed}
 use Rattle.lines.specs.declared.Next.{Next}
 use Rattle.writing.specs.Text.{space, line_end, before, after}
@@ -10,7 +11,6 @@ use Rattle.lines.specs.Input.{kept, next_of}
 use Rattle.writing.proofs.Cutting.{before_short, after_short}
 use Rattle.lines.proofs.Forms.{line_long, line_parts, parts_unranked, parts_unworded, parts_formed, ranking_digits, word_symbols}
 use Rattle.lines.specs.declared.Next.TheVariants as next
-use Rattle.lines.specs.declared.Parsed.TheVariants as parsed
 
 -- a line's bytes so far are no more than are kept; the next line starts after this one, and no later than the piece ends
 pub record NextBounds (from : ℕ) (piece : List ℕ) (answer : Next) : Type 0 where
@@ -58,22 +58,22 @@ module _ (held : List ℕ) (from : ℕ) (piece : List ℕ) (within : from ≤ le
       go (some others) e = rw (next_of, e) (line_bounds (before_short line_end (drop from piece) e))
 
 -- a line that parses has a ranking of at most 9 bytes and a word of at most 100
-pub record ParsedBounds (answer : Parsed) : Type 0 where
-  pub ranking_length : (r w : ℕ) → answer ≡ parsed.Line r w → r ≤ 9
-  pub word_length : (r w : ℕ) → answer ≡ parsed.Line r w → w ≤ 100
+pub record ParsedBounds (answer : Answer Parsed) : Type 0 where
+  pub ranking_length : (p : Parsed) → answer ≡ Some p → p.ranking ≤ 9
+  pub word_length : (p : Parsed) → answer ≡ Some p → p.word ≤ 100
 
-bad_bounds : ParsedBounds parsed.BadLine
+bad_bounds : ParsedBounds None
 bad_bounds =
     record {
-      ranking_length = λ r w h. let z : ◌≡◌ {A = ℕ} 0 1 = cc in absurd (omega arith);
-      word_length = λ r w h. let z : ◌≡◌ {A = ℕ} 0 1 = cc in absurd (omega arith);
+      ranking_length = λ p h. let z : ◌≡◌ {A = ℕ} 0 1 = cc in absurd (omega arith);
+      word_length = λ p h. let z : ◌≡◌ {A = ℕ} 0 1 = cc in absurd (omega arith);
     }
 
-good_bounds : (m n : ℕ) → m ≤ 9 → n ≤ 100 → ParsedBounds (parsed.Line m n)
+good_bounds : (m n : ℕ) → m ≤ 9 → n ≤ 100 → ParsedBounds (Some (record { ranking = m; word = n }))
 good_bounds m n hm hn =
     record {
-      ranking_length = λ r w h. let e : r ≡ m = cc in omega arith;
-      word_length = λ r w h. let e : w ≡ n = cc in omega arith;
+      ranking_length = λ p h. let e : p.ranking ≡ m = cc in omega arith;
+      word_length = λ p h. let e : p.word ≡ n = cc in omega arith;
     }
 
 parts_bounds : (digits symbols : List ℕ) → length symbols ≤ 200 → ParsedBounds (parsed_answer (parsed_parts digits (some symbols)))

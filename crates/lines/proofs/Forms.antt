@@ -1,7 +1,7 @@
 -- Laws of the forms of a line's parts. Assumes nothing.
 use Rattle.std.specs.Prelude.{◌≡◌, ◌&&◌, ◌∷◌, ◌+◌, ◌-◌, ◌*◌, ◌<◌, ◌≤◌}
 use Rattle.basics.proofs.Words.{refl, ap, sym, ◌∙◌, Bool, true, false, and-false, List, [], map, some, none, ℕ, zero-le, arith, length, length-map, take, drop, leb, suc-ne-zero, all_of, leb-true, le-leb, lt-leb, left, right}
-use Rattle.lines.specs.declared.Parsed.TheVariants.{BadLine, Line}
+use Rattle.std.specs.Prelude.{Option as Answer, Some, None}
 use Rattle.lines.specs.declared.Parsed.{Parsed}
 use Rattle.writing.specs.Text.{space, comma, before, after, segments}
 use Rattle.writing.specs.Decimal.{is_digit, digit_value, value_of}
@@ -101,16 +101,16 @@ module _ (digits symbols : List ℕ) where
   parts_formed h w = rw (parsed_parts, h, w)
 
 -- what parsing answers and what it writes: of a bad line nothing
-abbrev pub Parses : Parsed → List ℕ → List ℕ → List ℕ → List ℕ → List ℕ → Type 0
+abbrev pub Parses : Answer Parsed → List ℕ → List ℕ → List ℕ → List ℕ → List ℕ → Type 0
 Parses answer l ranking new_ranking word newWord =
     (answer ≡ parsed_answer (parsed_line l)) × ((new_ranking ≡ at_front (ranking_of (parsed_line l)) ranking) × (newWord ≡ at_front (word_of (parsed_line l)) word))
 
-pub unparsed : (l ranking word : List ℕ) → parsed_line l ≡ none → Parses BadLine l ranking ranking word word
+pub unparsed : (l ranking word : List ℕ) → parsed_line l ≡ none → Parses None l ranking ranking word word
 unparsed l ranking word e = rw e (refl, (refl, refl))
 
 pub parsed : (l digits symbols ranking word : List ℕ) {new_ranking newWord : List ℕ} {n count : ℕ} → parsed_line l ≡ some (request_of digits symbols)
     → n ≡ length digits → new_ranking ≡ at_front (map digit_value digits) ranking
     → count ≡ length (symbols_in symbols) → newWord ≡ at_front (map value_of (symbols_in symbols)) word
-    → Parses (Line n count) l ranking new_ranking word newWord
+    → Parses (Some (record { ranking = n; word = count })) l ranking new_ranking word newWord
 parsed l digits symbols ranking word e n r c w =
-    rw e ((λ i. Line ((n ∙ sym (length-map digits digit_value)) i) ((c ∙ sym (length-map (symbols_in symbols) value_of)) i)), (r, w))
+    rw e ((λ i. Some (record { ranking = (n ∙ sym (length-map digits digit_value)) i; word = (c ∙ sym (length-map (symbols_in symbols) value_of)) i })), (r, w))

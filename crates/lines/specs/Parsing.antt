@@ -1,8 +1,8 @@
 -- An input line: ranking digits, a space, symbols in decimal with commas, or none.
 use Rattle.std.specs.Prelude.{◌&&◌, ◌∷◌}
+use Rattle.std.specs.Prelude.{Option as Answer, Some, None}
 use Rattle.basics.specs.Words.{Bool, true, false, List, [], map, Option, some, none, ℕ, length, leb, all_of}
 use Rattle.lines.specs.declared.Parsed.{Parsed}
-use Rattle.lines.specs.declared.Parsed.TheVariants.{BadLine, Line}
 use Rattle.writing.specs.Text.{space, comma, before, after, segments}
 use Rattle.writing.specs.Decimal.{is_digit, digit_value, value_of}
 
@@ -41,9 +41,9 @@ unfoldable pub parsed_line : List ℕ → Option Request
 parsed_line line = elim (leb (length line) 200) [ true ↦ parsed_parts (before space line) (after space line) | false ↦ none ]
 
 -- what parsing answers of a line, and what it writes: of a bad line nothing
-abbrev pub parsed_answer : Option Request → Parsed
-parsed_answer none = BadLine
-parsed_answer (some request) = Line (length request.ranking) (length request.word)
+abbrev pub parsed_answer : Option Request → Answer Parsed
+parsed_answer none = None
+parsed_answer (some request) = Some (record { ranking = length request.ranking; word = length request.word })
 
 abbrev pub ranking_of : Option Request → List ℕ
 ranking_of none = []

@@ -6,7 +6,7 @@ ghost use Rattle.writing.specs.Buffers.{at_front};
 ghost use Rattle.lines.specs.Input.{kept, next_of};
 
 use crate::Next;
-use writing::text::{least, length_before, write_text};
+use writing::text::{length_before, write_text};
 
 // Takes a line's bytes from a piece of the input, from `from` to the line's end or the piece's. The line's bytes from earlier
 // pieces stand at the front of `line`, `held` of them.
@@ -17,7 +17,7 @@ pub fn next_line(piece: &[u8], from: usize, line: &mut [u8], held: usize) -> Nex
 {
     let rest = &piece[from..];
     let n = length_before(rest, b'\n');
-    let taken = least(n, 201 - held);
+    let taken = n.min(201 - held);
     let length = write_text(&rest[..taken], line, held);
     if n == rest.len() {
         Next::Open { length }

@@ -7,12 +7,11 @@ mod parsing;
 pub use input::next_line;
 pub use parsing::parse;
 
-// What parsing a line answers: that it is a bad line, or how many bytes of ranking and of word stand at the front of the
-// lent slices.
+// A line that is parsed: how many bytes of ranking and of word stand at the front of the lent slices.
 #[derive(Clone, Copy)]
-pub enum Parsed {
-    BadLine,
-    Line { ranking: usize, word: usize },
+pub struct Parsed {
+    pub ranking: usize,
+    pub word: usize,
 }
 
 // What looking for the end of a line in a piece of the input answers. `length` is how many bytes of the line are held.

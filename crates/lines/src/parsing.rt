@@ -21,11 +21,7 @@ fn is_ranking_text(text: &[u8]) -> bool
 fn is_symbol_text(text: &[u8]) -> bool
     ensures { result ≡ is_symbol_text text.now }
 {
-    if (1 <= text.len()) & (text.len() <= 3) & are_digits(text) {
-        value(text) <= 255
-    } else {
-        false
-    }
+    (1 <= text.len()) & (text.len() <= 3) & are_digits(text) && value(text) <= 255
 }
 
 fn is_word_text(text: &[u8]) -> bool
@@ -52,10 +48,8 @@ fn write_ranking(digits: &[u8], ranking: &mut [u8])
     requires { (all_of is_digit digits.now ≡ true) × (length digits.now ≤ length ranking.old) }
     ensures { ranking.new ≡ at_front (map digit_value digits.now) ranking.old }
 {
-    let mut at = 0;
-    while at < digits.len() {
-        ranking[at] = digits[at] - b'0';
-        at += 1;
+    for (at, &digit) in digits.iter().enumerate() {
+        ranking[at] = digit - b'0';
     }
 }
 
@@ -81,32 +75,32 @@ fn write_word(text: &[u8], word: &mut [u8]) -> usize
     }
 }
 
-// Parses a line, given without its line end. Of a bad line nothing is written.
-pub fn parse(line: &[u8], ranking: &mut [u8], word: &mut [u8]) -> Parsed
+// Parses a line, given without its line end. A bad line is none, and of it nothing is written.
+pub fn parse(line: &[u8], ranking: &mut [u8], word: &mut [u8]) -> Option<Parsed>
     requires { (9 ≤ length ranking.old) × (100 ≤ length word.old) }
     ensures answer { result ≡ parsed_answer (parsed_line line.now) }
     ensures ranking { ranking.new ≡ at_front (ranking_of (parsed_line line.now)) ranking.old }
     ensures word { word.new ≡ at_front (word_of (parsed_line line.now)) word.old }
 {
     if line.len() > LINE_BYTES {
-        return Parsed::BadLine;
+        return None;
     }
     let space = length_before(line, b' ');
     if space == line.len() {
-        return Parsed::BadLine;
+        return None;
     }
     let digits = &line[..space];
     let symbols = &line[space + 1..];
     if !is_ranking_text(digits) {
-        return Parsed::BadLine;
+        return None;
     }
     if !is_word_text(symbols) {
-        return Parsed::BadLine;
+        return None;
     }
     write_ranking(digits, ranking);
     let count = write_word(symbols, word);
-    Parsed::Line {
+    Some(Parsed {
         ranking: space,
         word: count,
-    }
+    })
 }

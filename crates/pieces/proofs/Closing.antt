@@ -1,5 +1,6 @@
 -- What is printed after the last piece, and the buffer that it is written to. Assumes nothing.
 use Rattle.std.specs.Prelude.{◌≡◌, ◌||◌, ◌∷◌, ◌++◌, ◌⊎◌, ◌+◌, ◌-◌, ◌≤◌}
+use Rattle.std.specs.Prelude.{Option as Answer, Some, IfSome}
 use Rattle.basics.proofs.Words.{refl, ap, sym, ◌∙◌, Bool, true, false, not, List, [], append_assoc, append-nil, inl, inr, ℕ, suc, arith, length, take, drop, take-append-drop, length-append, length-take, length-drop, eqb, drop-drop, take_at, drop_at, take-length, drop-length, drop-append-le, length-take-le, suc-ne-zero, ne_eqb, clash, either}
 use Rattle.writing.specs.Buffers.{at_front}
 use Rattle.tally.specs.declared.Tally.{Tally}
@@ -8,11 +9,9 @@ use Rattle.lesson.specs.Tally.{is_full, past_text, line_tally, line_text, lines_
 use Rattle.lesson.specs.TallyLaws.{tally_full, text_full}
 use Rattle.pieces.specs.Pieces.{printed_pieces}
 
--- the line past the thousandth, or a write that failed
-pub past_written : (past written : Bool) → (past || not written) ≡ true → written ≡ true → past ≡ true
-past_written true written h e = refl
-past_written false true h e = h
-past_written false false h e = e
+-- what is known of an answer, where there is one
+pub if_some : {A : Type 0} (P : A → Type 0) {o : Answer A} {x : A} → o ≡ Some x → IfSome o P → P x
+if_some P e h = rw e at h
 
 module _ (card : List ℕ) where
   -- what is printed in the end: past the thousandth line the closing lines, whatever is held

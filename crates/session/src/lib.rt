@@ -4,8 +4,8 @@
 // No contract can speak of what is read and written.
 #![tactic(auto)]
 
-ghost use Rattle.std.specs.Prelude.{◌≡◌, ◌≤◌};
-ghost use Rattle.basics.specs.Words.{false, length, take};
+ghost use Rattle.std.specs.Prelude.{◌≡◌, ◌≤◌, IfSome};
+ghost use Rattle.basics.specs.Words.{true, false, length, take};
 ghost use Rattle.lesson.specs.Tally.{Fits};
 ghost use Rattle.session.specs.Output.{Reads, Finishes};
 
@@ -37,7 +37,7 @@ fn read_piece(input: &mut impl Read, piece: &mut [u8]) -> usize
 // Prints the answers to the lines of the rest of the input that end, up to the first past the thousandth. The first one's bytes so
 // far stand at the front of `line`, `held` of them, and in the end those of the last one. A proved loop has to end, and nothing says
 // that an input does: the loop counts its turns down, from a number that no run uses up, since a thousand million readings a second
-// take 584 years for it.
+// take 584 years for it. After a write that failed nothing more is read or written: none.
 fn answer_pieces(
     rt: &impl Print,
     input: &mut impl Read,
@@ -46,38 +46,33 @@ fn answer_pieces(
     held: usize,
     tally: Tally,
     out: &mut [u8],
-) -> Progress
+) -> Option<Progress>
     requires { (held ≤ 201) × (length line.old ≡ 201) × Fits tally × (tally.past ≡ false) × (25628 ≤ length out.old) }
-    ensures { Reads card.now (take held line.old) tally line.new result.held result.tally result.written }
+    ensures { IfSome result (λ p. Reads card.now (take held line.old) tally line.new p.held p.tally true) }
 {
     let mut piece = [0u8; PIECE_BYTES];
     let mut bytes = held;
     let mut so_far = tally;
-    let mut turns = u64::MAX;
-    while turns > 0 {
+    for _ in 0..u64::MAX {
         let n = read_piece(input, &mut piece);
         if n == 0 {
             break;
         }
-        let progress = pieces::answer_piece(rt, card, &piece[..n], line, bytes, so_far, out);
-        let after = progress.tally;
-        let written = progress.written;
-        if after.past | !written {
-            return progress;
+        let progress = pieces::answer_piece(rt, card, &piece[..n], line, bytes, so_far, out)?;
+        if progress.tally.past {
+            return Some(progress);
         }
         bytes = progress.held;
-        so_far = after;
-        turns -= 1;
+        so_far = progress.tally;
     }
-    Progress {
+    Some(Progress {
         held: bytes,
         tally: so_far,
-        written: true,
-    }
+    })
 }
 
 // Prints the answers to the lines of the rest of the input that end, writes what is printed after them to the front of `out`, and
-// answers its length: 0 where a write failed.
+// answers its length: none where a write failed.
 fn answer_rest(
     rt: &impl Print,
     input: &mut impl Read,
@@ -86,25 +81,22 @@ fn answer_rest(
     held: usize,
     tally: Tally,
     out: &mut [u8],
-) -> usize
+) -> Option<usize>
     requires { (held ≤ 201) × (length line.old ≡ 201) × Fits tally × (tally.past ≡ false) × (length out.old ≡ 25748) }
-    ensures { Finishes card.now (take held line.old) tally out.new result }
+    ensures { IfSome result (λ n. Finishes card.now (take held line.old) tally out.new n) }
 {
-    let progress = answer_pieces(rt, input, card, line, held, tally, out);
-    let printed = progress.written;
-    if !printed {
-        return 0;
-    }
+    let progress = answer_pieces(rt, input, card, line, held, tally, out)?;
     let bytes = progress.held;
-    pieces::finish(card, &line[..bytes], progress.tally, out)
+    Some(pieces::finish(card, &line[..bytes], progress.tally, out))
 }
 
 // Prints the answers to the lines of the input, the last of which may lack its line end, and the closing lines.
 fn answer_input(rt: &impl Print, input: &mut impl Read, card: &[u8]) {
     let mut line = [0u8; LINE_BYTES];
     let mut out = [0u8; LAST_BYTES];
-    let size = answer_rest(rt, input, card, &mut line, 0, Tally::none(), &mut out);
-    let _ = rt.write_all(&out[..size]);
+    if let Some(size) = answer_rest(rt, input, card, &mut line, 0, Tally::none(), &mut out) {
+        let _ = rt.write_all(&out[..size]);
+    }
 }
 
 // Reads until the buffer is full, the file ends or a read fails, and answers how many bytes it put at the front.

@@ -27,7 +27,7 @@ fn plus(total: u32, count: u16) -> u32
     requires { total ≤ 65469465 }
     ensures { (result ≡ total + count) × (result ≤ total + 65535) }
 {
-    total + count as u32
+    total + u32::from(count)
 }
 
 impl Tally {

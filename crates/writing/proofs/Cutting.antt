@@ -1,23 +1,25 @@
 -- Laws of the texts before and after a byte, and of the segments. Assumes nothing.
 use Rattle.std.specs.Prelude.{◌≡◌, ◌∷◌, ◌+◌, ◌-◌, ◌<◌, ◌≤◌}
 use Rattle.basics.proofs.Words.{refl, ap, sym, ◌∙◌, Bool, true, false, List, [], Option, some, none, ℕ, suc, min, arith, length, get_or, take, drop, length-take, length-drop, drop_of_length-le, eqb, take_all, add-zero, suc_inj, suc-ne-zero, add-one, eq-eqb, ne_eqb}
+use Rattle.std.specs.List.{AllWithin, HoldsAt}
+use Rattle.std.proofs.Common.{Option as Answer}
+use Rattle.std.specs.Option.{MatchOption, unwrap_or}
+use Rattle.std.proofs.lemmas.Iterator.{index_from_first}
 use Rattle.writing.specs.Text.{before, after, segments}
 use Rattle.writing.specs.Cutting.{before_nil, after_nil, segments_nil, before_hit, after_hit, segments_hit, before_miss, after_miss, segments_miss}
 use Rattle.writing.proofs.Lists.{rest_cons}
 
--- a search for a byte, at a place: it is there; it is not; the text has ended
-module _ (b : ℕ) (l : List ℕ) (at : ℕ) {n : ℕ} where
-  pub before_here : at < length l → get_or l at 0 ≡ b → at + length (before b (drop at l)) ≡ n → at ≡ n
-  unfolding before
-  before_here h e i = sym (add-zero at) ∙ (rw (rest_cons l at 0 h, before, eq-eqb (get_or l at 0) b e) at i)
-
-  pub before_on : at < length l → (get_or l at 0 ≡ b → ⊥) → at + length (before b (drop at l)) ≡ n → at + 1 + length (before b (drop (at + 1) l)) ≡ n
-  unfolding before
-  before_on h e i = omega (arith, rw (rest_cons l at 0 h, before, ne_eqb (get_or l at 0) b e) at i)
-
-  pub before_end : length l ≤ at → at + length (before b (drop at l)) ≡ n → at ≡ n
-  unfolding before
-  before_end h i = sym (add-zero at) ∙ (rw drop_of_length-le at i)
+-- a search for a byte: how many bytes stand before the first
+pub before_position : (b : ℕ) (l : List ℕ) (r : Answer ℕ)
+    → MatchOption r (AllWithin (λ x. x ≡ b → ⊥) l 0 (length l)) (λ i. (i < length l) × HoldsAt (λ x. x ≡ b) l i × AllWithin (λ x. x ≡ b → ⊥) l 0 i)
+    → length (before b l) ≡ unwrap_or r (length l)
+before_position b l r h =
+    index_from_first (λ m. length (before b m)) (λ x. x ≡ b) (λ x. x ≡ b → ⊥) (ap length (before_nil b))
+    (λ x xs e. ap length (before_hit b x xs (eq-eqb x b e)))
+    (λ x xs n. ap length (before_miss b x xs (ne_eqb x b n)) ∙ sym (add-one (length (before b xs))))
+    l
+    r
+    h
 
 -- the text before the byte is the front of the text
 pub take_before : (b : ℕ) (l : List ℕ) → take (length (before b l)) l ≡ before b l
@@ -27,6 +29,11 @@ take_before b (x ∷ xs) = go (eqb x b) refl (take_before b xs)
     go : (t : Bool) → eqb x b ≡ t → take (length (before b xs)) xs ≡ before b xs → take (length (before b (x ∷ xs))) (x ∷ xs) ≡ before b (x ∷ xs)
     go true e i = rw (before_hit b x xs e)
     go false e i = rw (before_miss b x xs e, i)
+
+pub before_length : (b : ℕ) (l : List ℕ) → length (before b l) ≤ length l
+before_length b l =
+    let le : length (before b l) ≡ min (length (before b l)) (length l) = sym (ap length (take_before b l)) ∙ length-take (length (before b l)) l in
+    omega arith
 
 -- the byte is there exactly where the text before it is not the whole
 pub after_none : (b : ℕ) (l : List ℕ) → length (before b l) ≡ length l → after b l ≡ none
@@ -50,7 +57,7 @@ after_some b (x ∷ xs) h = go (eqb x b) refl h (after_some b xs)
 -- where the byte is there, the texts before and after it are shorter
 pub before_short : (b : ℕ) (l : List ℕ) {rest : List ℕ} → after b l ≡ some rest → length (before b l) < length l
 before_short b l e =
-    let le : length (before b l) ≡ min (length (before b l)) (length l) = sym (ap length (take_before b l)) ∙ length-take (length (before b l)) l in
+    let le = before_length b l in
     let ne : (length (before b l) ≡ length l → ⊥) = λ h. let q : _ ≡ _ = sym e ∙ after_none b l h in let z : ◌≡◌ {A = ℕ} 0 1 = cc in omega arith in
     omega arith
 

@@ -1,6 +1,8 @@
 -- Laws of lists from a place on, of tests over them, and of stores in a row. Assumes nothing.
 use Rattle.std.specs.Prelude.{◌≡◌, ◌∷◌, ◌++◌, ◌+◌, ◌<◌, ◌≤◌}
-use Rattle.basics.proofs.Words.{refl, ap, sym, ◌∙◌, Bool, true, false, List, [], ℕ, zero, suc, min, arith, length, get_or, take, drop, set, leb, drop-cons, take_all, sets, sets-eq, ext_get_or, add-zero, add-suc, suc-add, zero-add, add-one, all_of, leb-true, leb-false, left, right}
+use Rattle.basics.proofs.Words.{refl, ap, sym, ◌∙◌, Bool, true, false, List, [], ℕ, zero, suc, min, arith, length, get_or, take, drop, set, leb, drop-cons, take_all, sets, sets-eq, ext_get_or, add-zero, add-suc, suc-add, zero-add, add-one, all_of, leb-true, leb-false, left, right, zero-le, clash, all_at, each_at}
+use Rattle.std.specs.Bool.{MatchBool}
+use Rattle.std.specs.List.{AllWithin, HoldsAt}
 use Rattle.writing.specs.Buffers.{Below}
 
 -- the element at a place, and the rest
@@ -28,6 +30,16 @@ module _ {A : Type 0} (f : A → Bool) {xs : List A} {x : A} {rest : List A} (e 
 pub all_end : {A : Type 0} (f : A → Bool) {xs : List A} {t : Bool} → xs ≡ [] → all_of f xs ≡ t → true ≡ t
 unfolding all_of
 all_end f e i = rw e at i
+
+-- what a chain of tests answers: each element passes, or one fails
+pub all_cases : {A : Type 0} (f : A → Bool) (l : List A) (d : A) (t : Bool)
+    → MatchBool t (AllWithin (λ x. f x ≡ true) l 0 (length l)) ((k : ℕ) × (k < length l) × HoldsAt (λ x. f x ≡ false) l k) → t ≡ all_of f l
+all_cases f l d true h = sym (each_at f l d (λ i b. h i d zero-le b))
+all_cases f l d false (k, b, h) = go (all_of f l) refl
+  where
+    go : (t : Bool) → all_of f l ≡ t → false ≡ all_of f l
+    go true e = absurd (clash (all_at f l d e k b) (h d))
+    go false e = sym e
 
 -- the front of a list, no more than there is
 pub take_least : {A : Type 0} (n m : ℕ) (l : List A) → length l ≡ m → take (min n m) l ≡ take n l

@@ -3,6 +3,7 @@ use Rattle.std.specs.Prelude.{◌≡◌, ◌∷◌, ◌++◌, ◌+◌, ◌-◌, 
 use Rattle.basics.specs.Words.{refl, ap, sym, ◌∙◌, List, [], ℕ, zero, suc, zero-le, arith, length, get_or, take, drop, length-append, length-drop, drop_of_length-le, lit≤, suc-ne-zero, not-suc-le-zero, le_of_suc-le-suc, mul-suc, mul-le-mul_left, joined}
 use Rattle.candidate.specs.Evaluating.{Evaluation}
 use Rattle.candidate.specs.Candidates.{pairs_of}
+use Rattle.std.specs.Simd.{first_chunks}
 use Rattle.writing.specs.Text.{text_of}
 use Rattle.writing.specs.Buffers.{Below}
 use Rattle.writing.specs.Decimal.{decimal}
@@ -38,14 +39,19 @@ number_length n h = decimal_length 9 n (omega arith)
 pub refused_fits : (n : ℕ) → n < 256 → length (refused_line n) ≤ 12
 refused_fits n h = omega (arith, refused_length n, byte_length n h)
 
--- a comma and a count for each count, from a place on
-pub counts_next : (l : List ℕ) (i : ℕ) → i < length l → joined next_count (drop i l) ≡ next_count (get_or l i 0) ++ joined next_count (drop (i + 1) l)
-unfolding joined
-counts_next l i h = rw (rest_cons l i 0 h)
+-- a text for each element, from a place on: what is to be written next, and that it fits
+module _ {A : Type 0} (f : A → List ℕ) (l : List A) (i : ℕ) where
+  pub joined_next : (d : A) → i < length l → joined f (drop i l) ≡ f (get_or l i d) ++ joined f (drop (i + 1) l)
+  unfolding joined
+  joined_next d h = rw (rest_cons l i d h)
 
-pub counts_end : (l : List ℕ) (i : ℕ) → length l ≤ i → joined next_count (drop i l) ≡ []
-unfolding joined
-counts_end l i h = rw drop_of_length-le
+  pub joined_end : length l ≤ i → joined f (drop i l) ≡ []
+  unfolding joined
+  joined_end h = rw drop_of_length-le
+
+  pub joined_room : {next at : ℕ} {out whole old : List ℕ} (d : A) → i < length l → Ahead (joined f (drop i l)) next out whole at old → at + length whole ≤ length old
+      → next + length (f (get_or l i d)) ≤ length out
+  joined_room d h = ahead_room (f (get_or l i d)) (joined f (drop (i + 1) l)) (joined_next d h)
 
 -- no count; the first count, and the others
 pub counts_none : (l : List ℕ) → length l ≡ 0 → with_commas l ≡ []
@@ -62,7 +68,7 @@ pub counts_first_length : (l : List ℕ) → (length l ≡ 0 → ⊥)
     → length (with_commas l) ≡ length (decimal (get_or l 0 0)) + length (joined next_count (take (length l - 1) (drop 1 l)))
 counts_first_length l h = ap length (counts_first l h) ∙ length-append (decimal (get_or l 0 0)) (joined next_count (take (length l - 1) (drop 1 l)))
 
--- the pairs, from a place on
+-- the pairs
 pairs_cons : (x y : ℕ) (l : List ℕ) → pairs_text (x ∷ y ∷ l) ≡ pair_text x y ++ pairs_text l
 unfolding pairs_text pairs_of joined
 pairs_cons x y l = refl
@@ -73,25 +79,17 @@ pairs_none [] h = refl
 pairs_none (x ∷ []) h = refl
 pairs_none (x ∷ y ∷ l) h = absurd (not-suc-le-zero (le_of_suc-le-suc h))
 
-pub pairs_next : (l : List ℕ) (i : ℕ) → i + 1 < length l → pairs_text (drop i l) ≡ pair_text (get_or l i 0) (get_or l (i + 1) 0) ++ pairs_text (drop (i + 2) l)
-pairs_next l i h =
-    let two : i + 1 + 1 ≡ i + 2 = omega arith in
-    ap pairs_text
-    (rest_cons l i 0 (omega arith)
-    ∙ ap (λ (r : List ℕ). get_or l i 0 ∷ r) (rest_cons l (i + 1) 0 h ∙ ap (λ (k : ℕ). get_or l (i + 1) 0 ∷ drop k l) two))
-    ∙ pairs_cons (get_or l i 0) (get_or l (i + 1) 0) (drop (i + 2) l)
+-- a pair in each chunk of two bytes
+abbrev pub chunk_text : List ℕ → List ℕ
+chunk_text p = pair_text (get_or p 0 0) (get_or p 1 0)
 
-pub pairs_end : (l : List ℕ) (i : ℕ) → length l ≤ i + 1 → pairs_text (drop i l) ≡ []
-pairs_end l i h = pairs_none (drop i l) (simp length-drop (omega arith))
-
--- what is to be written next fits
-module _ (l : List ℕ) (i : ℕ) {next at : ℕ} {out whole old : List ℕ} where
-  pub counts_room : i < length l → Ahead (joined next_count (drop i l)) next out whole at old → at + length whole ≤ length old → next + length (next_count (get_or l i 0)) ≤ length out
-  counts_room h = ahead_room (next_count (get_or l i 0)) (joined next_count (drop (i + 1) l)) (counts_next l i h)
-
-  pub pairs_room : i + 1 < length l → Ahead (pairs_text (drop i l)) next out whole at old → at + length whole ≤ length old
-      → next + length (pair_text (get_or l i 0) (get_or l (i + 1) 0)) ≤ length out
-  pairs_room h = ahead_room (pair_text (get_or l i 0) (get_or l (i + 1) 0)) (pairs_text (drop (i + 2) l)) (pairs_next l i h)
+pub chunks_pairs : (k : ℕ) (l : List ℕ) → 2 * k ≤ length l → length l < 2 * k + 2 → joined chunk_text (first_chunks 2 k l) ≡ pairs_text l
+unfolding joined
+chunks_pairs zero l h m = sym (pairs_none l (omega arith))
+chunks_pairs (suc k) [] h m = absurd (omega arith)
+chunks_pairs (suc k) (x ∷ []) h m = absurd (omega arith)
+chunks_pairs (suc k) (x ∷ y ∷ l) h m =
+    ap (λ (t : List ℕ). pair_text x y ++ t) (chunks_pairs k l (omega arith) (omega arith)) ∙ sym (pairs_cons x y l)
 
 -- numbers of at most so many digits, six at most, with commas between them
 abbrev Digits : ℕ → List ℕ → Type 0

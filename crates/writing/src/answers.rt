@@ -26,10 +26,8 @@ fn write_next_counts(counts: &[u32], out: &mut [u8], at: usize) -> usize
     ensures { Written (joined next_count counts.now) at out.old out.new result }
 {
     let mut next = at;
-    let mut i = 0;
-    while i < counts.len() {
-        next = write_next_count(counts[i], out, next);
-        i += 1;
+    for &count in counts {
+        next = write_next_count(count, out, next);
     }
     next
 }
@@ -52,9 +50,9 @@ fn write_pair(input: u8, output: u8, out: &mut [u8], at: usize) -> usize
     ensures { Written (pair_text input output) at out.old out.new result }
 {
     let next = write_byte(b' ', out, at);
-    let next = write_number(input as u32, out, next);
+    let next = write_number(u32::from(input), out, next);
     let next = write_byte(b':', out, next);
-    write_number(output as u32, out, next)
+    write_number(u32::from(output), out, next)
 }
 
 // Writes the pairs of a byte string from a place on, and answers the place after them.
@@ -63,10 +61,8 @@ fn write_pairs(bytes: &[u8], out: &mut [u8], at: usize) -> usize
     ensures { Written (pairs_text bytes.now) at out.old out.new result }
 {
     let mut next = at;
-    let mut i = 0;
-    while i + 1 < bytes.len() {
-        next = write_pair(bytes[i], bytes[i + 1], out, next);
-        i += 2;
+    for &[input, output] in bytes.as_chunks::<2>().0 {
+        next = write_pair(input, output, out, next);
     }
     next
 }
@@ -87,7 +83,7 @@ pub fn write_refused(number: u8, out: &mut [u8]) -> usize
     ensures out { out.new ≡ at_front (refused_line number) out.old }
 {
     let next = write_text(b"refused ", out, 0);
-    let next = write_number(number as u32, out, next);
+    let next = write_number(u32::from(number), out, next);
     write_byte(b'\n', out, next)
 }
 
@@ -102,25 +98,11 @@ fn write_accepted(counts: &[u32], bytes: &[u8], out: &mut [u8]) -> usize
     write_byte(b'\n', out, next)
 }
 
-fn wide(count: u16) -> u32
-    ensures { (result ≡ count) × (result < 65536) }
-{
-    count as u32
-}
-
 // A profile's counts as the numbers that are written.
 fn wide_counts(profile: Profile) -> [u32; 6]
     ensures { (result ≡ profile.counts) × Below 65536 result }
 {
-    let counts = profile.counts;
-    [
-        wide(counts[0]),
-        wide(counts[1]),
-        wide(counts[2]),
-        wide(counts[3]),
-        wide(counts[4]),
-        wide(counts[5]),
-    ]
+    profile.counts.map(u32::from)
 }
 
 // Writes an answer's line to the front of a slice, and answers the line's length. The counts are those of `machines`

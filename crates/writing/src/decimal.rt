@@ -5,30 +5,11 @@ ghost use Rattle.writing.specs.Decimal.{is_digit, value_of};
 ghost use Rattle.writing.specs.Decimal.{decimal as Decimal·decimal};
 ghost use Rattle.writing.specs.Buffers.{Written};
 
-fn is_digit(b: u8) -> bool
-    ensures { result ≡ is_digit b }
-{
-    (b'0' <= b) & (b <= b'9')
-}
-
 // Whether each byte is a digit.
 pub fn are_digits(text: &[u8]) -> bool
     ensures { result ≡ all_of is_digit text.now }
 {
-    let mut at = 0;
-    while at < text.len() {
-        if !is_digit(text[at]) {
-            return false;
-        }
-        at += 1;
-    }
-    true
-}
-
-fn wide(x: u8) -> u16
-    ensures { result ≡ x }
-{
-    x as u16
+    text.iter().all(u8::is_ascii_digit)
 }
 
 // The number that at most three digits say.
@@ -37,10 +18,8 @@ pub fn value(digits: &[u8]) -> u16
     ensures { result ≡ value_of digits.now }
 {
     let mut n = 0;
-    let mut at = 0;
-    while at < digits.len() {
-        n = n * 10 + wide(digits[at] - b'0');
-        at += 1;
+    for &digit in digits {
+        n = n * 10 + u16::from(digit - b'0');
     }
     n
 }

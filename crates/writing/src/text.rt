@@ -8,14 +8,7 @@ ghost use Rattle.writing.specs.Buffers.{Written};
 pub fn length_before(text: &[u8], b: u8) -> usize
     ensures { (result ≡ length (before b text.now)) × (result ≤ length text.now) }
 {
-    let mut at = 0;
-    while at < text.len() {
-        if text[at] == b {
-            return at;
-        }
-        at += 1;
-    }
-    at
+    text.iter().position(|&x| x == b).unwrap_or(text.len())
 }
 
 // Writes a byte at a place, and answers the place after it.
@@ -32,13 +25,8 @@ pub fn write_text(text: &[u8], out: &mut [u8], at: usize) -> usize
     requires { at + length text.now ≤ length out.old }
     ensures { Written text.now at out.old out.new result }
 {
-    let mut i = 0;
-    let mut next = at;
-    while i < text.len() {
-        out[next] = text[i];
-        next += 1;
-        i += 1;
-    }
+    let next = at + text.len();
+    out[at..next].copy_from_slice(text);
     next
 }
 
@@ -46,5 +34,5 @@ pub fn write_text(text: &[u8], out: &mut [u8], at: usize) -> usize
 pub fn least(a: usize, b: usize) -> usize
     ensures { (result ≡ min a b) × (result ≤ a) × (result ≤ b) }
 {
-    if a < b { a } else { b }
+    a.min(b)
 }

@@ -1,27 +1,21 @@
 use Rattle.std.specs.Prelude.{◌≡◌}
-use Rattle.basics.proofs.Words.{true, sym, ◌∙◌, [], zero-le, arith, length-take-le}
+use Rattle.basics.proofs.Words.{refl, ◌∙◌, arith}
 use Rattle.lesson.proofs.Replies.{front}
+use Rattle.pieces.proofs.Closing.{if_some}
 use Rattle.session.proofs.Reading.{reads_full, reads_text}
 use Rattle.session.proofs.answer_rest.Goals as goal
 
--- a write failed
-pub returns-then-not-printed : goal.returns-then-not-printed
-returns-then-not-printed g c = record { read = []; fits = zero-le; text = λ h. absurd (omega arith) }
-
-pub slice_bounds-finish-end-2 : goal.slice_bounds-finish-end-2
-slice_bounds-finish-end-2 g c = sym (length-take-le _ _ (omega (arith, c.answer_pieces-progress.ensures.answers.few, c.answer_pieces-progress.auto.line, c.requires.1)))
-
 pub finish-requires : goal.finish-requires
 finish-requires g c =
-    let written : c.answer_pieces-progress.result.written ≡ true = c.if-not-printed.false in
-    (omega (arith, c.requires.4), c.answer_pieces-progress.ensures.answers.fits, reads_full c.answer_pieces-progress.ensures written c.requires.3)
+    let r = if_some _ c.in_ok-progress.was c.answer_pieces.ensures in
+    (omega (arith, c.requires.4), r.answers.fits, reads_full r refl c.requires.3)
 
 pub returns : goal.returns
 returns g c =
-    let written : c.answer_pieces-progress.result.written ≡ true = c.if-not-printed.false in
+    let r = if_some _ c.in_ok-progress.was c.answer_pieces.ensures in
     let f = c.finish.ensures in
     record {
-      read = c.answer_pieces-progress.ensures.read;
+      read = r.read;
       fits = f.fits;
-      text = λ h. front _ _ _ _ f.size f.bytes ∙ reads_text c.answer_pieces-progress.ensures written c.requires.3;
+      text = λ h. front _ _ _ _ f.size f.bytes ∙ reads_text r refl c.requires.3;
     }

@@ -12,4 +12,4 @@ returns-then-text-are_digits c =
 pub returns-else-text-are_digits : goal.returns-else-text-are_digits
 returns-else-text-are_digits c =
     let l = c.args.text.now in
-    symbol_fails l (ap (λ (t : Bool). leb 1 (length l) && leb (length l) 3 && t) (sym c.are_digits.ensures) ∙ c.if-text-are_digits.false)
+    c.if-text-are_digits.false ∙ symbol_fails l (ap (λ (t : Bool). leb 1 (length l) && leb (length l) 3 && t) (sym c.are_digits.ensures) ∙ c.if-text-are_digits.false)

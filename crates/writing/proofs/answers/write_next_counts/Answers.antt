@@ -1,17 +1,14 @@
-use Rattle.basics.proofs.Words.{arith}
+use Rattle.writing.specs.Writing.{next_count}
 use Rattle.writing.proofs.Writes.{ahead_end, ahead_next}
-use Rattle.writing.proofs.Texts.{counts_room, counts_next, counts_end}
+use Rattle.writing.proofs.Texts.{joined_room, joined_next, joined_end}
 use Rattle.writing.proofs.answers.write_next_counts.Goals as goal
 
 pub write_next_count-next-requires : goal.write_next_count-next-requires
-write_next_count-next-requires c =
-    counts_room _ _ c.loop-i-test.true c.loop-i.invariant.1 c.requires
+write_next_count-next-requires c = joined_room next_count _ _ 0 c.loop-count-test.true c.loop-count.invariant c.requires
 
-pub loop-i-preserved : goal.loop-i-preserved
-loop-i-preserved c = (
-  omega arith,
-  ahead_next _ _ (counts_next _ _ c.loop-i-test.true) c.loop-i.invariant.1 c.write_next_count-next.ensures,
-)
+pub loop-count-preserved : goal.loop-count-preserved
+loop-count-preserved c =
+    ahead_next _ _ (joined_next next_count _ _ 0 c.loop-count-test.true) c.loop-count.invariant c.write_next_count-next.ensures
 
 pub returns : goal.returns
-returns c = ahead_end (counts_end _ _ c.loop-i-test.false) c.loop-i.invariant.1
+returns c = ahead_end (joined_end next_count _ _ c.loop-count-test.false) c.loop-count.invariant

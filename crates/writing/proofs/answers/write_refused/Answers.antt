@@ -7,20 +7,21 @@ use Rattle.writing.proofs.answers.write_refused.Goals as goal
 pub write_number-next-requires : goal.write_number-next-requires
 write_number-next-requires c =
     let w = c.write_text-next.ensures in
-    omega (arith, byte_length c.args.number c.ranges.number.fits, w.place, written_length w, c.requires)
+    rw c.from.ensures (omega (arith, byte_length c.args.number c.ranges.number.fits, w.place, written_length w, c.requires))
 
 pub write_byte-requires : goal.write_byte-requires
 write_byte-requires c =
     let v = c.write_text-next.ensures in
-    let w = c.write_number-next.ensures in
+    let w = rw c.from.ensures at c.write_number-next.ensures in
     omega (arith, byte_length c.args.number c.ranges.number.fits, v.place, written_length v, w.place, written_length w, c.requires)
 
 pub returns-clause-length : goal.returns-clause-length
 unfolding refused_line
-returns-clause-length c = front_place (written_append (written_append c.write_text-next.ensures c.write_number-next.ensures) c.write_byte.ensures)
+returns-clause-length c =
+    front_place (written_append (written_append c.write_text-next.ensures (rw c.from.ensures at c.write_number-next.ensures)) c.write_byte.ensures)
 
 pub returns-clause-out : goal.returns-clause-out
 unfolding refused_line
 returns-clause-out c =
-    front_bytes (written_append (written_append c.write_text-next.ensures c.write_number-next.ensures) c.write_byte.ensures)
+    front_bytes (written_append (written_append c.write_text-next.ensures (rw c.from.ensures at c.write_number-next.ensures)) c.write_byte.ensures)
     (le_trans (refused_fits c.args.number c.ranges.number.fits) c.requires)

@@ -1,12 +1,13 @@
-use Rattle.basics.proofs.Words.{rules}
-use Rattle.writing.proofs.Cutting.{before_here, before_on, before_end}
+use Rattle.std.specs.Prelude.{◌≡◌}
+use Rattle.std.proofs.lemmas.Iterator.{YieldsList-from_slice, IsFirst-from_position}
+use Rattle.basics.proofs.Words.{sym, ◌∙◌, length, arith, rules}
+use borrow.Author.Tests.{tests}
+use Rattle.writing.specs.Text.{before}
+use Rattle.writing.proofs.Cutting.{before_position, before_length}
 use Rattle.writing.proofs.text.length_before.Goals as goal
 
-pub returns-then-text-at : goal.returns-then-text-at
-returns-then-text-at c = (before_here _ _ _ c.loop-at-test.true c.if-text-at.true c.loop-at.invariant.1, search rules)
-
-pub loop-at-preserved : goal.loop-at-preserved
-loop-at-preserved c = (search rules, before_on _ _ _ c.loop-at-test.true c.if-text-at.false c.loop-at.invariant.1)
-
 pub returns : goal.returns
-returns c = (before_end _ _ _ c.loop-at-test.false c.loop-at.invariant.1, search rules)
+returns c =
+    let first = IsFirst-from_position _ _ _ (λ x. x ≡ c.args.b) (λ x. x ≡ c.args.b → ⊥) c.position.ensures.ran (YieldsList-from_slice c.args.text.now cc) (λ x q k. search (rules, tests)) (λ x q k. search (rules, tests)) in
+    let e : c.unwrap_or.result ≡ length (before c.args.b c.args.text.now) = c.unwrap_or.ensures ∙ sym (before_position c.args.b c.args.text.now _ first) in
+    (e, omega (arith, e, before_length c.args.b c.args.text.now))
