@@ -14,7 +14,6 @@ ghost use Rattle.join.specs.JoinedCard.{fits_part, joinable, machines_refusal, j
 
 mod card_parts; // card_parts.rt: the parts of the new card
 
-use basics::index;
 use refusals::{Refusal, tested};
 
 // Refusal 27: two different machines of the card, one of them without marks.
@@ -40,34 +39,14 @@ fn fits_part(card: &[u8], lower: usize, other: usize) -> bool
     (states <= 32) & (joined::arc_count(first, second) <= 255)
 }
 
-// The lower of two numbers.
-fn lower(first: usize, second: usize) -> usize
-    ensures { result ≡ min first second }
-{
-    if first < second {
-        return first;
-    }
-    second
-}
-
-// The other one.
-fn other(first: usize, second: usize) -> usize
-    ensures { result ≡ max first second }
-{
-    if first < second {
-        return second;
-    }
-    first
-}
-
 // The first of refusals 1 to 6, 27 and 28 that joining two machines meets.
 fn check_joining(card: &[u8], first: usize, second: usize) -> Result<(), Refusal>
     ensures { checked_number result ≡ machines_refusal card.now first second }
 {
     card::check(card)?;
     tested(is_joinable(card, first, second), Refusal::Machines)?;
-    let lower = lower(first, second);
-    let other = other(first, second);
+    let lower = first.min(second);
+    let other = first.max(second);
     tested(fits_part(card, lower, other), Refusal::JoinedSize)
 }
 
@@ -76,11 +55,11 @@ fn check_joining(card: &[u8], first: usize, second: usize) -> Result<(), Refusal
 pub fn join(card: &[u8], first: u8, second: u8, target: &mut [u8]) -> Result<usize, Refusal>
     ensures { (packed_of result ≡ joining_answer card.now first second (length target.old)) × (target.new ≡ joining_target card.now first second target.old) }
 {
-    let first = index(first);
-    let second = index(second);
+    let first = usize::from(first);
+    let second = usize::from(second);
     check_joining(card, first, second)?;
-    let lower = lower(first, second);
-    let other = other(first, second);
+    let lower = first.min(second);
+    let other = first.max(second);
     let length = card_parts::new_card_length(card, lower, other);
     tested(length <= target.len(), Refusal::Target)?;
     card_parts::write_card(target, card, lower, other);

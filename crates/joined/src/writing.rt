@@ -13,11 +13,7 @@ fn write_number(target: &mut [u8], at: usize, value: u64)
     requires { at + 8 ≤ length target.old }
     ensures { target.new ≡ placed at (little_endian 8 value) target.old }
 {
-    let mut left = value;
-    for i in 0..8 {
-        target[at + i] = (left % 256) as u8;
-        left /= 256;
-    }
+    target[at..at + 8].copy_from_slice(&value.to_le_bytes());
 }
 
 // Writes an arc as 20 bytes from a place on.

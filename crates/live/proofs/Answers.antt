@@ -10,7 +10,7 @@ use Rattle.live.specs.Rows.{Lead}
 use Rattle.live.specs.Rows.{present, added, removed, fits, has_room, leader_of, counted, refused_count, unled, lead_answer}
 use Rattle.live.specs.Steps.{putting_in, taking_out, leader_down}
 use Rattle.live.proofs.Rows.{some_row}
-use Rattle.live.specs.Calls.{adding_refusal, removing_refusal, leading_refusal, leading, Adds, Removes}
+use Rattle.live.specs.Calls.{adding_refusal, removing_refusal, leading, Adds, Removes}
 use Rattle.live_checks.proofs.Checks.{first_three, three_stay, three_go}
 use Rattle.live.proofs.Leading.{leader_found}
 
@@ -90,11 +90,6 @@ module _ (K : ℕ) (ranking : List ℕ) (count : ℕ) (l : List Row) where
   some_removed id q z = some_row id count l (passed 24 (present id (take count l)) (lit< tt) (sym q ∙ z))
 
   -- ---- the leader
-  pub lead_refused : {number : ℕ} {answer : Lead} → number ≡ first_three K ranking (fits count (length l)) → 0 < number → answer ≡ unled number → answer ≡ leading K ranking count l
-  lead_refused {number} {answer} e h a =
-      let n = leading_refusal K ranking count l in
-      a ∙ ap unled e ∙ sym (not_accepted n (lead_answer (leader_of ranking (take count l))) unled (omega (arith, e, h)))
-
   pub lead_done : {number : ℕ} {answer : Lead} → number ≡ first_three K ranking (fits count (length l)) → number ≡ 0 → answer ≡ leader_down ranking (take count l) → answer ≡ leading K ranking count l
   lead_done {number} {answer} e z a = a ∙ leader_found ranking (take count l) ∙ sym (accepted (lead_answer (leader_of ranking (take count l))) unled (sym e ∙ z))
 

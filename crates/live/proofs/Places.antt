@@ -1,12 +1,15 @@
 -- Laws of the search for an id, of the removal and of the search for the best row, for the loops. Assumes nothing.
 use Rattle.std.specs.Prelude.{◌≡◌, ◌∷◌, ◌++◌, ◌+◌, ◌-◌, ◌<◌, ◌≤◌}
-use Rattle.basics.proofs.Words.{refl, sym, ap, ◌∙◌, Bool, true, false, not, List, [], ℕ, zero, suc, arith, get_or, length, set, take, drop, length-set, length-take, eqb, lit<, drop-cons, zero-add, sub-zero, add-one, eqb-true, eqb-false, not-true, not-false}
+use Rattle.basics.proofs.Words.{refl, sym, ap, ◌∙◌, Bool, true, false, not, List, [], ℕ, zero, suc, arith, get_or, length, set, take, drop, length-set, length-take, eqb, lit<, drop-cons, add-one, eqb-true, eqb-false, not-true, not-false}
 use Rattle.std.proofs.lemmas.List.{get_or_default}
 use Rattle.refusals.specs.declared.Refusal.{Refusal}
-use Rattle.refusals.specs.declared.Checked.{Checked}
-use Rattle.refusals.specs.declared.Checked.TheVariants.{Passed, Refused}
+use Rattle.std.proofs.Common.{Result, Ok, Err, Option as Answer, Some, None, cond, position, ltb, ltb-false}
+use Rattle.std.specs.List.{position_or_len}
+use Rattle.std.specs.Option.{unwrap_or}
 use Rattle.refusals.specs.Refusals.{checked_number, refuse}
 use Rattle.refusals.proofs.Refusals.{was_true, was_false}
+use Rattle.ranking.specs.Profiles.{zero_profile}
+use Rattle.ranking.specs.declared.Profile.{Profile}
 use Rattle.live.specs.declared.Row.{Row}
 use Rattle.live.specs.Rows.{zero_row, has_id, present, without, removed, led}
 use Rattle.live.proofs.Rows.{without_none, without_here, present_here, present_later}
@@ -30,30 +33,17 @@ place_here : (id : ℕ) {l : List Row} {r : Row} {t : List Row} → l ≡ r ∷ 
 unfolding place
 place_here id e h = rw (e, h, place)
 
--- the search has come to a place
-pub record Sought (id count : ℕ) (l : List Row) (i : ℕ) : Type 0 where
-  pub within : i ≤ count
-  pub same : i + place id (rest count l i) ≡ place id (take count l)
-
-pub sought_start : (id count : ℕ) (l : List Row) → Sought id count l 0
-sought_start id count l = record { within = omega arith; same = zero-add _ ∙ ap (λ (n : ℕ). place id (take n l)) (sub-zero count) }
-
-pub sought_next : {id count : ℕ} {l : List Row} {i : ℕ} (d : Row) → Sought id count l i → i < count → count ≤ length l → has_id id (get_or l i d) ≡ false → Sought id count l (i + 1)
-sought_next {id} {count} {l} {i} d s h k f =
-    let p = place_none id (rest_next count l i d h (omega (arith, h, k))) f in
-    record { within = omega arith; same = omega (arith, p, s.same) }
-
-pub sought_here : {id count : ℕ} {l : List Row} {i : ℕ} (d : Row) → Sought id count l i → i < count → count ≤ length l → has_id id (get_or l i d) ≡ true → i ≡ place id (take count l)
-sought_here {id} {count} {l} {i} d s h k f =
-    let p = place_here id (rest_next count l i d h (omega (arith, h, k))) f in
-    omega (arith, p, s.same)
-
-pub sought_end : {id count : ℕ} {l : List Row} {i : ℕ} → Sought id count l i → count ≤ i → i ≡ place id (take count l)
+-- ---- the place that was found, or the number of the rows
+passed_over : (id : ℕ) (l : List Row) → place id l ≡ position_or_len (has_id id) l
 unfolding place
-sought_end {id} {count} {l} {i} s h =
-    let e : count - i ≡ 0 = omega arith in
-    let p : place id (rest count l i) ≡ 0 = rw e in
-    omega (arith, p, s.same)
+passed_over id [] = refl
+passed_over id (r ∷ l) = go (has_id id r) refl (passed_over id l)
+  where
+    go : (b : Bool) → has_id id r ≡ b → place id l ≡ position_or_len (has_id id) l → place id (r ∷ l) ≡ position_or_len (has_id id) (r ∷ l)
+    go true h e = rw (h, place)
+    go false h e =
+        let f : suc (place id l) ≡ 1 + position_or_len (has_id id) l = omega (arith, e) in
+        rw (h, place) f
 
 -- ---- the closing up has come to a place
 pub record Closed (at last : ℕ) (l : List Row) (m : List Row) (i : ℕ) : Type 0 where
@@ -79,12 +69,13 @@ closed_next {at} {last} {l} {m} {i} d c h k =
       same = ap (λ (r : Row). closing_by (last - (i + 1)) (i + 1) (set m i r)) e ∙ closing_next (last - (i + 1)) i m (omega arith) ∙ c.same;
     }
 
-pub closed_end : {at last : ℕ} {l m : List Row} {i : ℕ} → Closed at last l m i → last ≤ i → set m i zero_row ≡ closing_by (last - at) at l
+pub closed_end : {at last : ℕ} {l m : List Row} {i : ℕ} → Closed at last l m i → last ≤ i → {zero : Profile} → zero ≡ zero_profile → set m last (record { id = 0; profile = zero }) ≡ closing_by (last - at) at l
 unfolding closing_by
-closed_end {at} {last} {l} {m} {i} c h =
+closed_end {at} {last} {l} {m} {i} c h {zero} z =
+    let f : i ≡ last = omega (arith, c.within) in
     let e : last - i ≡ 0 = omega arith in
     let p : closing_by (last - i) i m ≡ set m i zero_row = rw e in
-    sym p ∙ c.same
+    ap (λ (r : Profile). set m last (record { id = 0; profile = r })) z ∙ ap (λ (n : ℕ). set m n zero_row) (sym f) ∙ sym p ∙ c.same
 
 -- ---- what the two make of a list of which the first count are the rows
 
@@ -169,6 +160,20 @@ closed_removed id (suc n) (r ∷ l) h k = go (has_id id r) refl (closed_removed 
 first_long : (count : ℕ) (l : List Row) → count ≤ length l → length (take count l) ≡ count
 first_long count l h = length-take count l ∙ omega arith
 
+-- the place that the code finds
+pub placed : (id count : ℕ) (l : List Row) → count ≤ length l → {r : Answer ℕ} {at : ℕ} → r ≡ position (has_id id) (take count l) → at ≡ unwrap_or r count → at ≡ place id (take count l)
+placed id count l h {r} {at} e f = f ∙ ap (λ (r : Answer ℕ). unwrap_or r count) e ∙ go (ltb n (length (take count l))) refl
+  where
+    n : ℕ
+    n = position_or_len (has_id id) (take count l)
+
+    same : place id (take count l) ≡ n
+    same = passed_over id (take count l)
+
+    go : (b : Bool) → ltb n (length (take count l)) ≡ b → unwrap_or (cond b (Some n) None) count ≡ place id (take count l)
+    go true t = sym same
+    go false t = omega (arith, ltb-false n (length (take count l)) t, place_within id (take count l), first_long count l h, same)
+
 -- a place found that is not the count is below it
 pub found : (id count : ℕ) (l : List Row) → count ≤ length l → (place id (take count l) ≡ count → ⊥) → place id (take count l) < count
 found id count l h n =
@@ -212,57 +217,45 @@ module _ (id count : ℕ) (l : List Row) (h : count ≤ length l) (r : ℕ) (is 
   at_end : eqb r count ≡ true → place id (take count l) ≡ count
   at_end t = sym is ∙ eqb-true r count t
 
-  module _ {a : Checked} where
+  module _ {a : Result (Unit {0}) Refusal} where
     -- of an add
-    pub absent_refused : {x : Refusal} → a ≡ Refused x → checked_number a ≡ refuse 24 (eqb r count) → (place id (take count l) ≡ count → ⊥) × (checked_number a ≡ refuse 24 (not (present id (take count l))))
+    pub absent_refused : {x : Refusal} → a ≡ Err x → checked_number a ≡ refuse 24 (eqb r count) → (place id (take count l) ≡ count → ⊥) × (checked_number a ≡ refuse 24 (not (present id (take count l))))
     absent_refused told e =
         let f = was_false told 24 (eqb r count) e in
         (apart f, e ∙ ap (refuse 24) (f ∙ sym (ap not (there_first id count l h (apart f)))))
 
-    pub absent_passed : a ≡ Passed → checked_number a ≡ refuse 24 (eqb r count) → (place id (take count l) ≡ count) × (checked_number a ≡ refuse 24 (not (present id (take count l))))
+    pub absent_passed : a ≡ Ok tt → checked_number a ≡ refuse 24 (eqb r count) → (place id (take count l) ≡ count) × (checked_number a ≡ refuse 24 (not (present id (take count l))))
     absent_passed told e =
         let t = was_true told 24 (eqb r count) (lit< tt) e in
         (at_end t, e ∙ ap (refuse 24) (t ∙ sym (ap not (absent_first id count l h (at_end t)))))
 
     -- of a removal
-    pub present_refused : {x : Refusal} → a ≡ Refused x → checked_number a ≡ refuse 24 (not (eqb r count)) → (place id (take count l) ≡ count) × (checked_number a ≡ refuse 24 (present id (take count l)))
+    pub present_refused : {x : Refusal} → a ≡ Err x → checked_number a ≡ refuse 24 (not (eqb r count)) → (place id (take count l) ≡ count) × (checked_number a ≡ refuse 24 (present id (take count l)))
     present_refused told e =
         let f = was_false told 24 (not (eqb r count)) e in
         let t = not-false (eqb r count) f in
         (at_end t, e ∙ ap (refuse 24) (f ∙ sym (absent_first id count l h (at_end t))))
 
-    pub present_passed : a ≡ Passed → checked_number a ≡ refuse 24 (not (eqb r count)) → (place id (take count l) ≡ count → ⊥) × (checked_number a ≡ refuse 24 (present id (take count l)))
+    pub present_passed : a ≡ Ok tt → checked_number a ≡ refuse 24 (not (eqb r count)) → (place id (take count l) ≡ count → ⊥) × (checked_number a ≡ refuse 24 (present id (take count l)))
     present_passed told e =
         let t = was_true told 24 (not (eqb r count)) (lit< tt) e in
         let f = not-true (eqb r count) t in
         (apart f, e ∙ ap (refuse 24) (t ∙ sym (there_first id count l h (apart f))))
 
--- ---- the search for the best row has come to a place
-pub record Led (ranking : List ℕ) (count : ℕ) (l : List Row) (best : Row) (i : ℕ) : Type 0 where
-  pub within : i ≤ count
-  pub same : led (best_from ranking best (rest count l i)) ≡ leader_down ranking (take count l)
-
-pub led_start : (ranking : List ℕ) (count : ℕ) (l : List Row) (d : Row) → 0 < count → count ≤ length l → Led ranking count l (get_or l 0 d) 1
-unfolding leader_down
-led_start ranking zero l d h k = absurd (omega arith)
-led_start ranking (suc n) [] d h k = absurd (omega arith)
-led_start ranking (suc n) (r ∷ l) d h k =
-    let e : suc n - 1 ≡ n = omega arith in
-    record { within = omega arith; same = ap (λ (m : ℕ). led (best_from ranking r (take m l))) e }
-
-best_next : (ranking : List ℕ) (best : Row) {l : List Row} {r : Row} {t : List Row} → l ≡ r ∷ t → best_from ranking best l ≡ best_from ranking (better_of ranking r best) t
+-- ---- the search for the best row
+pub best_next : (ranking : List ℕ) (best : Row) {l : List Row} {r : Row} {t : List Row} → l ≡ r ∷ t → best_from ranking best l ≡ best_from ranking (better_of ranking r best) t
 unfolding best_from
 best_next ranking best e = rw e
 
-pub led_next : {ranking : List ℕ} {count : ℕ} {l : List Row} {best : Row} {i : ℕ} (d : Row) → Led ranking count l best i → i < count → count ≤ length l → {next : Row} → next ≡ better_of ranking (get_or l i d) best → Led ranking count l next (i + 1)
-led_next {ranking} {count} {l} {best} {i} d s h k {next} e = record {
-  within = omega arith;
-  same = ap (λ (b : Row). led (best_from ranking b (rest count l (i + 1)))) e ∙ ap led (sym (best_next ranking best (rest_next count l i d h (omega (arith, h, k))))) ∙ s.same;
-}
-
-pub led_end : {ranking : List ℕ} {count : ℕ} {l : List Row} {best : Row} {i : ℕ} → Led ranking count l best i → count ≤ i → led best ≡ leader_down ranking (take count l)
+pub best_end : (ranking : List ℕ) (best : Row) {l : List Row} → l ≡ [] → best_from ranking best l ≡ best
 unfolding best_from
-led_end {ranking} {count} {l} {best} {i} d h =
-    let e : count - i ≡ 0 = omega arith in
-    let p : best_from ranking best (rest count l i) ≡ best = rw e in
-    ap led (sym p) ∙ d.same
+best_end ranking best e = rw e
+
+-- the first row and the later ones, of the first count
+pub led_by : (ranking : List ℕ) (count : ℕ) (l : List Row) (d : Row) → 0 < count → count ≤ length l → led (best_from ranking (get_or l 0 d) (take (count - 1) (drop 1 l))) ≡ leader_down ranking (take count l)
+unfolding leader_down
+led_by ranking zero l d h k = absurd (omega arith)
+led_by ranking (suc n) [] d h k = absurd (omega arith)
+led_by ranking (suc n) (r ∷ l) d h k =
+    let e : suc n - 1 ≡ n = omega arith in
+    ap (λ (m : ℕ). led (best_from ranking r (take m l))) e

@@ -1,12 +1,12 @@
 // The live tableau: rows proposed and withdrawn in class, kept in a lent list of records in order of arrival, and the leader among them.
 #![tactic(auto)]
 
-ghost use Rattle.std.specs.Prelude.{◌≡◌, ◌+◌, ◌-◌, ◌<◌, ◌≤◌};
+ghost use Rattle.std.specs.Prelude.{◌≡◌, ◌-◌, ◌<◌, ◌≤◌, position};
 ghost use Rattle.basics.specs.Words.{true, not, length, take};
 ghost use Rattle.refusals.specs.Refusals.{checked_number, refuse};
 ghost use Rattle.ranking.specs.Rankings.{is_ranking};
-ghost use Rattle.live.specs.Rows.{zero_row, has_id, present, counted_of, led, lead_of};
-ghost use Rattle.live.specs.Steps.{place, closing, putting_in, taking_out, better_of, leader_down};
+ghost use Rattle.live.specs.Rows.{has_id, present, counted_of, led, lead_of};
+ghost use Rattle.live.specs.Steps.{closing, putting_in, taking_out, better_of, leader_down};
 ghost use Rattle.live.specs.Calls.{Adds, Removes, leading};
 
 use ranking::Profile;
@@ -20,23 +20,6 @@ pub struct Row {
     pub profile: Profile,
 }
 
-// What a freed record is set to.
-fn zero_row() -> Row
-    ensures { result ≡ zero_row }
-{
-    Row {
-        id: 0,
-        profile: Profile::zero(),
-    }
-}
-
-// Whether a row has an id.
-fn has_id(row: Row, id: u16) -> bool
-    ensures { result ≡ has_id id row }
-{
-    row.id == id
-}
-
 // The better of two rows under a ranking, the second where neither is better.
 fn better(ranking: &[u8], row: Row, best: Row) -> Row
     requires { (is_ranking (length ranking.now) ranking.now ≡ true) × (length ranking.now ≤ 6) }
@@ -48,20 +31,11 @@ fn better(ranking: &[u8], row: Row, best: Row) -> Row
     best
 }
 
-// The place of the first row with an id, or how many rows there are.
-fn find(rows: &[Row], count: usize, id: u16) -> usize
-    requires { count ≤ length rows.now }
-    ensures { result ≡ place id (take count rows.now) }
+// The place of the first row with an id.
+fn find(rows: &[Row], id: u16) -> Option<usize>
+    ensures { result ≡ position (has_id id) rows.now }
 {
-    let mut i = 0;
-    while i < count {
-        let row = rows[i];
-        if has_id(row, id) {
-            return i;
-        }
-        i += 1;
-    }
-    i
+    rows.iter().position(|row| row.id == id)
 }
 
 // Moves the rows behind a place up, to the last, whose record is set to zeros.
@@ -69,15 +43,13 @@ fn close_gap(rows: &mut [Row], at: usize, last: usize)
     requires { (at ≤ last) × (last < length rows.old) }
     ensures { rows.new ≡ closing at last rows.old }
 {
-    let mut i = at;
-    while i < last {
-        let next = i + 1;
-        let row = rows[next];
-        rows[i] = row;
-        i = next;
+    for i in at..last {
+        rows[i] = rows[i + 1];
     }
-    let row = zero_row();
-    rows[i] = row;
+    rows[last] = Row {
+        id: 0,
+        profile: Profile::zero(),
+    };
 }
 
 // Puts a row behind the others unless its id is present: 24.
@@ -85,7 +57,7 @@ fn put_in(rows: &mut [Row], count: usize, row: Row) -> Result<(), Refusal>
     requires { count < length rows.old }
     ensures { (rows.new ≡ putting_in count rows.old row) × (checked_number result ≡ refuse 24 (not (present row.id (take count rows.old)))) }
 {
-    let at = find(rows, count, row.id);
+    let at = find(&rows[..count], row.id).unwrap_or(count);
     live_checks::check_absent(at, count)?;
     rows[count] = row;
     Ok(())
@@ -96,7 +68,7 @@ fn take_out(rows: &mut [Row], count: usize, id: u16) -> Result<(), Refusal>
     requires { count ≤ length rows.old }
     ensures { (rows.new ≡ taking_out id count rows.old) × (checked_number result ≡ refuse 24 (present id (take count rows.old))) }
 {
-    let at = find(rows, count, id);
+    let at = find(&rows[..count], id).unwrap_or(count);
     live_checks::check_present(at, count)?;
     close_gap(rows, at, count - 1);
     Ok(())
@@ -108,10 +80,8 @@ fn foremost(ranking: &[u8], count: usize, rows: &[Row]) -> Row
     ensures { led result ≡ leader_down ranking.now (take count rows.now) }
 {
     let mut best = rows[0];
-    let mut i = 1;
-    while i < count {
-        best = better(ranking, rows[i], best);
-        i += 1;
+    for &row in &rows[1..count] {
+        best = better(ranking, row, best);
     }
     best
 }

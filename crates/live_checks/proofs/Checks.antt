@@ -1,26 +1,13 @@
 -- What the numbers of the checks say, and how they make up the number of a call. Assumes nothing.
 use Rattle.std.specs.Prelude.{◌≡◌, ◌∷◌, ◌<◌, ◌≤◌}
-use Rattle.basics.proofs.Words.{refl, sym, ◌∙◌, Bool, true, List, [], ℕ, zero, suc, arith, length, lit<, leb, ltb, leb-true, ltb-true, left, right}
-use Rattle.refusals.specs.Refusals.{refuse, first_of, checked_number}
-use Rattle.refusals.proofs.Refusals.{passed, none_first, last_one, passed_number, refused_number}
+use Rattle.basics.proofs.Words.{refl, Bool, true, List, [], ℕ, zero, suc, arith, length, lit<, leb, ltb, leb-true, ltb-true, left, right}
+use Rattle.refusals.specs.Refusals.{refuse, first_of}
+use Rattle.refusals.proofs.Refusals.{passed, none_first, last_one}
 use Rattle.ranking.specs.Rankings.{is_machine_count, is_ranking}
-use Rattle.refusals.specs.declared.Refusal.{Refusal}
-use Rattle.refusals.specs.declared.Checked.{Checked}
-use Rattle.refusals.specs.declared.Checked.TheVariants.{Passed, Refused}
 use Rattle.ranking.specs.Lemmas.Rankings.{ranking_facts, machine_count_lem}
 use Rattle.live_checks.specs.Room.{fits, has_room}
 
 -- the number of some checks is that of one more, or the last decides
-two_stay : (a b c : ℕ) → 0 < first_of (a ∷ b ∷ []) → first_of (a ∷ b ∷ c ∷ []) ≡ first_of (a ∷ b ∷ [])
-two_stay zero zero c h = absurd (omega arith)
-two_stay zero (suc b) c h = refl
-two_stay (suc a) b c h = refl
-
-two_go : (a b c : ℕ) → first_of (a ∷ b ∷ []) ≡ 0 → first_of (a ∷ b ∷ c ∷ []) ≡ c
-two_go zero zero c h = last_one c
-two_go zero (suc b) c h = absurd (omega arith)
-two_go (suc a) b c h = absurd (omega arith)
-
 pub three_stay : (a b c d : ℕ) → 0 < first_of (a ∷ b ∷ c ∷ []) → first_of (a ∷ b ∷ c ∷ d ∷ []) ≡ first_of (a ∷ b ∷ c ∷ [])
 three_stay zero zero zero d h = absurd (omega arith)
 three_stay zero zero (suc c) d h = refl
@@ -36,14 +23,6 @@ three_go (suc a) b c d h = absurd (omega arith)
 -- the number of the checks 1, 7 and 23
 abbrev pub first_three : ℕ → List ℕ → Bool → ℕ
 first_three K ranking sound = first_of (refuse 1 (is_machine_count K) ∷ refuse 7 (is_ranking K ranking) ∷ refuse 23 sound ∷ [])
-
--- the checks 1 and 7 passed, and 23 decides; or one of them refused
-module _ (K : ℕ) (ranking : List ℕ) {s : Checked} (is : checked_number s ≡ first_of (refuse 1 (is_machine_count K) ∷ refuse 7 (is_ranking K ranking) ∷ [])) where
-  pub two_passed : s ≡ Passed → (sound : Bool) → first_three K ranking sound ≡ refuse 23 sound
-  two_passed told sound = two_go (refuse 1 (is_machine_count K)) (refuse 7 (is_ranking K ranking)) (refuse 23 sound) (passed_number told is)
-
-  pub two_refused : {r : Refusal} → s ≡ Refused r → (sound : Bool) → checked_number s ≡ first_three K ranking sound
-  two_refused told sound = is ∙ sym (two_stay (refuse 1 (is_machine_count K)) (refuse 7 (is_ranking K ranking)) (refuse 23 sound) (refused_number told is))
 
 -- what the number says where it is 0
 pub record ThreePassed (K : ℕ) (ranking : List ℕ) (sound : Bool) : Type 0 where

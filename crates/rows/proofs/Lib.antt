@@ -1,4 +1,5 @@
 pub mod Spelling
 pub mod Rows
+pub mod SameCounts
 pub mod Layouts
 pub mod Verdicts

@@ -1,6 +1,11 @@
 -- How the checks of a row go on and end. Assumes nothing.
 use Rattle.std.specs.Prelude.{◌≡◌, ◌+◌, ◌-◌, ◌<◌, ◌≤◌}
-use Rattle.basics.proofs.Words.{Bool, true, false, List, ℕ, arith, length, get_or, take, drop, length-drop, eqb, take_all, all_of, eq-eqb, ne_eqb, le-leb, lt-leb, left_next, left_none, all_none, all_next, all_fails}
+use Rattle.basics.proofs.Words.{refl, Bool, true, false, List, ℕ, arith, length, get_or, take, drop, length-drop, eqb, take_all, all_of, eq-eqb, ne_eqb, le-leb, lt-leb, left_next, left_none, all_none, all_next, all_fails}
+use Rattle.std.proofs.Common.{Result, Ok, Err}
+use Rattle.std.specs.Result.{is_ok}
+use Rattle.refusals.specs.declared.Refusal.{Refusal}
+use Rattle.refusals.specs.Refusals.{checked_number, refuse}
+use Rattle.refusals.proofs.Refusals.{number_positive}
 use Rattle.card.specs.Layout.{symbol_count}
 use Rattle.card.specs.Card.{machines_of}
 use Rattle.candidate.specs.Candidates.{pairs_of, spelled, is_complete}
@@ -49,3 +54,10 @@ module _ (card word row : List ℕ) where
       → is_for_word card word row ≡ same_word (spelled (pairs_of (candidate_of row))) word
   unfolding is_for_word
   word_decides t s = rw (t, s)
+
+-- a check passes where its test does
+pub passes_where : {A : Type 0} (r : Result A Refusal) (n : ℕ) (b : Bool) → 0 < n → checked_number r ≡ refuse n b → is_ok r ≡ b
+passes_where (Ok a) n true h e = refl
+passes_where (Ok a) n false h e = absurd (omega arith)
+passes_where (Err x) n true h e = absurd (omega (arith, number_positive x))
+passes_where (Err x) n false h e = refl

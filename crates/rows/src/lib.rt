@@ -14,7 +14,6 @@ ghost use Rattle.rows.specs.Tableau.{row_count, row_of, counts_of, every_row, so
 ghost use Rattle.rows.specs.Reading.{Readable, CompleteRow};
 ghost use Rattle.rows.specs.Judging.{is_for_word, same_counts, counts_are_profile, verdict_of};
 
-use basics::index;
 use machine::Pair;
 use ranking::Profile;
 use refusals::Refusal;
@@ -30,19 +29,12 @@ pub enum Verdict {
     NotInTable,
 }
 
-// A byte as a count.
-fn wide(x: u8) -> u16
-    ensures { (result ≡ x) × (result < 256) }
-{
-    x as u16
-}
-
 // The number of two bytes from a place, little-endian.
 fn short(bytes: &[u8], at: usize) -> u16
     requires { at + 2 ≤ length bytes.now }
     ensures { result ≡ short_at bytes.now at }
 {
-    wide(bytes[at]) + 256 * wide(bytes[at + 1])
+    u16::from_le_bytes([bytes[at], bytes[at + 1]])
 }
 
 // A row's counts.
@@ -65,12 +57,7 @@ fn counts(row: &[u8]) -> Profile
 fn same_counts(first: Profile, second: Profile) -> bool
     ensures { result ≡ same_counts first.counts second.counts }
 {
-    (first.count(0) == second.count(0))
-        & (first.count(1) == second.count(1))
-        & (first.count(2) == second.count(2))
-        & (first.count(3) == second.count(3))
-        & (first.count(4) == second.count(4))
-        & (first.count(5) == second.count(5))
+    first.counts == second.counts
 }
 
 // Whether a candidate spells a word.
@@ -118,7 +105,7 @@ fn check_rows(tableau: &[u8], machines: usize) -> Result<(), Refusal>
     requires { (2 ≤ length tableau.now) × LaidOut (row_count tableau.now) tableau.now × (machines ≤ 6) }
     ensures { checked_number result ≡ refuse 19 (every_row (sound_row machines) tableau.now) }
 {
-    let rows = index(tableau[0]);
+    let rows = usize::from(tableau[0]);
     for i in 0..rows {
         if !is_sound_row(layout::part(tableau, i), machines) {
             return Err(Refusal::Tableau);
@@ -152,13 +139,9 @@ fn is_for_word(card: &[u8], word: &[u8], row: &[u8]) -> bool
     ensures { result ≡ is_for_word card.now word.now row.now }
 {
     let bytes = &row[12..];
-    if candidate::check_candidate(bytes, card::symbol_count(card)).is_err() {
-        return false;
-    }
-    if candidate::score(card, bytes).is_err() {
-        return false;
-    }
-    spells(bytes, word)
+    candidate::check_candidate(bytes, card::symbol_count(card)).is_ok()
+        && candidate::score(card, bytes).is_ok()
+        && spells(bytes, word)
 }
 
 // Refusal 20: each row's candidate.
@@ -166,7 +149,7 @@ fn check_candidates(card: &[u8], word: &[u8], tableau: &[u8]) -> Result<(), Refu
     requires { (card_refusal card.now ≡ 0) × Readable tableau.now }
     ensures { checked_number result ≡ refuse 20 (every_row (is_for_word card.now word.now) tableau.now) }
 {
-    let candidates = index(tableau[0]);
+    let candidates = usize::from(tableau[0]);
     for i in 0..candidates {
         if !is_for_word(card, word, layout::part(tableau, i)) {
             return Err(Refusal::RowCandidate);
@@ -180,10 +163,7 @@ fn are_its_profile(card: &[u8], row: &[u8]) -> bool
     requires { (card_refusal card.now ≡ 0) × (12 ≤ length row.now) × CompleteRow card.now row.now }
     ensures { result ≡ counts_are_profile card.now row.now }
 {
-    let Ok(profile) = candidate::score(card, &row[12..]) else {
-        return false;
-    };
-    same_counts(counts(row), profile)
+    candidate::score(card, &row[12..]).is_ok_and(|profile| same_counts(counts(row), profile))
 }
 
 // Refusal 21: each row's counts.
@@ -191,7 +171,7 @@ fn check_profiles(card: &[u8], tableau: &[u8]) -> Result<(), Refusal>
     requires { (card_refusal card.now ≡ 0) × Readable tableau.now × ((i : ℕ) → i < row_count tableau.now → CompleteRow card.now (row_of tableau.now i)) }
     ensures { checked_number result ≡ refuse 21 (every_row (counts_are_profile card.now) tableau.now) }
 {
-    let profiles = index(tableau[0]);
+    let profiles = usize::from(tableau[0]);
     for i in 0..profiles {
         if !are_its_profile(card, layout::part(tableau, i)) {
             return Err(Refusal::RowCounts);
@@ -213,11 +193,11 @@ pub fn verdict_of(tableau: &[u8], best: Profile) -> Verdict
     requires { Readable tableau.now }
     ensures { result ≡ verdict_of (λ row. same_counts (counts_of row) best.counts) tableau.now }
 {
-    let claimed = index(tableau[1]);
+    let claimed = usize::from(tableau[1]);
     if has_profile(tableau, claimed, best) {
         return Verdict::Right;
     }
-    let rows = index(tableau[0]);
+    let rows = usize::from(tableau[0]);
     for row in 0..rows {
         if has_profile(tableau, row, best) {
             return Verdict::AnotherRow(row as u8);

@@ -1,4 +1,4 @@
-use Rattle.std.specs.Prelude.{◌≡◌, ◌+◌, ◌*◌, ◌-◌, ◌≤◌}
+use Rattle.std.specs.Prelude.{◌≡◌, ◌+◌, ◌*◌, ◌≤◌}
 use Rattle.basics.proofs.Words.{length, drop}
 use Rattle.machine.specs.Part.{state_count, arcs_of}
 use Rattle.joined.specs.JoinedMachine.{joined_arcs}
@@ -8,6 +8,3 @@ abbrev pub invariant-loop-i : goal.invariant-loop-i
 invariant-loop-i l =
     (l.i ≤ l.arcs) × (l.count ≤ 255 * l.i)
     × (l.count + length (joined_arcs (state_count l.second) (drop l.i (arcs_of l.first)) (arcs_of l.second)) ≡ length (joined_arcs (state_count l.second) (arcs_of l.first) (arcs_of l.second)))
-
-abbrev pub decreases-loop-i : goal.decreases-loop-i
-decreases-loop-i l = l.arcs - l.i

@@ -1,11 +1,21 @@
-use Rattle.live.proofs.Places.{led_start, led_next, led_end}
+use Rattle.std.specs.Prelude.{◌-◌, ◌+◌}
+use Rattle.basics.proofs.Words.{sym, ◌∙◌, ap, arith, List, take, drop, left_at, left_none}
+use Rattle.live.specs.declared.Row.{Row}
+use Rattle.live.specs.Rows.{led}
+use Rattle.live.specs.Steps.{best_from}
+use Rattle.live.proofs.Places.{best_next, best_end, led_by}
 use Rattle.live.proofs.foremost.Goals as goal
 
-pub loop-i-init : goal.loop-i-init
-loop-i-init c = led_start c.args.ranking.now c.args.count c.args.rows.now _ c.requires.1.0 c.requires.1.1
-
-pub loop-i-preserved : goal.loop-i-preserved
-loop-i-preserved c = led_next _ c.loop-i.invariant c.loop-i-test.true c.requires.1.1 c.better-best.ensures
+pub loop-row-preserved : goal.loop-row-preserved
+loop-row-preserved c =
+    let R = c.args.ranking.now in
+    let later : List Row = take (c.args.count - 1) (drop 1 c.args.rows.now) in
+    ap (λ (b : Row). best_from R b (drop (c.loop-row.row-index + 1) later)) c.better-best.ensures
+    ∙ sym (best_next R c.loop-row.best (left_at later c.loop-row.row-index _ c.loop-row-test.true)) ∙ c.loop-row.invariant
 
 pub returns : goal.returns
-returns c = led_end c.loop-i.invariant c.loop-i-test.false
+returns c =
+    let R = c.args.ranking.now in
+    let later : List Row = take (c.args.count - 1) (drop 1 c.args.rows.now) in
+    ap led (sym (best_end R c.loop-row.best (left_none later c.loop-row.row-index (omega arith))) ∙ c.loop-row.invariant)
+    ∙ led_by R c.args.count c.args.rows.now _ c.requires.1.0 c.requires.1.1

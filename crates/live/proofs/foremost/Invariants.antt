@@ -1,10 +1,8 @@
-use Rattle.std.specs.Prelude.{◌-◌}
-use Rattle.live.proofs.Places.{Led}
+use Rattle.std.specs.Prelude.{◌≡◌}
+use Rattle.basics.specs.Words.{drop}
+use Rattle.live.specs.Steps.{best_from}
 use Rattle.live.proofs.foremost.Given as goal
 
--- the search for the best row has come to a place
-abbrev pub invariant-loop-i : goal.invariant-loop-i
-invariant-loop-i l = Led l.ranking l.count l.rows l.best l.i
-
-abbrev pub decreases-loop-i : goal.decreases-loop-i
-decreases-loop-i l = l.count - l.i
+-- the best row so far and the later ones have the best row of all
+abbrev pub invariant-loop-row : goal.invariant-loop-row
+invariant-loop-row l = best_from l.ranking l.best (drop l.row-index l.row-items) ≡ best_from l.ranking l.initial.best l.row-items

@@ -9,12 +9,12 @@ pub loop-i-init : goal.loop-i-init
 loop-i-init c = (omega arith, every_start (λ j. is_for_word c.args.card.now c.args.word.now (row_of c.args.tableau.now j)))
 
 pub part-requires : goal.part-requires
-part-requires c = part_within (row_count c.args.tableau.now) c.args.tableau.now c.requires.1.layout c.loop-i.i (omega (arith, c.index-candidates.ensures))
+part-requires c = part_within (row_count c.args.tableau.now) c.args.tableau.now c.requires.1.layout c.loop-i.i (omega arith)
 
 pub returns-then-not-is_for_word : goal.returns-then-not-is_for_word
 returns-then-not-is_for_word c =
     let e = c.is_for_word.ensures ∙ ap (is_for_word c.args.card.now c.args.word.now) c.part.ensures in
-    sym (refuses_with 20 (one_below_fails (λ j. is_for_word c.args.card.now c.args.word.now (row_of c.args.tableau.now j)) (row_count c.args.tableau.now) c.loop-i.i (omega (arith, c.index-candidates.ensures)) (sym e ∙ c.if-not-is_for_word.true)))
+    sym (refuses_with 20 (one_below_fails (λ j. is_for_word c.args.card.now c.args.word.now (row_of c.args.tableau.now j)) (row_count c.args.tableau.now) c.loop-i.i (omega arith) (sym e ∙ c.if-not-is_for_word.true)))
 
 pub loop-i-preserved : goal.loop-i-preserved
 loop-i-preserved c =

@@ -9,12 +9,12 @@ pub loop-i-init : goal.loop-i-init
 loop-i-init c = (omega arith, every_start (λ j. counts_are_profile c.args.card.now (row_of c.args.tableau.now j)))
 
 pub part-requires : goal.part-requires
-part-requires c = part_within (row_count c.args.tableau.now) c.args.tableau.now c.requires.1.layout c.loop-i.i (omega (arith, c.index-profiles.ensures))
+part-requires c = part_within (row_count c.args.tableau.now) c.args.tableau.now c.requires.1.layout c.loop-i.i (omega arith)
 
 pub returns-then-not-are_its_profile : goal.returns-then-not-are_its_profile
 returns-then-not-are_its_profile c =
     let e = c.are_its_profile.ensures ∙ ap (counts_are_profile c.args.card.now) c.part.ensures in
-    sym (refuses_with 21 (one_below_fails (λ j. counts_are_profile c.args.card.now (row_of c.args.tableau.now j)) (row_count c.args.tableau.now) c.loop-i.i (omega (arith, c.index-profiles.ensures)) (sym e ∙ c.if-not-are_its_profile.true)))
+    sym (refuses_with 21 (one_below_fails (λ j. counts_are_profile c.args.card.now (row_of c.args.tableau.now j)) (row_count c.args.tableau.now) c.loop-i.i (omega arith) (sym e ∙ c.if-not-are_its_profile.true)))
 
 pub loop-i-preserved : goal.loop-i-preserved
 loop-i-preserved c =

@@ -8,12 +8,12 @@ pub loop-i-init : goal.loop-i-init
 loop-i-init c = (omega arith, every_start (λ j. sound_row c.args.machines (row_of c.args.tableau.now j)))
 
 pub part-requires : goal.part-requires
-part-requires c = part_within (row_count c.args.tableau.now) c.args.tableau.now c.requires.1 c.loop-i.i (omega (arith, c.index-rows.ensures))
+part-requires c = part_within (row_count c.args.tableau.now) c.args.tableau.now c.requires.1 c.loop-i.i (omega arith)
 
 pub returns-then-not-is_sound_row : goal.returns-then-not-is_sound_row
 returns-then-not-is_sound_row c =
     let e = c.is_sound_row.ensures ∙ ap (sound_row c.args.machines) c.part.ensures in
-    sym (refuses_with 19 (one_below_fails (λ j. sound_row c.args.machines (row_of c.args.tableau.now j)) (row_count c.args.tableau.now) c.loop-i.i (omega (arith, c.index-rows.ensures)) (sym e ∙ c.if-not-is_sound_row.true)))
+    sym (refuses_with 19 (one_below_fails (λ j. sound_row c.args.machines (row_of c.args.tableau.now j)) (row_count c.args.tableau.now) c.loop-i.i (omega arith) (sym e ∙ c.if-not-is_sound_row.true)))
 
 pub loop-i-preserved : goal.loop-i-preserved
 loop-i-preserved c =

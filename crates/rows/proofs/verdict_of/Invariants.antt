@@ -1,4 +1,4 @@
-use Rattle.std.specs.Prelude.{◌≡◌, ◌≤◌, ◌-◌}
+use Rattle.std.specs.Prelude.{◌≡◌, ◌≤◌}
 use Rattle.basics.proofs.Words.{Bool, List, none, ℕ}
 use Rattle.rows.specs.Tableau.{counts_of}
 use Rattle.rows.specs.Judging.{same_counts}
@@ -11,6 +11,3 @@ wins counts row = same_counts (counts_of row) counts
 
 abbrev pub invariant-loop-row : goal.invariant-loop-row
 invariant-loop-row l = (l.row ≤ l.rows) × (first_before (wins l.best.counts) l.tableau l.row ≡ none)
-
-abbrev pub decreases-loop-row : goal.decreases-loop-row
-decreases-loop-row l = l.rows - l.row

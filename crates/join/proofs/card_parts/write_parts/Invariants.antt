@@ -1,4 +1,4 @@
-use Rattle.std.specs.Prelude.{◌+◌, ◌-◌, ◌≤◌}
+use Rattle.std.specs.Prelude.{◌+◌, ◌≤◌}
 use Rattle.basics.proofs.Words.{List, ℕ, length}
 use Rattle.card.specs.Layout.{parts_of}
 use Rattle.join.specs.JoinedCard.{joined_parts}
@@ -10,6 +10,3 @@ abbrev pub invariant-loop-i : goal.invariant-loop-i
 invariant-loop-i l =
     (l.i ≤ l.machines)
     × Rest (λ (part : List ℕ). part) (joined_parts l.lower l.other (parts_of l.card)) (placed (table_length l.card) (joined_bytes l.lower l.other l.card) l.initial.target) (table_length l.card + length (joined_bytes l.lower l.other l.card)) (length l.initial.target) l.i l.offset l.target
-
-abbrev pub decreases-loop-i : goal.decreases-loop-i
-decreases-loop-i l = l.machines - l.i

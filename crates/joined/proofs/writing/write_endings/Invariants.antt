@@ -1,4 +1,4 @@
-use Rattle.std.specs.Prelude.{◌≡◌, ◌+◌, ◌-◌, ◌≤◌}
+use Rattle.std.specs.Prelude.{◌≡◌, ◌+◌, ◌≤◌}
 use Rattle.basics.proofs.Words.{List, map, ℕ, length}
 use Rattle.machine.specs.Part.{state_count, state_bytes}
 use Rattle.joined.specs.JoinedMachine.{crossed}
@@ -13,6 +13,3 @@ abbrev pub invariant-loop-i : goal.invariant-loop-i
 invariant-loop-i l =
     (l.i-end ≡ state_count l.first) × (l.i ≤ l.i-end)
     × Rest (row l.second) (state_bytes l.first) (placed l.at (crossed joined_byte (state_bytes l.first) (state_bytes l.second)) l.initial.target) (l.at + length (crossed joined_byte (state_bytes l.first) (state_bytes l.second))) (length l.initial.target) l.i l.next l.target
-
-abbrev pub decreases-loop-i : goal.decreases-loop-i
-decreases-loop-i l = l.i-end - l.i
