@@ -38,27 +38,27 @@ step-requires c =
       below q.output p.output S (ap (λ (p : Pair). p.output) e) w.1 c.requires.few,
     )
 
-pub returns-in_default : goal.returns-in_default
-returns-in_default c =
+pub returns-in_err-next : goal.returns-in_err-next
+returns-in_err-next c =
     let m = machine_of c.args.part.now in
     let l = c.args.candidate.now in
     let here = two_more c.loop-at.at (length l) c.loop-at.invariant.0 c.requires.even c.loop-at-test.true in
     let stuck : step_of m c.loop-at.position.state (pair_at l c.loop-at.at) ≡ none =
-    ap (step_of m c.loop-at.position.state) (sym c.pair_at.ensures) ∙ sym c.step.ensures ∙ ap stepped c.in_default.is in
-    sym (marks_stuck m c.loop-at.position.state c.loop-at.marks (pairs_next l c.loop-at.at here) stuck) ∙ c.loop-at.invariant.4
+    ap (step_of m c.loop-at.position.state) (sym c.pair_at.ensures) ∙ sym c.step.ensures ∙ ap stepped c.in_err-next.was in
+    rw c.from_residual.ensures (sym (marks_stuck m c.loop-at.position.state c.loop-at.marks (pairs_next l c.loop-at.at here) stuck) ∙ c.loop-at.invariant.4)
 
 pub loop-at-preserved : goal.loop-at-preserved
 loop-at-preserved c =
     let m = machine_of c.args.part.now in
     let l = c.args.candidate.now in
     let here = two_more c.loop-at.at (length l) c.loop-at.invariant.0 c.requires.even c.loop-at-test.true in
-    let moved : step_of m c.loop-at.position.state (pair_at l c.loop-at.at) ≡ some (c.in-Moved.next.state, c.wide-marks.result) =
-    ap (step_of m c.loop-at.position.state) (sym c.pair_at.ensures) ∙ sym c.step.ensures ∙ ap stepped c.in-Moved.is
-    ∙ ap {B = Option (ℕ × ℕ)} (λ (n : ℕ). some (c.in-Moved.next.state, n)) (sym c.wide-marks.ensures.0) in
-    let few : c.wide-marks.result ≤ 15 = (step_bounds c.requires.symbols c.args.part.now c.requires.accepted _ _ _ moved).marks in (
+    let moved : step_of m c.loop-at.position.state (pair_at l c.loop-at.at) ≡ some (c.in_ok-next.next.state, c.from-marks.result) =
+    ap (step_of m c.loop-at.position.state) (sym c.pair_at.ensures) ∙ sym c.step.ensures ∙ ap stepped c.in_ok-next.was
+    ∙ ap {B = Option (ℕ × ℕ)} (λ (n : ℕ). some (c.in_ok-next.next.state, n)) (sym c.from-marks.ensures) in
+    let few : c.from-marks.result ≤ 15 = (step_bounds c.requires.symbols c.args.part.now c.requires.accepted _ _ _ moved).marks in (
       still_even c.loop-at.at c.loop-at.invariant.0,
       here,
-      marks_more c.loop-at.marks c.loop-at.at c.wide-marks.result c.loop-at.invariant.2 few,
+      marks_more c.loop-at.marks c.loop-at.at c.from-marks.result c.loop-at.invariant.2 few,
       (λ S h. pairs_after (sound_pair S) l c.loop-at.at here (c.loop-at.invariant.3 S h)),
       marks_next m c.loop-at.position.state c.loop-at.marks (pairs_next l c.loop-at.at here) moved ∙ c.loop-at.invariant.4,
     )
@@ -66,15 +66,16 @@ loop-at-preserved c =
 pub ending-requires : goal.ending-requires
 ending-requires c = (accepted c.requires.symbols c.args.part.now c.requires.accepted).shape
 
-pub returns-in_default-ending : goal.returns-in_default-ending
-returns-in_default-ending c =
+pub returns-in_err-more : goal.returns-in_err-more
+returns-in_err-more c =
     let m = machine_of c.args.part.now in
-    let e : ending_of m c.loop-at.position.state ≡ none = sym c.ending.ensures ∙ ap ended c.in_default-ending.is in
-    sym (marks_end m c.loop-at.position.state c.loop-at.marks (pairs_end c.args.candidate.now c.loop-at.at c.loop-at-test.false) ∙ ap (add_marks c.loop-at.marks) e) ∙ c.loop-at.invariant.4
+    let e : ending_of m c.loop-at.position.state ≡ none = sym c.ending.ensures ∙ ap ended c.in_err-more.was in
+    rw c.from_residual-in_err-more.ensures
+    (sym (marks_end m c.loop-at.position.state c.loop-at.marks (pairs_end c.args.candidate.now c.loop-at.at c.loop-at-test.false) ∙ ap (add_marks c.loop-at.marks) e) ∙ c.loop-at.invariant.4)
 
 pub returns : goal.returns
 returns c =
     let m = machine_of c.args.part.now in
-    let e : ending_of m c.loop-at.position.state ≡ some c.wide.result =
-    sym c.ending.ensures ∙ ap ended c.in-Marks.is ∙ ap {B = Option ℕ} some (sym c.wide.ensures.0) in
+    let e : ending_of m c.loop-at.position.state ≡ some c.from.result =
+    sym c.ending.ensures ∙ ap ended c.in_ok-more.was ∙ ap {B = Option ℕ} some (sym c.from.ensures) in
     sym (marks_end m c.loop-at.position.state c.loop-at.marks (pairs_end c.args.candidate.now c.loop-at.at c.loop-at-test.false) ∙ ap (add_marks c.loop-at.marks) e) ∙ c.loop-at.invariant.4
