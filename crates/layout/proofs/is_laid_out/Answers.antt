@@ -24,10 +24,9 @@ pub loop-i-preserved : goal.loop-i-preserved
 loop-i-preserved c =
     let n = c.from-count.result in
     let bytes = c.args.bytes.now in (
-      omega arith,
       omega (arith, due_step n bytes c.loop-i.i),
       omega arith,
-      every_next (in_place n bytes) c.loop-i.i c.loop-i.invariant.3 (eq-eqb (offset_of bytes c.loop-i.i) (due_offset n bytes c.loop-i.i) (omega arith)),
+      every_next (in_place n bytes) c.loop-i.i c.loop-i.invariant.2 (eq-eqb (offset_of bytes c.loop-i.i) (due_offset n bytes c.loop-i.i) (omega arith)),
     )
 
 pub returns : goal.returns
@@ -35,6 +34,6 @@ returns c =
     let n = c.from-count.result in
     let bytes = c.args.bytes.now in
     let e : c.loop-i.i ≡ n = omega arith in
-    let due : c.loop-i.due ≡ due_offset n bytes n = c.loop-i.invariant.1 ∙ ap (due_offset n bytes) e in
-    ap (λ d. eqb d (length bytes)) due ∙ sym (end_decides n bytes (omega arith) (ap (every_below (in_place n bytes)) (sym e) ∙ c.loop-i.invariant.3))
+    let due : c.loop-i.due ≡ due_offset n bytes n = c.loop-i.invariant.0 ∙ ap (due_offset n bytes) e in
+    ap (λ d. eqb d (length bytes)) due ∙ sym (end_decides n bytes (omega arith) (ap (every_below (in_place n bytes)) (sym e) ∙ c.loop-i.invariant.2))
     ∙ ap (λ n. laid_out n c.args.bytes.now) c.from-count.ensures

@@ -20,7 +20,7 @@ returns-in_err-check c =
     rw (p.1, p.2)
     (sym (ap checked_number e)
     ∙ c.check.ensures
-    ∙ check_stop c.args.symbols c.loop-length.states c.args.lengths.now c.args.bytes.now c.loop-length.length-index c.loop-length.offset _ c.loop-length.invariant.3
+    ∙ check_stop c.args.symbols c.loop-length.states c.args.lengths.now c.args.bytes.now c.loop-length.length-index c.loop-length.offset _ c.loop-length.invariant.2
     c.from.result (omega arith) c.from.ensures (refused_number e c.check.ensures))
 
 pub state_count-states-requires : goal.state_count-states-requires
@@ -31,22 +31,21 @@ pub overflow_mul-states : goal.overflow_mul-states
 overflow_mul-states c =
     let s = part_shaped c.args.symbols _ (passed_number c.in_ok-check.was c.check.ensures) in
     let few : c.state_count-states.result ≤ 32 = omega (arith, s, c.state_count-states.ensures) in
-    record { fits = product_small _ (c.loop-length.length-index + 1) (product_next c.loop-length.states c.loop-length.length-index c.state_count-states.result c.loop-length.invariant.2 few) (omega arith) }
+    record { fits = product_small _ (c.loop-length.length-index + 1) (product_next c.loop-length.states c.loop-length.length-index c.state_count-states.result c.loop-length.invariant.1 few) (omega arith) }
 
 pub loop-length-preserved : goal.loop-length-preserved
 loop-length-preserved c =
     let passed = passed_number c.in_ok-check.was c.check.ensures in
     let s = part_shaped c.args.symbols _ passed in
     let few : c.state_count-states.result ≤ 32 = omega (arith, s, c.state_count-states.ensures) in (
-      omega arith,
       omega (arith, total_left c.args.lengths.now c.loop-length.length-index (omega arith)),
-      product_next c.loop-length.states c.loop-length.length-index c.state_count-states.result c.loop-length.invariant.2 few,
+      product_next c.loop-length.states c.loop-length.length-index c.state_count-states.result c.loop-length.invariant.1 few,
       rw c.state_count-states.ensures
-          (check_on c.args.symbols c.loop-length.states c.args.lengths.now c.args.bytes.now c.loop-length.length-index c.loop-length.offset _ c.loop-length.invariant.3
+          (check_on c.args.symbols c.loop-length.states c.args.lengths.now c.args.bytes.now c.loop-length.length-index c.loop-length.offset _ c.loop-length.invariant.2
           c.from.result (omega arith) c.from.ensures passed),
     )
 
 pub returns : goal.returns
 returns c =
     c.tested.ensures
-    ∙ check_end c.args.symbols c.loop-length.states c.args.lengths.now c.args.bytes.now c.loop-length.length-index c.loop-length.offset _ c.loop-length.invariant.3 (omega arith)
+    ∙ check_end c.args.symbols c.loop-length.states c.args.lengths.now c.args.bytes.now c.loop-length.length-index c.loop-length.offset _ c.loop-length.invariant.2 (omega arith)

@@ -8,7 +8,7 @@ use Rattle.layout.proofs.packing.write_parts.Goals as goal
 pub loop-length-init : goal.loop-length-init
 unfolding total
 loop-length-init c =
-    (omega arith, refl, omega arith, parts_none (2 + 4 * length c.args.lengths.now) c.args.parts.now c.args.target.now (omega arith))
+    (refl, omega arith, parts_none (2 + 4 * length c.args.lengths.now) c.args.parts.now c.args.target.now (omega arith))
 
 pub overflow_add-end : goal.overflow_add-end
 overflow_add-end c = omega (arith, total_within c.args.lengths.now c.loop-length.length-index (omega arith), c.from-length.ensures)
@@ -30,9 +30,8 @@ pub loop-length-preserved : goal.loop-length-preserved
 loop-length-preserved c =
     let l = c.args.lengths.now in
     let more = total_within l c.loop-length.length-index (omega arith) in (
-      omega arith,
       rw add-one (omega (arith, total_next l c.loop-length.length-index (omega arith))),
       omega arith,
       parts_next (2 + 4 * length l) c.args.parts.now c.args.target.now (omega arith) c.loop-length.offset c.loop-length.from c.from-length.result c.loop-length.target c.write_part.new.stretch
-          c.loop-length.invariant.2 (omega arith) c.loop-length.invariant.3 c.write_part.ensures,
+          c.loop-length.invariant.1 (omega arith) c.loop-length.invariant.2 c.write_part.ensures,
     )
