@@ -1,7 +1,6 @@
 use Rattle.std.specs.Prelude.{◌&&◌}
-use Rattle.basics.proofs.Words.{ap, ap₂, sym, ◌∙◌, Bool, not}
+use Rattle.basics.proofs.Words.{ap₂, sym, ◌∙◌, Bool, not}
 use Rattle.finder.specs.Finder.{conditions_of}
-use Rattle.finder.specs.Steps.{next_of}
 use Rattle.finder.proofs.Steps.{next_start, next_on, next_found}
 use Rattle.finder.proofs.next_machine.Goals as goal
 

@@ -1,4 +1,4 @@
-use Rattle.std.specs.Prelude.{◌≡◌, ◌++◌, ◌+◌, ◌*◌, ◌≤◌}
+use Rattle.std.specs.Prelude.{◌≡◌, ◌++◌, ◌+◌, ◌*◌}
 use Rattle.basics.proofs.Words.{length, take}
 use Rattle.layout.specs.Packing.{total}
 use Rattle.layout.proofs.Writing.{written}
