@@ -22,7 +22,7 @@ impl Pair {
     // The empty symbol.
     pub const EMPTY: u8 = symbols::EMPTY;
 
-    // The first of the other symbols.
+    // The first of the other symbols; a cast, since a const calls no `from`.
     pub const FIRST: usize = Pair::EMPTY as usize + 1;
 
     // The pair of an in and an out.

@@ -30,6 +30,7 @@ fn note_pairs(taken: &mut [u64], arc: Arc) -> bool
     let inputs = arc.inputs;
     let kind = arc.kind;
     let mut left = arc.outputs;
+    // No count and no iterator: it goes through the symbols of a set.
     while left > 0 {
         let y = sets::least(left);
         let pairs = pairs_with(inputs, kind, y);
