@@ -40,12 +40,10 @@ fn run(part: &[u8], candidate: &[u8]) -> Option<u16>
 {
     let mut position = Position::start();
     let mut marks: u16 = 0;
-    let mut at = 0;
-    while at < candidate.len() {
+    for at in (0..candidate.len()).step_by(2) {
         let (next, more) = position.step(part, pair_at(candidate, at))?;
         position = next;
         marks += u16::from(more);
-        at += 2;
     }
     let more = position.ending(part)?;
     Some(marks + u16::from(more))
@@ -78,12 +76,10 @@ pub fn check_candidate(candidate: &[u8], symbols: u8) -> Result<(), Refusal>
     if candidate.len() > 6398 {
         return Err(Refusal::Candidate);
     }
-    let mut at = 0;
-    while at < candidate.len() {
+    for at in (0..candidate.len()).step_by(2) {
         if !is_sound_at(candidate, at, symbols) {
             return Err(Refusal::Candidate);
         }
-        at += 2;
     }
     Ok(())
 }
@@ -94,12 +90,10 @@ fn spelled_length(candidate: &[u8]) -> u16
     ensures { result ≡ length (spelled (pairs_of candidate.now)) }
 {
     let mut symbols: u16 = 0;
-    let mut at = 0;
-    while at < candidate.len() {
+    for at in (0..candidate.len()).step_by(2) {
         if !inserts_at(candidate, at) {
             symbols += 1;
         }
-        at += 2;
     }
     symbols
 }

@@ -12,7 +12,6 @@ ghost use Rattle.card.specs.Packing.{packing_refusal, packed_of, packing, packed
 mod head; // head.rt: K, S and the lengths of the parts
 mod parts; // parts.rt: the check of the machine parts
 
-use basics::index;
 pub use layout::packing;
 use refusals::{Refusal, tested};
 
@@ -37,7 +36,7 @@ pub fn machine_count(card: &[u8]) -> usize
     requires { card_refusal card.now ≡ 0 }
     ensures { result ≡ machine_count card.now }
 {
-    index(card[0])
+    usize::from(card[0])
 }
 
 // S, the number of symbols of an accepted card.

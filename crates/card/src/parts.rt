@@ -8,8 +8,6 @@ ghost use Rattle.card.specs.Card.{machines_refusal};
 ghost use Rattle.card.specs.Packing.{total, split};
 
 use crate::head::read_lengths;
-use basics::index;
-use layout::packing::wide;
 use refusals::{Refusal, tested};
 
 // Refusals 3 to 5 of each part in turn, then 6. The parts lie in `bytes` from `start` on, one after another.
@@ -19,8 +17,8 @@ pub fn check_parts(bytes: &[u8], start: usize, lengths: &[u16], symbols: u8) -> 
 {
     let mut offset = start;
     let mut states = 1;
-    for i in 0..lengths.len() {
-        let end = offset + wide(lengths[i]);
+    for &length in lengths {
+        let end = offset + usize::from(length);
         let part = &bytes[offset..end];
         part_check::check(part, symbols)?;
         states *= machine::state_count(part);
@@ -35,6 +33,6 @@ pub fn check_card(card: &[u8]) -> Result<(), Refusal>
     ensures { checked_number result ≡ machines_refusal (symbol_count card.now) (parts_of card.now) }
 {
     let lengths = read_lengths(card);
-    let machines = index(card[0]);
+    let machines = usize::from(card[0]);
     check_parts(card, 2 + 4 * machines, &lengths[..machines], card[1])
 }

@@ -66,12 +66,10 @@ fn check_conditions(machines: u8, conditions: &[u8]) -> Result<(), Refusal>
     if conditions.len() > 128 {
         return Err(Refusal::Conditions);
     }
-    let mut at = 0;
-    while at < conditions.len() {
+    for at in (0..conditions.len()).step_by(2) {
         if !sound(machines, condition_at(conditions, at)) {
             return Err(Refusal::Conditions);
         }
-        at += 2;
     }
     Ok(())
 }
@@ -89,12 +87,10 @@ fn may_stand(conditions: &[u8], placed: u8, machine: u8) -> bool
     requires { (length conditions.now % 2 ≡ 0) × (machine < 8) }
     ensures { result ≡ may_stand (conditions_of conditions.now) placed machine }
 {
-    let mut at = 0;
-    while at < conditions.len() {
+    for at in (0..conditions.len()).step_by(2) {
         if blocks(condition_at(conditions, at), placed, machine) {
             return false;
         }
-        at += 2;
     }
     true
 }
@@ -123,7 +119,7 @@ fn rank(machines: u8, conditions: &[u8]) -> Result<[u8; 6], Refusal>
         let Some(machine) = next_machine(machines, conditions, placed) else {
             return Err(Refusal::NoRanking);
         };
-        ranking[place as usize] = machine;
+        ranking[usize::from(place)] = machine;
         placed = placed | (1 << machine);
     }
     Ok(ranking)

@@ -7,8 +7,6 @@ ghost use Rattle.basics.specs.Words.{length};
 ghost use Rattle.layout.specs.Layout.{short_at, offset_of, length_of, laid_out, part_of};
 ghost use Rattle.layout.specs.LaidOut.{PartWithin};
 
-use basics::index;
-
 pub mod packing; // packing.rt: the lengths of parts, their sum, and the writing of a card
 
 // The number of two bytes from a place, little-endian.
@@ -16,7 +14,7 @@ fn short(bytes: &[u8], at: usize) -> usize
     requires { at + 2 ≤ length bytes.now }
     ensures { (result ≡ short_at bytes.now at) × (result < 65536) }
 {
-    index(bytes[at]) + 256 * index(bytes[at + 1])
+    usize::from(u16::from_le_bytes([bytes[at], bytes[at + 1]]))
 }
 
 // Where part i starts, as the table says.
@@ -50,7 +48,7 @@ pub fn part(bytes: &[u8], i: usize) -> &[u8]
 pub fn is_laid_out(bytes: &[u8], count: u8) -> bool
     ensures { result ≡ laid_out count bytes.now }
 {
-    let count = index(count);
+    let count = usize::from(count);
     let mut due = 2 + 4 * count;
     if bytes.len() < due {
         return false;

@@ -3,23 +3,12 @@ ghost use Rattle.std.specs.Prelude.{◌≡◌, ◌++◌, ◌+◌, ◌*◌, ◌/�
 ghost use Rattle.basics.specs.Words.{length, take, drop, set};
 ghost use Rattle.layout.specs.Packing.{total, table};
 
-// A part's length as a number to index with.
-pub fn wide(x: u16) -> usize
-    ensures { (result ≡ x) × (result < 65536) }
-{
-    x as usize
-}
-
 // The sum of the lengths.
 pub fn sum(lengths: &[u16]) -> usize
     requires { length lengths.now ≤ 6 }
     ensures { result ≡ total lengths.now }
 {
-    let mut sum: usize = 0;
-    for i in 0..lengths.len() {
-        sum += wide(lengths[i]);
-    }
-    sum
+    lengths.iter().map(|&length| usize::from(length)).sum()
 }
 
 // Writes a number as two bytes, little-endian.
@@ -27,8 +16,9 @@ fn write_short(target: &mut [u8], at: usize, value: usize)
     requires { (at + 2 ≤ length target.old) × (value < 65536) }
     ensures { target.new ≡ set (set target.old at (value % 256)) (at + 1) (value / 256) }
 {
-    target[at] = (value % 256) as u8;
-    target[at + 1] = (value / 256) as u8;
+    let [low, high] = (value as u16).to_le_bytes();
+    target[at] = low;
+    target[at + 1] = high;
 }
 
 // Writes the counts and the places of the parts.
@@ -40,7 +30,7 @@ pub fn write_table(target: &mut [u8], symbols: u8, lengths: &[u16])
     target[1] = symbols;
     let mut start = 2 + 4 * lengths.len();
     for i in 0..lengths.len() {
-        let length = wide(lengths[i]);
+        let length = usize::from(lengths[i]);
         write_short(target, 2 + 4 * i, start);
         write_short(target, 4 + 4 * i, length);
         start += length;
@@ -52,9 +42,7 @@ pub fn write_part(stretch: &mut [u8], part: &[u8])
     requires { length stretch.old ≡ length part.now }
     ensures { stretch.new ≡ part.now }
 {
-    for i in 0..part.len() {
-        stretch[i] = part[i];
-    }
+    stretch.copy_from_slice(part);
 }
 
 // Writes each part to its own stretch of the target, from the part's offset and as long as the part.
@@ -64,8 +52,8 @@ pub fn write_parts(target: &mut [u8], lengths: &[u16], parts: &[u8])
 {
     let mut offset = 2 + 4 * lengths.len();
     let mut from = 0;
-    for i in 0..lengths.len() {
-        let length = wide(lengths[i]);
+    for &length in lengths {
+        let length = usize::from(length);
         let end = offset + length;
         let next = from + length;
         write_part(&mut target[offset..end], &parts[from..next]);

@@ -9,7 +9,6 @@ ghost use Rattle.machine.specs.Part.{state_count, arc_count, arcs_of, machine_of
 
 pub mod part; // part.rt: what a part's bytes say
 
-use basics::index;
 pub use symbols::sets;
 
 // A pair of symbols, in and out.
@@ -23,7 +22,7 @@ impl Pair {
     // The empty symbol.
     pub const EMPTY: u8 = symbols::EMPTY;
 
-    // The first of the other symbols.
+    // The first of the other symbols; a cast, since a const calls no `from`.
     pub const FIRST: usize = Pair::EMPTY as usize + 1;
 
     // The pair of an in and an out.
@@ -103,7 +102,7 @@ pub fn state_count(part: &[u8]) -> usize
     requires { shaped part.now ≡ true }
     ensures { result ≡ state_count part.now }
 {
-    index(part[0])
+    usize::from(part[0])
 }
 
 // A, the number of arcs of a part.
@@ -111,7 +110,7 @@ pub fn arc_count(part: &[u8]) -> usize
     requires { shaped part.now ≡ true }
     ensures { result ≡ arc_count part.now }
 {
-    index(part[1])
+    usize::from(part[1])
 }
 
 // The arc i of a part of `states` states.
@@ -146,17 +145,15 @@ impl Position {
         let state = self.state;
         let input = sets::set_of(pair.input);
         let output = sets::set_of(pair.output);
-        let mut at = 2 + index(part[0]);
-        let mut left = part[1];
-        while left > 0 {
+        let first = 2 + usize::from(part[0]);
+        for i in 0..usize::from(part[1]) {
+            let at = first + 20 * i;
             if part::takes_from(part, at, state, input, output) {
                 let next = Position {
                     state: part[at + 1],
                 };
                 return Some((next, part[at + 2]));
             }
-            at += 20;
-            left -= 1;
         }
         None
     }
@@ -166,15 +163,11 @@ impl Position {
         requires { shaped part.now ≡ true }
         ensures { ended result ≡ ending_of (machine_of part.now) self.state }
     {
-        let state = index(self.state);
-        if index(part[0]) <= state {
+        let state = usize::from(self.state);
+        if usize::from(part[0]) <= state {
             return None;
         }
         let byte = part[2 + state];
-        if byte == 0 {
-            None
-        } else {
-            Some(byte - 1)
-        }
+        if byte == 0 { None } else { Some(byte - 1) }
     }
 }

@@ -1,38 +1,26 @@
 // A machine part: its arcs.
-ghost use Rattle.std.specs.Prelude.{◌≡◌, ◌+◌, ◌*◌, ◌^◌, ◌<◌, ◌≤◌};
+ghost use Rattle.std.specs.Prelude.{◌≡◌, ◌+◌, ◌^◌, ◌≤◌};
 ghost use Rattle.basics.specs.Words.{length};
 ghost use Rattle.machine.specs.Machine.{takes_from};
-ghost use Rattle.machine.specs.Part.{four_bytes_at, eight_bytes_at, arc_at};
+ghost use Rattle.machine.specs.Part.{eight_bytes_at, arc_at};
 
 use crate::{Arc, Pair};
-
-fn wide(x: u8) -> u64
-    ensures { (result ≡ x) × (result < 256) }
-{
-    x as u64
-}
-
-// The number of four bytes, little-endian.
-fn joined(a: u8, b: u8, c: u8, d: u8) -> u64
-    ensures { (result ≡ a + 256 * (b + 256 * (c + 256 * d))) × (result < 2 ^ 32) }
-{
-    wide(a) + 256 * (wide(b) + 256 * (wide(c) + 256 * wide(d)))
-}
-
-// The number of four bytes from a place, little-endian.
-fn four_bytes(part: &[u8], at: usize) -> u64
-    requires { at + 4 ≤ length part.now }
-    ensures { (result ≡ four_bytes_at part.now at) × (result < 2 ^ 32) }
-{
-    joined(part[at], part[at + 1], part[at + 2], part[at + 3])
-}
 
 // The number of eight bytes from a place, little-endian.
 fn eight_bytes(part: &[u8], at: usize) -> u64
     requires { at + 8 ≤ length part.now }
     ensures { result ≡ eight_bytes_at part.now at }
 {
-    four_bytes(part, at) + 4294967296 * four_bytes(part, at + 4)
+    u64::from_le_bytes([
+        part[at],
+        part[at + 1],
+        part[at + 2],
+        part[at + 3],
+        part[at + 4],
+        part[at + 5],
+        part[at + 6],
+        part[at + 7],
+    ])
 }
 
 // The arc whose 20 bytes start at a place.

@@ -6,7 +6,6 @@ ghost use Rattle.machine.specs.Machine.{takes, takes_from};
 ghost use Rattle.machine.specs.Part.{state_count, arc_at, arcs_of, shaped, no_clash};
 ghost use Rattle.part_check.specs.Clashes.{pairs_with, clash_free_from, PairsNoted, LeavesStates};
 
-use basics::index;
 use machine::{Arc, Pair, part, sets};
 use refusals::Refusal;
 
@@ -16,7 +15,7 @@ fn pairs_with(inputs: u64, kind: u8, output: usize) -> u64
     ensures { result ≡ pairs_with kind inputs output }
 {
     let one = sets::set_of(output as u8);
-    if output == index(Pair::EMPTY) {
+    if output == usize::from(Pair::EMPTY) {
         return sets::of_kind(sets::without_empty(inputs), kind, one);
     }
     sets::of_kind(inputs, kind, one)
@@ -31,6 +30,7 @@ fn note_pairs(taken: &mut [u64], arc: Arc) -> bool
     let inputs = arc.inputs;
     let kind = arc.kind;
     let mut left = arc.outputs;
+    // No count and no iterator: it goes through the symbols of a set.
     while left > 0 {
         let y = sets::least(left);
         let pairs = pairs_with(inputs, kind, y);
@@ -61,10 +61,8 @@ fn check_state(part: &[u8], states: usize, from: u8) -> Result<(), Refusal>
     ensures { checked_number result ≡ refuse 5 (pairwise (clash_free_from from) (arcs_of part.now)) }
 {
     let mut taken = [0; 64];
-    let mut left = index(part[1]);
-    while left > 0 {
-        left -= 1;
-        if note_arc(&mut taken, part, 2 + states + 20 * left, from) {
+    for i in (0..usize::from(part[1])).rev() {
+        if note_arc(&mut taken, part, 2 + states + 20 * i, from) {
             return Err(Refusal::Clash);
         }
     }
@@ -77,11 +75,9 @@ pub fn check_clashes(part: &[u8]) -> Result<(), Refusal>
     ensures { checked_number result ≡ refuse 5 (no_clash part.now) }
 {
     let states = part[0];
-    let count = index(states);
-    let mut from = 0;
-    while from < states {
+    let count = usize::from(states);
+    for from in 0..states {
         check_state(part, count, from)?;
-        from += 1;
     }
     Ok(())
 }

@@ -12,7 +12,7 @@ fn fewer_in(machines: u8, first: Profile, second: Profile) -> u8
 {
     let mut set = 0;
     let mut bit: u8 = 1;
-    for machine in 0..machines as usize {
+    for machine in 0..usize::from(machines) {
         if first.count(machine) < second.count(machine) {
             set += bit;
         }

@@ -1,29 +1,20 @@
 // Harmonic comparison of two profiles.
-ghost use Rattle.std.specs.Prelude.{◌≡◌, ◌<◌, ◌≤◌};
-ghost use Rattle.basics.specs.Words.{true, length, get_or};
+ghost use Rattle.std.specs.Prelude.{◌≡◌, ◌≤◌};
+ghost use Rattle.basics.specs.Words.{true, length};
 ghost use Rattle.ranking.specs.Rankings.{is_ranking};
 ghost use Rattle.ranking.specs.Harmony.{harmony, compared, comparing};
 
 use super::{Order, Profile, rankings};
 use refusals::Refusal;
 
-// The machine at a place of a ranking.
-fn machine_at(ranking: &[u8], place: u8) -> u8
-    requires { place < length ranking.now }
-    ensures { result ≡ get_or ranking.now place 0 }
-{
-    ranking[place as usize]
-}
-
 // How the first profile stands to the second: goes down the ranking to the highest ranked machine where they differ, which decides.
 pub fn harmony(ranking: &[u8], first: Profile, second: Profile) -> Order
     requires { (is_ranking (length ranking.now) ranking.now ≡ true) × (length ranking.now ≤ 6) }
     ensures { result ≡ harmony ranking.now first.counts second.counts }
 {
-    for place in 0..ranking.len() as u8 {
-        let machine = machine_at(ranking, place);
-        let one = first.count(machine as usize);
-        let other = second.count(machine as usize);
+    for &machine in ranking {
+        let one = first.count(usize::from(machine));
+        let other = second.count(usize::from(machine));
         if one < other {
             return Order::Better(machine);
         }

@@ -33,7 +33,7 @@ fn stands_once(list: &[u8], machine: u8) -> bool
 pub fn check_ranking(machines: u8, ranking: &[u8]) -> Result<(), Refusal>
     ensures { checked_number result ≡ refuse 7 (is_ranking machines ranking.now) }
 {
-    if ranking.len() != machines as usize {
+    if ranking.len() != usize::from(machines) {
         return Err(Refusal::Ranking);
     }
     for machine in 0..machines {

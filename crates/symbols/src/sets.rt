@@ -33,7 +33,8 @@ pub fn least(set: u64) -> usize
     requires { 0 < set }
     ensures { (result ≡ least_symbol set) × (result < 64) × (member set result ≡ true) }
 {
-    u64::trailing_zeros(set) as usize
+    // A cast, since `usize::from` takes no u32.
+    set.trailing_zeros() as usize
 }
 
 // A set that is not empty without its least symbol.

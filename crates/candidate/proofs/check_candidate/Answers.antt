@@ -1,3 +1,4 @@
+use Rattle.std.specs.Prelude.{◌+◌}
 use Rattle.basics.proofs.Words.{sym, ◌∙◌, arith, all_none, all_next, all_fails}
 use Rattle.refusals.proofs.Refusals.{passes_with, refuses_with}
 use Rattle.candidate.specs.Evaluating.{sound_pair}
@@ -28,8 +29,16 @@ loop-at-preserved c =
           ∙ c.loop-at.invariant.2,
     )
 
-pub returns : goal.returns
-returns c =
+pub returns-else-not-is_sound_at : goal.returns-else-not-is_sound_at
+returns-else-not-is_sound_at c =
+    let l = c.args.candidate.now in
+    sym (passes_with 13 (sound_is c.args.symbols l (omega arith) (omega arith)
+    ∙ sym c.loop-at.invariant.2
+    ∙ sym (all_next (sound_pair c.args.symbols) (pairs_next l c.loop-at.at (omega arith)) (sym c.is_sound_at.ensures ∙ c.if-not-is_sound_at.false))
+    ∙ all_none (sound_pair c.args.symbols) (pairs_end l (c.loop-at.at + 2) (omega arith))))
+
+pub returns-else-candidate-gt6398 : goal.returns-else-candidate-gt6398
+returns-else-candidate-gt6398 c =
     let l = c.args.candidate.now in
     sym (passes_with 13 (sound_is c.args.symbols l (omega arith) (omega arith)
     ∙ sym c.loop-at.invariant.2

@@ -1,9 +1,10 @@
 use Rattle.std.specs.Prelude.{◌≡◌}
+use Rattle.std.proofs.Common.{Result, Ok}
+use Rattle.std.proofs.lemmas.Result.{err_from_is_err_and}
 use Rattle.basics.proofs.Words.{sym, ap, ◌∙◌, true, false, List, ℕ, arith, lit<}
-use Rattle.refusals.specs.declared.Checked.{Checked}
-use Rattle.refusals.specs.declared.Checked.TheVariants.{Passed}
-use Rattle.refusals.specs.Refusals.{refuse, checked_number}
-use Rattle.refusals.proofs.Refusals.{passed_number, was_true, was_false, refuses_with, refused_number}
+use Rattle.refusals.specs.declared.Refusal.{Refusal}
+use Rattle.refusals.specs.Refusals.{number_of, refuse, checked_number}
+use Rattle.refusals.proofs.Refusals.{number_positive, passed_number, was_true, was_false, refuses_with}
 use Rattle.card.specs.Layout.{symbol_count}
 use Rattle.card.specs.Card.{card_refusal, machines_of}
 use Rattle.candidate.specs.Candidates.{pairs_of, is_complete}
@@ -13,48 +14,53 @@ use Rattle.candidate.proofs.Answers.{card_refused, candidate_refused, completion
 use Rattle.candidate.proofs.evaluate.Goals as goal
 
 -- a candidate that passes is sound
-sound : {s : Checked} → s ≡ Passed → {S symbols : ℕ} (l : List ℕ) → S ≡ symbols → checked_number s ≡ refuse 13 (sound_candidate S l) → sound_candidate symbols l ≡ true
+sound : {A : Type 0} {s : Result A Refusal} {a : A} → s ≡ Ok a → {S symbols : ℕ} (l : List ℕ) → S ≡ symbols → checked_number s ≡ refuse 13 (sound_candidate S l) → sound_candidate symbols l ≡ true
 sound told {S} l q e = rw q at (was_true told 13 (sound_candidate S l) (lit< tt) e)
 
-pub returns-in_default : goal.returns-in_default
-returns-in_default c =
-    let e : card_refusal c.args.card.now ≡ c.number.result = sym c.check-answer.ensures ∙ sym c.number.ensures in
-    c.refused.ensures ∙ sym (card_refused c.args.card.now c.args.candidate.now c.number.result e (refused_number c.in_default.is (sym c.number.ensures)))
+pub returns-in_err-check : goal.returns-in_err-check
+returns-in_err-check c =
+    let p = err_from_is_err_and c.from_residual.result c.from_residual.ensures.1 in
+    let e : card_refusal c.args.card.now ≡ number_of c.in_err-check.field-0.0 = sym c.check.ensures ∙ ap checked_number c.in_err-check.was in
+    rw (p.1, p.2) (sym (card_refused c.args.card.now c.args.candidate.now _ e (number_positive c.in_err-check.field-0.0)))
 
-pub returns-in_default-answer : goal.returns-in_default-answer
-returns-in_default-answer c =
+pub returns-in_err-check_candidate : goal.returns-in_err-check_candidate
+returns-in_err-check_candidate c =
     let b = sound_candidate c.symbol_count.result c.args.candidate.now in
-    let f : b ≡ false = was_false c.in_default-answer.is 13 b c.check_candidate-answer.ensures in
-    c.refused-in_default-answer.ensures
-    ∙ ap refused (c.number-in_default-answer.ensures ∙ c.check_candidate-answer.ensures ∙ refuses_with 13 f)
-    ∙ sym (candidate_refused c.args.card.now c.args.candidate.now (passed_number c.in-Passed.is c.check-answer.ensures) (rw c.symbol_count.ensures at f))
+    let e = c.in_err-check_candidate.was in
+    let f : b ≡ false = was_false e 13 b c.check_candidate.ensures in
+    let p = err_from_is_err_and c.from_residual-in_err-check_candidate.result c.from_residual-in_err-check_candidate.ensures.1 in
+    rw (p.1, p.2)
+    (ap refused (sym (ap checked_number e) ∙ c.check_candidate.ensures ∙ refuses_with 13 f)
+    ∙ sym (candidate_refused c.args.card.now c.args.candidate.now (passed_number c.in_ok-check.was c.check.ensures) (rw c.symbol_count.ensures at f)))
 
-pub returns-in_default-answer-2 : goal.returns-in_default-answer-2
-returns-in_default-answer-2 c =
+pub returns-in_err-profile : goal.returns-in_err-profile
+returns-in_err-profile c =
     let b = is_complete (machines_of c.args.card.now) (pairs_of c.args.candidate.now) in
-    let f : b ≡ false = was_false c.in_default-answer-2.is 14 b c.score-scored.ensures.checked in
-    c.refused-in_default-answer-2.ensures
-    ∙ ap refused (c.number-in_default-answer-2.ensures ∙ c.score-scored.ensures.checked ∙ refuses_with 14 f)
-    ∙ sym (completion_refused c.args.card.now c.args.candidate.now (passed_number c.in-Passed.is c.check-answer.ensures)
-    (sound c.in-Passed-answer.is c.args.candidate.now c.symbol_count.ensures c.check_candidate-answer.ensures) f)
+    let e = c.in_err-profile.was in
+    let f : b ≡ false = was_false e 14 b c.score.ensures.checked in
+    let p = err_from_is_err_and c.from_residual-in_err-profile.result c.from_residual-in_err-profile.ensures.1 in
+    rw (p.1, p.2)
+    (ap refused (sym (ap checked_number e) ∙ c.score.ensures.checked ∙ refuses_with 14 f)
+    ∙ sym (completion_refused c.args.card.now c.args.candidate.now (passed_number c.in_ok-check.was c.check.ensures)
+    (sound c.in_ok-check_candidate.was c.args.candidate.now c.symbol_count.ensures c.check_candidate.ensures) f))
 
 pub overflow_cast-result : goal.overflow_cast-result
 overflow_cast-result c =
-    let h = sound_shape (symbol_count c.args.card.now) c.args.candidate.now (sound c.in-Passed-answer.is c.args.candidate.now c.symbol_count.ensures c.check_candidate-answer.ensures) in
+    let h = sound_shape (symbol_count c.args.card.now) c.args.candidate.now (sound c.in_ok-check_candidate.was c.args.candidate.now c.symbol_count.ensures c.check_candidate.ensures) in
     omega (arith, h.1)
 
 pub spelled_length-requires : goal.spelled_length-requires
 spelled_length-requires c =
-    let h = sound_shape (symbol_count c.args.card.now) c.args.candidate.now (sound c.in-Passed-answer.is c.args.candidate.now c.symbol_count.ensures c.check_candidate-answer.ensures) in
+    let h = sound_shape (symbol_count c.args.card.now) c.args.candidate.now (sound c.in_ok-check_candidate.was c.args.candidate.now c.symbol_count.ensures c.check_candidate.ensures) in
     (h.0, h.1)
 
 pub returns : goal.returns
 returns c =
     let b = is_complete (machines_of c.args.card.now) (pairs_of c.args.candidate.now) in
-    let s = sound c.in-Passed-answer.is c.args.candidate.now c.symbol_count.ensures c.check_candidate-answer.ensures in
-    let t : b ≡ true = was_true c.in-Passed-answer-2.is 14 b (lit< tt) c.score-scored.ensures.checked in
-    let p = c.score-scored.ensures.profile t in
+    let s = sound c.in_ok-check_candidate.was c.args.candidate.now c.symbol_count.ensures c.check_candidate.ensures in
+    let t : b ≡ true = was_true c.in_ok-profile.was 14 b (lit< tt) c.score.ensures.checked in
+    let p = c.in_ok-profile.ensures.profile in
     let n = sym (length_pairs c.args.candidate.now (sound_shape (symbol_count c.args.card.now) c.args.candidate.now s).0) in
     let w = c.spelled_length.ensures in
     (λ i. record { number = 0; profile = p i; pairs = n i; word_length = w i })
-    ∙ sym (evaluated c.args.card.now c.args.candidate.now (passed_number c.in-Passed.is c.check-answer.ensures) s t)
+    ∙ sym (evaluated c.args.card.now c.args.candidate.now (passed_number c.in_ok-check.was c.check.ensures) s t)

@@ -1,5 +1,5 @@
 use Rattle.std.specs.Prelude.{◌≡◌, ◌<◌}
-use Rattle.basics.proofs.Words.{sym, ap, ◌∙◌, List, ℕ, arith, rules, clash}
+use Rattle.basics.proofs.Words.{sym, ap, ◌∙◌, List, ℕ, arith}
 use Rattle.machine.specs.Part.{machine_of}
 use Rattle.card.specs.Layout.{machine_count, symbol_count}
 use Rattle.card.specs.Accepted.{accepted}
@@ -12,7 +12,7 @@ use Rattle.candidate.proofs.score.Goals as goal
 
 pub loop-machine-init : goal.loop-machine-init
 loop-machine-init c =
-    (search rules, omega (arith, c.machine_count-machines.ensures, (accepted c.args.card.now c.requires.0).head), scored_start c.args.card.now (pairs_of c.args.candidate.now))
+    (omega (arith, c.machine_count-machines.ensures, (accepted c.args.card.now c.requires.0).head), scored_start c.args.card.now (pairs_of c.args.candidate.now))
 
 pub run-requires : goal.run-requires
 run-requires c =
@@ -28,14 +28,14 @@ returns-in_default c =
     let f = not_complete l (pairs_of c.args.candidate.now) c.loop-machine.machine (omega (arith, c.machine_count-machines.ensures))
     (ap (λ (part : List ℕ). marks_of (pairs_of c.args.candidate.now) (machine_of part)) (sym c.part.ensures)
     ∙ sym c.run.ensures ∙ ap marked c.in_default.is) in
-    record { checked = sym (refuses_with 14 f); profile = λ t. absurd (clash t f) }
+    record { checked = sym (refuses_with 14 f); profile = tt }
 
 pub returns : goal.returns
 returns c =
     let l = c.args.card.now in
     let e : c.loop-machine.machine ≡ machine_count l = omega (arith, c.machine_count-machines.ensures) in
-    let S = rw e at c.loop-machine.invariant.2 in
+    let S = rw e at c.loop-machine.invariant.1 in
     record {
       checked = sym (passes_with 14 (all_complete l (pairs_of c.args.candidate.now) c.loop-machine.counts S));
-      profile = λ _. its_profile l (pairs_of c.args.candidate.now) c.loop-machine.counts S (omega arith);
+      profile = its_profile l (pairs_of c.args.candidate.now) c.loop-machine.counts S (omega arith);
     }

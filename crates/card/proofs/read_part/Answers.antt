@@ -1,7 +1,8 @@
 use Rattle.std.specs.Prelude.{◌≡◌, ◌∷◌, ◌+◌, ◌*◌, ◌<◌, ◌≤◌}
-use Rattle.basics.proofs.Words.{sym, ◌∙◌, [], List, ℕ, arith, length, ltb, lit<, ltb-true}
-use Rattle.refusals.specs.Refusals.{refuse}
-use Rattle.refusals.proofs.Refusals.{passed, passed_number, refused_number}
+use Rattle.std.proofs.lemmas.Result.{err_from_is_err_and}
+use Rattle.basics.proofs.Words.{ap, sym, ◌∙◌, [], List, ℕ, arith, length, ltb, lit<, ltb-true}
+use Rattle.refusals.specs.Refusals.{checked_number, refuse}
+use Rattle.refusals.proofs.Refusals.{passed, passed_number, number_positive}
 use Rattle.card.specs.Layout.{machine_count}
 use Rattle.card.specs.Card.{card_refusal}
 use Rattle.card.specs.Reading.{reading_refusal}
@@ -19,18 +20,20 @@ placed card machine i e q =
     let one : i < machine_count card = omega (arith, ltb-true machine (machine_count card) (passed 17 t (lit< tt) f)) in
     omega (arith, (accepted card ok).within i one)
 
-pub returns-in_default : goal.returns-in_default
-returns-in_default c =
-    let e : reading_refusal c.args.card.now c.args.machine ≡ c.number.result = sym c.check_reading-answer.ensures ∙ sym c.number.ensures in
-    sym (read_refused c.args.card.now c.args.machine c.number.result e (refused_number c.in_default.is (sym c.number.ensures)))
+pub returns-in_err-check_reading : goal.returns-in_err-check_reading
+returns-in_err-check_reading c =
+    let p = err_from_is_err_and c.from_residual.result c.from_residual.ensures.1 in
+    let e = c.in_err-check_reading.was in
+    let told = c.check_reading.ensures in
+    rw (p.1, p.2) (sym (read_refused c.args.card.now c.args.machine _ (sym told ∙ ap checked_number e) (number_positive c.in_err-check_reading.field-0.0)))
 
 pub part_offset-requires : goal.part_offset-requires
-part_offset-requires c = placed c.args.card.now c.args.machine _ (passed_number c.in-Passed.is c.check_reading-answer.ensures) c.index-machine.ensures.0
+part_offset-requires c = placed c.args.card.now c.args.machine _ (passed_number c.in_ok-check_reading.was c.check_reading.ensures) c.from-machine.ensures
 
 pub part_length-requires : goal.part_length-requires
-part_length-requires c = placed c.args.card.now c.args.machine _ (passed_number c.in-Passed.is c.check_reading-answer.ensures) c.index-machine.ensures.0
+part_length-requires c = placed c.args.card.now c.args.machine _ (passed_number c.in_ok-check_reading.was c.check_reading.ensures) c.from-machine.ensures
 
 pub returns : goal.returns
 returns c =
-    read_placed c.args.card.now c.args.machine c.index-machine.result c.part_offset.result c.part_length.result (passed_number c.in-Passed.is c.check_reading-answer.ensures) c.index-machine.ensures.0
+    read_placed c.args.card.now c.args.machine c.from-machine.result c.part_offset.result c.part_length.result (passed_number c.in_ok-check_reading.was c.check_reading.ensures) c.from-machine.ensures
     c.part_offset.ensures.0 c.part_length.ensures.0

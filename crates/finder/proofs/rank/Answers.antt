@@ -24,8 +24,8 @@ overflow_shl-placed c =
 pub loop-place-preserved : goal.loop-place-preserved
 loop-place-preserved c =
     let m = c.in-Some.machine in
-    filled_next c.loop-place.invariant c.requires.0 (omega arith) m _ (sym c.next_machine.ensures ∙ ap next_of c.in-Some.is)
-    (λ n. member_with c.loop-place.placed m n (omega (arith, next_below c.args.machines (conditions_of c.args.conditions.now) _ (sym c.next_machine.ensures ∙ ap next_of c.in-Some.is))))
+    rw c.from.ensures (filled_next c.loop-place.invariant c.requires.0 (omega arith) m _ (sym c.next_machine.ensures ∙ ap next_of c.in-Some.is)
+    (λ n. member_with c.loop-place.placed m n (omega (arith, next_below c.args.machines (conditions_of c.args.conditions.now) _ (sym c.next_machine.ensures ∙ ap next_of c.in-Some.is)))))
 
 pub returns : goal.returns
 returns c =

@@ -1,11 +1,8 @@
-use Rattle.std.specs.Prelude.{◌≡◌, ◌+◌, ◌*◌, ◌-◌, ◌≤◌}
+use Rattle.std.specs.Prelude.{◌≡◌, ◌+◌, ◌*◌, ◌≤◌}
 use Rattle.basics.proofs.Words.{true, every_below}
 use Rattle.layout.specs.Layout.{due_offset, in_place}
 use Rattle.layout.proofs.is_laid_out.Given as goal
 
 abbrev pub invariant-loop-i : goal.invariant-loop-i
 invariant-loop-i l =
-    (l.i ≤ l.count) × (l.due ≡ due_offset l.count l.bytes l.i) × (l.due ≤ 2 + 4 * l.count + 65535 * l.i) × (every_below (in_place l.count l.bytes) l.i ≡ true)
-
-abbrev pub decreases-loop-i : goal.decreases-loop-i
-decreases-loop-i l = l.count - l.i
+    (l.due ≡ due_offset l.count l.bytes l.i) × (l.due ≤ 2 + 4 * l.count + 65535 * l.i) × (every_below (in_place l.count l.bytes) l.i ≡ true)

@@ -1,8 +1,11 @@
-use Rattle.std.specs.Prelude.{◌≡◌, ◌≤◌}
-use Rattle.basics.proofs.Words.{length, leb, slice, all_of}
-use Rattle.machine.specs.Part.{sound_states}
+use Rattle.std.specs.Prelude.{◌≡◌, ◌+◌, ◌-◌}
+use Rattle.basics.proofs.Words.{List, ℕ, leb, take, drop, all_of}
+use Rattle.machine.specs.Part.{state_count, sound_states}
 use Rattle.part_check.proofs.check_states.Given as goal
 
-abbrev pub invariant-loop-at : goal.invariant-loop-at
-invariant-loop-at l =
-    (l.at ≤ l.end) × (l.end ≤ length l.part) × (all_of (λ b. leb b 16) (slice l.at l.end l.part) ≡ sound_states l.part)
+-- the slice that the loop goes through
+abbrev pub gone_through : List ℕ → List ℕ
+gone_through part = take (2 + state_count part - 2) (drop 2 part)
+
+abbrev pub invariant-loop-byte : goal.invariant-loop-byte
+invariant-loop-byte l = all_of (λ b. leb b 16) (drop l.byte-index (gone_through l.part)) ≡ sound_states l.part

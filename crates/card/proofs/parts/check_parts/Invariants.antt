@@ -1,4 +1,4 @@
-use Rattle.std.specs.Prelude.{◌≡◌, ◌∷◌, ◌+◌, ◌-◌, ◌^◌, ◌≤◌}
+use Rattle.std.specs.Prelude.{◌≡◌, ◌∷◌, ◌+◌, ◌^◌, ◌≤◌}
 use Rattle.basics.proofs.Words.{[], length, drop}
 use Rattle.refusals.specs.Refusals.{refuse, first_of}
 use Rattle.card.specs.Card.{parts_refusal, few_states}
@@ -6,14 +6,9 @@ use Rattle.card.specs.Packing.{total, split}
 use Rattle.card.proofs.PartSteps.{parts_left}
 use Rattle.card.proofs.parts.check_parts.Given as goal
 
-abbrev pub invariant-loop-i : goal.invariant-loop-i
-invariant-loop-i l =
-    (l.i-end ≡ length l.lengths)
-    × (l.i ≤ length l.lengths)
-    × (l.offset + total (drop l.i l.lengths) ≤ length l.bytes)
-    × (l.states ≤ 32 ^ l.i)
-    × (parts_left l.states l.symbols (split (drop l.i l.lengths) (drop l.offset l.bytes))
+abbrev pub invariant-loop-length : goal.invariant-loop-length
+invariant-loop-length l =
+    (l.offset + total (drop l.length-index l.lengths) ≤ length l.bytes)
+    × (l.states ≤ 32 ^ l.length-index)
+    × (parts_left l.states l.symbols (split (drop l.length-index l.lengths) (drop l.offset l.bytes))
     ≡ first_of (parts_refusal l.symbols (split l.lengths (drop l.start l.bytes)) ∷ refuse 6 (few_states (split l.lengths (drop l.start l.bytes))) ∷ []))
-
-abbrev pub decreases-loop-i : goal.decreases-loop-i
-decreases-loop-i l = l.i-end - l.i

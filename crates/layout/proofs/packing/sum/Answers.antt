@@ -1,13 +1,15 @@
-use Rattle.basics.proofs.Words.{refl, arith, add-one, rules}
-use Rattle.layout.specs.Laws.Parts.{total_next}
+use Rattle.std.specs.Prelude.{◌≡◌, ◌∷◌, ◌+◌, sum}
+use Rattle.std.proofs.lemmas.List.Sums.{sum_by-cons}
+use Rattle.basics.proofs.Words.{refl, ap, ◌∙◌, List, [], ℕ, rules}
 use Rattle.layout.specs.Packing.{total}
 use Rattle.layout.proofs.packing.sum.Goals as goal
 
-pub loop-i-init : goal.loop-i-init
+sum_total : (ns : List ℕ) → sum ns ≡ total ns
 unfolding total
-loop-i-init c = search rules
+sum_total [] = refl
+sum_total (n ∷ ns) = sum_by-cons (λ (x : ℕ). x) n ns ∙ ap (λ (m : ℕ). n + m) (sum_total ns)
 
-pub loop-i-preserved : goal.loop-i-preserved
-loop-i-preserved c =
-    let l = c.args.lengths.now in
-    (refl, omega arith, rw add-one (omega (arith, total_next l c.loop-i.i (omega arith))), omega arith)
+pub returns : goal.returns
+returns c =
+    let e : c.sum.result ≡ sum c.args.lengths.now = search rules in
+    e ∙ sum_total c.args.lengths.now

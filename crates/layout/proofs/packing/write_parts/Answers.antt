@@ -5,35 +5,33 @@ use Rattle.layout.specs.Laws.Parts.{total_next, total_within}
 use Rattle.layout.proofs.Writing.{parts_none, parts_next}
 use Rattle.layout.proofs.packing.write_parts.Goals as goal
 
-pub loop-i-init : goal.loop-i-init
+pub loop-length-init : goal.loop-length-init
 unfolding total
-loop-i-init c =
-    (refl, omega arith, refl, omega arith, parts_none (2 + 4 * length c.args.lengths.now) c.args.parts.now c.args.target.now (omega arith))
+loop-length-init c =
+    (refl, omega arith, parts_none (2 + 4 * length c.args.lengths.now) c.args.parts.now c.args.target.now (omega arith))
 
 pub overflow_add-end : goal.overflow_add-end
-overflow_add-end c = omega (arith, total_within c.args.lengths.now c.loop-i.i (omega arith), c.wide-length.ensures.0)
+overflow_add-end c = omega (arith, total_within c.args.lengths.now c.loop-length.length-index (omega arith), c.from-length.ensures)
 
 pub overflow_add-next : goal.overflow_add-next
-overflow_add-next c = omega (arith, total_within c.args.lengths.now c.loop-i.i (omega arith), c.wide-length.ensures.0)
+overflow_add-next c = omega (arith, total_within c.args.lengths.now c.loop-length.length-index (omega arith), c.from-length.ensures)
 
 -- the part to be written lies within the target, which keeps its length
 pub slice_bounds-write_part-end : goal.slice_bounds-write_part-end
 slice_bounds-write_part-end c =
-    omega (arith, total_within c.args.lengths.now c.loop-i.i (omega arith), c.loop-i.auto.target)
+    omega (arith, total_within c.args.lengths.now c.loop-length.length-index (omega arith), c.loop-length.auto.target)
 
 -- and within the parts
-pub slice_bounds-write_part-end-in-loop-i : goal.slice_bounds-write_part-end-in-loop-i
-slice_bounds-write_part-end-in-loop-i c =
-    omega (arith, total_within c.args.lengths.now c.loop-i.i (omega arith))
+pub slice_bounds-write_part-end-in-loop-length : goal.slice_bounds-write_part-end-in-loop-length
+slice_bounds-write_part-end-in-loop-length c =
+    omega (arith, total_within c.args.lengths.now c.loop-length.length-index (omega arith))
 
-pub loop-i-preserved : goal.loop-i-preserved
-loop-i-preserved c =
+pub loop-length-preserved : goal.loop-length-preserved
+loop-length-preserved c =
     let l = c.args.lengths.now in
-    let more = total_within l c.loop-i.i (omega arith) in (
-      refl,
+    let more = total_within l c.loop-length.length-index (omega arith) in (
+      rw add-one (omega (arith, total_next l c.loop-length.length-index (omega arith))),
       omega arith,
-      rw add-one (omega (arith, total_next l c.loop-i.i (omega arith))),
-      omega arith,
-      parts_next (2 + 4 * length l) c.args.parts.now c.args.target.now (omega arith) c.loop-i.offset c.loop-i.from c.wide-length.result c.loop-i.target c.write_part.new.stretch
-          c.loop-i.invariant.3 (omega arith) c.loop-i.invariant.4 c.write_part.ensures,
+      parts_next (2 + 4 * length l) c.args.parts.now c.args.target.now (omega arith) c.loop-length.offset c.loop-length.from c.from-length.result c.loop-length.target c.write_part.new.stretch
+          c.loop-length.invariant.1 (omega arith) c.loop-length.invariant.2 c.write_part.ensures,
     )

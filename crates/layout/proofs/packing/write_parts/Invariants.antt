@@ -1,16 +1,11 @@
-use Rattle.std.specs.Prelude.{◌≡◌, ◌++◌, ◌+◌, ◌*◌, ◌-◌, ◌≤◌}
+use Rattle.std.specs.Prelude.{◌≡◌, ◌++◌, ◌+◌, ◌*◌}
 use Rattle.basics.proofs.Words.{length, take}
 use Rattle.layout.specs.Packing.{total}
 use Rattle.layout.proofs.Writing.{written}
 use Rattle.layout.proofs.packing.write_parts.Given as goal
 
-abbrev pub invariant-loop-i : goal.invariant-loop-i
-invariant-loop-i l =
-    (l.i-end ≡ length l.lengths)
-    × (l.i ≤ length l.lengths)
-    × (l.from ≡ total (take l.i l.lengths))
+abbrev pub invariant-loop-length : goal.invariant-loop-length
+invariant-loop-length l =
+    (l.from ≡ total (take l.length-index l.lengths))
     × (l.offset ≡ 2 + 4 * length l.lengths + l.from)
     × (l.target ≡ written (take (2 + 4 * length l.lengths) l.initial.target ++ l.parts) l.offset l.initial.target)
-
-abbrev pub decreases-loop-i : goal.decreases-loop-i
-decreases-loop-i l = l.i-end - l.i

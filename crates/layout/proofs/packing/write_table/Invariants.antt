@@ -1,4 +1,4 @@
-use Rattle.std.specs.Prelude.{◌≡◌, ◌+◌, ◌*◌, ◌-◌, ◌≤◌}
+use Rattle.std.specs.Prelude.{◌≡◌, ◌+◌, ◌*◌}
 use Rattle.basics.proofs.Words.{[], length, take}
 use Rattle.layout.specs.Packing.{total, packed}
 use Rattle.layout.proofs.Writing.{written}
@@ -6,10 +6,5 @@ use Rattle.layout.proofs.packing.write_table.Given as goal
 
 abbrev pub invariant-loop-i : goal.invariant-loop-i
 invariant-loop-i l =
-    (l.i-end ≡ length l.lengths)
-    × (l.i ≤ length l.lengths)
-    × (l.start ≡ 2 + 4 * length l.lengths + total (take l.i l.lengths))
+    (l.start ≡ 2 + 4 * length l.lengths + total (take l.i l.lengths))
     × (l.target ≡ written (packed l.symbols l.lengths []) (2 + 4 * l.i) l.initial.target)
-
-abbrev pub decreases-loop-i : goal.decreases-loop-i
-decreases-loop-i l = l.i-end - l.i

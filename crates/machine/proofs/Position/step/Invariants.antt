@@ -1,13 +1,9 @@
-use Rattle.std.specs.Prelude.{◌≡◌, ◌≤◌, ◌+◌, ◌*◌, ◌^◌}
-use Rattle.basics.proofs.Words.{length}
+use Rattle.std.specs.Prelude.{◌≡◌, ◌+◌, ◌-◌, ◌*◌, ◌^◌}
 use Rattle.machine.specs.declared.Pair.{Pair}
 use Rattle.machine.specs.Machine.{step_among}
-use Rattle.machine.specs.Part.{arcs_at, arcs_of}
+use Rattle.machine.specs.Part.{arc_count, arcs_at, arcs_of}
 use Rattle.machine.proofs.Position.step.Given as goal
 
-abbrev pub invariant-loop-left : goal.invariant-loop-left
-invariant-loop-left l =
-    (l.at + 20 * l.left ≤ length l.part) × ((pair : Pair) → l.input ≡ 2 ^ pair.input → l.output ≡ 2 ^ pair.output → step_among (arcs_at l.part l.at l.left) l.state pair ≡ step_among (arcs_of l.part) l.state pair)
-
-abbrev pub decreases-loop-left : goal.decreases-loop-left
-decreases-loop-left l = l.left
+abbrev pub invariant-loop-i : goal.invariant-loop-i
+invariant-loop-i l =
+    (pair : Pair) → l.input ≡ 2 ^ pair.input → l.output ≡ 2 ^ pair.output → step_among (arcs_at l.part (l.first + 20 * l.i) (arc_count l.part - l.i)) l.state pair ≡ step_among (arcs_of l.part) l.state pair

@@ -4,6 +4,6 @@ use Rattle.ranking.specs.Harmony.{harmony}
 use Rattle.ranking.proofs.harmony.harmony.Given as goal
 
 -- what is left of the ranking decides
-abbrev pub invariant-loop-place : goal.invariant-loop-place
-invariant-loop-place l =
-    (l.place ≤ length l.ranking) × (harmony (drop l.place l.ranking) l.first.counts l.second.counts ≡ harmony l.ranking l.first.counts l.second.counts)
+abbrev pub invariant-loop-machine : goal.invariant-loop-machine
+invariant-loop-machine l =
+    (l.machine-index ≤ length l.ranking) × (harmony (drop l.machine-index l.ranking) l.first.counts l.second.counts ≡ harmony l.ranking l.first.counts l.second.counts)

@@ -4,9 +4,9 @@ use Rattle.refusals.proofs.Refusals.{passes_with, refuses_with}
 use Rattle.ranking.specs.Lemmas.Rankings.{wrong_length, not_once, each_once}
 use Rattle.ranking.proofs.rankings.check_ranking.Goals as goal
 
-pub returns-then-ranking-machines : goal.returns-then-ranking-machines
-returns-then-ranking-machines c =
-    sym (refuses_with 7 (wrong_length c.args.machines c.args.ranking.now c.if-ranking-machines.true))
+pub returns-then-ranking-from : goal.returns-then-ranking-from
+returns-then-ranking-from c =
+    sym (refuses_with 7 (wrong_length c.args.machines c.args.ranking.now (λ e. c.if-ranking-from.true (e ∙ sym c.from.ensures))))
 
 pub loop-machine-init : goal.loop-machine-init
 loop-machine-init c = (omega arith, omega arith, every_start (λ m. eqb (occurrences m c.args.ranking.now) 1))
