@@ -14,7 +14,6 @@ ghost use Rattle.optimizer.specs.Optimizes.{Optimizes, OptimizesSets};
 ghost use Rattle.readout.specs.Searching.{SetsPre, SearchPre, Searched};
 ghost use Rattle.optimizer.specs.Telling.{RankingOfSome, CardOrder, TellsBest};
 
-use basics::index;
 use candidate::Evaluated;
 use grid::Grid;
 use ranking::Profile;
@@ -68,11 +67,8 @@ fn profile_of(label: Label, ranking: &[u8]) -> Profile
         label.sixth,
     ];
     let mut counts = Profile::zero().counts;
-    let mut place = 0;
-    while place < ranking.len() {
-        let machine = index(ranking[place]);
-        counts[machine] = ranked[place];
-        place += 1;
+    for (place, &machine) in ranking.iter().enumerate() {
+        counts[usize::from(machine)] = ranked[place];
     }
     Profile { counts }
 }

@@ -25,8 +25,8 @@ pub fn check_word(word: &[u8], symbols: u8) -> Result<(), Refusal>
     if word.len() > 24 {
         return Err(Refusal::Word);
     }
-    for at in 0..word.len() {
-        if !is_symbol(word[at], symbols) {
+    for &byte in word {
+        if !is_symbol(byte, symbols) {
             return Err(Refusal::Word);
         }
     }
@@ -50,8 +50,8 @@ pub fn check_sets(sets: &[u64], symbols: u8) -> Result<(), Refusal>
         return Err(Refusal::Word);
     }
     let last = sets::set_of(symbols);
-    for at in 0..sets.len() {
-        if !is_symbol_set(sets[at], last) {
+    for &set in sets {
+        if !is_symbol_set(set, last) {
             return Err(Refusal::Sets);
         }
     }

@@ -4,4 +4,5 @@ pub mod SetsCalls
 pub mod Labels
 pub mod Reading
 pub mod Walking
+pub mod WordCalls
 pub mod Words

@@ -24,7 +24,7 @@ fn check_found(work: &[u16], start: usize) -> Result<(), Refusal>
 fn check_answer(label: Label, room: usize) -> Result<(), Refusal>
     ensures { checked_number result ≡ refuse 12 (leb (2 * label.pairs) room) }
 {
-    if room / 2 < label.pairs as usize {
+    if room / 2 < usize::from(label.pairs) {
         return Err(Refusal::Answer);
     }
     Ok(())

@@ -8,5 +8,5 @@ use Rattle.readout.proofs.checks.check_best.Goals as goal
 
 pub returns : goal.returns
 returns c =
-    let loaded = is_there _ _ (passed_number c.in-Passed.is c.check_found-answer.ensures) ∙ ap {B = Option (Ranked 6)} some (sym c.load-label.ensures) in
+    let loaded = is_there _ _ (passed_number c.in_ok-check_found.was c.check_found.ensures) ∙ ap {B = Option (Ranked 6)} some (sym c.load-label.ensures) in
     c.check_answer.ensures ∙ sym (ap (λ (o : Option (Ranked 6)). label_refusal o c.args.room) loaded)
