@@ -62,12 +62,7 @@ fn answer_line(card: &[u8], line: &[u8], out: &mut [u8]) -> Reply
             counts,
         };
     };
-    write_best(
-        card,
-        &ranking[..parsed.ranking],
-        &word[..parsed.word],
-        out,
-    )
+    write_best(card, &ranking[..parsed.ranking], &word[..parsed.word], out)
 }
 
 // What a line leads to: the length of what is printed for it, and the tally after it.

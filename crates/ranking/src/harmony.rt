@@ -26,7 +26,12 @@ pub fn harmony(ranking: &[u8], first: Profile, second: Profile) -> Order
 }
 
 // Compares two profiles of `machines` machines under a ranking: refusals 1 and 7.
-pub fn compare(machines: u8, ranking: &[u8], first: Profile, second: Profile) -> Result<Order, Refusal>
+pub fn compare(
+    machines: u8,
+    ranking: &[u8],
+    first: Profile,
+    second: Profile,
+) -> Result<Order, Refusal>
     ensures { compared result ≡ comparing machines ranking.now first second }
 {
     rankings::check(machines, ranking)?;

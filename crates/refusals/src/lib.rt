@@ -108,4 +108,3 @@ pub fn tested(ok: bool, refusal: Refusal) -> Result<(), Refusal>
 {
     if ok { Ok(()) } else { Err(refusal) }
 }
-

@@ -3,8 +3,8 @@
 use crate::printing::{write, write_spaced_byte, write_spaced_number, write_spaced_size};
 use crate::slices::sevens;
 use crate::writing::{
-    number_of, wide_sevens, write_best, write_evaluation, write_finding, write_kept, write_order, write_slice,
-    write_three,
+    number_of, wide_sevens, write_best, write_evaluation, write_finding, write_kept, write_order,
+    write_slice, write_three,
 };
 use ranking::Profile;
 use rows::Verdict;

@@ -112,12 +112,7 @@ pub fn write_kept(rt: &impl Print, number: u8, count: usize) {
 }
 
 // What a search answers, and the slices that it was lent.
-pub fn write_best(
-    rt: &impl Print,
-    best: Result<Evaluated, Refusal>,
-    work: &[u16],
-    answer: &[u8],
-) {
+pub fn write_best(rt: &impl Print, best: Result<Evaluated, Refusal>, work: &[u16], answer: &[u8]) {
     write_evaluation(rt, best);
     write_slice(rt, answer);
     write_kept(rt, number_of(&best), sevens(work));
