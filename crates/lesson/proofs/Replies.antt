@@ -1,7 +1,12 @@
 -- How a line's reply follows from what parsing and the optimizer answer. Assumes nothing.
 use Rattle.std.specs.Prelude.{◌≡◌, ◌++◌}
 use Rattle.basics.proofs.Words.{refl, ap, ◌∙◌, Bool, List, Option, some, none, ℕ, zero, suc, arith, length, take, drop, replicate, length-append, length-drop, eqb, take-append_seam, suc-ne-zero, ne_eqb}
-use Rattle.candidate.specs.Evaluating.{Evaluation}
+use Rattle.refusals.specs.declared.Refusal.{Refusal}
+use Rattle.refusals.specs.Refusals.{number_of}
+use Rattle.refusals.proofs.Refusals.{number_positive}
+use Rattle.ranking.specs.Profiles.{zero_profile}
+use Rattle.candidate.specs.declared.Evaluated.{Evaluated}
+use Rattle.candidate.specs.Evaluating.{Evaluation, evaluation_of}
 use Rattle.card.specs.Layout.{machine_count}
 use Rattle.product.specs.Optimizing.{optimized, optimized_answer}
 use Rattle.std.specs.Prelude.{Some, None}
@@ -49,19 +54,22 @@ good_reply card (some request) rs₀ ws₀ {p} {rs} {ws} e f g =
     rw (front request.ranking rs₀ rs p.ranking hn f, front request.word ws₀ ws p.word hm g) refl
 
 -- the counts of an answer, and of a line's
-told_counts : (evaluation : Evaluation) → told (eqb evaluation.number 0) evaluation.profile.counts ≡ counts_of evaluation
+pub counts_there : (e : Evaluated) → told (Some e.profile.counts) ≡ counts_of (evaluation_of (Ok e))
 unfolding counts_of
-told_counts evaluation = go evaluation.number
+counts_there e = refl
+
+pub counts_missing : (r : Refusal) → told None ≡ counts_of (evaluation_of (Err r))
+unfolding counts_of
+counts_missing r = go (number_of r) (number_positive r)
   where
-    go : (n : ℕ) → told (eqb n 0) evaluation.profile.counts ≡ (elim n as (λ _. Option (List ℕ)) [ zero ↦ some evaluation.profile.counts | suc n ↦ none ])
-    go zero = refl
-    go (suc n) = ap (λ (b : Bool). told b evaluation.profile.counts) (ne_eqb (suc n) 0 (suc-ne-zero n))
+    go : (n : ℕ) → 0 < n → ◌≡◌ {A = Option (List ℕ)} none (elim n as (λ _. Option (List ℕ)) [ zero ↦ some zero_profile.counts | suc n ↦ none ])
+    go zero h = absurd (omega arith)
+    go (suc n) h = refl
 
 pub best_counts_lem : (card ranking word : List ℕ) {w a : ℕ} {evaluation : Evaluation} → evaluation ≡ optimized card ranking word w a → w ≡ 25600 → a ≡ 6398
-    → told (eqb evaluation.number 0) evaluation.profile.counts ≡ best_counts card ranking word
+    → counts_of evaluation ≡ best_counts card ranking word
 best_counts_lem card ranking word {w} {a} {evaluation} e hw ha =
-    told_counts evaluation
-    ∙ ap counts_of e
+    ap counts_of e
     ∙ ap (λ (k : ℕ). counts_of (optimized card ranking word k a)) hw
     ∙ ap (λ (k : ℕ). counts_of (optimized card ranking word 25600 k)) ha
 

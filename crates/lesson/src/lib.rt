@@ -7,7 +7,6 @@ ghost use Rattle.card.specs.Layout.{machine_count};
 ghost use Rattle.lesson.specs.Printed.{best_line, printed, Prints};
 ghost use Rattle.lesson.specs.Tally.{best_counts, line_counts, told, line_tally, line_text, shown_machines, closing_text, Fits};
 
-use ranking::Profile;
 use refusals::Refusal;
 use tally::{Reply, Tally};
 
@@ -27,40 +26,33 @@ fn machine_count(card: &[u8]) -> u8
 fn write_best(card: &[u8], ranking: &[u8], word: &[u8], out: &mut [u8]) -> Reply
     requires { 25628 ≤ length out.old }
     ensures text { Prints (best_line card.now ranking.now word.now) out.old out.new result.size }
-    ensures counts { told result.answered result.counts ≡ best_counts card.now ranking.now word.now }
+    ensures counts { told result.counts ≡ best_counts card.now ranking.now word.now }
 {
     let mut work = [0u16; WORK_NUMBERS];
     let mut answer = [0u8; ANSWER_BYTES];
     let best = optimizer::optimize(card, ranking, word, &mut work, &mut answer);
     let size = writing::write_answer(best, machine_count(card), &answer, out);
-    let profile = match best {
-        Ok(evaluated) => evaluated.profile,
-        Err(_) => Profile::ZERO,
+    let counts = match best {
+        Ok(evaluated) => {
+            let profile = evaluated.profile;
+            Some(profile.counts)
+        }
+        Err(_) => None,
     };
-    let counts = profile.counts;
-    Reply {
-        size,
-        answered: best.is_ok(),
-        counts,
-    }
+    Reply { size, counts }
 }
 
 // Writes what is printed for a line to the front of a slice.
 fn answer_line(card: &[u8], line: &[u8], out: &mut [u8]) -> Reply
     requires { 25628 ≤ length out.old }
     ensures text { Prints (printed card.now line.now) out.old out.new result.size }
-    ensures counts { told result.answered result.counts ≡ line_counts card.now line.now }
+    ensures counts { told result.counts ≡ line_counts card.now line.now }
 {
     let mut ranking = [0u8; 9];
     let mut word = [0u8; 100];
     let Some(parsed) = lines::parse(line, &mut ranking, &mut word) else {
         let size = writing::write_bad_line(out);
-        let counts = Profile::ZERO.counts;
-        return Reply {
-            size,
-            answered: false,
-            counts,
-        };
+        return Reply { size, counts: None };
     };
     write_best(card, &ranking[..parsed.ranking], &word[..parsed.word], out)
 }

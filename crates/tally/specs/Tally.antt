@@ -1,12 +1,12 @@
 -- A lesson's tally: how a line is counted.
-use Rattle.std.specs.Prelude.{Bool, true, false, List, [], ◌∷◌, ℕ, ◌+◌, ◌*◌, ◌≤◌, get_or, leb}
+use Rattle.std.specs.Prelude.{Bool, true, false, Option as Answer, Some, None, List, [], ◌∷◌, ℕ, ◌+◌, ◌*◌, ◌≤◌, get_or, leb}
 use Rattle.std.proofs.Math.Option.{Option, some, none}
 use Rattle.tally.specs.declared.Tally.{Tally}
 
--- counts as they are handed on: whether the line was answered, and six places
-abbrev pub told : Bool → List ℕ → Option (List ℕ)
-told true counts = some counts
-told false counts = none
+-- counts as the code hands them on
+abbrev pub told : Answer (List ℕ) → Option (List ℕ)
+told (Some counts) = some counts
+told None = none
 
 -- no line yet
 abbrev pub no_lines : Tally

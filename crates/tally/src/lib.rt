@@ -15,12 +15,11 @@ pub struct Tally {
     pub past: bool,
 }
 
-// What a line's answer is: the length of what is printed for it, whether it was answered, and its counts.
+// What a line's answer is: the length of what is printed for it, and its counts; none where it was refused.
 #[derive(Clone, Copy)]
 pub struct Reply {
     pub size: usize,
-    pub answered: bool,
-    pub counts: [u16; 6],
+    pub counts: Option<[u16; 6]>,
 }
 
 fn plus(total: u32, count: u16) -> u32
@@ -81,12 +80,11 @@ impl Tally {
     }
 
     // A line that was answered: its counts are added to the totals.
-    fn answer(self, reply: Reply) -> Tally
+    fn answer(self, counts: [u16; 6]) -> Tally
         requires { Fits self × (self.answered + self.refused < 1000) }
-        ensures { (result ≡ counted self (some reply.counts)) × Fits result }
+        ensures { (result ≡ counted self (some counts)) × Fits result }
     {
         let before = self.totals;
-        let counts = reply.counts;
         let totals = [
             plus(before[0], counts[0]),
             plus(before[1], counts[1]),
@@ -106,11 +104,11 @@ impl Tally {
     // One line more, answered or refused.
     pub fn count(self, reply: Reply) -> Tally
         requires { Fits self × (self.answered + self.refused < 1000) }
-        ensures { (result ≡ counted self (told reply.answered reply.counts)) × Fits result }
+        ensures { (result ≡ counted self (told reply.counts)) × Fits result }
     {
-        if reply.answered {
-            return self.answer(reply);
+        match reply.counts {
+            Some(counts) => self.answer(counts),
+            None => self.refuse(),
         }
-        self.refuse()
     }
 }

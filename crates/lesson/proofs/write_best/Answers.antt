@@ -1,10 +1,10 @@
-use Rattle.basics.proofs.Words.{refl, ap, sym, ◌∙◌, Bool, some, ℕ, arith, length-replicate, ne_eqb}
-use Rattle.refusals.specs.Refusals.{number_of}
-use Rattle.refusals.proofs.Refusals.{number_positive}
-use Rattle.ranking.specs.declared.Profile.{Profile}
-use Rattle.ranking.specs.Profiles.{zero_profile}
-use Rattle.tally.specs.Tally.{told}
-use Rattle.lesson.proofs.Replies.{prints, best_line_lem, best_counts_lem}
+use Rattle.std.proofs.Common.{Result}
+use Rattle.basics.proofs.Words.{refl, ap, sym, ◌∙◌, ℕ, arith, length-replicate}
+use Rattle.refusals.specs.declared.Refusal.{Refusal}
+use Rattle.candidate.specs.declared.Evaluated.{Evaluated}
+use Rattle.candidate.specs.Evaluating.{evaluation_of}
+use Rattle.lesson.specs.Tally.{counts_of, told}
+use Rattle.lesson.proofs.Replies.{prints, best_line_lem, best_counts_lem, counts_there, counts_missing}
 use Rattle.lesson.proofs.write_best.Goals as goal
 use Rattle.lesson.proofs.write_best.Goals.{in-Ok, in-Err}
 
@@ -22,6 +22,6 @@ returns-clause-counts c =
     let o = c.optimize-best.ensures in
     let e = best_counts_lem c.args.card.now c.args.ranking.now c.args.word.now o.result (length-replicate {A = ℕ} 25600 0) (length-replicate {A = ℕ} 6398 0) in
     (elim c.match-best.branch [
-      | in-Ok w ↦ rw (c.is_ok.ensures.value, w.best-is) (ap (λ (p : Profile). some p.counts) w.profile-is ∙ (rw w.in-Ok.is at e))
-      | in-Err w ↦ rw (c.is_ok.ensures.value, w.best-is, w.in-Err.is) (sym (ap (λ (b : Bool). told b zero_profile.counts) (ne_eqb (number_of w.in-Err.field-0) 0 (λ z. omega (arith, z, number_positive w.in-Err.field-0)))) ∙ (rw w.in-Err.is at e))
+      | in-Ok w ↦ ap told w.counts-is ∙ counts_there w.in-Ok.evaluated ∙ ap (λ (b : Result Evaluated Refusal). counts_of (evaluation_of b)) (sym w.in-Ok.is) ∙ e
+      | in-Err w ↦ ap told w.counts-is ∙ counts_missing w.in-Err.field-0 ∙ ap (λ (b : Result Evaluated Refusal). counts_of (evaluation_of b)) (sym w.in-Err.is) ∙ e
     ])
