@@ -1,5 +1,5 @@
 -- How a line's reply follows from what parsing and the optimizer answer. Assumes nothing.
-use Rattle.std.specs.Prelude.{◌≡◌, ◌++◌}
+use Rattle.std.specs.Prelude.{◌≡◌, ◌++◌, ◌<◌}
 use Rattle.basics.proofs.Words.{refl, ap, ◌∙◌, Bool, List, Option, some, none, ℕ, zero, suc, arith, length, take, drop, replicate, length-append, length-drop, eqb, take-append_seam, suc-ne-zero, ne_eqb}
 use Rattle.refusals.specs.declared.Refusal.{Refusal}
 use Rattle.refusals.specs.Refusals.{number_of}
@@ -9,7 +9,7 @@ use Rattle.candidate.specs.declared.Evaluated.{Evaluated}
 use Rattle.candidate.specs.Evaluating.{Evaluation, evaluation_of}
 use Rattle.card.specs.Layout.{machine_count}
 use Rattle.product.specs.Optimizing.{optimized, optimized_answer}
-use Rattle.std.specs.Prelude.{Some, None}
+use Rattle.std.specs.Prelude.{Some, None, Ok, Err}
 use Rattle.lines.specs.declared.Parsed.{Parsed}
 use Rattle.writing.specs.Buffers.{at_front}
 use Rattle.lines.specs.Parsing.{Request, parsed_answer, ranking_of, word_of}
