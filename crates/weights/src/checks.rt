@@ -22,12 +22,10 @@ fn check_weights(machines: usize, weights: &[u32]) -> Result<(), Refusal>
     if weights.len() != machines {
         return Err(Refusal::Weights);
     }
-    let mut i = 0;
-    while i < weights.len() {
-        if weights[i] > LIMIT {
+    for &weight in weights {
+        if weight > LIMIT {
             return Err(Refusal::Weights);
         }
-        i += 1;
     }
     Ok(())
 }

@@ -13,6 +13,9 @@ stages_at : {card ranking sets xs ys : List ℕ} {i n : ℕ} → StagesGone card
 stages_at A q = rw q at A
 
 -- ---- what each place asks for
+pub loop-stage-init : goal.loop-stage-init
+loop-stage-init c = λ r Q. stages_start
+
 pub label_stage-requires : goal.label_stage-requires
 label_stage-requires c =
     let p = c.requires in

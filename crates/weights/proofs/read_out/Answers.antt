@@ -1,9 +1,11 @@
 use Rattle.std.specs.Prelude.{◌≡◌, ℕ, ◌*◌}
-use Rattle.std.proofs.Common.{sym, ◌∙◌, ap, length, get_or, take, length-take-le, arith}
+use Rattle.std.proofs.Common.{refl, sym, ◌∙◌, ap, length, get_or, take, length-take-le, arith}
 use Rattle.card.specs.Card.{machines_of}
 use Rattle.product.specs.Nodes.{state_counts}
 use Rattle.product.specs.ProductGraph.{card_start}
-use Rattle.refusals.proofs.Refusals.{passed_number, refused_number}
+use Rattle.std.proofs.lemmas.Result.{err_from_is_err_and}
+use Rattle.refusals.specs.Refusals.{checked_number}
+use Rattle.refusals.proofs.Refusals.{passed_number, number_positive}
 use Rattle.tables.proofs.Prefix.{front_is}
 use Rattle.cells.specs.Columns.{WeightsOf}
 use Rattle.weighted.specs.WeighsBy.{WeighsBy}
@@ -30,11 +32,13 @@ bounds-work-start_node c =
     let start : c.start_node.result ≡ card_start c.args.card.now = c.start_node.ensures (machines_of c.args.card.now) (front_is c.args.card.now c.requires.0.setting.accepted c.args.grid.counts c.args.grid.machines c.requires.2.machines c.requires.2.counts) in
     omega (arith, start_in c.requires.0 c.requires.1)
 
-pub returns-in_default : goal.returns-in_default
-returns-in_default c =
+pub returns-in_err-check_best : goal.returns-in_err-check_best
+returns-in_err-check_best c =
     let start : c.start_node.result ≡ card_start c.args.card.now = c.start_node.ensures (machines_of c.args.card.now) (front_is c.args.card.now c.requires.0.setting.accepted c.args.grid.counts c.args.grid.machines c.requires.2.machines c.requires.2.counts) in
-    refused_answered c.requires.0 c.requires.1 _ (ap (λ (u : ℕ). get_or c.args.work.now u 0) start) c.args.answer.now c.number.result c.refused.result (c.number.ensures ∙ c.check_best-found.ensures)
-    (refused_number c.in_default.is (sym c.number.ensures)) c.refused.ensures
+    let p = err_from_is_err_and c.from_residual.result c.from_residual.ensures.1 in
+    rw (p.1, p.2)
+    (refused_answered c.requires.0 c.requires.1 _ (ap (λ (u : ℕ). get_or c.args.work.now u 0) start) c.args.answer.now _ _ (sym (ap checked_number c.in_err-check_best.was) ∙ c.check_best.ensures)
+    (number_positive c.in_err-check_best.field-0.0) refl)
 
 -- ---- the numbers of the machines
 pub weights_of-numbers-requires : goal.weights_of-numbers-requires
@@ -59,19 +63,19 @@ walk-written-requires c =
     let start : c.start_node.result ≡ card_start c.args.card.now = c.start_node.ensures (machines_of c.args.card.now) counts_are in
     let weights_here = in_front_lem ok c.requires.2 (WeightsOf (take c.args.grid.machines c.args.grid.counts)) c.weights_of-numbers.result c.weights_of-numbers.ensures.0 in
     let weighs_here = in_front_lem ok c.requires.2 (WeighsBy c.args.weights.now) c.weights_of-numbers.result c.weights_of-numbers.ensures.1 in
-    walk_ready c.requires.0 c.requires.1 _ (ap (λ (u : ℕ). get_or c.args.work.now u 0) start) c.args.answer.now (passed_number c.in-Passed.is c.check_best-found.ensures) counts_are weights_here weighs_here
+    walk_ready c.requires.0 c.requires.1 _ (ap (λ (u : ℕ). get_or c.args.work.now u 0) start) c.args.answer.now (passed_number c.in_ok-check_best.was c.check_best.ensures) counts_are weights_here weighs_here
 
-pub overflow_cast-pairs : goal.overflow_cast-pairs
-overflow_cast-pairs c =
+pub overflow_cast-result : goal.overflow_cast-result
+overflow_cast-result c =
     let ok = c.requires.0.setting.accepted in
     let counts_are : take c.args.grid.machines c.args.grid.counts ≡ state_counts (machines_of c.args.card.now) = front_is c.args.card.now ok c.args.grid.counts c.args.grid.machines c.requires.2.machines c.requires.2.counts in
     let start : c.start_node.result ≡ card_start c.args.card.now = c.start_node.ensures (machines_of c.args.card.now) counts_are in
     let weights_here = in_front_lem ok c.requires.2 (WeightsOf (take c.args.grid.machines c.args.grid.counts)) c.weights_of-numbers.result c.weights_of-numbers.ensures.0 in
     let weighs_here = in_front_lem ok c.requires.2 (WeighsBy c.args.weights.now) c.weights_of-numbers.result c.weights_of-numbers.ensures.1 in
-    omega (arith, pairs_few c.requires.0 c.requires.1 _ (ap (λ (u : ℕ). get_or c.args.work.now u 0) start) c.args.answer.now (passed_number c.in-Passed.is c.check_best-found.ensures) counts_are weights_here weighs_here c.walk-written.ensures)
+    omega (arith, pairs_few c.requires.0 c.requires.1 _ (ap (λ (u : ℕ). get_or c.args.work.now u 0) start) c.args.answer.now (passed_number c.in_ok-check_best.was c.check_best.ensures) counts_are weights_here weighs_here c.walk-written.ensures)
 
-pub overflow_cast-length : goal.overflow_cast-length
-overflow_cast-length c = omega (arith, c.requires.0.setting.few)
+pub overflow_cast-result-2 : goal.overflow_cast-result-2
+overflow_cast-result-2 c = omega (arith, c.requires.0.setting.few)
 
 pub returns : goal.returns
 returns c =
@@ -80,4 +84,4 @@ returns c =
     let start : c.start_node.result ≡ card_start c.args.card.now = c.start_node.ensures (machines_of c.args.card.now) counts_are in
     let weights_here = in_front_lem ok c.requires.2 (WeightsOf (take c.args.grid.machines c.args.grid.counts)) c.weights_of-numbers.result c.weights_of-numbers.ensures.0 in
     let weighs_here = in_front_lem ok c.requires.2 (WeighsBy c.args.weights.now) c.weights_of-numbers.result c.weights_of-numbers.ensures.1 in
-    best_answered c.requires.0 c.requires.1 _ (ap (λ (u : ℕ). get_or c.args.work.now u 0) start) c.args.answer.now (passed_number c.in-Passed.is c.check_best-found.ensures) counts_are weights_here weighs_here c.walk-written.ensures
+    best_answered c.requires.0 c.requires.1 _ (ap (λ (u : ℕ). get_or c.args.work.now u 0) start) c.args.answer.now (passed_number c.in_ok-check_best.was c.check_best.ensures) counts_are weights_here weighs_here c.walk-written.ensures

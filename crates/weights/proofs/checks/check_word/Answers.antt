@@ -6,4 +6,4 @@ use Rattle.weights.proofs.checks.check_word.Goals as goal
 
 pub check_work-requires : goal.check_work-requires
 check_work-requires c =
-    (c.requires, short_word _ _ (was_true c.in-Passed-answer.is 8 (sound_word c.args.grid.symbols c.args.word.now) (lit< tt) c.check_word-answer.ensures), omega arith)
+    (c.requires, short_word _ _ (was_true c.in_ok-check_word.was 8 (sound_word c.args.grid.symbols c.args.word.now) (lit< tt) c.check_word.ensures), omega arith)
