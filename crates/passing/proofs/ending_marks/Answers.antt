@@ -7,4 +7,4 @@ returns-in_default c = (λ n e. absurd (Option·none-ne-some n (sym (ap ended c.
 
 pub returns : goal.returns
 returns c =
-    (λ n e. cc (c.ending.ensures, e, ap ended c.in-Marks.is), omega arith)
+    (λ n e. cc (c.ending.ensures, e, ap ended c.in-Some.is), omega arith)
