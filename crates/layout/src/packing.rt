@@ -37,12 +37,15 @@ pub fn write_table(target: &mut [u8], symbols: u8, lengths: &[u16])
     }
 }
 
-// Writes a part to its stretch of the target, which then holds the part.
+// Writes a part to its stretch of the target, which then holds the part. Byte by byte: `copy_from_slice` is a call of memmove, and of other libraries
+// the archive needs memcpy and memset alone.
 pub fn write_part(stretch: &mut [u8], part: &[u8])
     requires { length stretch.old ≡ length part.now }
     ensures { stretch.new ≡ part.now }
 {
-    stretch.copy_from_slice(part);
+    for i in 0..part.len() {
+        stretch[i] = part[i];
+    }
 }
 
 // Writes each part to its own stretch of the target, from the part's offset and as long as the part.
