@@ -7,10 +7,7 @@ ghost use Rattle.basics.specs.Words.{List, ℕ};
 ghost use Rattle.tables.specs.Work.{HasNodes};
 ghost use Rattle.labelling.specs.Labelling.{LabelPre, PositionsDone};
 ghost use Rattle.optimizer.specs.Optimizes.{Optimizes, OptimizesSets};
-ghost use Rattle.product.specs.Best.{best};
-ghost use Rattle.product.specs.Sets.{best_of_sets};
 ghost use Rattle.candidate.specs.Evaluating.{evaluation_of};
-ghost use Rattle.readout.specs.Searching.{SetsPre, SearchPre, Searched};
 ghost use Rattle.grid.specs.Grids.{GridOf};
 ghost use Rattle.cull.specs.Tables.{TablesPre, RankedBy};
 ghost use Rattle.stage_entering.specs.Entering.{codes_at};
@@ -21,6 +18,7 @@ ghost use Rattle.cull.specs.Ways.{StagesDone};
 use candidate::Evaluated;
 use cells::Groups;
 use grid::Grid;
+use optimizer::Engine;
 use refusals::Refusal;
 use stage_entering::pairs::{enter_input, list_insertions};
 use stage_entering::{Site, look_ahead, try_ending};
@@ -254,37 +252,13 @@ fn label(work: &mut [u16], card: &[u8], grid: Grid, ranking: &[u8], sets: &[u64]
     );
 }
 
-// The search for accepted sets: culls, and reads the answer off.
-fn search_sets(
-    card: &[u8],
-    grid: Grid,
-    ranking: &[u8],
-    sets: &[u64],
-    work: &mut [u16],
-    answer: &mut [u8],
-) -> Result<Evaluated, Refusal>
-    requires { SetsPre card.now ranking.now sets.now work.old grid.size × GridOf card.now grid }
-    ensures { Searched (best_of_sets card.now ranking.now sets.now) sets.now work.old work.new answer.old answer.new (evaluation_of result) }
-{
-    label(work, card, grid, ranking, sets);
-    readout::read_out(card, grid, ranking, sets, work, answer)
-}
+// The engine that goes through the constraints from the highest ranked down, and drops what is not best by each.
+pub struct ByCulling;
 
-// The search for an accepted word: that for its sets of one symbol each.
-fn search(
-    card: &[u8],
-    grid: Grid,
-    ranking: &[u8],
-    word: &[u8],
-    work: &mut [u16],
-    answer: &mut [u8],
-) -> Result<Evaluated, Refusal>
-    requires { SearchPre card.now ranking.now word.now work.old grid.size × GridOf card.now grid }
-    ensures { Searched (best card.now ranking.now word.now) word.now work.old work.new answer.old answer.new (evaluation_of result) }
-{
-    let mut sets = [0u64; 24];
-    input::fill_sets(word, &mut sets);
-    search_sets(card, grid, ranking, &sets[..word.len()], work, answer)
+impl Engine for ByCulling {
+    fn label(work: &mut [u16], card: &[u8], grid: Grid, ranking: &[u8], sets: &[u64]) {
+        label(work, card, grid, ranking, sets);
+    }
 }
 
 // Answers the best candidate for a word under a ranking, by Ellison's method: 1 to 10, 12.
@@ -297,9 +271,7 @@ pub fn cull(
 ) -> Result<Evaluated, Refusal>
     ensures { Optimizes card.now ranking.now word.now work.old work.new answer.old answer.new (evaluation_of result) }
 {
-    let grid = input::check_input(card, ranking, word, work.len())?;
-    let nodes = (word.len() + 1) * grid.size;
-    search(card, grid, ranking, word, &mut work[..nodes * 8], answer)
+    optimizer::optimize_by::<ByCulling>(card, ranking, word, work, answer)
 }
 
 // Answers the best candidate over all words with one symbol from each set, by Ellison's method: 1 to 8, 25, 9, 10, 12.
@@ -312,7 +284,5 @@ pub fn cull_sets(
 ) -> Result<Evaluated, Refusal>
     ensures { OptimizesSets card.now ranking.now sets.now work.old work.new answer.old answer.new (evaluation_of result) }
 {
-    let grid = input::check_sets_input(card, ranking, sets, work.len())?;
-    let nodes = (sets.len() + 1) * grid.size;
-    search_sets(card, grid, ranking, sets, &mut work[..nodes * 8], answer)
+    optimizer::optimize_sets_by::<ByCulling>(card, ranking, sets, work, answer)
 }

@@ -9,6 +9,7 @@ ghost use Rattle.candidate.specs.Evaluating.{evaluation_of};
 ghost use Rattle.candidate.specs.Candidates.{is_some};
 ghost use Rattle.product.specs.Optimizing.{input_refusal};
 ghost use Rattle.tables.specs.LabelCost.{cost_of};
+ghost use Rattle.labelling.specs.Labelling.{LabelPre, PositionsDone};
 ghost use Rattle.grid.specs.Grids.{GridOf};
 ghost use Rattle.optimizer.specs.Optimizes.{Optimizes, OptimizesSets};
 ghost use Rattle.readout.specs.Searching.{SetsPre, SearchPre, Searched};
@@ -20,8 +21,24 @@ use ranking::Profile;
 use refusals::Refusal;
 use tables::labels::Label;
 
+// An engine: it labels the nodes of all positions, so that the label of a node is the cost of a best path from it.
+pub trait Engine {
+    fn label(work: &mut [u16], card: &[u8], grid: Grid, ranking: &[u8], sets: &[u64])
+        requires { LabelPre card.now ranking.now sets.now work.old grid.size × GridOf card.now grid }
+        ensures { PositionsDone card.now ranking.now sets.now work.old work.new 0 };
+}
+
+// The engine that relaxes each position once, by labels of all constraints together.
+pub struct ByRelaxing;
+
+impl Engine for ByRelaxing {
+    fn label(work: &mut [u16], card: &[u8], grid: Grid, ranking: &[u8], sets: &[u64]) {
+        labelling::label(work, card, grid, ranking, sets);
+    }
+}
+
 // The search for accepted sets: labels the nodes, and reads the answer off.
-fn search_sets(
+fn search_sets<E: Engine>(
     card: &[u8],
     grid: Grid,
     ranking: &[u8],
@@ -32,12 +49,12 @@ fn search_sets(
     requires { SetsPre card.now ranking.now sets.now work.old grid.size × GridOf card.now grid }
     ensures { Searched (best_of_sets card.now ranking.now sets.now) sets.now work.old work.new answer.old answer.new (evaluation_of result) }
 {
-    labelling::label(work, card, grid, ranking, sets);
+    E::label(work, card, grid, ranking, sets);
     readout::read_out(card, grid, ranking, sets, work, answer)
 }
 
 // The search for an accepted word: that for its sets of one symbol each.
-fn search(
+fn search<E: Engine>(
     card: &[u8],
     grid: Grid,
     ranking: &[u8],
@@ -50,7 +67,7 @@ fn search(
 {
     let mut sets = [0u64; 24];
     input::fill_sets(word, &mut sets);
-    search_sets(card, grid, ranking, &sets[..word.len()], work, answer)
+    search_sets::<E>(card, grid, ranking, &sets[..word.len()], work, answer)
 }
 
 // Counts in ranked order as a profile, which is in card order.
@@ -109,8 +126,8 @@ pub fn best_profile(
     label_best(card, grid, ranking, word, &mut work[..nodes * 8])
 }
 
-// Answers the best candidate for a word under a ranking: 1 to 10, 12.
-pub fn optimize(
+// Answers the best candidate for a word under a ranking, by an engine: 1 to 10, 12.
+pub fn optimize_by<E: Engine>(
     card: &[u8],
     ranking: &[u8],
     word: &[u8],
@@ -121,7 +138,35 @@ pub fn optimize(
 {
     let grid = input::check_input(card, ranking, word, work.len())?;
     let nodes = (word.len() + 1) * grid.size;
-    search(card, grid, ranking, word, &mut work[..nodes * 8], answer)
+    search::<E>(card, grid, ranking, word, &mut work[..nodes * 8], answer)
+}
+
+// Answers the best candidate over all words with one symbol from each set, by an engine: 1 to 8, 25, 9, 10, 12.
+pub fn optimize_sets_by<E: Engine>(
+    card: &[u8],
+    ranking: &[u8],
+    sets: &[u64],
+    work: &mut [u16],
+    answer: &mut [u8],
+) -> Result<Evaluated, Refusal>
+    ensures { OptimizesSets card.now ranking.now sets.now work.old work.new answer.old answer.new (evaluation_of result) }
+{
+    let grid = input::check_sets_input(card, ranking, sets, work.len())?;
+    let nodes = (sets.len() + 1) * grid.size;
+    search_sets::<E>(card, grid, ranking, sets, &mut work[..nodes * 8], answer)
+}
+
+// Answers the best candidate for a word under a ranking: 1 to 10, 12.
+pub fn optimize(
+    card: &[u8],
+    ranking: &[u8],
+    word: &[u8],
+    work: &mut [u16],
+    answer: &mut [u8],
+) -> Result<Evaluated, Refusal>
+    ensures { Optimizes card.now ranking.now word.now work.old work.new answer.old answer.new (evaluation_of result) }
+{
+    optimize_by::<ByRelaxing>(card, ranking, word, work, answer)
 }
 
 // Answers the best candidate over all words with one symbol from each set: 1 to 8, 25, 9, 10, 12.
@@ -134,7 +179,5 @@ pub fn optimize_sets(
 ) -> Result<Evaluated, Refusal>
     ensures { OptimizesSets card.now ranking.now sets.now work.old work.new answer.old answer.new (evaluation_of result) }
 {
-    let grid = input::check_sets_input(card, ranking, sets, work.len())?;
-    let nodes = (sets.len() + 1) * grid.size;
-    search_sets(card, grid, ranking, sets, &mut work[..nodes * 8], answer)
+    optimize_sets_by::<ByRelaxing>(card, ranking, sets, work, answer)
 }
