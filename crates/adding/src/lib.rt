@@ -9,7 +9,7 @@ ghost use Rattle.adding.specs.Adding.{CellsPre, CellsAt, AddCellsPre, CellsAdded
 
 use tables::NO_STEP;
 
-// From here on a high number stands for nothing: no step, no label.
+// From here on a high number stands for nothing: no step, no label. No Option: that tables hold numbers alone is what the definitions say of them.
 pub const NOWHERE: u64 = 1152921504606846976;
 
 // A step's share of a joint step: its state times a scale, its marks times a weight.

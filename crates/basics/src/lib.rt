@@ -3,7 +3,7 @@
 
 ghost use Rattle.std.specs.Prelude.{◌≡◌, ◌<◌};
 
-// A byte as a number to index with.
+// A byte as a number to index with. The code says `usize::from`: this function stays for its must-fail edit `high_bit_lost` (docs/DECISIONS.md, 204).
 pub fn index(x: u8) -> usize
     ensures { (result ≡ x) × (result < 256) }
 {

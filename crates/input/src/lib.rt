@@ -52,7 +52,8 @@ pub fn check_input(card: &[u8], ranking: &[u8], word: &[u8], room: usize) -> Res
     Ok(grid)
 }
 
-// The same with sets in the word's place: refusals 1 to 8, 25 and 9.
+// The same with sets in the word's place: refusals 1 to 8, 25 and 9. What is alike is two lines with `?`: one function that takes the check between them
+// would be no plainer.
 pub fn check_sets_input(
     card: &[u8],
     ranking: &[u8],

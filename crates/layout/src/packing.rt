@@ -21,7 +21,7 @@ fn write_short(target: &mut [u8], at: usize, value: usize)
     target[at + 1] = high;
 }
 
-// Writes the counts and the places of the parts.
+// Writes the counts and the places of the parts, by the index: it says where in the table.
 pub fn write_table(target: &mut [u8], symbols: u8, lengths: &[u16])
     requires { (length lengths.now ≤ 6) × (2 + 4 * length lengths.now ≤ length target.old) × (2 + 4 * length lengths.now + total lengths.now < 65536) }
     ensures { target.new ≡ table symbols lengths.now ++ drop (2 + 4 * length lengths.now) target.old }

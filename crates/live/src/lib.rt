@@ -38,7 +38,7 @@ fn find(rows: &[Row], id: u16) -> Option<usize>
     rows.iter().position(|row| row.id == id)
 }
 
-// Moves the rows behind a place up, to the last, whose record is set to zeros.
+// Moves the rows behind a place up, to the last, whose record is set to zeros. The library has no `copy_within`.
 fn close_gap(rows: &mut [Row], at: usize, last: usize)
     requires { (at ≤ last) × (last < length rows.old) }
     ensures { rows.new ≡ closing at last rows.old }

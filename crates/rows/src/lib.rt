@@ -60,7 +60,7 @@ fn same_counts(first: Profile, second: Profile) -> bool
     first.counts == second.counts
 }
 
-// Whether a candidate spells a word.
+// Whether a candidate spells a word. The candidate and the word go on by steps of their own: a chain would be no plainer.
 fn spells(candidate: &[u8], word: &[u8]) -> bool
     requires { length candidate.now % 2 ≡ 0 }
     ensures { result ≡ same_word (spelled (pairs_of candidate.now)) word.now }

@@ -12,10 +12,10 @@ use machine::Position;
 
 pub mod labels; // labels.rt: labels of nodes in a lent slice
 
-// The number of a pair that no arc takes.
+// The number of a pair that no arc takes. No Option: the columns are numbers, two bytes a step, as the definitions say.
 pub const NO_STEP: u16 = 65535;
 
-// In the place of a node's label by sums: it has none.
+// In the place of a node's label by sums: it has none. No Option, for the same reason: the lent work slice holds numbers alone.
 pub const NO_SUM: u64 = 18446744073709551615;
 
 // The start node: the first position, whose nodes are the codes, with every machine in its start state.

@@ -6,7 +6,7 @@ ghost use Rattle.std.proofs.Math.Option.{some, none};
 ghost use Rattle.tally.specs.Tally.{told, no_lines, counted, is_full, passed, Fits};
 
 // What a lesson's lines come to: how many were answered, how many refused, of each machine the sum of its counts in the answered
-// lines, and whether a line past the thousandth has come.
+// lines, and whether a line past the thousandth has come: a fact of its own, and no sign of another field.
 #[derive(Clone, Copy)]
 pub struct Tally {
     pub answered: u32,

@@ -30,7 +30,7 @@ fn check_weights(machines: usize, weights: &[u32]) -> Result<(), Refusal>
     Ok(())
 }
 
-// The first of refusals 26, 8 and 9.
+// The first of refusals 26, 8 and 9. Not `input::check_rest`: 26 stands where that has 7, and two numbers a node where it has eight.
 fn check_word(grid: Grid, weights: &[u32], word: &[u8], room: usize) -> Result<(), Refusal>
     requires { FewSizes grid }
     ensures { checked_number result ≡ first_of (refuse 26 (sound_weights grid.machines weights.now) ∷ refuse 8 (sound_word grid.symbols word.now) ∷ refuse 9 (leb (2 * ((length word.now + 1) * grid.size)) room) ∷ []) }
