@@ -42,9 +42,9 @@ pub record Evaluation : Type 0 where
 abbrev pub refused : ℕ → Evaluation
 refused n = record { number = n; profile = zero_profile; pairs = 0; word_length = 0 }
 
-abbrev pub evaluation_of : Result Evaluated Refusal → Evaluation
-evaluation_of (Ok e) = record { number = 0; profile = e.profile; pairs = e.pairs; word_length = e.word_length }
-evaluation_of (Err r) = refused (number_of r)
+abbrev pub as_evaluation : Result Evaluated Refusal → Evaluation
+as_evaluation (Ok e) = record { number = 0; profile = e.profile; pairs = e.pairs; word_length = e.word_length }
+as_evaluation (Err r) = refused (number_of r)
 
 unfoldable pub evaluating : List ℕ → List ℕ → Evaluation
 evaluating card bytes =

@@ -10,7 +10,7 @@ ghost use Rattle.card.specs.Layout.{symbol_count};
 ghost use Rattle.card.specs.Card.{card_refusal, machines_of};
 ghost use Rattle.candidate.specs.Scoring.{RunPre, Scores};
 ghost use Rattle.candidate.specs.Candidates.{pair_at, pairs_of, spelled, marks_of};
-ghost use Rattle.candidate.specs.Evaluating.{marked, sound_pair, sound_candidate, evaluation_of, evaluating};
+ghost use Rattle.candidate.specs.Evaluating.{marked, sound_pair, sound_candidate, as_evaluation, evaluating};
 
 use machine::{Pair, Position};
 use ranking::Profile;
@@ -116,7 +116,7 @@ pub fn score(card: &[u8], candidate: &[u8]) -> Result<Profile, Refusal>
 
 // Evaluates a candidate on a card: 1 to 6, 13, 14.
 pub fn evaluate(card: &[u8], candidate: &[u8]) -> Result<Evaluated, Refusal>
-    ensures { evaluation_of result ≡ evaluating card.now candidate.now }
+    ensures { as_evaluation result ≡ evaluating card.now candidate.now }
 {
     card::check(card)?;
     check_candidate(candidate, card::symbol_count(card))?;

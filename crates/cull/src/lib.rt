@@ -7,7 +7,7 @@ ghost use Rattle.basics.specs.Words.{List, ℕ};
 ghost use Rattle.tables.specs.Work.{HasNodes};
 ghost use Rattle.labelling.specs.Labelling.{LabelPre, PositionsDone};
 ghost use Rattle.optimizer.specs.Optimizes.{Optimizes, OptimizesSets};
-ghost use Rattle.candidate.specs.Evaluating.{evaluation_of};
+ghost use Rattle.candidate.specs.Evaluating.{as_evaluation};
 ghost use Rattle.grid.specs.Grids.{GridOf};
 ghost use Rattle.cull.specs.Tables.{TablesPre, RankedBy};
 ghost use Rattle.stage_entering.specs.Entering.{codes_at};
@@ -269,7 +269,7 @@ pub fn cull(
     work: &mut [u16],
     answer: &mut [u8],
 ) -> Result<Evaluated, Refusal>
-    ensures { Optimizes card.now ranking.now word.now work.old work.new answer.old answer.new (evaluation_of result) }
+    ensures { Optimizes card.now ranking.now word.now work.old work.new answer.old answer.new (as_evaluation result) }
 {
     optimizer::optimize_by::<ByCulling>(card, ranking, word, work, answer)
 }
@@ -282,7 +282,7 @@ pub fn cull_sets(
     work: &mut [u16],
     answer: &mut [u8],
 ) -> Result<Evaluated, Refusal>
-    ensures { OptimizesSets card.now ranking.now sets.now work.old work.new answer.old answer.new (evaluation_of result) }
+    ensures { OptimizesSets card.now ranking.now sets.now work.old work.new answer.old answer.new (as_evaluation result) }
 {
     optimizer::optimize_sets_by::<ByCulling>(card, ranking, sets, work, answer)
 }

@@ -6,7 +6,7 @@ use Rattle.refusals.specs.Refusals.{number_of}
 use Rattle.refusals.proofs.Refusals.{number_positive}
 use Rattle.ranking.specs.Profiles.{zero_profile}
 use Rattle.candidate.specs.declared.Evaluated.{Evaluated}
-use Rattle.candidate.specs.Evaluating.{Evaluation, evaluation_of}
+use Rattle.candidate.specs.Evaluating.{Evaluation, as_evaluation}
 use Rattle.card.specs.Layout.{machine_count}
 use Rattle.product.specs.Optimizing.{optimized, optimized_answer}
 use Rattle.std.specs.Prelude.{Some, None, Ok, Err}
@@ -54,11 +54,11 @@ good_reply card (some request) rs₀ ws₀ {p} {rs} {ws} e f g =
     rw (front request.ranking rs₀ rs p.ranking hn f, front request.word ws₀ ws p.word hm g) refl
 
 -- the counts of an answer, and of a line's
-pub counts_there : (e : Evaluated) → told (Some e.profile.counts) ≡ counts_of (evaluation_of (Ok e))
+pub counts_there : (e : Evaluated) → told (Some e.profile.counts) ≡ counts_of (as_evaluation (Ok e))
 unfolding counts_of
 counts_there e = refl
 
-pub counts_missing : (r : Refusal) → told None ≡ counts_of (evaluation_of (Err r))
+pub counts_missing : (r : Refusal) → told None ≡ counts_of (as_evaluation (Err r))
 unfolding counts_of
 counts_missing r = go (number_of r) (number_positive r)
   where

@@ -9,7 +9,7 @@ ghost use Rattle.ranking.specs.Conditions.{derived};
 ghost use Rattle.finder.specs.Finder.{found};
 ghost use Rattle.card.specs.Reading.{part_place_of};
 ghost use Rattle.card.specs.Packing.{packed_of};
-ghost use Rattle.candidate.specs.Evaluating.{evaluation_of};
+ghost use Rattle.candidate.specs.Evaluating.{as_evaluation};
 ghost use Rattle.numbers.specs.Numbers.{evaluation_numbers, place_numbers, order_number, deciding_machine, order_numbers, condition_numbers, as_profile};
 
 use candidate::Evaluated;
@@ -26,7 +26,7 @@ pub fn give_refusal(refusal: Refusal) -> u32
 
 // Writes the counts, the pair count and the word length of an evaluation.
 pub fn give_evaluation(answer: Result<Evaluated, Refusal>, res: &mut [u16; 8]) -> u32
-    ensures { (result ≡ (evaluation_of answer).number) × (res.new ≡ evaluation_numbers (evaluation_of answer)) }
+    ensures { (result ≡ (as_evaluation answer).number) × (res.new ≡ evaluation_numbers (as_evaluation answer)) }
 {
     match answer {
         Ok(evaluated) => {

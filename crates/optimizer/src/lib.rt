@@ -5,7 +5,7 @@ ghost use Rattle.std.specs.Prelude.{◌≡◌};
 ghost use Rattle.basics.specs.Words.{true, length};
 ghost use Rattle.product.specs.Best.{best};
 ghost use Rattle.product.specs.Sets.{best_of_sets};
-ghost use Rattle.candidate.specs.Evaluating.{evaluation_of};
+ghost use Rattle.candidate.specs.Evaluating.{as_evaluation};
 ghost use Rattle.candidate.specs.Candidates.{is_some};
 ghost use Rattle.product.specs.Optimizing.{input_refusal};
 ghost use Rattle.tables.specs.LabelCost.{cost_of};
@@ -47,7 +47,7 @@ fn search_sets<E: Engine>(
     answer: &mut [u8],
 ) -> Result<Evaluated, Refusal>
     requires { SetsPre card.now ranking.now sets.now work.old grid.size × GridOf card.now grid }
-    ensures { Searched (best_of_sets card.now ranking.now sets.now) sets.now work.old work.new answer.old answer.new (evaluation_of result) }
+    ensures { Searched (best_of_sets card.now ranking.now sets.now) sets.now work.old work.new answer.old answer.new (as_evaluation result) }
 {
     E::label(work, card, grid, ranking, sets);
     readout::read_out(card, grid, ranking, sets, work, answer)
@@ -63,7 +63,7 @@ fn search<E: Engine>(
     answer: &mut [u8],
 ) -> Result<Evaluated, Refusal>
     requires { SearchPre card.now ranking.now word.now work.old grid.size × GridOf card.now grid }
-    ensures { Searched (best card.now ranking.now word.now) word.now work.old work.new answer.old answer.new (evaluation_of result) }
+    ensures { Searched (best card.now ranking.now word.now) word.now work.old work.new answer.old answer.new (as_evaluation result) }
 {
     let mut sets = [0u64; 24];
     input::fill_sets(word, &mut sets);
@@ -134,7 +134,7 @@ pub fn optimize_by<E: Engine>(
     work: &mut [u16],
     answer: &mut [u8],
 ) -> Result<Evaluated, Refusal>
-    ensures { Optimizes card.now ranking.now word.now work.old work.new answer.old answer.new (evaluation_of result) }
+    ensures { Optimizes card.now ranking.now word.now work.old work.new answer.old answer.new (as_evaluation result) }
 {
     let grid = input::check_input(card, ranking, word, work.len())?;
     let nodes = (word.len() + 1) * grid.size;
@@ -149,7 +149,7 @@ pub fn optimize_sets_by<E: Engine>(
     work: &mut [u16],
     answer: &mut [u8],
 ) -> Result<Evaluated, Refusal>
-    ensures { OptimizesSets card.now ranking.now sets.now work.old work.new answer.old answer.new (evaluation_of result) }
+    ensures { OptimizesSets card.now ranking.now sets.now work.old work.new answer.old answer.new (as_evaluation result) }
 {
     let grid = input::check_sets_input(card, ranking, sets, work.len())?;
     let nodes = (sets.len() + 1) * grid.size;
@@ -164,7 +164,7 @@ pub fn optimize(
     work: &mut [u16],
     answer: &mut [u8],
 ) -> Result<Evaluated, Refusal>
-    ensures { Optimizes card.now ranking.now word.now work.old work.new answer.old answer.new (evaluation_of result) }
+    ensures { Optimizes card.now ranking.now word.now work.old work.new answer.old answer.new (as_evaluation result) }
 {
     optimize_by::<ByRelaxing>(card, ranking, word, work, answer)
 }
@@ -177,7 +177,7 @@ pub fn optimize_sets(
     work: &mut [u16],
     answer: &mut [u8],
 ) -> Result<Evaluated, Refusal>
-    ensures { OptimizesSets card.now ranking.now sets.now work.old work.new answer.old answer.new (evaluation_of result) }
+    ensures { OptimizesSets card.now ranking.now sets.now work.old work.new answer.old answer.new (as_evaluation result) }
 {
     optimize_sets_by::<ByRelaxing>(card, ranking, sets, work, answer)
 }

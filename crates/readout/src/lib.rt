@@ -4,7 +4,7 @@
 ghost use Rattle.std.specs.Prelude.{◌≡◌, ◌≤◌};
 ghost use Rattle.basics.specs.Words.{List, ℕ, length};
 ghost use Rattle.product.specs.Sets.{best_of_sets};
-ghost use Rattle.candidate.specs.Evaluating.{evaluation_of};
+ghost use Rattle.candidate.specs.Evaluating.{as_evaluation};
 ghost use Rattle.product.specs.ProductGraph.{card_start};
 ghost use Rattle.tables.specs.Work.{cost_at};
 ghost use Rattle.labelling.specs.Labelling.{PositionsDone};
@@ -67,7 +67,7 @@ pub fn read_out(
     answer: &mut [u8],
 ) -> Result<Evaluated, Refusal>
     requires { SetsPre card.now ranking.now sets.now work.now grid.size × PositionsDone card.now ranking.now sets.now work.now work.now 0 × GridOf card.now grid }
-    ensures { Searched (best_of_sets card.now ranking.now sets.now) sets.now work.now work.now answer.old answer.new (evaluation_of result) }
+    ensures { Searched (best_of_sets card.now ranking.now sets.now) sets.now work.now work.now answer.old answer.new (as_evaluation result) }
 {
     let start = start_node(grid);
     checks::check_best(work, start, answer.len())?;

@@ -5,7 +5,7 @@ use Rattle.refusals.specs.declared.Refusal.{Refusal}
 use Rattle.refusals.specs.Refusals.{number_of, refuse, unless_refused}
 use Rattle.card.specs.Layout.{machine_count, symbol_count}
 use Rattle.card.specs.Card.{machines_of}
-use Rattle.candidate.specs.Evaluating.{Evaluation, evaluation_of, refused}
+use Rattle.candidate.specs.Evaluating.{Evaluation, as_evaluation, refused}
 use Rattle.product.specs.Nodes.{node_count}
 use Rattle.product.specs.Best.{Contender}
 use Rattle.product.specs.Answering.{before_search, call_refusal, answered, answered_slice}
@@ -28,7 +28,7 @@ abbrev pub refused_weighing : ℕ → Weighing
 refused_weighing n = record { evaluation = refused n; sum = 0 }
 
 abbrev pub weighing_of : Result Weighed Refusal → Weighing
-weighing_of (Ok w) = record { evaluation = evaluation_of (Ok w.evaluated); sum = w.sum }
+weighing_of (Ok w) = record { evaluation = as_evaluation (Ok w.evaluated); sum = w.sum }
 weighing_of (Err r) = refused_weighing (number_of r)
 
 abbrev pub sum_of : List ℕ → Option Contender → ℕ

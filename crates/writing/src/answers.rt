@@ -1,7 +1,7 @@
 // Writing the lines that the program prints.
 ghost use Rattle.std.specs.Prelude.{◌≡◌, ◌+◌, ◌*◌, ◌<◌, ◌≤◌};
 ghost use Rattle.basics.specs.Words.{length, joined};
-ghost use Rattle.candidate.specs.Evaluating.{evaluation_of};
+ghost use Rattle.candidate.specs.Evaluating.{as_evaluation};
 ghost use Rattle.writing.specs.Buffers.{Written, Below, at_front};
 ghost use Rattle.writing.specs.Writing.{next_count, with_commas, pair_text, pairs_text, bad_line, refused_line, accepted_line, line_of, total_line, closing_lines};
 
@@ -114,8 +114,8 @@ pub fn write_answer(
     out: &mut [u8],
 ) -> usize
     requires { 36 + 4 * length answer.now ≤ length out.old }
-    ensures length { result ≡ length (line_of machines (evaluation_of best) answer.now) }
-    ensures out { out.new ≡ at_front (line_of machines (evaluation_of best) answer.now) out.old }
+    ensures length { result ≡ length (line_of machines (as_evaluation best) answer.now) }
+    ensures out { out.new ≡ at_front (line_of machines (as_evaluation best) answer.now) out.old }
 {
     let evaluated = match best {
         Ok(evaluated) => evaluated,

@@ -2,7 +2,7 @@ use Rattle.std.proofs.Common.{Result}
 use Rattle.basics.proofs.Words.{refl, ap, sym, ◌∙◌, ℕ, length-replicate}
 use Rattle.refusals.specs.declared.Refusal.{Refusal}
 use Rattle.candidate.specs.declared.Evaluated.{Evaluated}
-use Rattle.candidate.specs.Evaluating.{evaluation_of}
+use Rattle.candidate.specs.Evaluating.{as_evaluation}
 use Rattle.lesson.specs.Tally.{counts_of}
 use Rattle.lesson.proofs.Replies.{prints, best_line_lem, best_counts_lem, counts_there, counts_missing}
 use Rattle.lesson.proofs.write_best.Goals as goal
@@ -19,7 +19,7 @@ returns-in-Ok-clause-text c =
 pub returns-in-Ok-clause-counts : goal.returns-in-Ok-clause-counts
 returns-in-Ok-clause-counts c =
     counts_there c.in-Ok.evaluated
-    ∙ ap (λ (b : Result Evaluated Refusal). counts_of (evaluation_of b)) (sym c.in-Ok.is)
+    ∙ ap (λ (b : Result Evaluated Refusal). counts_of (as_evaluation b)) (sym c.in-Ok.is)
     ∙ best_counts_lem c.args.card.now c.args.ranking.now c.args.word.now c.optimize-best.ensures.result (length-replicate {A = ℕ} 25600 0) (length-replicate {A = ℕ} 6398 0)
 
 pub returns-in-Err-clause-text : goal.returns-in-Err-clause-text
@@ -34,5 +34,5 @@ returns-in-Err-clause-text c =
 pub returns-in-Err-clause-counts : goal.returns-in-Err-clause-counts
 returns-in-Err-clause-counts c =
     counts_missing c.in-Err.field-0
-    ∙ ap (λ (b : Result Evaluated Refusal). counts_of (evaluation_of b)) (sym c.in-Err.is)
+    ∙ ap (λ (b : Result Evaluated Refusal). counts_of (as_evaluation b)) (sym c.in-Err.is)
     ∙ best_counts_lem c.args.card.now c.args.ranking.now c.args.word.now c.optimize-best.ensures.result (length-replicate {A = ℕ} 25600 0) (length-replicate {A = ℕ} 6398 0)

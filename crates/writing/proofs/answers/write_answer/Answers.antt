@@ -3,7 +3,7 @@ use Rattle.basics.proofs.Words.{ap, ◌∙◌, ℕ, length, take, refl, arith, r
 use Rattle.std.proofs.Common.{Ok}
 use Rattle.refusals.specs.Refusals.{number_of}
 use Rattle.refusals.proofs.Refusals.{number_positive}
-use Rattle.candidate.specs.Evaluating.{refused, evaluation_of}
+use Rattle.candidate.specs.Evaluating.{refused, as_evaluation}
 use Rattle.writing.proofs.Lists.{take_least}
 use Rattle.writing.proofs.Texts.{line_refused, line_accepted}
 use Rattle.writing.proofs.answers.write_answer.Goals as goal
@@ -25,7 +25,7 @@ returns-clause-length c =
     ap (λ (n : ℕ). take n c.wide_counts-counts.result) c.least-shown.ensures.0 ∙ take_least c.args.machines 6 c.wide_counts-counts.result six ∙ ap (take c.args.machines) c.wide_counts-counts.ensures.0 in
     let used : take c.least-used.result c.args.answer.now ≡ take (2 * c.in-Ok.evaluated.pairs) c.args.answer.now =
     ap (λ (n : ℕ). take n c.args.answer.now) c.least-used.ensures.0 ∙ take_least (2 * c.in-Ok.evaluated.pairs) (length c.args.answer.now) c.args.answer.now refl in
-    rw (c.in-Ok.is, line_accepted c.args.machines (evaluation_of (Ok c.in-Ok.evaluated)) c.args.answer.now refl, ← shown, ← used) c.write_accepted.ensures.length
+    rw (c.in-Ok.is, line_accepted c.args.machines (as_evaluation (Ok c.in-Ok.evaluated)) c.args.answer.now refl, ← shown, ← used) c.write_accepted.ensures.length
 
 pub returns-clause-out : goal.returns-clause-out
 returns-clause-out c =
@@ -34,4 +34,4 @@ returns-clause-out c =
     ap (λ (n : ℕ). take n c.wide_counts-counts.result) c.least-shown.ensures.0 ∙ take_least c.args.machines 6 c.wide_counts-counts.result six ∙ ap (take c.args.machines) c.wide_counts-counts.ensures.0 in
     let used : take c.least-used.result c.args.answer.now ≡ take (2 * c.in-Ok.evaluated.pairs) c.args.answer.now =
     ap (λ (n : ℕ). take n c.args.answer.now) c.least-used.ensures.0 ∙ take_least (2 * c.in-Ok.evaluated.pairs) (length c.args.answer.now) c.args.answer.now refl in
-    rw (c.in-Ok.is, line_accepted c.args.machines (evaluation_of (Ok c.in-Ok.evaluated)) c.args.answer.now refl, ← shown, ← used) c.write_accepted.ensures.out
+    rw (c.in-Ok.is, line_accepted c.args.machines (as_evaluation (Ok c.in-Ok.evaluated)) c.args.answer.now refl, ← shown, ← used) c.write_accepted.ensures.out
