@@ -21,12 +21,29 @@ FIELD = re.compile(rf"^ +(?:pub )?({NAME}) :", re.M)
 # Marked, and proofs all the same.
 PROOFS = set("""before_total left_bytes less_total lex_compare lex_head lex_rest lex_total numbers_of on_of on_total same_of the_joined then_first then_second then_total""".split())
 BINDERS = [r"[({]([^(){}:=]*?) : ", r"[λ∀] ([^.]*)\.", r"\blet (\S+)", r"[\[|]\s*([^\[|↦]*?)\s*↦", r"^ *open .* using \((.*)\)"]
+WIDTH = 150
+TABLE_VARIANT, TABLE_CLAUSE = r" +[A-Z]\w*,", r"\w+ [A-Z]\w* = \d+"
 MODULE = re.compile(r"Rattle\.(\w+)\.(specs|proofs)\.(.+)")
 
 
 def bound(text):
     """The names that a text binds: (x : T), {x : T}, λ x. let x, the pattern before ↦, and those that `open` opens."""
     return {name for binder in BINDERS for names in re.findall(binder, text) for name in WORD.findall(names)}
+
+
+def table(lines):
+    """A declaration's lines, those of a table side by side: more than ten plain variants of an enum, whose comments stand in src/, or as many clauses
+    that give a number for a constructor."""
+    for row, gap, indent in (TABLE_VARIANT, " ", "    "), (TABLE_CLAUSE, "; ", ""):
+        rows = [line.strip() for line in lines if re.fullmatch(row, line)]
+        if len(rows) > 10:
+            kept = [line for line in lines if not re.fullmatch(row, line) and not re.fullmatch(" *// .*", line)]
+            shown = [indent + rows[0]]
+            for one in rows[1:]:
+                longer = f"{shown[-1]}{gap}{one}"
+                shown = [*shown[:-1], longer] if len(longer) <= WIDTH else [*shown, indent + one]
+            lines = kept[:1] + shown + kept[1:]
+    return lines
 
 
 class Declaration:
@@ -42,7 +59,7 @@ class Declaration:
         while first and re.match(r" *(--|//) (?!----)", self.file.whole[first - 1]):
             first -= 1
         margin = len(self.file.whole[self.line]) - len(self.file.whole[self.line].lstrip())
-        return [line[margin:] for line in self.file.whole[first:above] + self.file.whole[self.line:self.end + 1]]
+        return [line[margin:] for line in self.file.whole[first:above]] + table([line[margin:] for line in self.file.whole[self.line:self.end + 1]])
 
     def parts(self):
         """The signature and each clause, with the names that are bound there."""
@@ -249,6 +266,9 @@ def check_itself():
     FILES.update({("low", "specs", "Words"): File("low", "specs", "Words", LOW), ("high", "specs", "Use"): File("high", "specs", "Use", HIGH)})
     told = FILES["high", "specs", "Use"].declared["Told"]
     assert {one.name for one in base([told])} == {"Told", "Word", "brief", "Sign"}, "the check itself: what Told rests on"
+    rows = [f"    N{'n' * n}," for n in range(11)]
+    assert table(["enum E {", "    // one", *rows, "}"]) == ["enum E {", "    " + " ".join(row.strip() for row in rows), "}"], "the check itself: a table"
+    assert table(["enum E {", "    // one", *rows[1:], "}"]) == ["enum E {", "    // one", *rows[1:], "}"], "the check itself: a short list"
     assert told.shown()[0] == "-- what is told" and told.shown()[2] == "  -- and how" and len(told.shown()) == 5, "the check itself: what is shown"
     CRATES.clear()
     FILES.clear()
@@ -291,7 +311,7 @@ the first promise that needs it. What is proved is that the promises follow; no 
 
 This file is made by `tests/statements.py write` from the record of all promises, `crates/promises/specs/Promises.antt`, and `tests/run statements` compares. Definitions
 are written in antt, the language of the proofs; a name of the library (`List`, `length`, `map`) means what it says. `now x` is what a slice holds, `x .entry` a
-parameter at the start of a call and `x .exit` at its end. docs/FORMAT.md has the same in prose.
+parameter at the start of a call and `x .exit` at its end. docs/FORMAT.md has the same in prose. The rows of a long table stand side by side.
 """
 
 
