@@ -109,7 +109,7 @@ def architecture():
         must("test" in name or "board" in name or f"`{name}`" in text, f"docs/ARCHITECTURE.md: no test program `{name}`")
 
 
-NAMES_OF_OTHER_TREES = ["docs/LANDINGS.md", "docs/PORT.md"]  # each note has the names of its own landing; the port's has those of before, and goals'
+NAMES_OF_OTHER_TREES = ["docs/DESIGN-PASS.md", "docs/LANDINGS.md", "docs/PORT.md"]  # each note has the names of its own landing; the pages of the port and the design pass have those of before, and goals
 NAMES_OF_OTHERS = {"SccQueue", "GreetingIs"}  # OpenFst's, the kit's guide's
 
 
