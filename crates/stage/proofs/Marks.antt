@@ -1,6 +1,6 @@
 -- The marks of one constraint, by its place, in a number of six marks.
-use Rattle.std.specs.Prelude.{◌≡◌, ◌-◌, ◌*◌, ◌/◌, ◌%◌, ◌^◌, ◌<◌}
-use Rattle.basics.specs.Words.{sym, ◌∙◌, ap, ℕ, zero, suc, arith}
+use Rattle.std.specs.Prelude.{◌≡◌, ◌/◌, ◌%◌}
+use Rattle.basics.specs.Words.{refl, sym, ◌∙◌, ap, ℕ, arith, div-one}
 use Rattle.paths.specs.Ranked.{count_at}
 use Rattle.tables.specs.Marks.{nibbles, marks_cost}
 
@@ -17,7 +17,19 @@ module _ (e : ℕ) {i : ℕ} where
   unfolding nibbles
   third_marks q = ap (λ (j : ℕ). count_at 6 j (marks_cost e)) (sym q)
 
--- the marks behind those of the first places
+  pub fourth_marks : i ≡ 3 → e % 1048576 % 65536 % 4096 / 256 ≡ count_at 6 i (marks_cost e)
+  unfolding nibbles
+  fourth_marks q = ap (λ (j : ℕ). count_at 6 j (marks_cost e)) (sym q)
+
+  pub fifth_marks : i ≡ 4 → e % 1048576 % 65536 % 4096 % 256 / 16 ≡ count_at 6 i (marks_cost e)
+  unfolding nibbles
+  fifth_marks q = ap (λ (j : ℕ). count_at 6 j (marks_cost e)) (sym q)
+
+  pub sixth_marks : i ≡ 5 → e % 1048576 % 65536 % 4096 % 256 % 16 ≡ count_at 6 i (marks_cost e)
+  unfolding nibbles
+  sixth_marks q = sym (div-one (e % 1048576 % 65536 % 4096 % 256 % 16)) ∙ ap (λ (j : ℕ). count_at 6 j (marks_cost e)) (sym q)
+
+-- the same, by fewer divisions
 module _ (e : ℕ) where
   four : e % 65536 ≡ e % 1048576 % 65536
   four = omega arith
@@ -28,15 +40,17 @@ module _ (e : ℕ) where
   two : e % 256 ≡ e % 1048576 % 65536 % 4096 % 256
   two = let q : e % 256 ≡ e % 4096 % 256 = omega arith in q ∙ ap (λ (n : ℕ). n % 256) three
 
-  one : e % 16 ≡ e % 1048576 % 65536 % 4096 % 256 % 16
-  one = let q : e % 16 ≡ e % 256 % 16 = omega arith in q ∙ ap (λ (n : ℕ). n % 16) two
+  pub place_0 : e / 1048576 ≡ count_at 6 0 (marks_cost e)
+  place_0 = first_marks e refl
 
-pub marks_shifted : (e i : ℕ) → e < 16 ^ 6 → i < 6 → e / 2 ^ (20 - 4 * i) % 16 ≡ count_at 6 i (marks_cost e)
-unfolding nibbles
-marks_shifted e zero h l = let q : e / 1048576 % 16 ≡ e / 1048576 = omega arith in q
-marks_shifted e (suc zero) h l = let q : e / 65536 % 16 ≡ e % 1048576 / 65536 = omega arith in q
-marks_shifted e (suc (suc zero)) h l = let q : e / 4096 % 16 ≡ e % 65536 / 4096 = omega arith in q ∙ ap (λ (n : ℕ). n / 4096) (four e)
-marks_shifted e (suc (suc (suc zero))) h l = let q : e / 256 % 16 ≡ e % 4096 / 256 = omega arith in q ∙ ap (λ (n : ℕ). n / 256) (three e)
-marks_shifted e (suc (suc (suc (suc zero)))) h l = let q : e / 16 % 16 ≡ e % 256 / 16 = omega arith in q ∙ ap (λ (n : ℕ). n / 16) (two e)
-marks_shifted e (suc (suc (suc (suc (suc zero))))) h l = let q : e / 1 % 16 ≡ e % 16 / 1 = omega arith in q ∙ ap (λ (n : ℕ). n / 1) (one e)
-marks_shifted e (suc (suc (suc (suc (suc (suc i)))))) h l = absurd (omega arith)
+  pub place_1 : e % 1048576 / 65536 ≡ count_at 6 1 (marks_cost e)
+  place_1 = second_marks e refl
+
+  pub place_2 : e % 65536 / 4096 ≡ count_at 6 2 (marks_cost e)
+  place_2 = ap (λ (n : ℕ). n / 4096) four ∙ third_marks e refl
+
+  pub place_3 : e % 4096 / 256 ≡ count_at 6 3 (marks_cost e)
+  place_3 = ap (λ (n : ℕ). n / 256) three ∙ fourth_marks e refl
+
+  pub place_4 : e % 256 / 16 ≡ count_at 6 4 (marks_cost e)
+  place_4 = ap (λ (n : ℕ). n / 16) two ∙ fifth_marks e refl

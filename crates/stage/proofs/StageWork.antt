@@ -9,7 +9,7 @@ use Rattle.paths.specs.Ranked.{Ranked, Less, count_at}
 use Rattle.tables.specs.Marks.{marks_cost}
 use Rattle.tables.specs.MarksLaws.{nibbles_most}
 use Rattle.tables.specs.Work.{state_of}
-use Rattle.stage.specs.Below.{Below}
+use Rattle.stage.specs.Below.{Below, below_none}
 use Rattle.stage.specs.StageLabels.{count_of, pair_count_of, stage_label}
 use Rattle.stage.specs.Relaxing.{Makes, counts_of, LeftTold, Compared, Written, Lowered, ArcPre, ArcTried}
 use Rattle.stage.proofs.Totals.{height_less, total_less}
@@ -34,6 +34,9 @@ module _ (xs : List ℕ) (k u : ℕ) where
 -- the counts below k are made by the marks m and what comes after
 pub record KeptBelow (xs : List ℕ) (u m : ℕ) (after : ℕ → ℕ) (k : ℕ) : Type 0 where
   pub is : Below (Makes xs u m after) k
+
+pub left_start : {xs : List ℕ} {u m : ℕ} {after : ℕ → ℕ} → KeptBelow xs u m after 0
+left_start {xs} {u} {m} {after} = record { is = below_none (Makes xs u m after) }
 
 pub left_next : {xs : List ℕ} {u m i : ℕ} {after : ℕ → ℕ} {a : ℕ} → KeptBelow xs u m after i → a ≡ count_at 6 i (marks_cost m) → count_of xs i u ≡ a + after i → KeptBelow xs u m after (i + 1)
 left_next {xs} {u} {m} {i} {after} f e h = record { is = λ j l. go j l (ℕ_discrete j i) }

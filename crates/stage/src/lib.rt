@@ -9,21 +9,40 @@ ghost use Rattle.tables.specs.Work.{HasNode};
 ghost use Rattle.stage.specs.StageLabels.{count_of};
 ghost use Rattle.stage.specs.Relaxing.{counts_of, no_counts, LeftTold, NodePre, Compared, Written, Lowered, ArcPre, ArcTried};
 
-// The marks of the constraint at a place of the ranking, of those that a number stands for.
+// The marks of the constraint at a place of the ranking, of those that a number stands for. Case by case, here and in `arc_left`: as one shift and a
+// loop over the places, which were tried, the cull took 10 to 20 percent more instructions.
 pub fn marks_at(marks: u32, place: usize) -> u16
     requires { (marks < 16 ^ 6) × (place < 6) }
     ensures { result ≡ count_at 6 place (marks_cost marks) }
 {
-    ((marks >> (20 - 4 * place)) % 16) as u16
+    if place == 0 {
+        return (marks / 1048576) as u16;
+    }
+    let five = marks % 1048576;
+    if place == 1 {
+        return (five / 65536) as u16;
+    }
+    let four = five % 65536;
+    if place == 2 {
+        return (four / 4096) as u16;
+    }
+    let three = four % 4096;
+    if place == 3 {
+        return (three / 256) as u16;
+    }
+    let two = three % 256;
+    if place == 4 {
+        return (two / 16) as u16;
+    }
+    (two % 16) as u16
 }
 
 // Whether the marks of the constraint at a place, with the target's fewest, make the node's.
-fn makes(work: &[u16], node: usize, target: usize, place: usize, marks: u16) -> bool
-    requires { HasNode work.now node × HasNode work.now target × (place < 6) }
+fn makes(work: &[u16], node: usize, target: usize, place: usize, marks: u32) -> bool
+    requires { HasNode work.now node × HasNode work.now target × (place < 6) × (marks < 65536) }
     ensures { result ≡ eqb (count_of work.now place node) (marks + count_of work.now place target) }
 {
-    u32::from(work[node * 8 + 1 + place])
-        == u32::from(marks) + u32::from(work[target * 8 + 1 + place])
+    u32::from(work[node * 8 + 1 + place]) == marks + u32::from(work[target * 8 + 1 + place])
 }
 
 // Whether the stages before kept an arc with those marks from the node to the target: with the target's fewest marks its marks make the node's.
@@ -31,10 +50,35 @@ fn arc_left(work: &[u16], node: usize, target: usize, marks: u32, stage: usize) 
     requires { HasNode work.now node × HasNode work.now target × (marks < 16 ^ 6) × (stage < 6) }
     ensures { LeftTold work.now node marks stage (counts_of work.now target) result }
 {
-    for place in 0..stage {
-        if !makes(work, node, target, place, marks_at(marks, place)) {
-            return false;
-        }
+    if stage == 0 {
+        return true;
+    }
+    if !makes(work, node, target, 0, marks / 1048576) {
+        return false;
+    }
+    if stage == 1 {
+        return true;
+    }
+    if !makes(work, node, target, 1, marks % 1048576 / 65536) {
+        return false;
+    }
+    if stage == 2 {
+        return true;
+    }
+    if !makes(work, node, target, 2, marks % 65536 / 4096) {
+        return false;
+    }
+    if stage == 3 {
+        return true;
+    }
+    if !makes(work, node, target, 3, marks % 4096 / 256) {
+        return false;
+    }
+    if stage == 4 {
+        return true;
+    }
+    if !makes(work, node, target, 4, marks % 256 / 16) {
+        return false;
     }
     true
 }
