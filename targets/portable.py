@@ -54,7 +54,7 @@ OTHERS = [re.compile(shape) for shape in (
     rf"{VARIABLE} = insertvalue {PAIR} (?:poison|{VARIABLE}), {TYPE} {VARIABLE}, [01]",
     rf"{VARIABLE} = (?:zext|trunc(?: nuw)?) {NUMBER} {VALUE} to {NUMBER}",
     rf"br label {VARIABLE}|br i1 {VALUE}, label {VARIABLE}, label {VARIABLE}",
-    rf"switch (?:i8|i32) {VALUE}, label {VARIABLE} \[|  (?:i8|i32) \d+, label {VARIABLE}|\]",
+    rf"switch (?:i8|i32|i64) {VALUE}, label {VARIABLE} \[|  (?:i8|i32|i64) \d+, label {VARIABLE}|\]",
     rf"ret void|ret {TYPE} {VALUE}|ret {PAIR} {VARIABLE}|unreachable",
 )]
 

@@ -1,10 +1,10 @@
 -- How loops over a list go on: a test of all that is left, and bytes that are still to be written. Assumes nothing.
-use Rattle.std.specs.Prelude.{◌≡◌, ◌∷◌, ◌+◌, ◌/◌, ◌%◌, ◌<◌, ◌≤◌}
-use Rattle.basics.proofs.Words.{refl, ap, sym, ◌∙◌, Bool, true, false, List, [], map, ℕ, arith, length, get_or, drop, length-append, all_of, joined, left_at, left_none, all_none, all_next, all_fails}
+use Rattle.std.specs.Prelude.{◌≡◌, ◌∷◌, ◌+◌, ◌-◌, ◌/◌, ◌%◌, ◌<◌, ◌≤◌}
+use Rattle.basics.proofs.Words.{refl, ap, sym, ◌∙◌, Bool, true, false, List, [], map, ℕ, arith, length, get_or, drop, set, length-append, all_of, joined, left_at, left_none, all_none, all_next, all_fails}
 use Rattle.joined.specs.MachineBytes.{little_endian}
 use Rattle.joined.specs.Writing.{placed}
-use Rattle.joined.specs.Laws.Placed.{placed_none, placed_length, placed_next}
-use Rattle.joined.specs.Laws.Writing.{joined_left, joined_end}
+use Rattle.joined.specs.Laws.Placed.{placed_none, placed_length, placed_next, placed_step}
+use Rattle.joined.specs.Laws.Writing.{digit_next, joined_left, joined_end}
 
 -- every element that is left passes exactly when z
 module _ {A : Type 0} (f : A → Bool) (xs : List A) (i : ℕ) (z : Bool) (inv : all_of f (drop i xs) ≡ z) where
@@ -63,12 +63,14 @@ as_joined f [] = refl
 as_joined f (x ∷ xs) = ap (λ (l : List ℕ). f x ∷ l) (as_joined f xs)
 
 -- the digits of a number
-pub eight_digits : (w : ℕ) → (w % 256 ∷ w / 256 % 256 ∷ w / 65536 % 256 ∷ w / 16777216 % 256 ∷ w / 4294967296 % 256 ∷ w / 1099511627776 % 256 ∷ w / 281474976710656 % 256 ∷ w / 72057594037927936 % 256 ∷ []) ≡ little_endian 8 w
-eight_digits w =
-    let d2 : w / 65536 ≡ w / 256 / 256 = omega arith in
-    let d3 : w / 16777216 ≡ w / 65536 / 256 = omega arith in
-    let d4 : w / 4294967296 ≡ w / 16777216 / 256 = omega arith in
-    let d5 : w / 1099511627776 ≡ w / 4294967296 / 256 = omega arith in
-    let d6 : w / 281474976710656 ≡ w / 1099511627776 / 256 = omega arith in
-    let d7 : w / 72057594037927936 ≡ w / 281474976710656 / 256 = omega arith in
-    rw (d7, d6, d5, d4, d3, d2)
+pub number_next : (at i left : ℕ) (t z : List ℕ) → i < 8 → at + i < length t → placed (at + i) (little_endian (8 - i) left) t ≡ z
+    → placed (at + (i + 1)) (little_endian (8 - (i + 1)) (left / 256)) (set t (at + i) (left % 256)) ≡ z
+number_next at i left t z h room e =
+    let rest = little_endian (8 - (i + 1)) (left / 256) in
+    let p : at + (i + 1) ≡ at + i + 1 = omega arith in
+    let q : 8 - (i + 1) ≡ 8 - i - 1 = omega arith in
+    ap (λ (k : ℕ). placed k rest (set t (at + i) (left % 256))) p
+    ∙ placed_step (at + i) (left % 256) rest t room
+    ∙ ap (λ (k : ℕ). placed (at + i) (left % 256 ∷ little_endian k (left / 256)) t) q
+    ∙ ap (λ (l : List ℕ). placed (at + i) l t) (sym (digit_next (8 - i) left (omega (arith, h))))
+    ∙ e

@@ -8,12 +8,17 @@ ghost use Rattle.joined.specs.Writing.{placed, joined_byte, shared_bytes, row_by
 
 use machine::Arc;
 
-// Writes a number as eight bytes from a place on, little-endian.
+// Writes a number as eight bytes from a place on, little-endian. Byte by byte: what `copy_from_slice` compiles to compares addresses, which
+// targets/portable.py refuses.
 fn write_number(target: &mut [u8], at: usize, value: u64)
     requires { at + 8 ≤ length target.old }
     ensures { target.new ≡ placed at (little_endian 8 value) target.old }
 {
-    target[at..at + 8].copy_from_slice(&value.to_le_bytes());
+    let mut left = value;
+    for i in 0..8 {
+        target[at + i] = (left % 256) as u8;
+        left /= 256;
+    }
 }
 
 // Writes an arc as 20 bytes from a place on.

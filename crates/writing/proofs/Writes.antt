@@ -1,8 +1,6 @@
 -- Laws of texts written in a buffer, one after another. Assumes nothing.
-use Rattle.std.specs.Prelude.{◌≡◌, ◌∷◌, ◌++◌, ◌+◌, ◌-◌, ◌/◌, ◌%◌, ◌<◌, ◌≤◌}
-use Rattle.basics.specs.Words.{refl, ap, sym, ◌∙◌, List, [], ℕ, arith, length, take, drop, set, take_all, length-append, sets, sets-eq, length-sets, add-zero}
-use Rattle.std.proofs.lemmas.Slice.{put_mid-paste}
-use borrow.Rule.Slice.PartMut.{put_mid}
+use Rattle.std.specs.Prelude.{◌≡◌, ◌∷◌, ◌++◌, ◌+◌, ◌/◌, ◌%◌, ◌<◌, ◌≤◌}
+use Rattle.basics.specs.Words.{refl, ap, sym, ◌∙◌, List, [], ℕ, arith, length, set, length-append, sets, length-sets, add-zero}
 use Rattle.writing.specs.Decimal.{decimal}
 use Rattle.writing.specs.Buffers.{Written, at_front}
 use Rattle.writing.specs.DecimalRead.{decimal_digit, decimal_more}
@@ -13,18 +11,6 @@ written_nil at out = record { place = sym (add-zero at); bytes = refl }
 
 pub written_byte : (b at : ℕ) (out : List ℕ) → Written (b ∷ []) at out (set out at b) (at + 1)
 written_byte b at out = record { place = refl; bytes = refl }
-
--- a text copied into its stretch
-pub written_part : (at : ℕ) (text old : List ℕ) {part : List ℕ} → at + length text ≤ length old → part ≡ text
-    → Written text at old (put_mid at (at + length text - at) old part) (at + length text)
-written_part at text old h e =
-    record {
-      place = refl;
-      bytes =
-          put_mid-paste at (at + length text - at) old _ text (length text) e (omega arith) refl
-          ∙ ap (λ (t : List ℕ). take at old ++ t ++ drop (at + length text) old) (take_all (length text) text (omega arith))
-          ∙ sym (sets-eq text old at h);
-    }
 
 module _ {at next last : ℕ} {xs ys old mid new : List ℕ} where
   pub written_append : Written xs at old mid next → Written ys next mid new last → Written (xs ++ ys) at old new last

@@ -1,12 +1,16 @@
 use Rattle.std.specs.Prelude.{◌≡◌, ◌+◌, ◌-◌}
-use Rattle.basics.proofs.Words.{ap, ◌∙◌, List, ℕ, arith, length}
+use Rattle.basics.proofs.Words.{sym, ap, ◌∙◌, ℕ, arith, length-set}
 use Rattle.joined.specs.MachineBytes.{little_endian}
 use Rattle.joined.specs.Writing.{placed}
-use Rattle.joined.specs.Laws.Placed.{placed_mid}
-use Rattle.joined.proofs.Rest.{eight_digits}
+use Rattle.joined.specs.Laws.Placed.{placed_none}
+use Rattle.joined.proofs.Rest.{number_next}
 use Rattle.joined.proofs.writing.write_number.Goals as goal
+
+pub loop-i-preserved : goal.loop-i-preserved
+loop-i-preserved c =
+    (omega arith, simp length-set c.loop-i.invariant.1, number_next c.args.at c.loop-i.i c.loop-i.left c.loop-i.target _ (omega arith) (omega arith) c.loop-i.invariant.2)
 
 pub returns : goal.returns
 returns c =
-    let b : c.copy_from_slice.new.self ≡ little_endian 8 c.args.value = c.copy_from_slice.ensures.after ∙ c.to_le_bytes.ensures ∙ eight_digits c.args.value in
-    placed_mid c.args.at (c.args.at + 8 - c.args.at) c.args.target.now c.copy_from_slice.new.self (omega (arith, ap length b)) ∙ ap (λ (y : List ℕ). placed c.args.at y c.args.target.now) b
+    let z : 0 ≡ 8 - c.loop-i.i = omega arith in
+    sym (placed_none (c.args.at + c.loop-i.i) c.loop-i.target) ∙ ap (λ (n : ℕ). placed (c.args.at + c.loop-i.i) (little_endian n c.loop-i.left) c.loop-i.target) z ∙ c.loop-i.invariant.2
