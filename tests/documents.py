@@ -109,7 +109,7 @@ def architecture():
         must("test" in name or "board" in name or f"`{name}`" in text, f"docs/ARCHITECTURE.md: no test program `{name}`")
 
 
-NAMES_OF_OTHER_TREES = ["docs/DESIGN-PASS.md", "docs/LANDINGS.md", "docs/PORT.md"]  # each note has the names of its own landing; the pages of the port and the design pass have those of before, and goals
+NAMES_OF_OTHER_TREES = ["docs/DESIGN-PASS.md", "docs/LANDINGS.md", "docs/LOOK-BACK.md", "docs/PORT.md"]  # each note has the names of its own landing; the pages of the port, the design pass and the look back have those of before, and goals
 NAMES_OF_OTHERS = {"SccQueue", "GreetingIs"}  # OpenFst's, the kit's guide's
 
 
@@ -125,6 +125,8 @@ def names():
             words |= set(re.findall(r"[\w-]+", path.read_text()))
     texts = {}
     for path in pathlib.Path("crates").glob("*/*/**/*"):
+        if path.parts[2] == "out":  # what the kit makes of a crate: no text of ours
+            continue
         if path.suffix in (".antt", ".rt"):
             texts[path] = set(re.findall(r"[\w-]+", path.read_text()))
             words |= texts[path] | {path.stem}
@@ -161,7 +163,7 @@ def paths():
     """What looks like a path of the repository is one."""
     roots = "docs|bench|demo|include|examples/c|reference|tests"
     for document in DOCUMENTS:
-        for path in re.findall(rf"(?<![\w/.])((?:{roots})/[\w/.]*\w)", read(document)):
+        for path in re.findall(rf"(?<![\w/.])((?:{roots})/[\w/.-]*\w)", read(document)):
             must(pathlib.Path(path).exists() or "/target/" in path, f"{document}: no {path}")
 
 

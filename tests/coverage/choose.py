@@ -1,7 +1,10 @@
 #!/usr/bin/env python3
 """choose.py FILE ..: chooses a corpus from calls with their answers (lines, as reference's `calls` writes them) and writes corpus.xz. It takes every direction of
 the library's conditional jumps that any of the calls takes, and notices every jump turned round that any of them notices. The corpus that is there is chosen
-from, too. Short lines come first, so that they are chosen."""
+from, too. Short lines come first, so that they are chosen.
+
+choose.py --add FILE ..: leaves what is there, and adds the calls that take a direction, or notice a jump turned round, that it does not; with less time for each
+jump, so that it takes minutes where the whole takes an hour."""
 import lzma
 import pathlib
 import subprocess
@@ -11,6 +14,7 @@ import tempfile
 import jumps
 
 MILLISECONDS = 20_000  # for all calls, where a jump is turned round
+FEWER = 6_000  # the same, where calls are added
 
 
 def first_takers(lines):
@@ -27,7 +31,37 @@ def first_takers(lines):
     return {int(line) - 1 for line, _, _ in words}, {(int(address, 16), way) for _, address, way in words}
 
 
+def write(chosen):
+    text = "".join(line + "\n" for line in chosen)
+    jumps.CORPUS.write_bytes(lzma.compress(text.encode(), preset=9 | lzma.PRESET_EXTREME))
+    print(f"{len(chosen)} calls, {len(text)} bytes, {jumps.CORPUS.stat().st_size} compressed")
+
+
+def add(files):
+    there = lzma.open(jumps.CORPUS, "rt").read().splitlines()
+    more = {line for file in files for line in pathlib.Path(file).read_text().splitlines()}
+    lines = there + sorted(more - set(there), key=lambda line: (len(line), line))
+    takers, directions = first_takers(lines)
+    print(f"of {len(lines)} calls that take {len(directions)} directions")
+    chosen = there + [line for place, line in enumerate(lines) if place in takers and place >= len(there)]
+    noticing = noticers(chosen, lines[len(there):], FEWER)
+    write(chosen + sorted(noticing - set(chosen)))
+
+
+def noticers(chosen, lines, milliseconds):
+    """Of some lines those that are the first to notice a jump turned round that the chosen ones do not notice."""
+    flip = jumps.build("flip")
+    all_jumps = jumps.jumps_of(flip)
+    unnoticed = [jump for jump, line, _ in jumps.turned(flip, all_jumps, chosen, 300) if not line]
+    found = {lines[line - 1] for _, line, _ in jumps.turned(flip, unnoticed, lines, milliseconds) if line}
+    print(f"{len(unnoticed)} of {len(all_jumps)} jumps turned round they do not notice; {len(found)} calls more do")
+    return found
+
+
 def main(files):
+    if files[:1] == ["--add"]:
+        add(files[1:])
+        return
     lines = set()
     if jumps.CORPUS.exists():
         lines.update(lzma.open(jumps.CORPUS, "rt").read().splitlines())
@@ -44,15 +78,8 @@ def main(files):
     chosen.reverse()
     print(f"{len(chosen)} of {len(lines)} calls take {len(directions)} directions")
     # Those that notice what these do not.
-    flip = jumps.build("flip")
-    all_jumps = jumps.jumps_of(flip)
-    unnoticed = [jump for jump, line, _ in jumps.turned(flip, all_jumps, chosen, 300) if not line]
-    noticing = {line for _, line, _ in jumps.turned(flip, unnoticed, every, MILLISECONDS) if line}
-    chosen += [every[line - 1] for line in sorted(noticing)]
-    text = "".join(line + "\n" for line in chosen)
-    jumps.CORPUS.write_bytes(lzma.compress(text.encode(), preset=9 | lzma.PRESET_EXTREME))
-    print(f"{len(unnoticed)} of {len(all_jumps)} jumps turned round they do not notice; {len(noticing)} calls more do")
-    print(f"{len(chosen)} calls, {len(text)} bytes, {jumps.CORPUS.stat().st_size} compressed")
+    noticing = noticers(chosen, every, MILLISECONDS)
+    write(chosen + [line for line in every if line in noticing])
 
 
 main(sys.argv[1:])

@@ -7,6 +7,7 @@ ghost use Rattle.basics.specs.Words.{ℕ, length, get_or};
 ghost use Rattle.adding.specs.Cells.{high_cell, low_cell};
 ghost use Rattle.adding.specs.Adding.{CellsPre, CellsAt, AddCellsPre, CellsAdded, AddStatePre, StateAdded, MachinePre, MachineAdded, MachinesPre, MachinesAdded};
 
+use basics::index;
 use tables::NO_STEP;
 
 // From here on a high number stands for nothing: no step, no label. No Option: that tables hold numbers alone is what the definitions say of them.
@@ -46,7 +47,7 @@ fn cells_at(
     ensures { CellsAt steps.now four high.new low.new width place scale upper lower }
 {
     for j in 0..4 {
-        let step = steps[usize::from(four[j]) * width + place];
+        let step = steps[index(four[j]) * width + place];
         high[j] = high_cell(step, scale, upper);
         low[j] = low_cell(step, lower);
     }
@@ -144,7 +145,7 @@ pub fn add_machines(
     let mut codes = 1;
     let mut place = end;
     for m in (0..counts.len()).rev() {
-        let states = usize::from(counts[m]);
+        let states = index(counts[m]);
         place -= states;
         let at = 3 * m;
         add_machine(

@@ -3,7 +3,7 @@
 
 ghost use Rattle.std.specs.Prelude.{◌≡◌, ◌<◌};
 
-// A byte as a number to index with. The code says `usize::from`: this function stays for its must-fail edit `high_bit_lost` (docs/DECISIONS.md, 204).
+// A byte as a number to index with. No `usize::from` in its place: the edit `high_bit_lost` is of what runs (docs/DECISIONS.md, 204).
 pub fn index(x: u8) -> usize
     ensures { (result ≡ x) × (result < 256) }
 {

@@ -10,6 +10,7 @@ use Rattle.ranking.specs.Profiles.{zero_profile}
 use Rattle.card.specs.Layout.{symbol_count}
 use Rattle.card.specs.Card.{card_refusal, machines_of}
 use Rattle.candidate.specs.declared.Evaluated.{Evaluated}
+use Rattle.candidate.specs.declared.Evaluation.{Evaluation}
 use Rattle.candidate.specs.Candidates.{pairs_of, spelled, is_complete, profile_of}
 
 -- what the code answers of one machine and a candidate
@@ -29,14 +30,6 @@ sound_candidate S bytes =
 -- counts as a profile: unused places 0
 abbrev pub profile_with : List ℕ → Profile
 profile_with counts = record { counts = counts ++ replicate (6 - length counts) 0 }
-
--- what evaluation answers, and the optimizer of the best candidate, in the paper's terms: the refusal's number, 0 where there is none; the profile,
--- unused places 0; the pair count; the length of the word spelled
-pub record Evaluation : Type 0 where
-  pub number : ℕ
-  pub profile : Profile
-  pub pairs : ℕ
-  pub word_length : ℕ
 
 -- a refusal: its number, every other field 0
 abbrev pub refused : ℕ → Evaluation

@@ -25,6 +25,39 @@ pub struct Evaluated {
     pub word_length: u16,
 }
 
+// The same as one record, for what is written of it: the refusal's number, 0 where there is none; the profile, unused places 0; the pair count; the
+// length of the word spelled. A refusal's record has zeros beside its number.
+#[derive(Clone, Copy)]
+pub struct Evaluation {
+    pub number: u8,
+    pub profile: Profile,
+    pub pairs: u16,
+    pub word_length: u16,
+}
+
+impl From<Result<Evaluated, Refusal>> for Evaluation {
+    ghost from_gives = { λ answer evaluation. evaluation ≡ as_evaluation answer };
+
+    fn from(answer: Result<Evaluated, Refusal>) -> Evaluation
+        ensures { result ≡ as_evaluation answer }
+    {
+        match answer {
+            Ok(evaluated) => Evaluation {
+                number: 0,
+                profile: evaluated.profile,
+                pairs: evaluated.pairs,
+                word_length: evaluated.word_length,
+            },
+            Err(refusal) => Evaluation {
+                number: u8::from(refusal),
+                profile: Profile::zero(),
+                pairs: 0,
+                word_length: 0,
+            },
+        }
+    }
+}
+
 // The pair whose two bytes start at a place.
 pub fn pair_at(candidate: &[u8], at: usize) -> Pair
     requires { at + 2 ≤ length candidate.now }

@@ -2,7 +2,7 @@
 use Rattle.std.specs.Prelude.{◌≡◌, ◌++◌, ◌+◌, ◌*◌, ◌<◌}
 use Rattle.basics.specs.Words.{ap, ap₂, sym, ◌∙◌, List, ℕ, zero, suc, arith, length, take, drop, take_at, drop_at, drop-drop}
 use Rattle.layout.specs.Layout.{offset_of, length_of}
-use Rattle.card.specs.Reading.{PartPlace}
+use Rattle.card.specs.declared.PartPlace.{PartPlace}
 use Rattle.card.specs.Reading.{reading_refusal, reading}
 use Rattle.card.specs.Packing.{table, packed, packing_refusal, packing, packed_target}
 use Rattle.card.specs.Laws.Packed.{length_table, packed_length}

@@ -3,6 +3,7 @@ use Rattle.std.specs.Prelude.{Result, Ok, Err, ◌∷◌, ◌++◌}
 use Rattle.basics.specs.Words.{List, [], ℕ, length, drop, eqb, leb}
 use Rattle.refusals.specs.declared.Refusal.{Refusal}
 use Rattle.refusals.specs.Refusals.{number_of, refuse, first_of, unless_refused}
+use Rattle.card.specs.declared.Packed.{Packed}
 use Rattle.card.specs.Layout.{sound_counts}
 use Rattle.card.specs.Card.{machines_refusal}
 pub use Rattle.layout.specs.Packing.{table}
@@ -17,11 +18,6 @@ packing_refusal S lengths joined room =
     ∷ machines_refusal S (split lengths joined)
     ∷ refuse 18 (leb (length (packed S lengths joined)) room)
     ∷ [])
-
--- what packing answers, in the paper's terms: the refusal's number, 0 where there is none, and the card's length
-pub record Packed : Type 0 where
-  pub number : ℕ
-  pub length : ℕ
 
 abbrev pub packed_of : Result ℕ Refusal → Packed
 packed_of (Ok n) = record { number = 0; length = n }

@@ -3,6 +3,7 @@ use Rattle.std.specs.Prelude.{Result, Ok, Err, ◌∷◌}
 use Rattle.basics.specs.Words.{List, [], ℕ, ltb}
 use Rattle.refusals.specs.declared.Refusal.{Refusal}
 use Rattle.refusals.specs.Refusals.{number_of, refuse, first_of, unless_refused}
+use Rattle.card.specs.declared.PartPlace.{PartPlace}
 use Rattle.card.specs.declared.Stretch.{Stretch}
 use Rattle.layout.specs.Layout.{offset_of, length_of}
 use Rattle.card.specs.Layout.{machine_count}
@@ -11,12 +12,6 @@ use Rattle.card.specs.Card.{card_refusal}
 -- 0 where part i can be read, else the first refusal: 1 to 6, 17
 abbrev pub reading_refusal : List ℕ → ℕ → ℕ
 reading_refusal card i = first_of (card_refusal card ∷ refuse 17 (ltb i (machine_count card)) ∷ [])
-
--- what reading a part answers, in the paper's terms: the refusal's number, 0 where there is none, and where the part lies in the card
-pub record PartPlace : Type 0 where
-  pub number : ℕ
-  pub offset : ℕ
-  pub length : ℕ
 
 abbrev pub part_place_of : Result Stretch Refusal → PartPlace
 part_place_of (Ok s) = record { number = 0; offset = s.offset; length = s.length }

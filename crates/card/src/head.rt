@@ -5,6 +5,7 @@ ghost use Rattle.refusals.specs.Refusals.{refuse, checked_number};
 ghost use Rattle.layout.specs.Layout.{length_of, laid_out};
 ghost use Rattle.card.specs.Layout.{machine_count, sound_counts, counted};
 
+use basics::index;
 use refusals::{Refusal, tested};
 
 // Refusal 1: K is 1 to 6 and S is 1 to 63.
@@ -24,7 +25,7 @@ pub fn check_head(card: &[u8]) -> Result<(), Refusal>
     if card.len() < 2 {
         return Err(Refusal::Counts);
     }
-    check_counts(usize::from(card[0]), card[1])
+    check_counts(index(card[0]), card[1])
 }
 
 // Refusal 2: the parts follow one another to the card's end.
@@ -41,7 +42,7 @@ fn length_at(card: &[u8], machine: u8) -> u16
     ensures { machine < machine_count card.now → result ≡ length_of card.now machine }
 {
     if machine < card[0] {
-        return layout::part_length(card, usize::from(machine)) as u16;
+        return layout::part_length(card, index(machine)) as u16;
     }
     0
 }

@@ -12,6 +12,7 @@ ghost use Rattle.card.specs.Packing.{packing_refusal, packed_of, packing, packed
 mod head; // head.rt: K, S and the lengths of the parts
 mod parts; // parts.rt: the check of the machine parts
 
+use basics::index;
 pub use layout::packing;
 use refusals::{Refusal, tested};
 
@@ -20,6 +21,58 @@ use refusals::{Refusal, tested};
 pub struct Stretch {
     pub offset: usize,
     pub length: usize,
+}
+
+// What reading a part answers, as one record: the refusal's number, 0 where there is none, and where the part lies.
+#[derive(Clone, Copy)]
+pub struct PartPlace {
+    pub number: u8,
+    pub offset: usize,
+    pub length: usize,
+}
+
+impl From<Result<Stretch, Refusal>> for PartPlace {
+    ghost from_gives = { λ answer place. place ≡ part_place_of answer };
+
+    fn from(answer: Result<Stretch, Refusal>) -> PartPlace
+        ensures { result ≡ part_place_of answer }
+    {
+        match answer {
+            Ok(stretch) => PartPlace {
+                number: 0,
+                offset: stretch.offset,
+                length: stretch.length,
+            },
+            Err(refusal) => PartPlace {
+                number: u8::from(refusal),
+                offset: 0,
+                length: 0,
+            },
+        }
+    }
+}
+
+// What packing answers, as one record: the refusal's number, 0 where there is none, and the card's length.
+#[derive(Clone, Copy)]
+pub struct Packed {
+    pub number: u8,
+    pub length: usize,
+}
+
+impl From<Result<usize, Refusal>> for Packed {
+    ghost from_gives = { λ answer packed. packed ≡ packed_of answer };
+
+    fn from(answer: Result<usize, Refusal>) -> Packed
+        ensures { result ≡ packed_of answer }
+    {
+        match answer {
+            Ok(length) => Packed { number: 0, length },
+            Err(refusal) => Packed {
+                number: u8::from(refusal),
+                length: 0,
+            },
+        }
+    }
 }
 
 // The first of refusals 1 to 6 that applies to a card.
@@ -36,7 +89,7 @@ pub fn machine_count(card: &[u8]) -> usize
     requires { card_refusal card.now ≡ 0 }
     ensures { result ≡ machine_count card.now }
 {
-    usize::from(card[0])
+    index(card[0])
 }
 
 // S, the number of symbols of an accepted card.
@@ -68,7 +121,7 @@ pub fn read_part(card: &[u8], machine: u8) -> Result<Stretch, Refusal>
     ensures { part_place_of result ≡ reading card.now machine }
 {
     check_reading(card, machine)?;
-    let machine = usize::from(machine);
+    let machine = index(machine);
     Ok(Stretch {
         offset: layout::part_offset(card, machine),
         length: layout::part_length(card, machine),

@@ -8,6 +8,7 @@ ghost use Rattle.card.specs.Card.{machines_refusal};
 ghost use Rattle.card.specs.Packing.{total, split};
 
 use crate::head::read_lengths;
+use basics::index;
 use refusals::{Refusal, tested};
 
 // Refusals 3 to 5 of each part in turn, then 6. The parts lie in `bytes` from `start` on, one after another.
@@ -33,6 +34,6 @@ pub fn check_card(card: &[u8]) -> Result<(), Refusal>
     ensures { checked_number result ≡ machines_refusal (symbol_count card.now) (parts_of card.now) }
 {
     let lengths = read_lengths(card);
-    let machines = usize::from(card[0]);
+    let machines = index(card[0]);
     check_parts(card, 2 + 4 * machines, &lengths[..machines], card[1])
 }

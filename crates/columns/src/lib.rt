@@ -13,6 +13,7 @@ ghost use Rattle.columns.specs.AtHand.{AtHandPre, FilledAtHand, FromPre, FromEnt
 ghost use Rattle.columns.specs.Prepared.{Prepared};
 ghost use Rattle.columns.specs.Endings.{EndingNumber, PartEndingsPre, PartEndings, EndingsPre, EndingsFilled};
 
+use basics::index;
 use cells::fours;
 use machine::{Arc, Pair, sets};
 use outputs::worth;
@@ -23,7 +24,7 @@ pub fn width_of(counts: &[u8]) -> usize
     requires { CountsOfSome counts.now }
     ensures { (result ≡ places counts.now) × (result ≤ 40) }
 {
-    counts.iter().map(|count| usize::from(*count)).sum()
+    counts.iter().map(|count| index(*count)).sum()
 }
 
 // A step as one number.
@@ -74,7 +75,7 @@ fn fill_machine(
     let mut taken: u64 = 0;
     for i in (0..machine::arc_count(part)).rev() {
         let arc = machine::nth_arc(part, states, i);
-        let place = first + usize::from(arc.from);
+        let place = first + index(arc.from);
         let outputs = enter_arc(steps, width, place, arc, input);
         taken |= outputs;
     }
@@ -102,7 +103,7 @@ pub fn fill(steps: &mut [u16], card: &[u8], counts: &[u8], width: usize, input: 
     let mut taken = partners(input);
     let mut first = 0;
     for (m, &count) in counts.iter().enumerate() {
-        let states = usize::from(count);
+        let states = index(count);
         taken &= fill_machine(steps, width, first, card::part(card, m), states, set);
         first += states;
     }
@@ -144,7 +145,7 @@ pub fn fill_at(steps: &mut [u16], card: &[u8], counts: &[u8], states: &[u8], inp
     steps.fill(NO_STEP);
     let mut taken = partners(input);
     for (m, &state) in states.iter().enumerate() {
-        let count = usize::from(counts[m]);
+        let count = index(counts[m]);
         taken &= fill_state(steps, width, m, card::part(card, m), count, state, set);
     }
     taken
@@ -190,7 +191,7 @@ pub fn fill_endings(steps: &mut [u16], card: &[u8], counts: &[u8])
 {
     let mut first = 0;
     for (m, &count) in counts.iter().enumerate() {
-        let states = usize::from(count);
+        let states = index(count);
         fill_part_endings(steps, first, card::part(card, m), states);
         first += states;
     }

@@ -3,7 +3,7 @@
 -- (`TwoCalls.two-calls`, which also says what holds where they do not); at exit in any way.
 use Rattle.std.specs.Prelude.{◌≡◌}
 use Rattle.basics.specs.Words.{List, ℕ, length}
-use Rattle.candidate.specs.Evaluating.{Evaluation}
+use Rattle.candidate.specs.declared.Evaluation.{Evaluation}
 use Rattle.optimizer.specs.Optimizes.{Optimizes, OptimizesSets}
 use Rattle.optimizer.specs.TwoCalls.{two_calls, two_calls_sets}
 

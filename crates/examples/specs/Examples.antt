@@ -10,7 +10,7 @@ use Rattle.ranking.specs.Rankings.{is_ranking, arrangements}
 use Rattle.ranking.specs.Harmony.{harmony}
 use Rattle.ranking.specs.Conditions.{derived_from, highest, fits}
 use Rattle.finder.specs.Finder.{conditions_of, disjoint, sound_condition, sound_list, smallest, finding}
-use Rattle.candidate.specs.Evaluating.{Evaluation}
+use Rattle.candidate.specs.declared.Evaluation.{Evaluation}
 use Rattle.candidate.specs.Candidates.{pairs_of, bytes_of, spelled, marks_from, is_complete, profile_of}
 use Rattle.candidate.specs.Evaluating.{refused, sound_candidate, evaluating}
 use Rattle.ranking.specs.ByteStrings.{smaller}

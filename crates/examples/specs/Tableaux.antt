@@ -13,7 +13,7 @@ use Rattle.candidate.specs.Candidates.{pairs_of, bytes_of, spelled, marks_from, 
 use Rattle.candidate.specs.Evaluating.{sound_candidate}
 use Rattle.product.specs.Best.{wins_tie, preferred, same_word, pairs_over, lists_below, contenders_among, least_of, best_below, best_of, best_in, best}
 use Rattle.product.specs.Optimizing.{sound_word, input_refusal}
-use Rattle.tableau.specs.Judging.{Judged}
+use Rattle.tableau.specs.declared.Judged.{Judged}
 use Rattle.tableau.specs.Tableau.{sound_row, sound_tableau}
 use Rattle.tableau.specs.Judging.{is_for_word, same_counts, first_row, verdict_of, judging_refusal, refused_judging, judging}
 use Rattle.examples.specs.Cards.{card_b}

@@ -1,6 +1,6 @@
 -- How the conditions of a list of byte pairs begin at a place. Assumes nothing.
-use Rattle.std.specs.Prelude.{◌≡◌, ◌&&◌, ◌∷◌, ◌+◌, ◌%◌, ◌^◌, ◌<◌, ◌≤◌}
-use Rattle.basics.proofs.Words.{refl, sym, ap, ◌∙◌, Bool, true, false, List, [], List-as-Memᴰ, ℕ, suc, arith, length, get_or, drop, drop_of_length-le, eqb, leb, ltb, drop-cons, add-one, add-two, all_of, numbers_below, member, eqb-true, eq-eqb, ne_eqb, le-leb, lt-leb, ltb-true, ltb-false, left, right, all_next, all_fails, all_none, all_member, member_beyond}
+use Rattle.std.specs.Prelude.{◌≡◌, ◌&&◌, ◌∷◌, ◌+◌, ◌*◌, ◌/◌, ◌%◌, ◌^◌, ◌<◌, ◌≤◌}
+use Rattle.basics.proofs.Words.{refl, subst, sym, ap, ◌∙◌, Bool, true, false, List, [], List-as-Memᴰ, ℕ, suc, arith, length, get_or, drop, drop_of_length-le, eqb, leb, ltb, drop-cons, add-one, add-two, all_of, numbers_below, member, eqb-true, eq-eqb, ne_eqb, le-leb, lt-leb, ltb-true, ltb-false, left, right, all_next, all_fails, all_none, all_member, member_beyond}
 use Rattle.ranking.specs.declared.Condition.{Condition}
 use Rattle.finder.specs.Steps.{condition_at}
 use Rattle.finder.specs.Finder.{disjoint, conditions_of, sound_condition, sound_list, smallest}
@@ -43,6 +43,20 @@ module _ {f : Condition → Bool} {l : List ℕ} {at : ℕ} (R : Reached f l at)
 
   pub reached_end : length l ≤ at → all_of f (conditions_of l) ≡ true
   reached_end h = sym R.left_over ∙ all_none f (pairs_end l at h)
+
+-- gone along pair by pair
+module _ {f : Condition → Bool} {l : List ℕ} {i : ℕ} (R : Reached f l (2 * i)) where
+  pub pair_next : length l % 2 ≡ 0 → i < length l / 2 → f (condition_at l (2 * i)) ≡ true → Reached f l (2 * (i + 1))
+  pair_next e h t =
+      let n = reached_next R e (omega arith) t in
+      let same : 2 * i + 2 ≡ 2 * (i + 1) = omega arith in
+      subst (Reached f l) same n
+
+  pub pair_fails : length l % 2 ≡ 0 → i < length l / 2 → f (condition_at l (2 * i)) ≡ false → all_of f (conditions_of l) ≡ false
+  pair_fails e h t = reached_fails R e (omega arith) t
+
+  pub pair_end : length l % 2 ≡ 0 → length l / 2 ≤ i → all_of f (conditions_of l) ≡ true
+  pair_end e h = reached_end R (omega arith)
 
 -- the list's soundness, by its tests
 module _ (K : ℕ) (l : List ℕ) where

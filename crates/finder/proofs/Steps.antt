@@ -6,7 +6,8 @@ use Rattle.refusals.proofs.Refusals.{passed, none_first}
 use Rattle.ranking.specs.declared.Condition.{Condition}
 use Rattle.ranking.specs.Rankings.{is_machine_count}
 use Rattle.ranking.specs.Lemmas.Rankings.{machine_count_lem}
-use Rattle.finder.specs.Finder.{Finding, disjoint, sound_list, smallest, finding_of}
+use Rattle.finder.specs.declared.Finding.{Finding}
+use Rattle.finder.specs.Finder.{disjoint, sound_list, smallest, finding_of}
 use Rattle.finder.specs.Steps.{may_stand, next_machine}
 use Rattle.ranking.specs.Lemmas.Searches.{count_on, count_found, first_same, first_those, all_those, all_same, those_in, those_those, those_same}
 use Rattle.ranking.specs.Lemmas.Arrangements.{without}

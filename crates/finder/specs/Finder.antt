@@ -3,6 +3,7 @@ use Rattle.std.specs.Prelude.{Result, Ok, Err, ◌&&◌, ◌∷◌, ◌++◌, �
 use Rattle.basics.specs.Words.{Bool, not, List, [], Option, some, none, ℕ, length, replicate, eqb, ltb, leb, all_of, every_below, first_that, member}
 use Rattle.refusals.specs.declared.Refusal.{Refusal}
 use Rattle.refusals.specs.Refusals.{refuse, first_of, unless_refused, number_of}
+use Rattle.finder.specs.declared.Finding.{Finding}
 use Rattle.ranking.specs.declared.Condition.{Condition}
 use Rattle.ranking.specs.Rankings.{is_machine_count, rankings}
 use Rattle.ranking.specs.Conditions.{fits}
@@ -28,11 +29,6 @@ sound_list K l = eqb (length l % 2) 0 && leb (length l) 128 && all_of (sound_con
 -- the first, in the order of byte strings, of all rankings that fit every condition
 unfoldable pub smallest : ℕ → List Condition → Option (List ℕ)
 smallest K cs = first_that (λ r. all_of (fits r) cs) (rankings K)
-
--- what the finder answers, in the paper's terms: the refusal's number, 0 where there is none, and the ranking
-pub record Finding : Type 0 where
-  pub number : ℕ
-  pub ranking : List ℕ
 
 -- a refusal carries its number, and every place is 0
 abbrev pub refused_finding : ℕ → Finding

@@ -6,7 +6,8 @@ use Rattle.ranking.specs.declared.Condition.{Condition}
 use Rattle.ranking.specs.Rankings.{is_ranking, rankings, is_machine_count}
 use Rattle.ranking.specs.Conditions.{fits}
 use Rattle.ranking.specs.ByteStrings.{smaller}
-use Rattle.finder.specs.Finder.{Finding, conditions_of, sound_list, smallest, refused_finding, finding_of, finding}
+use Rattle.finder.specs.declared.Finding.{Finding}
+use Rattle.finder.specs.Finder.{conditions_of, sound_list, smallest, refused_finding, finding_of, finding}
 use Rattle.refusals.specs.Refusals.{refuse, first_of}
 use Rattle.refusals.proofs.Refusals.{accepted}
 use Rattle.ranking.specs.Lemmas.Searches.{none_first}

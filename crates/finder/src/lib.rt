@@ -11,6 +11,29 @@ ghost use Rattle.finder.specs.Steps.{condition_at, blocks, may_stand, next_machi
 use ranking::{Condition, rankings};
 use refusals::Refusal;
 
+// What finding a ranking answers, as one record: the refusal's number, 0 where there is none, and the ranking, places from K on 0.
+#[derive(Clone, Copy)]
+pub struct Finding {
+    pub number: u8,
+    pub ranking: [u8; 6],
+}
+
+impl From<Result<[u8; 6], Refusal>> for Finding {
+    ghost from_gives = { λ answer finding. finding ≡ found answer };
+
+    fn from(answer: Result<[u8; 6], Refusal>) -> Finding
+        ensures { result ≡ found answer }
+    {
+        match answer {
+            Ok(ranking) => Finding { number: 0, ranking },
+            Err(refusal) => Finding {
+                number: u8::from(refusal),
+                ranking: [0; 6],
+            },
+        }
+    }
+}
+
 // Whether a machine is in a set.
 fn has(set: u8, machine: u8) -> bool
     requires { machine < 8 }
@@ -66,8 +89,8 @@ fn check_conditions(machines: u8, conditions: &[u8]) -> Result<(), Refusal>
     if conditions.len() > 128 {
         return Err(Refusal::Conditions);
     }
-    for at in (0..conditions.len()).step_by(2) {
-        if !sound(machines, condition_at(conditions, at)) {
+    for i in 0..conditions.len() / 2 {
+        if !sound(machines, condition_at(conditions, 2 * i)) {
             return Err(Refusal::Conditions);
         }
     }
@@ -87,8 +110,8 @@ fn may_stand(conditions: &[u8], placed: u8, machine: u8) -> bool
     requires { (length conditions.now % 2 ≡ 0) × (machine < 8) }
     ensures { result ≡ may_stand (conditions_of conditions.now) placed machine }
 {
-    for at in (0..conditions.len()).step_by(2) {
-        if blocks(condition_at(conditions, at), placed, machine) {
+    for i in 0..conditions.len() / 2 {
+        if blocks(condition_at(conditions, 2 * i), placed, machine) {
             return false;
         }
     }

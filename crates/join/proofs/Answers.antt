@@ -3,7 +3,7 @@ use Rattle.std.specs.Prelude.{◌≡◌, ◌&&◌, ◌||◌, ◌∷◌, ◌⊎�
 use Rattle.basics.proofs.Words.{refl, ap, ap₂, sym, ◌∙◌, Bool, true, false, not, List, [], inl, inr, ℕ, zero, suc, min, max, arith, length, eqb, ltb, leb, lit<, eqb-false, ne_eqb, lt-ltb, le-ltb, le-leb, leb-true, leb-false, either, left_fails, right_fails}
 use Rattle.refusals.specs.Refusals.{refuse, first_of}
 use Rattle.refusals.proofs.Refusals.{passed, first_up, first_on, last_one}
-use Rattle.card.specs.Packing.{Packed}
+use Rattle.card.specs.declared.Packed.{Packed}
 use Rattle.layout.specs.Layout.{part_of}
 use Rattle.machine.specs.Machine.{Machine, no_machine}
 use Rattle.machine.specs.Part.{state_count, arcs_of, machine_of, shaped}

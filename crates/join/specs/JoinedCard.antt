@@ -3,7 +3,7 @@ use Rattle.std.specs.Prelude.{◌≡◌, ◌&&◌, ◌||◌, ◌∷◌, ◌++◌
 use Rattle.basics.specs.Words.{Bool, true, not, List, [], ℕ, min, max, length, drop, eqb, ltb, leb}
 use Rattle.refusals.specs.Refusals.{refuse, first_of, unless_refused}
 use Rattle.machine.specs.Machine.{Machine}
-use Rattle.card.specs.Packing.{Packed}
+use Rattle.card.specs.declared.Packed.{Packed}
 use Rattle.card.specs.Layout.{machine_count, symbol_count, parts_of}
 use Rattle.card.specs.Card.{machines_of, card_refusal}
 use Rattle.card.specs.OfParts.{card_of}

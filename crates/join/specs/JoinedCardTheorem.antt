@@ -11,7 +11,7 @@ use Rattle.machine.specs.Machine.{Machine}
 use Rattle.machine.specs.Part.{machine_of, state_count, part_refusal}
 use Rattle.ranking.specs.Rankings.{is_ranking}
 use Rattle.layout.specs.Layout.{Bytes, offset_of, length_of}
-use Rattle.card.specs.Packing.{Packed}
+use Rattle.card.specs.declared.Packed.{Packed}
 use Rattle.card.specs.Layout.{machine_count, symbol_count, parts_of}
 use Rattle.card.specs.Card.{machines_of, parts_refusal, card_refusal}
 use Rattle.card.specs.Accepted.{Accepted, accepted}

@@ -7,7 +7,7 @@ use Rattle.ranking.specs.declared.Profile.{Profile}
 use Rattle.card.specs.Layout.{symbol_count}
 use Rattle.card.specs.Card.{machines_of}
 use Rattle.card.specs.Accepted.{accepted}
-use Rattle.candidate.specs.Evaluating.{Evaluation}
+use Rattle.candidate.specs.declared.Evaluation.{Evaluation}
 use Rattle.candidate.specs.Candidates.{pairs_of, is_complete, profile_of}
 use Rattle.candidate.specs.Evaluating.{sound_pair, sound_candidate, profile_with, evaluating}
 use Rattle.product.specs.Laws.Accepted.{accepted_machines}

@@ -14,6 +14,7 @@ ghost use Rattle.join.specs.JoinedCard.{fits_part, joinable, machines_refusal, j
 
 mod card_parts; // card_parts.rt: the parts of the new card
 
+use basics::index;
 use refusals::{Refusal, tested};
 
 // Refusal 27: two different machines of the card, one of them without marks.
@@ -55,8 +56,8 @@ fn check_joining(card: &[u8], first: usize, second: usize) -> Result<(), Refusal
 pub fn join(card: &[u8], first: u8, second: u8, target: &mut [u8]) -> Result<usize, Refusal>
     ensures { (packed_of result ≡ joining_answer card.now first second (length target.old)) × (target.new ≡ joining_target card.now first second target.old) }
 {
-    let first = usize::from(first);
-    let second = usize::from(second);
+    let first = index(first);
+    let second = index(second);
     check_joining(card, first, second)?;
     let lower = first.min(second);
     let other = first.max(second);

@@ -7,6 +7,8 @@ ghost use Rattle.basics.specs.Words.{length};
 ghost use Rattle.layout.specs.Layout.{short_at, offset_of, length_of, laid_out, part_of};
 ghost use Rattle.layout.specs.LaidOut.{PartWithin};
 
+use basics::index;
+
 pub mod packing; // packing.rt: the lengths of parts, their sum, and the writing of a card
 
 // The number of two bytes from a place, little-endian.
@@ -48,7 +50,7 @@ pub fn part(bytes: &[u8], i: usize) -> &[u8]
 pub fn is_laid_out(bytes: &[u8], count: u8) -> bool
     ensures { result ≡ laid_out count bytes.now }
 {
-    let count = usize::from(count);
+    let count = index(count);
     let mut due = 2 + 4 * count;
     if bytes.len() < due {
         return false;

@@ -6,7 +6,8 @@ use Rattle.refusals.specs.Refusals.{number_of}
 use Rattle.refusals.proofs.Refusals.{number_positive}
 use Rattle.ranking.specs.Profiles.{zero_profile}
 use Rattle.candidate.specs.declared.Evaluated.{Evaluated}
-use Rattle.candidate.specs.Evaluating.{Evaluation, as_evaluation}
+use Rattle.candidate.specs.declared.Evaluation.{Evaluation}
+use Rattle.candidate.specs.Evaluating.{as_evaluation}
 use Rattle.card.specs.Layout.{machine_count}
 use Rattle.product.specs.Optimizing.{optimized, optimized_answer}
 use Rattle.std.specs.Prelude.{Some, None, Ok, Err}

@@ -3,7 +3,7 @@ use Rattle.std.specs.Prelude.{◌∷◌, ◌++◌}
 use Rattle.basics.specs.Words.{Bool, true, false, List, [], Option, some, none, ℕ, zero, suc, take}
 use Rattle.card.specs.Layout.{machine_count}
 use Rattle.card.specs.Card.{card_refusal}
-use Rattle.candidate.specs.Evaluating.{Evaluation}
+use Rattle.candidate.specs.declared.Evaluation.{Evaluation}
 use Rattle.product.specs.Optimizing.{optimized}
 use Rattle.lines.specs.Parsing.{Request, parsed_line}
 use Rattle.writing.specs.Writing.{refused_line, closing_lines}

@@ -5,8 +5,8 @@ use Rattle.refusals.specs.Refusals.{refuse, unless_refused}
 use Rattle.refusals.proofs.Refusals.{passed, accepted, not_accepted}
 use Rattle.ranking.specs.Rankings.{is_machine_count, is_ranking}
 use Rattle.live.specs.declared.Row.{Row}
-use Rattle.live.specs.Rows.{Counted}
-use Rattle.live.specs.Rows.{Lead}
+use Rattle.live.specs.declared.Counted.{Counted}
+use Rattle.live.specs.declared.Lead.{Lead}
 use Rattle.live.specs.Rows.{present, added, removed, fits, has_room, leader_of, counted, refused_count, unled, lead_answer}
 use Rattle.live.specs.Steps.{putting_in, taking_out, leader_down}
 use Rattle.live.proofs.Rows.{some_row}

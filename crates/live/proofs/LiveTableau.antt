@@ -9,7 +9,7 @@ use Rattle.refusals.proofs.Refusals.{passed, passes_with, none_first, not_accept
 use Rattle.refusals.proofs.Refusals as by_number
 use Rattle.ranking.specs.Rankings.{is_machine_count, is_ranking}
 use Rattle.live.specs.declared.Row.{Row}
-use Rattle.live.specs.Rows.{Counted}
+use Rattle.live.specs.declared.Counted.{Counted}
 use Rattle.live.specs.Rows.{zero_row, present, without, lacks, differ, removed, fits, has_room, leader_of, counted, refused_count, unled, lead_answer}
 use Rattle.live.specs.Calls.{Adds, Removes, adding, added_list, removing, removed_list, adding_refusal, removing_refusal}
 use Rattle.live.specs.Afresh.{Call, Add, Remove, Table, started, Does, Ran, begun, accepts, refuses, afresh}

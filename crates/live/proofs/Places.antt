@@ -8,7 +8,6 @@ use Rattle.std.specs.List.{position_or_len}
 use Rattle.std.specs.Option.{unwrap_or}
 use Rattle.refusals.specs.Refusals.{checked_number, refuse}
 use Rattle.refusals.proofs.Refusals.{was_true, was_false}
-use Rattle.ranking.specs.Profiles.{zero_profile}
 use Rattle.ranking.specs.declared.Profile.{Profile}
 use Rattle.live.specs.declared.Row.{Row}
 use Rattle.live.specs.Rows.{zero_row, has_id, present, without, removed, led}
@@ -69,13 +68,13 @@ closed_next {at} {last} {l} {m} {i} d c h k =
       same = ap (λ (r : Row). closing_by (last - (i + 1)) (i + 1) (set m i r)) e ∙ closing_next (last - (i + 1)) i m (omega arith) ∙ c.same;
     }
 
-pub closed_end : {at last : ℕ} {l m : List Row} {i : ℕ} → Closed at last l m i → last ≤ i → {zero : Profile} → zero ≡ zero_profile → set m last (record { id = 0; profile = zero }) ≡ closing_by (last - at) at l
+pub closed_end : {at last : ℕ} {l m : List Row} {i : ℕ} → Closed at last l m i → last ≤ i → {zero : Row} → zero ≡ zero_row → set m last zero ≡ closing_by (last - at) at l
 unfolding closing_by
 closed_end {at} {last} {l} {m} {i} c h {zero} z =
     let f : i ≡ last = omega (arith, c.within) in
     let e : last - i ≡ 0 = omega arith in
     let p : closing_by (last - i) i m ≡ set m i zero_row = rw e in
-    ap (λ (r : Profile). set m last (record { id = 0; profile = r })) z ∙ ap (λ (n : ℕ). set m n zero_row) (sym f) ∙ sym p ∙ c.same
+    ap (set m last) z ∙ ap (λ (n : ℕ). set m n zero_row) (sym f) ∙ sym p ∙ c.same
 
 -- ---- what the two make of a list of which the first count are the rows
 

@@ -2,7 +2,7 @@
 use Rattle.std.specs.Prelude.{◌≡◌, ◌||◌, ◌∷◌, ◌++◌, ◌<◌}
 use Rattle.basics.specs.Words.{Bool, true, false, List, [], ℕ, eqb}
 use Rattle.live.specs.declared.Row.{Row}
-use Rattle.live.specs.Rows.{Counted}
+use Rattle.live.specs.declared.Counted.{Counted}
 use Rattle.live.specs.Calls.{Adds, Removes}
 
 -- an add with its row, a removal with its id

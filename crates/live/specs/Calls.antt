@@ -4,8 +4,8 @@ use Rattle.basics.specs.Words.{not, List, [], ℕ, length, take}
 use Rattle.refusals.specs.Refusals.{refuse, first_of, unless_refused}
 use Rattle.ranking.specs.Rankings.{is_machine_count, is_ranking}
 use Rattle.live.specs.declared.Row.{Row}
-use Rattle.live.specs.Rows.{Counted}
-use Rattle.live.specs.Rows.{Lead}
+use Rattle.live.specs.declared.Counted.{Counted}
+use Rattle.live.specs.declared.Lead.{Lead}
 use Rattle.live.specs.Rows.{present, added, removed, fits, has_room, leader_of, counted, refused_count, unled, lead_answer}
 
 module _ (K : ℕ) (ranking : List ℕ) (count : ℕ) (l : List Row) where

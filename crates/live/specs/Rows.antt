@@ -5,6 +5,8 @@ use Rattle.refusals.specs.declared.Refusal.{Refusal}
 use Rattle.refusals.specs.Refusals.{number_of}
 use Rattle.ranking.specs.Profiles.{zero_profile}
 use Rattle.ranking.specs.Harmony.{better}
+use Rattle.live.specs.declared.Counted.{Counted}
+use Rattle.live.specs.declared.Lead.{Lead}
 use Rattle.live.specs.declared.Row.{Row}
 pub use Rattle.live_checks.specs.Room.{fits, has_room}
 
@@ -49,17 +51,6 @@ unbeaten ranking rows row = all_of (λ (other : Row). not (better ranking other.
 -- the best profile, the earliest arrival among equals, or none
 abbrev pub leader_of : List ℕ → List Row → Option Row
 leader_of ranking rows = first_that (unbeaten ranking rows) rows
-
--- what add and remove answer, in the paper's terms: the refusal's number, 0 where there is none, and the new row count
-pub record Counted : Type 0 where
-  pub number : ℕ
-  pub count : ℕ
-
--- what the leader's call answers: the refusal's number, 0 where there is none; whether there is a leader; its row, zeros where there is none
-pub record Lead : Type 0 where
-  pub number : ℕ
-  pub any : Bool
-  pub row : Row
 
 -- the answers: a row count and a leader, or a refusal's number and zeros
 abbrev pub counted : ℕ → Counted

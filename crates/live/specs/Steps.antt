@@ -3,7 +3,7 @@ use Rattle.std.specs.Prelude.{◌∷◌, ◌+◌, ◌-◌}
 use Rattle.basics.specs.Words.{Bool, true, false, List, [], ℕ, zero, suc, get_or, set, take}
 use Rattle.ranking.specs.Harmony.{better}
 use Rattle.live.specs.declared.Row.{Row}
-use Rattle.live.specs.Rows.{Lead}
+use Rattle.live.specs.declared.Lead.{Lead}
 use Rattle.live.specs.Rows.{zero_row, has_id, present, added, removed, led, unled}
 
 -- the row at a place

@@ -5,7 +5,7 @@ ghost use Rattle.std.specs.Prelude.{◌≡◌, ◌-◌, ◌<◌, ◌≤◌, posi
 ghost use Rattle.basics.specs.Words.{true, not, length, take};
 ghost use Rattle.refusals.specs.Refusals.{checked_number, refuse};
 ghost use Rattle.ranking.specs.Rankings.{is_ranking};
-ghost use Rattle.live.specs.Rows.{has_id, present, counted_of, led, lead_of};
+ghost use Rattle.live.specs.Rows.{zero_row, has_id, present, counted_of, led, lead_of};
 ghost use Rattle.live.specs.Steps.{closing, putting_in, taking_out, better_of, leader_down};
 ghost use Rattle.live.specs.Calls.{Adds, Removes, leading};
 
@@ -18,6 +18,73 @@ use refusals::Refusal;
 pub struct Row {
     pub id: u16,
     pub profile: Profile,
+}
+
+// What a freed record is set to, and what stands for no leader.
+fn zero_row() -> Row
+    ensures { result ≡ zero_row }
+{
+    Row {
+        id: 0,
+        profile: Profile::zero(),
+    }
+}
+
+// What adding and removing answer, as one record: the refusal's number, 0 where there is none, and the new row count.
+#[derive(Clone, Copy)]
+pub struct Counted {
+    pub number: u8,
+    pub count: usize,
+}
+
+impl From<Result<usize, Refusal>> for Counted {
+    ghost from_gives = { λ answer counted. counted ≡ counted_of answer };
+
+    fn from(answer: Result<usize, Refusal>) -> Counted
+        ensures { result ≡ counted_of answer }
+    {
+        match answer {
+            Ok(count) => Counted { number: 0, count },
+            Err(refusal) => Counted {
+                number: u8::from(refusal),
+                count: 0,
+            },
+        }
+    }
+}
+
+// What the leader's call answers, as one record: the refusal's number, 0 where there is none; whether there is a leader; its row.
+#[derive(Clone, Copy)]
+pub struct Lead {
+    pub number: u8,
+    pub any: bool,
+    pub row: Row,
+}
+
+impl From<Result<Option<Row>, Refusal>> for Lead {
+    ghost from_gives = { λ answer lead. lead ≡ lead_of answer };
+
+    fn from(answer: Result<Option<Row>, Refusal>) -> Lead
+        ensures { result ≡ lead_of answer }
+    {
+        match answer {
+            Ok(Some(row)) => Lead {
+                number: 0,
+                any: true,
+                row,
+            },
+            Ok(None) => Lead {
+                number: 0,
+                any: false,
+                row: zero_row(),
+            },
+            Err(refusal) => Lead {
+                number: u8::from(refusal),
+                any: false,
+                row: zero_row(),
+            },
+        }
+    }
 }
 
 // The better of two rows under a ranking, the second where neither is better.
@@ -46,10 +113,7 @@ fn close_gap(rows: &mut [Row], at: usize, last: usize)
     for i in at..last {
         rows[i] = rows[i + 1];
     }
-    rows[last] = Row {
-        id: 0,
-        profile: Profile::zero(),
-    };
+    rows[last] = zero_row();
 }
 
 // Puts a row behind the others unless its id is present: 24.

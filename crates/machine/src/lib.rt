@@ -9,6 +9,7 @@ ghost use Rattle.machine.specs.Part.{state_count, arc_count, arcs_of, machine_of
 
 pub mod part; // part.rt: what a part's bytes say
 
+use basics::index;
 pub use symbols::sets;
 
 // A pair of symbols, in and out.
@@ -102,7 +103,7 @@ pub fn state_count(part: &[u8]) -> usize
     requires { shaped part.now ≡ true }
     ensures { result ≡ state_count part.now }
 {
-    usize::from(part[0])
+    index(part[0])
 }
 
 // A, the number of arcs of a part.
@@ -110,7 +111,7 @@ pub fn arc_count(part: &[u8]) -> usize
     requires { shaped part.now ≡ true }
     ensures { result ≡ arc_count part.now }
 {
-    usize::from(part[1])
+    index(part[1])
 }
 
 // The arc i of a part of `states` states.
@@ -145,8 +146,8 @@ impl Position {
         let state = self.state;
         let input = sets::set_of(pair.input);
         let output = sets::set_of(pair.output);
-        let first = 2 + usize::from(part[0]);
-        for i in 0..usize::from(part[1]) {
+        let first = 2 + index(part[0]);
+        for i in 0..index(part[1]) {
             let at = first + 20 * i;
             if part::takes_from(part, at, state, input, output) {
                 let next = Position {
@@ -163,8 +164,8 @@ impl Position {
         requires { shaped part.now ≡ true }
         ensures { ended result ≡ ending_of (machine_of part.now) self.state }
     {
-        let state = usize::from(self.state);
-        if usize::from(part[0]) <= state {
+        let state = index(self.state);
+        if index(part[0]) <= state {
             return None;
         }
         let byte = part[2 + state];

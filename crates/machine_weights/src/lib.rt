@@ -12,6 +12,8 @@ ghost use Rattle.settling.specs.Prices.{SixWeights};
 ghost use Rattle.insertions.specs.RankedWeights.{weight_by, RankedWeights};
 ghost use Rattle.machine_weights.specs.Highs.{six_highs};
 
+use basics::index;
+
 // What a mark counts in a high number, by the place of its machine in the ranking: 16 bits for each of the first three, above the 8 of a code.
 pub const HIGHS: [u64; 6] = [1099511627776, 16777216, 256, 0, 0, 0];
 
@@ -47,7 +49,7 @@ pub fn ranked_weights(counts: &[u8], ranking: &[u8]) -> [u64; 18]
         weights[at] = scale as u64;
         weights[at + 1] = weight(&places, &highs, m as u8);
         weights[at + 2] = weight(&places, &lows, m as u8);
-        scale *= usize::from(counts[m]);
+        scale *= index(counts[m]);
     }
     weights
 }

@@ -5,8 +5,8 @@ use Rattle.ranking.specs.declared.Profile.{Profile}
 use Rattle.ranking.specs.declared.Condition.{Condition}
 use Rattle.ranking.specs.declared.Order.{Order}
 use Rattle.ranking.specs.declared.Order.TheVariants.{Better, Equal, Worse}
-use Rattle.card.specs.Reading.{PartPlace}
-use Rattle.candidate.specs.Evaluating.{Evaluation}
+use Rattle.card.specs.declared.PartPlace.{PartPlace}
+use Rattle.candidate.specs.declared.Evaluation.{Evaluation}
 
 -- the six counts, the pair count, the word length
 abbrev pub evaluation_numbers : Evaluation → List ℕ

@@ -1,19 +1,20 @@
 // How the static library writes evaluations and the answers of calls that have no engine behind them as numbers into the caller's array: each `give_`
-// function answers the number of its call.
+// function answers the number of its call. It takes the record of an answer, or whatever becomes one: the `Result` that the call answered.
 #![tactic(auto)]
 
 ghost use Rattle.std.specs.Prelude.{◌≡◌, [], ◌∷◌};
 ghost use Rattle.refusals.specs.Refusals.{number_of};
 ghost use Rattle.ranking.specs.Harmony.{compared};
 ghost use Rattle.ranking.specs.Conditions.{derived};
-ghost use Rattle.finder.specs.Finder.{found};
-ghost use Rattle.card.specs.Reading.{part_place_of};
-ghost use Rattle.card.specs.Packing.{packed_of};
-ghost use Rattle.candidate.specs.Evaluating.{as_evaluation};
+ghost use Rattle.finder.specs.declared.Finding.{Finding};
+ghost use Rattle.card.specs.declared.PartPlace.{PartPlace};
+ghost use Rattle.card.specs.declared.Packed.{Packed};
+ghost use Rattle.candidate.specs.declared.Evaluation.{Evaluation};
 ghost use Rattle.numbers.specs.Numbers.{evaluation_numbers, place_numbers, order_number, deciding_machine, order_numbers, condition_numbers, as_profile};
 
-use candidate::Evaluated;
-use card::Stretch;
+use candidate::Evaluation;
+use card::{Packed, PartPlace};
+use finder::Finding;
 use ranking::{Condition, Order, Profile};
 use refusals::Refusal;
 
@@ -25,61 +26,40 @@ pub fn give_refusal(refusal: Refusal) -> u32
 }
 
 // Writes the counts, the pair count and the word length of an evaluation.
-pub fn give_evaluation(answer: Result<Evaluated, Refusal>, res: &mut [u16; 8]) -> u32
-    ensures { (result ≡ (as_evaluation answer).number) × (res.new ≡ evaluation_numbers (as_evaluation answer)) }
+pub fn give_evaluation<A: Into<Evaluation>>(answer: A, res: &mut [u16; 8]) -> u32
+    ensures { (evaluation : Evaluation) × A.converts answer evaluation × (result ≡ evaluation.number) × (res.new ≡ evaluation_numbers evaluation) }
 {
-    match answer {
-        Ok(evaluated) => {
-            let profile = evaluated.profile;
-            *res = [
-                profile.count(0),
-                profile.count(1),
-                profile.count(2),
-                profile.count(3),
-                profile.count(4),
-                profile.count(5),
-                evaluated.pairs,
-                evaluated.word_length,
-            ];
-            0
-        }
-        Err(refusal) => {
-            *res = [0; 8];
-            give_refusal(refusal)
-        }
-    }
+    let evaluation: Evaluation = answer.into();
+    let profile = evaluation.profile;
+    *res = [
+        profile.count(0),
+        profile.count(1),
+        profile.count(2),
+        profile.count(3),
+        profile.count(4),
+        profile.count(5),
+        evaluation.pairs,
+        evaluation.word_length,
+    ];
+    u32::from(evaluation.number)
 }
 
 // Writes the offset and the length of a part.
-pub fn give_place(answer: Result<Stretch, Refusal>, res: &mut [usize; 2]) -> u32
-    ensures { (result ≡ (part_place_of answer).number) × (res.new ≡ place_numbers (part_place_of answer)) }
+pub fn give_place<A: Into<PartPlace>>(answer: A, res: &mut [usize; 2]) -> u32
+    ensures { (place : PartPlace) × A.converts answer place × (result ≡ place.number) × (res.new ≡ place_numbers place) }
 {
-    match answer {
-        Ok(stretch) => {
-            *res = [stretch.offset, stretch.length];
-            0
-        }
-        Err(refusal) => {
-            *res = [0; 2];
-            give_refusal(refusal)
-        }
-    }
+    let place: PartPlace = answer.into();
+    *res = [place.offset, place.length];
+    u32::from(place.number)
 }
 
 // Writes the length of a card that was made.
-pub fn give_packed(answer: Result<usize, Refusal>, res: &mut [usize; 1]) -> u32
-    ensures { (result ≡ (packed_of answer).number) × (res.new ≡ (packed_of answer).length ∷ []) }
+pub fn give_packed<A: Into<Packed>>(answer: A, res: &mut [usize; 1]) -> u32
+    ensures { (packed : Packed) × A.converts answer packed × (result ≡ packed.number) × (res.new ≡ packed.length ∷ []) }
 {
-    match answer {
-        Ok(length) => {
-            *res = [length];
-            0
-        }
-        Err(refusal) => {
-            *res = [0];
-            give_refusal(refusal)
-        }
-    }
+    let packed: Packed = answer.into();
+    *res = [packed.length];
+    u32::from(packed.number)
 }
 
 // The profile of six counts.
@@ -145,17 +125,11 @@ pub fn give_derived(answer: Result<Condition, Refusal>, res: &mut [u8; 2]) -> u3
 }
 
 // Writes the ranking that was found.
-pub fn give_finding(answer: Result<[u8; 6], Refusal>, res: &mut [u8; 6]) -> u32
-    ensures { (result ≡ (found answer).number) × (res.new ≡ (found answer).ranking) }
+pub fn give_finding<A: Into<Finding>>(answer: A, res: &mut [u8; 6]) -> u32
+    ensures { (found : Finding) × A.converts answer found × (result ≡ found.number) × (res.new ≡ found.ranking) }
 {
-    match answer {
-        Ok(ranking) => {
-            *res = ranking;
-            0
-        }
-        Err(refusal) => {
-            *res = [0; 6];
-            give_refusal(refusal)
-        }
-    }
+    let found: Finding = answer.into();
+    let ranking = found.ranking;
+    *res = ranking;
+    u32::from(found.number)
 }

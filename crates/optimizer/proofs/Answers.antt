@@ -2,7 +2,7 @@
 use Rattle.std.specs.Prelude.{◌≡◌, ◌∷◌, ◌++◌, ◌≢◌, ◌<◌, ◌≤◌}
 use Rattle.basics.specs.Words.{refl, ◌∙◌, ap, List, [], Option, some, ℕ, zero, suc, arith, length, take, drop, length-append, length-drop}
 use Rattle.card.specs.Layout.{symbol_count}
-use Rattle.candidate.specs.Evaluating.{Evaluation}
+use Rattle.candidate.specs.declared.Evaluation.{Evaluation}
 use Rattle.candidate.specs.Evaluating.{refused}
 use Rattle.product.specs.Best.{Contender, best}
 use Rattle.product.specs.Sets.{best_of_sets}

@@ -4,7 +4,7 @@ use Rattle.std.specs.Prelude.{◌≡◌, ◌↔◌}
 use Rattle.basics.specs.Words.{true, List, ℕ, length}
 use Rattle.machine.specs.declared.Pair.{Pair}
 use Rattle.card.specs.Card.{machines_of}
-use Rattle.candidate.specs.Evaluating.{Evaluation}
+use Rattle.candidate.specs.declared.Evaluation.{Evaluation}
 use Rattle.candidate.specs.Candidates.{IsCandidate}
 use Rattle.product.specs.Sets.{fits_sets, IsCandidateOf}
 use Rattle.product.specs.Optimizing.{input_refusal}

@@ -1,7 +1,7 @@
 -- The contract of the calls, one for words and sets, under a ranking and by weights.
 use Rattle.std.specs.Prelude.{◌≡◌, ◌≢◌}
 use Rattle.basics.specs.Words.{List, Option, ℕ, length}
-use Rattle.candidate.specs.Evaluating.{Evaluation}
+use Rattle.candidate.specs.declared.Evaluation.{Evaluation}
 use Rattle.product.specs.Best.{Contender, best}
 use Rattle.product.specs.Sets.{best_of_sets}
 use Rattle.product.specs.Answering.{answered, answered_slice}

@@ -1,7 +1,7 @@
 -- Theorem on the calls for words heard only in part, of their contract, which every engine has.
 use Rattle.std.specs.Prelude.{◌≡◌}
 use Rattle.basics.specs.Words.{sym, ◌∙◌, ap, true, false, List, ℕ, length}
-use Rattle.candidate.specs.Evaluating.{Evaluation}
+use Rattle.candidate.specs.declared.Evaluation.{Evaluation}
 use Rattle.candidate.specs.Evaluating.{refused}
 use Rattle.product.specs.Sets.{singletons}
 use Rattle.product.specs.Optimizing.{optimized, optimized_answer}

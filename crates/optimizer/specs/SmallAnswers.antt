@@ -3,7 +3,7 @@ use Rattle.std.specs.Prelude.{◌≡◌, ◌∷◌, ◌++◌, ◌*◌, ◌-◌, 
 use Rattle.basics.proofs.Words.{refl, Bool, true, false, List, [], Option, some, none, ℕ, zero, suc, arith, length, replicate, leb, all_of, both, left, right}
 use Rattle.std.proofs.Common.{le-leb}
 use Rattle.refusals.specs.Refusals.{refuse, first_of, unless_refused}
-use Rattle.candidate.specs.Evaluating.{Evaluation}
+use Rattle.candidate.specs.declared.Evaluation.{Evaluation}
 use Rattle.candidate.specs.Evaluating.{refused}
 use Rattle.product.specs.Best.{Contender}
 use Rattle.product.specs.Answering.{evaluation_of, answered}

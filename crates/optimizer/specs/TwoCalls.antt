@@ -9,7 +9,7 @@ use Rattle.refusals.specs.Refusals.{refuse, first_of, unless_refused}
 use Rattle.ranking.specs.Rankings.{is_ranking}
 use Rattle.card.specs.Layout.{machine_count, symbol_count}
 use Rattle.card.specs.Card.{card_refusal, machines_of}
-use Rattle.candidate.specs.Evaluating.{Evaluation}
+use Rattle.candidate.specs.declared.Evaluation.{Evaluation}
 use Rattle.candidate.specs.Evaluating.{refused}
 use Rattle.product.specs.Nodes.{node_count}
 use Rattle.product.specs.Best.{Contender}

@@ -15,6 +15,7 @@ ghost use Rattle.optimizer.specs.Optimizes.{Optimizes, OptimizesSets};
 ghost use Rattle.readout.specs.Searching.{SetsPre, SearchPre, Searched};
 ghost use Rattle.optimizer.specs.Telling.{RankingOfSome, CardOrder, TellsBest};
 
+use basics::index;
 use candidate::Evaluated;
 use grid::Grid;
 use ranking::Profile;
@@ -85,7 +86,8 @@ fn profile_of(label: Label, ranking: &[u8]) -> Profile
     ];
     let mut counts = Profile::zero().counts;
     for (place, &machine) in ranking.iter().enumerate() {
-        counts[usize::from(machine)] = ranked[place];
+        let machine = index(machine);
+        counts[machine] = ranked[place];
     }
     Profile { counts }
 }

@@ -5,6 +5,7 @@ ghost use Rattle.std.specs.Prelude.{◌≡◌, ◌<◌, ◌≤◌};
 ghost use Rattle.basics.specs.Words.{true, ℕ, length, member};
 ghost use Rattle.outputs.specs.Outputs.{SameColumn, Told, Worth, Wide};
 
+use basics::index;
 use machine::sets;
 
 // Whether two outputs have the same column.
@@ -36,7 +37,7 @@ fn is_known(steps: &[u16], width: usize, kept: u64, output: usize, last: &mut [u
     let key = key_of(steps, width, output);
     let other = last[key] % 64;
     if sets::holds(kept, sets::set_of(other)) {
-        if is_same(steps, width, usize::from(other), output) {
+        if is_same(steps, width, index(other), output) {
             return true;
         }
     }

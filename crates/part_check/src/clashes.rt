@@ -6,6 +6,7 @@ ghost use Rattle.machine.specs.Machine.{takes, takes_from};
 ghost use Rattle.machine.specs.Part.{state_count, arc_at, arcs_of, shaped, no_clash};
 ghost use Rattle.part_check.specs.Clashes.{pairs_with, clash_free_from, PairsNoted, LeavesStates};
 
+use basics::index;
 use machine::{Arc, Pair, part, sets};
 use refusals::Refusal;
 
@@ -15,7 +16,7 @@ fn pairs_with(inputs: u64, kind: u8, output: usize) -> u64
     ensures { result ≡ pairs_with kind inputs output }
 {
     let one = sets::set_of(output as u8);
-    if output == usize::from(Pair::EMPTY) {
+    if output == index(Pair::EMPTY) {
         return sets::of_kind(sets::without_empty(inputs), kind, one);
     }
     sets::of_kind(inputs, kind, one)
@@ -61,7 +62,7 @@ fn check_state(part: &[u8], states: usize, from: u8) -> Result<(), Refusal>
     ensures { checked_number result ≡ refuse 5 (pairwise (clash_free_from from) (arcs_of part.now)) }
 {
     let mut taken = [0; 64];
-    for i in (0..usize::from(part[1])).rev() {
+    for i in (0..index(part[1])).rev() {
         if note_arc(&mut taken, part, 2 + states + 20 * i, from) {
             return Err(Refusal::Clash);
         }
@@ -75,7 +76,7 @@ pub fn check_clashes(part: &[u8]) -> Result<(), Refusal>
     ensures { checked_number result ≡ refuse 5 (no_clash part.now) }
 {
     let states = part[0];
-    let count = usize::from(states);
+    let count = index(states);
     for from in 0..states {
         check_state(part, count, from)?;
     }

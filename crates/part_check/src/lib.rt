@@ -6,6 +6,7 @@ ghost use Rattle.basics.specs.Words.{true};
 ghost use Rattle.refusals.specs.Refusals.{refuse, checked_number};
 ghost use Rattle.machine.specs.Part.{shaped, sound_states, sound_arcs, part_refusal};
 
+use basics::index;
 use machine::{part, sets};
 use refusals::{Refusal, tested};
 
@@ -18,8 +19,8 @@ fn check_length(part: &[u8]) -> Result<(), Refusal>
     if part.len() < 2 {
         return Err(Refusal::PartLength);
     }
-    let states = usize::from(part[0]);
-    let arcs = usize::from(part[1]);
+    let states = index(part[0]);
+    let arcs = index(part[1]);
     tested(
         (1 <= states) & (states <= 32) & (part.len() == 2 + states + 20 * arcs),
         Refusal::PartLength,
@@ -31,7 +32,7 @@ fn check_states(part: &[u8]) -> Result<(), Refusal>
     requires { shaped part.now ≡ true }
     ensures { checked_number result ≡ refuse 4 (sound_states part.now) }
 {
-    let end = 2 + usize::from(part[0]);
+    let end = 2 + index(part[0]);
     for &byte in &part[2..end] {
         if byte > 16 {
             return Err(Refusal::Field);
@@ -47,8 +48,8 @@ fn check_arcs(part: &[u8], symbols: u8) -> Result<(), Refusal>
 {
     let states = part[0];
     let last = sets::set_of(symbols);
-    let first = 2 + usize::from(states);
-    for i in 0..usize::from(part[1]) {
+    let first = 2 + index(states);
+    for i in 0..index(part[1]) {
         if !part::read_arc(part, first + 20 * i).is_sound(states, last) {
             return Err(Refusal::Field);
         }

@@ -8,6 +8,7 @@ ghost use Rattle.machine.specs.Part.{shaped, machine_of};
 ghost use Rattle.passing.specs.Places.{PlacesPre, Placed, MarksPre, MarksAdded, MovedPre, Moved};
 ghost use Rattle.passing.specs.Going.{GoPre, GoesOn, EndsPre, EndingAdded};
 
+use basics::index;
 use machine::Position;
 use ranking::Profile;
 
@@ -36,7 +37,7 @@ pub fn pass(
     ensures { Moved steps.now places.now width output states.new × MarksAdded marks.old steps.now places.now width output marks.new }
 {
     for (m, &place) in places.iter().enumerate() {
-        let step = steps[output * width + usize::from(place)];
+        let step = steps[output * width + index(place)];
         states[m] = (step / 16) as u8;
         marks[m] += step % 16;
     }

@@ -1,17 +1,20 @@
 -- What is printed after the last piece, and the buffer that it is written to. Assumes nothing.
-use Rattle.std.specs.Prelude.{◌≡◌, ◌||◌, ◌∷◌, ◌++◌, ◌⊎◌, ◌+◌, ◌-◌, ◌≤◌}
-use Rattle.std.specs.Prelude.{Option as Answer, Some, IfSome}
+use Rattle.std.specs.Prelude.{◌≡◌, ◌||◌, ◌∷◌, ◌++◌, ◌⊎◌, ◌+◌, ◌-◌, ◌<◌, ◌≤◌}
 use Rattle.basics.proofs.Words.{refl, ap, sym, ◌∙◌, Bool, true, false, not, List, [], append_assoc, append-nil, inl, inr, ℕ, suc, arith, length, take, drop, take-append-drop, length-append, length-take, length-drop, eqb, drop-drop, take_at, drop_at, take-length, drop-length, drop-append-le, length-take-le, suc-ne-zero, ne_eqb, clash, either}
+use Rattle.lines.specs.Taking.{last_line}
 use Rattle.writing.specs.Buffers.{at_front}
+use Rattle.writing.proofs.Texts.{closing_length, answered_length}
 use Rattle.tally.specs.declared.Tally.{Tally}
 use Rattle.lesson.specs.Printed.{Prints}
-use Rattle.lesson.specs.Tally.{is_full, past_text, line_tally, line_text, lines_tally, lines_text, closing_text}
+use Rattle.lesson.specs.Tally.{is_full, past_text, line_tally, line_text, lines_tally, lines_text, closing_text, shown_machines}
 use Rattle.lesson.specs.TallyLaws.{tally_full, text_full}
 use Rattle.pieces.specs.Pieces.{printed_pieces}
 
--- what is known of an answer, where there is one
-pub if_some : {A : Type 0} (P : A → Type 0) {o : Answer A} {x : A} → o ≡ Some x → IfSome o P → P x
-if_some P e h = rw e at h
+-- the line past the thousandth, or a write that failed
+pub past_written : (past written : Bool) → (past || not written) ≡ true → written ≡ true → past ≡ true
+past_written true written h e = refl
+past_written false true h e = h
+past_written false false h e = e
 
 module _ (card : List ℕ) where
   -- what is printed in the end: past the thousandth line the closing lines, whatever is held
@@ -36,6 +39,21 @@ module _ (card : List ℕ) where
   unfolding printed_pieces lines_text lines_tally
   end_line t [] e = absurd (clash refl e)
   end_line t (x ∷ l) e = ap (λ (k : List ℕ). k ++ closing_text card (line_tally card t (x ∷ l))) (sym (append-nil (line_text card t (x ∷ l))))
+
+  -- the closing lines are never empty
+  pub end_text : (t : Tally) (l : List ℕ) → 0 < length (printed_pieces card t l [])
+  unfolding printed_pieces closing_text
+  end_text t l =
+      let u = lines_tally card t (last_line l) in
+      omega (
+        arith,
+        length-append (lines_text card t (last_line l)) (closing_text card u),
+        closing_length u.answered u.refused (take (shown_machines card) u.totals),
+        answered_length u.answered u.refused,
+      )
+
+  pub some_text : (t : Tally) (l : List ℕ) {old new : List ℕ} {n : ℕ} → Prints (printed_pieces card t l []) old new n → 0 < n
+  some_text t l p = omega (arith, p.size, end_text t l)
 
 -- the front part of the last buffer, which a line's text is written to, and the room behind the text
 module _ (out : List ℕ) (long : length out ≡ 25748) where

@@ -2,7 +2,7 @@
 // lesson's closing lines. No contract can speak of what is written to standard output.
 #![tactic(auto)]
 
-ghost use Rattle.std.specs.Prelude.{◌≡◌, ◌≤◌, IfSome};
+ghost use Rattle.std.specs.Prelude.{◌≡◌, ◌≤◌};
 ghost use Rattle.basics.specs.Words.{true, false, [], length, take};
 ghost use Rattle.writing.specs.Buffers.{at_front};
 ghost use Rattle.lesson.specs.Printed.{Prints};
@@ -15,34 +15,39 @@ use tally::Tally;
 // Room for the longest line: six counts and the pairs of all answer bytes.
 const OUT_BYTES: usize = 25628;
 
-// Prints the answer to the next line, and answers the tally after it: its text is left at the front of `out`. Where it was not
-// written, there is no tally: so a caller that goes on after a write that failed cannot keep its own contract.
-fn print_answer(
-    rt: &impl Print,
-    card: &[u8],
-    line: &[u8],
+// What printing the answer to a line leads to: the tally after it, and whether everything was written. A flag, as in `Progress`.
+#[derive(Clone, Copy)]
+struct Printed {
     tally: Tally,
-    out: &mut [u8],
-) -> Option<Tally>
+    written: bool,
+}
+
+// Prints the answer to the next line: its text, which is left at the front of `out`. Where it was not written, nothing is promised
+// of the tally: so a caller that goes on after a write that failed cannot keep its own contract.
+fn print_answer(rt: &impl Print, card: &[u8], line: &[u8], tally: Tally, out: &mut [u8]) -> Printed
     requires { (25628 ≤ length out.old) × Fits tally × (tally.past ≡ false) }
-    ensures tally { IfSome result (λ t. (t ≡ line_tally card.now tally line.now) × Fits t) }
+    ensures tally { (result.written ≡ true → result.tally ≡ line_tally card.now tally line.now) × Fits result.tally }
     ensures text { out.new ≡ at_front (line_text card.now tally line.now) out.old }
 {
     let turn = lesson::answer_next(card, line, tally, out);
     let size = turn.size;
-    rt.write_all(&out[..size]).ok()?;
-    Some(turn.tally)
+    let written = rt.write_all(&out[..size]).is_ok();
+    let tally = turn.tally;
+    Printed { tally, written }
 }
 
-// How far the input is answered: how many bytes are held of the line that goes on, and the tally.
+// How far the input is answered: how many bytes are held of the line that goes on, the tally, and whether everything was written.
+// After a write that failed nothing more is read or written. No `Result`: both cases have the same two fields, so it is no plainer
+// (docs/DECISIONS.md, 160).
 #[derive(Clone, Copy)]
 pub struct Progress {
     pub held: usize,
     pub tally: Tally,
+    pub written: bool,
 }
 
 // Prints the answers to the lines that end in a piece of the input, up to the first past the thousandth. The first one's bytes so
-// far stand at the front of `line`, `held` of them. After a write that failed nothing more is read or written: none.
+// far stand at the front of `line`, `held` of them.
 pub fn answer_piece(
     rt: &impl Print,
     card: &[u8],
@@ -51,9 +56,9 @@ pub fn answer_piece(
     held: usize,
     tally: Tally,
     out: &mut [u8],
-) -> Option<Progress>
+) -> Progress
     requires { (held ≤ 201) × (length line.old ≡ 201) × Fits tally × (tally.past ≡ false) × (25628 ≤ length out.old) }
-    ensures { IfSome result (λ p. Answers card.now (take held line.old) piece.now tally line.new p.held p.tally true) }
+    ensures { Answers card.now (take held line.old) piece.now tally line.new result.held result.tally result.written }
 {
     let mut at = 0;
     let mut length = held;
@@ -65,19 +70,26 @@ pub fn answer_piece(
                 length: whole,
                 at: after,
             } => {
-                let tally = print_answer(rt, card, &line[..whole], so_far, out)?;
-                if tally.past {
-                    return Some(Progress { held: 0, tally });
+                let printed = print_answer(rt, card, &line[..whole], so_far, out);
+                let written = printed.written;
+                let tally = printed.tally;
+                if tally.past | !written {
+                    return Progress {
+                        held: 0,
+                        tally,
+                        written,
+                    };
                 }
                 so_far = tally;
                 length = 0;
                 at = after;
             }
             Next::Open { length: bytes } => {
-                return Some(Progress {
+                return Progress {
                     held: bytes,
                     tally: so_far,
-                });
+                    written: true,
+                };
             }
         }
     }

@@ -4,7 +4,7 @@ use Rattle.std.specs.Prelude.{◌∷◌, ◌++◌, ◌*◌}
 use Rattle.basics.specs.Words.{Bool, true, List, [], Option, some, none, ℕ, length, drop, leb}
 use Rattle.refusals.specs.Refusals.{refuse, first_of, unless_refused}
 use Rattle.card.specs.Card.{card_refusal}
-use Rattle.candidate.specs.Evaluating.{Evaluation}
+use Rattle.candidate.specs.declared.Evaluation.{Evaluation}
 use Rattle.candidate.specs.Candidates.{bytes_of, is_some}
 use Rattle.candidate.specs.Evaluating.{profile_with, refused}
 use Rattle.product.specs.Best.{Contender}

@@ -5,7 +5,7 @@ use Rattle.refusals.specs.Refusals.{refuse}
 use Rattle.ranking.specs.Rankings.{is_ranking}
 use Rattle.card.specs.Layout.{machine_count, symbol_count}
 use Rattle.card.specs.Card.{machines_of}
-use Rattle.candidate.specs.Evaluating.{Evaluation}
+use Rattle.candidate.specs.declared.Evaluation.{Evaluation}
 use Rattle.product.specs.Nodes.{node_count}
 use Rattle.product.specs.Best.{best}
 use Rattle.product.specs.Answering.{before_search, answered, answered_slice}

@@ -71,7 +71,7 @@ use Rattle.machine.specs.Steps.{StepBounds}
 use Rattle.machine.specs.OldStates.{old_states, old_machine_of, old_ending_of, old_part_refusal}
 use Rattle.machine.specs.OldArcs.{old_arc, old_arcs, takes_by_sets, step_by_sets, refusal_by_sets}
 use Rattle.layout.specs.Layout.{Bytes}
-use Rattle.card.specs.Packing.{Packed}
+use Rattle.card.specs.declared.Packed.{Packed}
 use Rattle.card.specs.Layout.{machine_count, parts_of}
 use Rattle.card.specs.Card.{machines_of, card_refusal}
 use Rattle.card.specs.Packing.{packed, packing_refusal}
@@ -79,7 +79,7 @@ use Rattle.card.specs.RoundTrip.{ReadsBack, PacksBack}
 use Rattle.card.specs.OldStates.{old_machines_of, old_card_refusal}
 use Rattle.card.specs.OldArcs.{card_refusal_by_sets}
 use Rattle.card.specs.BaseCards.{base_card_refusal, base_card}
-use Rattle.candidate.specs.Evaluating.{Evaluation}
+use Rattle.candidate.specs.declared.Evaluation.{Evaluation}
 use Rattle.candidate.specs.Candidates.{spelled, is_complete, profile_of, IsCandidate}
 use Rattle.candidate.specs.Evaluating.{evaluating, refused}
 use Rattle.candidate.specs.ProfileMerge.{at_start, cost_of_pairs}
@@ -103,7 +103,7 @@ use Rattle.optimizer.specs.TwoCalls.{TwoCalls, checks_of_word, checks_of_sets}
 use Rattle.optimizer.specs.SetsCalls.{OneSymbolEach}
 -- tableaux
 use Rattle.rows.specs.Tableau.{sound_tableau, every_row}
-use Rattle.tableau.specs.Judging.{Judged}
+use Rattle.tableau.specs.declared.Judged.{Judged}
 use Rattle.tableau.specs.Judging.{is_for_word}
 use Rattle.tableau.specs.Judges.{Judges}
 use Rattle.tableau.specs.Verdicts.{VerdictMeans}
@@ -133,7 +133,7 @@ use Rattle.trimming.specs.TrimmedAnswers.{LongEnough}
 -- weights
 use Rattle.product.specs.Weights.{sound_weights, weighted_sum, by_sum, best_by_weights}
 use Rattle.product.specs.Dominance.{Outweighs}
-use Rattle.weights.specs.Weighing.{Weighing}
+use Rattle.weights.specs.declared.Weighing.{Weighing}
 use Rattle.weights.specs.Weighing.{weighted_refusal, refused_weighing}
 use Rattle.weights.specs.Searching as by_weights_lem
 use Rattle.weights.specs.WeightedBest.{BestOfAllByWeights}

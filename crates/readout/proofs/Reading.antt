@@ -5,7 +5,7 @@ use Rattle.refusals.specs.Refusals.{refuse}
 use Rattle.refusals.proofs.Refusals.{last_one}
 use Rattle.machine.specs.declared.Pair.{Pair}
 use Rattle.card.specs.Card.{machines_of}
-use Rattle.candidate.specs.Evaluating.{Evaluation}
+use Rattle.candidate.specs.declared.Evaluation.{Evaluation}
 use Rattle.candidate.specs.Candidates.{bytes_of, profile_of}
 use Rattle.candidate.specs.Evaluating.{refused, profile_with}
 use Rattle.product.specs.Best.{Contender}

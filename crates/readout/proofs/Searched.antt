@@ -3,7 +3,7 @@ use Rattle.std.specs.Prelude.{◌≡◌, ◌<◌}
 use Rattle.basics.specs.Words.{sym, ◌∙◌, ap, List, Option, some, ℕ, length}
 use Rattle.refusals.specs.Refusals.{unless_refused}
 use Rattle.refusals.proofs.Refusals.{accepted as taken, not_accepted}
-use Rattle.candidate.specs.Evaluating.{Evaluation}
+use Rattle.candidate.specs.declared.Evaluation.{Evaluation}
 use Rattle.candidate.specs.Evaluating.{refused}
 use Rattle.product.specs.Best.{Contender}
 use Rattle.product.specs.Answering.{call_refusal, evaluation_of, filled, answered, answered_slice}

@@ -3,7 +3,7 @@ use Rattle.std.specs.Prelude.{◌≡◌, ◌≤◌}
 use Rattle.basics.specs.Words.{◌∙◌, ap, true, List, Option, ℕ, arith, length, ltb, all_of}
 use Rattle.refusals.specs.Refusals.{unless_refused}
 use Rattle.card.specs.Layout.{symbol_count}
-use Rattle.candidate.specs.Evaluating.{Evaluation}
+use Rattle.candidate.specs.declared.Evaluation.{Evaluation}
 use Rattle.candidate.specs.Evaluating.{refused}
 use Rattle.product.specs.Best.{Contender, best}
 use Rattle.product.specs.Sets.{singletons, best_of_sets}

@@ -5,7 +5,7 @@ use Rattle.refusals.specs.Refusals.{refuse}
 use Rattle.ranking.specs.Rankings.{is_ranking}
 use Rattle.card.specs.Layout.{machine_count, symbol_count}
 use Rattle.card.specs.Card.{card_refusal, machines_of}
-use Rattle.candidate.specs.Evaluating.{Evaluation}
+use Rattle.candidate.specs.declared.Evaluation.{Evaluation}
 use Rattle.product.specs.Best.{Contender}
 use Rattle.product.specs.Answering.{answered, answered_slice}
 use Rattle.product.specs.Optimizing.{sound_word}

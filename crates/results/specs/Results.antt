@@ -1,9 +1,9 @@
 -- How the answers of the other calls stand as numbers for C.
 use Rattle.std.specs.Prelude.{Bool, true, false, List, [], ◌∷◌, ◌++◌, ℕ, get_or}
-use Rattle.tableau.specs.Judging.{Judged}
+use Rattle.tableau.specs.declared.Judged.{Judged}
 use Rattle.live.specs.declared.Row.{Row}
-use Rattle.live.specs.Rows.{Lead}
-use Rattle.weights.specs.Weighing.{Weighing}
+use Rattle.live.specs.declared.Lead.{Lead}
+use Rattle.weights.specs.declared.Weighing.{Weighing}
 pub use Rattle.numbers.specs.Numbers.{evaluation_numbers, place_numbers, as_profile, order_number, deciding_machine, order_numbers, condition_numbers}
 
 -- the six counts, the pair count, the word length and the sum, in thousandths

@@ -14,6 +14,7 @@ ghost use Rattle.rows.specs.Tableau.{row_count, row_of, counts_of, every_row, so
 ghost use Rattle.rows.specs.Reading.{Readable, CompleteRow};
 ghost use Rattle.rows.specs.Judging.{is_for_word, same_counts, counts_are_profile, verdict_of};
 
+use basics::index;
 use machine::Pair;
 use ranking::Profile;
 use refusals::Refusal;
@@ -105,7 +106,7 @@ fn check_rows(tableau: &[u8], machines: usize) -> Result<(), Refusal>
     requires { (2 ≤ length tableau.now) × LaidOut (row_count tableau.now) tableau.now × (machines ≤ 6) }
     ensures { checked_number result ≡ refuse 19 (every_row (sound_row machines) tableau.now) }
 {
-    let rows = usize::from(tableau[0]);
+    let rows = index(tableau[0]);
     for i in 0..rows {
         if !is_sound_row(layout::part(tableau, i), machines) {
             return Err(Refusal::Tableau);
@@ -149,7 +150,7 @@ fn check_candidates(card: &[u8], word: &[u8], tableau: &[u8]) -> Result<(), Refu
     requires { (card_refusal card.now ≡ 0) × Readable tableau.now }
     ensures { checked_number result ≡ refuse 20 (every_row (is_for_word card.now word.now) tableau.now) }
 {
-    let candidates = usize::from(tableau[0]);
+    let candidates = index(tableau[0]);
     for i in 0..candidates {
         if !is_for_word(card, word, layout::part(tableau, i)) {
             return Err(Refusal::RowCandidate);
@@ -171,7 +172,7 @@ fn check_profiles(card: &[u8], tableau: &[u8]) -> Result<(), Refusal>
     requires { (card_refusal card.now ≡ 0) × Readable tableau.now × ((i : ℕ) → i < row_count tableau.now → CompleteRow card.now (row_of tableau.now i)) }
     ensures { checked_number result ≡ refuse 21 (every_row (counts_are_profile card.now) tableau.now) }
 {
-    let profiles = usize::from(tableau[0]);
+    let profiles = index(tableau[0]);
     for i in 0..profiles {
         if !are_its_profile(card, layout::part(tableau, i)) {
             return Err(Refusal::RowCounts);
@@ -193,11 +194,11 @@ pub fn verdict_of(tableau: &[u8], best: Profile) -> Verdict
     requires { Readable tableau.now }
     ensures { result ≡ verdict_of (λ row. same_counts (counts_of row) best.counts) tableau.now }
 {
-    let claimed = usize::from(tableau[1]);
+    let claimed = index(tableau[1]);
     if has_profile(tableau, claimed, best) {
         return Verdict::Right;
     }
-    let rows = usize::from(tableau[0]);
+    let rows = index(tableau[0]);
     for row in 0..rows {
         if has_profile(tableau, row, best) {
             return Verdict::AnotherRow(row as u8);

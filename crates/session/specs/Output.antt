@@ -60,8 +60,8 @@ pub record Reads (card held : List ℕ) (tally : Tally) (line : List ℕ) (n : �
   pub read : List ℕ
   pub answers : Answers card held read tally line n after written
 
--- the text that reading to the end leaves to print: what is printed after the lines that end in the bytes read. Where no text is
--- left, which stands for a write that failed, nothing is said
+-- the text that reading to the end leaves to print: what is printed after the lines that end in the bytes read. Of no text nothing
+-- is said: a call that answers a length answers one above 0
 pub record Finishes (card held : List ℕ) (tally : Tally) (out : List ℕ) (r : ℕ) : Type 0 where
   pub read : List ℕ
   pub fits : r ≤ length out

@@ -4,7 +4,7 @@
 // No contract can speak of what is read and written.
 #![tactic(auto)]
 
-ghost use Rattle.std.specs.Prelude.{◌≡◌, ◌≤◌, IfSome};
+ghost use Rattle.std.specs.Prelude.{◌≡◌, ◌<◌, ◌≤◌, IfSome};
 ghost use Rattle.basics.specs.Words.{true, false, length, take};
 ghost use Rattle.lesson.specs.Tally.{Fits};
 ghost use Rattle.session.specs.Output.{Reads, Finishes};
@@ -37,7 +37,7 @@ fn read_piece(input: &mut impl Read, piece: &mut [u8]) -> usize
 // Prints the answers to the lines of the rest of the input that end, up to the first past the thousandth. The first one's bytes so
 // far stand at the front of `line`, `held` of them, and in the end those of the last one. A proved loop has to end, and nothing says
 // that an input does: the loop counts its turns down, from a number that no run uses up, since a thousand million readings a second
-// take 584 years for it. After a write that failed nothing more is read or written: none.
+// take 584 years for it.
 fn answer_pieces(
     rt: &impl Print,
     input: &mut impl Read,
@@ -46,9 +46,9 @@ fn answer_pieces(
     held: usize,
     tally: Tally,
     out: &mut [u8],
-) -> Option<Progress>
+) -> Progress
     requires { (held ≤ 201) × (length line.old ≡ 201) × Fits tally × (tally.past ≡ false) × (25628 ≤ length out.old) }
-    ensures { IfSome result (λ p. Reads card.now (take held line.old) tally line.new p.held p.tally true) }
+    ensures { Reads card.now (take held line.old) tally line.new result.held result.tally result.written }
 {
     let mut piece = [0u8; PIECE_BYTES];
     let mut bytes = held;
@@ -58,17 +58,20 @@ fn answer_pieces(
         if n == 0 {
             break;
         }
-        let progress = pieces::answer_piece(rt, card, &piece[..n], line, bytes, so_far, out)?;
-        if progress.tally.past {
-            return Some(progress);
+        let progress = pieces::answer_piece(rt, card, &piece[..n], line, bytes, so_far, out);
+        let after = progress.tally;
+        let written = progress.written;
+        if after.past | !written {
+            return progress;
         }
         bytes = progress.held;
-        so_far = progress.tally;
+        so_far = after;
     }
-    Some(Progress {
+    Progress {
         held: bytes,
         tally: so_far,
-    })
+        written: true,
+    }
 }
 
 // Prints the answers to the lines of the rest of the input that end, writes what is printed after them to the front of `out`, and
@@ -83,9 +86,13 @@ fn answer_rest(
     out: &mut [u8],
 ) -> Option<usize>
     requires { (held ≤ 201) × (length line.old ≡ 201) × Fits tally × (tally.past ≡ false) × (length out.old ≡ 25748) }
-    ensures { IfSome result (λ n. Finishes card.now (take held line.old) tally out.new n) }
+    ensures { IfSome result (λ n. (0 < n) × Finishes card.now (take held line.old) tally out.new n) }
 {
-    let progress = answer_pieces(rt, input, card, line, held, tally, out)?;
+    let progress = answer_pieces(rt, input, card, line, held, tally, out);
+    let printed = progress.written;
+    if !printed {
+        return None;
+    }
     let bytes = progress.held;
     Some(pieces::finish(card, &line[..bytes], progress.tally, out))
 }

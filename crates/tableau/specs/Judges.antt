@@ -2,7 +2,7 @@
 use Rattle.std.specs.Prelude.{◌≡◌, ◌≢◌}
 use Rattle.basics.specs.Words.{List, ℕ, length}
 use Rattle.product.specs.Optimizing.{input_refusal}
-use Rattle.tableau.specs.Judging.{Judged}
+use Rattle.tableau.specs.declared.Judged.{Judged}
 use Rattle.tableau.specs.Judging.{judging}
 
 -- the result is what the definition gives from the input. The work slice keeps its length; where the numbers 1 to 9 are answered it keeps its

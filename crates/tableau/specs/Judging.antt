@@ -9,6 +9,7 @@ use Rattle.product.specs.Best.{Contender, best}
 use Rattle.product.specs.Optimizing.{input_refusal}
 use Rattle.rows.specs.declared.Verdict.{Verdict}
 use Rattle.rows.specs.declared.Verdict.TheVariants.{Right, AnotherRow, NotInTable}
+use Rattle.tableau.specs.declared.Judged.{Judged}
 use Rattle.tableau.specs.Tableau.{counts_of, every_row, sound_tableau}
 pub use Rattle.rows.specs.Judging.{counts_are_profile, otherwise, right_or}
 unfoldable pub use Rattle.rows.specs.Judging.{is_for_word, same_counts, first_row, verdict_of}
@@ -27,12 +28,6 @@ judging_refusal card ranking word room tableau =
     ∷ refuse 20 (every_row (is_for_word card word) tableau)
     ∷ refuse 21 (every_row (counts_are_profile card) tableau)
     ∷ [])
-
--- what judging answers, in the paper's terms: the refusal's number, 0 where there is none; the verdict; the first row that wins, for another row
-pub record Judged : Type 0 where
-  pub number : ℕ
-  pub verdict : ℕ
-  pub row : ℕ
 
 -- the answer in numbers: 1 right, 2 another row, with the row that wins, 3 not in the table
 abbrev pub verdict_numbers : Verdict → Judged

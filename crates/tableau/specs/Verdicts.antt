@@ -9,7 +9,7 @@ use Rattle.candidate.specs.Candidates.{pairs_of, IsCandidate}
 use Rattle.product.specs.Best.{Contender, best}
 use Rattle.product.specs.Optimizing.{input_refusal}
 use Rattle.input.specs.AcceptedInput.{AcceptedInput, accepted_input}
-use Rattle.tableau.specs.Judging.{Judged}
+use Rattle.tableau.specs.declared.Judged.{Judged}
 use Rattle.rows.specs.declared.Verdict.{Verdict}
 use Rattle.rows.specs.declared.Verdict.TheVariants.{Right, AnotherRow, NotInTable}
 use Rattle.tableau.specs.Tableau.{row_count, claimed_row, row_of, candidate_of, every_row, sound_tableau}

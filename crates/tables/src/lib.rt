@@ -8,6 +8,7 @@ ghost use Rattle.product.specs.Nodes.{state_counts};
 ghost use Rattle.product.specs.ProductGraph.{start_node};
 ghost use Rattle.tables.specs.Places.{six_places};
 
+use basics::index;
 use machine::Position;
 
 pub mod labels; // labels.rt: labels of nodes in a lent slice
@@ -22,10 +23,10 @@ pub const NO_SUM: u64 = 18446744073709551615;
 pub fn start_node(counts: &[u8]) -> usize
     ensures { (ms : List Machine) → counts.now ≡ state_counts ms → result ≡ start_node ms }
 {
-    let start = usize::from(Position::start().state);
+    let start = index(Position::start().state);
     let mut code = 0;
     for &count in counts {
-        code = code * usize::from(count) + start;
+        code = code * index(count) + start;
     }
     code
 }

@@ -6,7 +6,8 @@ use crate::printing::{
     write_spaced_size,
 };
 use crate::slices::sevens;
-use candidate::Evaluated;
+use candidate::Evaluation;
+use finder::Finding;
 use ranking::{Order, Profile};
 use refusals::Refusal;
 
@@ -49,23 +50,20 @@ pub fn number_of<T>(answer: &Result<T, Refusal>) -> u8 {
     }
 }
 
-// Number, profile, pair count, word length: zeros of a refusal.
-pub fn write_evaluation(rt: &impl Print, answer: Result<Evaluated, Refusal>) {
-    write_spaced_byte(rt, number_of(&answer));
-    let evaluated = answer.unwrap_or(Evaluated {
-        profile: Profile::ZERO,
-        pairs: 0,
-        word_length: 0,
-    });
-    write_profile(rt, evaluated.profile);
-    write_spaced_count(rt, evaluated.pairs);
-    write_spaced_count(rt, evaluated.word_length);
+// Number, profile, pair count, word length.
+pub fn write_evaluation(rt: &impl Print, answer: impl Into<Evaluation>) {
+    let evaluation: Evaluation = answer.into();
+    write_spaced_byte(rt, evaluation.number);
+    write_profile(rt, evaluation.profile);
+    write_spaced_count(rt, evaluation.pairs);
+    write_spaced_count(rt, evaluation.word_length);
 }
 
 // Number and ranking.
-pub fn write_finding(rt: &impl Print, found: Result<[u8; 6], Refusal>) {
-    write_spaced_byte(rt, number_of(&found));
-    let ranking = found.unwrap_or([0; 6]);
+pub fn write_finding(rt: &impl Print, answer: impl Into<Finding>) {
+    let finding: Finding = answer.into();
+    let ranking = finding.ranking;
+    write_spaced_byte(rt, finding.number);
     write_spaced_byte(rt, ranking[0]);
     write_next_machine(rt, ranking[1]);
     write_next_machine(rt, ranking[2]);
@@ -112,8 +110,9 @@ pub fn write_kept(rt: &impl Print, number: u8, count: usize) {
 }
 
 // What a search answers, and the slices that it was lent.
-pub fn write_best(rt: &impl Print, best: Result<Evaluated, Refusal>, work: &[u16], answer: &[u8]) {
-    write_evaluation(rt, best);
+pub fn write_best(rt: &impl Print, best: impl Into<Evaluation>, work: &[u16], answer: &[u8]) {
+    let evaluation: Evaluation = best.into();
+    write_evaluation(rt, evaluation);
     write_slice(rt, answer);
-    write_kept(rt, number_of(&best), sevens(work));
+    write_kept(rt, evaluation.number, sevens(work));
 }

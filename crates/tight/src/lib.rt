@@ -12,6 +12,7 @@ ghost use Rattle.passing.specs.Places.{ColumnsPre};
 ghost use Rattle.tight.specs.Joint.{WeightsFit, high_by, JointAt};
 ghost use Rattle.tight.specs.Keeping.{KeepsBy, KeepsPre, LeastPre, LeastOf};
 
+use basics::index;
 use cells::{Cell, NO_LABEL};
 use machine::sets;
 use tables::{NO_STEP, NO_SUM};
@@ -97,7 +98,7 @@ fn joint_at(
     let mut high = 0;
     let mut low = 0;
     for (m, &place) in places.iter().enumerate() {
-        let step = steps[output * width + usize::from(place)];
+        let step = steps[output * width + index(place)];
         if step == NO_STEP {
             return None;
         }

@@ -2,7 +2,7 @@
 use Rattle.std.specs.Prelude.{◌≡◌, ◌∷◌, ◌++◌, ◌*◌, ◌≤◌}
 use Rattle.basics.specs.Words.{refl, sym, ◌∙◌, ap, ap₂, subst, List, [], Option, some, Option·none-ne-some, ℕ, arith, length, take, drop, take_at}
 use Rattle.machine.specs.declared.Pair.{Pair}
-use Rattle.candidate.specs.Evaluating.{Evaluation}
+use Rattle.candidate.specs.declared.Evaluation.{Evaluation}
 use Rattle.candidate.specs.Candidates.{pairs_of, bytes_of}
 use Rattle.product.specs.Best.{Contender}
 use Rattle.product.specs.Answering.{evaluation_of, filled}

@@ -3,7 +3,7 @@
 use Rattle.std.specs.Prelude.{◌≡◌, ◌*◌, ◌≤◌}
 use Rattle.basics.specs.Words.{subst, false, List, ℕ, length}
 use Rattle.card.specs.Card.{card_refusal, machines_of}
-use Rattle.candidate.specs.Evaluating.{Evaluation}
+use Rattle.candidate.specs.declared.Evaluation.{Evaluation}
 use Rattle.product.specs.Nodes.{node_count}
 use Rattle.input.specs.AcceptedInput.{accepted_input, accepted_sets_input}
 use Rattle.optimizer.specs.Optimizes.{Optimizes, OptimizesSets}

@@ -2,7 +2,7 @@
 use Rattle.std.specs.Prelude.{◌≡◌, ◌++◌, ◌*◌}
 use Rattle.basics.specs.Words.{List, ℕ, take, drop}
 use Rattle.machine.specs.declared.Pair.{Pair}
-use Rattle.candidate.specs.Evaluating.{Evaluation}
+use Rattle.candidate.specs.declared.Evaluation.{Evaluation}
 use Rattle.candidate.specs.Candidates.{pairs_of}
 
 -- the candidate that a call wrote into its answer slice

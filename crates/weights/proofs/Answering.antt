@@ -15,7 +15,7 @@ use Rattle.optimizer.proofs.Answers as ranked
 use Rattle.product.specs.Weights.{by_sum, best_by_weights}
 use Rattle.product.specs.WeightedPaths.{weights_agree}
 use Rattle.tables.specs.SumsDone.{AllDone}
-use Rattle.weights.specs.Weighing.{Weighing}
+use Rattle.weights.specs.declared.Weighing.{Weighing}
 use Rattle.weights.specs.Weighing.{weighted_refusal, refused_weighing, answered_sum}
 use Rattle.weights.proofs.Accepting.{accepts}
 use Rattle.weights.specs.WeightedBest.{weighted_best_is_small}

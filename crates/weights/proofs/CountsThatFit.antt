@@ -9,7 +9,7 @@ use Rattle.product.specs.Weights.{by_sum}
 use Rattle.product.specs.WeightedPaths.{weights_agree}
 use Rattle.input.specs.AcceptedInput.{short_word}
 use Rattle.optimizer.specs.CountsThatFit.{CountsThatFit, fitting}
-use Rattle.weights.specs.Weighing.{Weighing}
+use Rattle.weights.specs.declared.Weighing.{Weighing}
 use Rattle.weights.specs.Weighing.{weighted_refusal}
 use Rattle.weights.proofs.Accepting.{accepts}
 use Rattle.weights.specs.WeightedBest.{IsBestByWeights, sum_beats}

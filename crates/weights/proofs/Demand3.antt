@@ -9,7 +9,7 @@ use Rattle.candidate.specs.Candidates.{profile_of, IsCandidate}
 use Rattle.product.specs.Best.{Contender, contender_of}
 use Rattle.optimizer.specs.Demands.{Demands, demanded}
 use Rattle.product.specs.Weights.{weighted_sum, best_by_weights}
-use Rattle.weights.specs.Weighing.{Weighing}
+use Rattle.weights.specs.declared.Weighing.{Weighing}
 use Rattle.weights.specs.Weighing.{weighted_refusal, answered_sum}
 use Rattle.weights.specs.Accepting.{Accepts}
 use Rattle.weights.proofs.Accepting.{accepts}

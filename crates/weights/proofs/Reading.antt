@@ -5,7 +5,7 @@ use Rattle.refusals.specs.Refusals.{refuse, first_of, unless_refused}
 use Rattle.refusals.proofs.Refusals.{accepted as taken, not_accepted, passed, none_first}
 use Rattle.machine.specs.declared.Pair.{Pair}
 use Rattle.card.specs.Card.{machines_of}
-use Rattle.candidate.specs.Evaluating.{Evaluation}
+use Rattle.candidate.specs.declared.Evaluation.{Evaluation}
 use Rattle.candidate.specs.Candidates.{profile_of}
 use Rattle.paths.specs.Costs.{Labels}
 use Rattle.paths.specs.Ranked.{Ranked, ranked_costs}
@@ -38,7 +38,7 @@ use Rattle.weighted.specs.Labelling.{LabelPre}
 use Rattle.walk.specs.declared.Written.{Written}
 use Rattle.walk.specs.WalkLabels.{WalkLabels, WalkPre}
 use Rattle.walk.specs.Walked.{Walked}
-use Rattle.weights.specs.Weighing.{Weighing}
+use Rattle.weights.specs.declared.Weighing.{Weighing}
 use Rattle.weights.specs.Weighing.{refused_weighing, sum_of, answered_sum}
 use Rattle.weights.specs.WeightedWalk.{weighted_walk_labels, weighted_walk_pre, weighted_walked}
 use Rattle.weights.specs.Searching.{number_refusal, SetsPre, Searched}

@@ -7,7 +7,7 @@ use Rattle.machine.specs.declared.Pair.{Pair}
 use Rattle.ranking.specs.declared.Profile.{Profile}
 use Rattle.card.specs.Layout.{machine_count}
 use Rattle.card.specs.Card.{machines_of}
-use Rattle.candidate.specs.Evaluating.{Evaluation}
+use Rattle.candidate.specs.declared.Evaluation.{Evaluation}
 use Rattle.candidate.specs.Candidates.{bytes_of, profile_of}
 use Rattle.candidate.specs.Evaluating.{profile_with}
 use Rattle.product.specs.Best.{Contender, contender_of, best}
@@ -21,7 +21,7 @@ use Rattle.optimizer.specs.Demand3 as ranked-demand
 use Rattle.product.specs.Weights.{best_by_weights}
 use Rattle.product.specs.Dominance.{Outweighs}
 use Rattle.product.specs.Laws.SoundWeights.{weighs}
-use Rattle.weights.specs.Weighing.{Weighing}
+use Rattle.weights.specs.declared.Weighing.{Weighing}
 use Rattle.weights.specs.WeightedBest.{IsBestByWeights, weighted_best_is_best_of_all}
 use Rattle.weights.specs.Agreement.{largest, agreement}
 use Rattle.weights.specs.Searching.{Optimizes}

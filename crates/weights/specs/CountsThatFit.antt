@@ -4,7 +4,7 @@ use Rattle.card.specs.Card.{machines_of}
 use Rattle.candidate.specs.Candidates.{IsCandidate}
 use Rattle.product.specs.Weights.{by_sum}
 use Rattle.optimizer.specs.CountsThatFit.{CountsThatFit}
-use Rattle.weights.specs.Weighing.{Weighing}
+use Rattle.weights.specs.declared.Weighing.{Weighing}
 use Rattle.weights.specs.WeightedBest.{IsBestByWeights}
 
 abbrev pub CountsByWeights : (card weights word : List ℕ) → Weighing → Type 0

@@ -7,7 +7,7 @@ use Rattle.card.specs.Card.{machines_of}
 use Rattle.candidate.specs.Candidates.{profile_of, IsCandidate}
 use Rattle.optimizer.specs.Demands.{Demands}
 use Rattle.product.specs.Weights.{weighted_sum}
-use Rattle.weights.specs.Weighing.{Weighing}
+use Rattle.weights.specs.declared.Weighing.{Weighing}
 use Rattle.weights.specs.WeightedBest.{IsBestByWeights}
 
 pub record Demand3 (card weights word answer after : List ℕ) (r : Weighing) : Type 0 where

@@ -13,7 +13,7 @@ use Rattle.readout.specs.Searching as ranked
 use Rattle.optimizer.specs.Optimizes.{Answers}
 use Rattle.product.specs.Weights.{sound_weights, best_by_weights}
 use Rattle.tables.specs.SumLabels.{no_label}
-use Rattle.weights.specs.Weighing.{Weighing}
+use Rattle.weights.specs.declared.Weighing.{Weighing}
 use Rattle.weights.specs.Weighing.{weighted_refusal, answered_sum, weighed}
 
 -- the checks 10 and 12 by the number of the start's label

@@ -10,7 +10,7 @@ use Rattle.product.specs.Answering.{answered, answered_slice}
 use Rattle.product.specs.Optimizing.{sound_word}
 use Rattle.optimizer.specs.TwoCalls.{TwoCalls, both_calls, not_9}
 use Rattle.product.specs.Weights.{sound_weights, best_by_weights}
-use Rattle.weights.specs.Weighing.{Weighing}
+use Rattle.weights.specs.declared.Weighing.{Weighing}
 use Rattle.weights.specs.Weighing.{weighted_refusal, refused_weighing, answered_sum, answered_weighing}
 use Rattle.weights.specs.Searching.{Optimizes, is_weighed}
 

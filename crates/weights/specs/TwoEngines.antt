@@ -3,8 +3,8 @@
 -- zero follows from the rest.)
 use Rattle.std.specs.Prelude.{◌≡◌, ◌*◌}
 use Rattle.basics.specs.Words.{List, ℕ, take}
-use Rattle.candidate.specs.Evaluating.{Evaluation}
-use Rattle.weights.specs.Weighing.{Weighing}
+use Rattle.candidate.specs.declared.Evaluation.{Evaluation}
+use Rattle.weights.specs.declared.Weighing.{Weighing}
 
 -- the same profile, as many pairs, and the same bytes in the front of the answer slices
 pub record SameAnswer (after afterByWeights : List ℕ) (r : Evaluation) (s : Weighing) : Type 0 where

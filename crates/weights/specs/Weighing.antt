@@ -5,23 +5,20 @@ use Rattle.refusals.specs.declared.Refusal.{Refusal}
 use Rattle.refusals.specs.Refusals.{number_of, refuse, unless_refused}
 use Rattle.card.specs.Layout.{machine_count, symbol_count}
 use Rattle.card.specs.Card.{machines_of}
-use Rattle.candidate.specs.Evaluating.{Evaluation, as_evaluation, refused}
+use Rattle.candidate.specs.declared.Evaluation.{Evaluation}
+use Rattle.candidate.specs.Evaluating.{as_evaluation, refused}
 use Rattle.product.specs.Nodes.{node_count}
 use Rattle.product.specs.Best.{Contender}
 use Rattle.product.specs.Answering.{before_search, call_refusal, answered, answered_slice}
 use Rattle.product.specs.Optimizing.{sound_word}
 use Rattle.product.specs.Weights.{sound_weights, weighted_sum, best_by_weights}
 use Rattle.weights.specs.declared.Weighed.{Weighed}
+use Rattle.weights.specs.declared.Weighing.{Weighing}
 
 -- the checks before the search, 1 to 6, 26, 8, 9: 0 where card, weights, word and work slice are accepted
 unfoldable pub weighted_refusal : List ℕ → List ℕ → List ℕ → ℕ → ℕ
 weighted_refusal card weights word room =
     before_search card (refuse 26 (sound_weights (machine_count card) weights)) (refuse 8 (sound_word (symbol_count card) word)) (2 * node_count (machines_of card) (length word)) room
-
--- what the call answers, in the paper's terms: the evaluation of the best candidate, and its sum in thousandths
-pub record Weighing : Type 0 where
-  pub evaluation : Evaluation
-  pub sum : ℕ
 
 -- a refusal: its number, every other field 0
 abbrev pub refused_weighing : ℕ → Weighing

@@ -12,7 +12,7 @@ ghost use Rattle.tables.specs.SumLabels.{label_of};
 ghost use Rattle.weights.specs.Weighing.{weighing_of};
 ghost use Rattle.weights.specs.Searching.{SetsPre, SearchPre, Searched, Optimizes};
 
-use candidate::Evaluated;
+use candidate::{Evaluated, Evaluation};
 use grid::Grid;
 use refusals::Refusal;
 
@@ -23,6 +23,32 @@ mod checks; // checks.rt: the checks of the input and of the best candidate
 pub struct Weighed {
     pub evaluated: Evaluated,
     pub sum: u64,
+}
+
+// The same as one record: the evaluation, with the refusal's number, and the sum.
+#[derive(Clone, Copy)]
+pub struct Weighing {
+    pub evaluation: Evaluation,
+    pub sum: u64,
+}
+
+impl From<Result<Weighed, Refusal>> for Weighing {
+    ghost from_gives = { λ answer weighing. weighing ≡ weighing_of answer };
+
+    fn from(answer: Result<Weighed, Refusal>) -> Weighing
+        ensures { result ≡ weighing_of answer }
+    {
+        match answer {
+            Ok(weighed) => Weighing {
+                evaluation: Evaluation::from(Ok(weighed.evaluated)),
+                sum: weighed.sum,
+            },
+            Err(refusal) => Weighing {
+                evaluation: Evaluation::from(Err(refusal)),
+                sum: 0,
+            },
+        }
+    }
 }
 
 // Reads the answer off the labels of all nodes, and writes the best candidate if there is one and it has room: 10 and 12. Equal sums need not be equal

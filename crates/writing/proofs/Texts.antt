@@ -1,7 +1,7 @@
 -- Laws of the texts that are printed: their parts, their lengths. Assumes nothing.
 use Rattle.std.specs.Prelude.{◌≡◌, ◌∷◌, ◌++◌, ◌+◌, ◌-◌, ◌*◌, ◌<◌, ◌≤◌}
 use Rattle.basics.specs.Words.{refl, ap, sym, ◌∙◌, List, [], ℕ, zero, suc, zero-le, arith, length, get_or, take, drop, length-append, length-drop, drop_of_length-le, lit≤, suc-ne-zero, not-suc-le-zero, le_of_suc-le-suc, mul-suc, mul-le-mul_left, joined}
-use Rattle.candidate.specs.Evaluating.{Evaluation}
+use Rattle.candidate.specs.declared.Evaluation.{Evaluation}
 use Rattle.candidate.specs.Candidates.{pairs_of}
 use Rattle.std.specs.Simd.{first_chunks}
 use Rattle.writing.specs.Text.{text_of}

@@ -1,7 +1,7 @@
 -- The lines that the program prints.
 use Rattle.std.specs.Prelude.{◌∷◌, ◌++◌, ◌*◌}
 use Rattle.basics.specs.Words.{List, [], ℕ, zero, suc, take, joined}
-use Rattle.candidate.specs.Evaluating.{Evaluation}
+use Rattle.candidate.specs.declared.Evaluation.{Evaluation}
 use Rattle.candidate.specs.Candidates.{pairs_of}
 use Rattle.writing.specs.Text.{text_of}
 use Rattle.writing.specs.Decimal.{decimal}

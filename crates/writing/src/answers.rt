@@ -1,15 +1,14 @@
 // Writing the lines that the program prints.
 ghost use Rattle.std.specs.Prelude.{◌≡◌, ◌+◌, ◌*◌, ◌<◌, ◌≤◌};
 ghost use Rattle.basics.specs.Words.{length, joined};
-ghost use Rattle.candidate.specs.Evaluating.{as_evaluation};
+ghost use Rattle.candidate.specs.declared.Evaluation.{Evaluation};
 ghost use Rattle.writing.specs.Buffers.{Written, Below, at_front};
 ghost use Rattle.writing.specs.Writing.{next_count, with_commas, pair_text, pairs_text, bad_line, refused_line, accepted_line, line_of, total_line, closing_lines};
 
 use crate::decimal::write_number;
 use crate::text::{least, write_byte, write_text};
-use candidate::Evaluated;
+use candidate::Evaluation;
 use ranking::Profile;
-use refusals::Refusal;
 
 // Writes a comma and a count from a place on, and answers the place after them.
 fn write_next_count(count: u32, out: &mut [u8], at: usize) -> usize
@@ -107,24 +106,24 @@ fn wide_counts(profile: Profile) -> [u32; 6]
 
 // Writes an answer's line to the front of a slice, and answers the line's length. The counts are those of `machines`
 // machines; the pairs stand at the front of `answer`.
-pub fn write_answer(
-    best: Result<Evaluated, Refusal>,
+pub fn write_answer<A: Into<Evaluation>>(
+    best: A,
     machines: u8,
     answer: &[u8],
     out: &mut [u8],
 ) -> usize
     requires { 36 + 4 * length answer.now ≤ length out.old }
-    ensures length { result ≡ length (line_of machines (as_evaluation best) answer.now) }
-    ensures out { out.new ≡ at_front (line_of machines (as_evaluation best) answer.now) out.old }
+    ensures { (evaluation : Evaluation) × A.converts best evaluation × (result ≡ length (line_of machines evaluation answer.now)) × (out.new ≡ at_front (line_of machines evaluation answer.now) out.old) }
 {
-    let evaluated = match best {
-        Ok(evaluated) => evaluated,
-        Err(refusal) => return write_refused(u8::from(refusal), out),
-    };
-    let profile = evaluated.profile;
+    let evaluation: Evaluation = best.into();
+    let number = evaluation.number;
+    if number != 0 {
+        return write_refused(number, out);
+    }
+    let profile = evaluation.profile;
     let counts = wide_counts(profile);
     let shown = least(machines as usize, 6);
-    let used = least(2 * (evaluated.pairs as usize), answer.len());
+    let used = least(2 * (evaluation.pairs as usize), answer.len());
     write_accepted(&counts[..shown], &answer[..used], out)
 }
 

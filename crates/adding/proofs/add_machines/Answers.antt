@@ -24,7 +24,7 @@ loop-m-init c = (
 
 pub overflow_sub-place : goal.overflow_sub-place
 overflow_sub-place c =
-    place_enough c.requires.enough c.loop-m.invariant.0 (c.loop-m.m - 1) (omega (arith, c.loop-m-test.true)) _ c.from-states.ensures
+    place_enough c.requires.enough c.loop-m.invariant.0 (c.loop-m.m - 1) (omega (arith, c.loop-m-test.true)) _ c.index-states.ensures.0
 
 pub add_machine-requires : goal.add_machine-requires
 add_machine-requires c =
@@ -33,7 +33,7 @@ add_machine-requires c =
     let el = i.4 ∙ c.begin-2.ensures.0 in
     let m = c.loop-m.m - 1 in
     let t : c.loop-m.m ≡ suc m = omega (arith, c.loop-m-test.true) in
-    let is = c.from-states.ensures in
+    let is = c.index-states.ensures.0 in
     machine_pre c.requires eh el i.0 i.1 i.2 m t _ is
 
 pub overflow_mul-codes : goal.overflow_mul-codes
@@ -43,8 +43,8 @@ overflow_mul-codes c =
     let el = i.4 ∙ c.begin-2.ensures.0 in
     let m = c.loop-m.m - 1 in
     let t : c.loop-m.m ≡ suc m = omega (arith, c.loop-m-test.true) in
-    let is = c.from-states.ensures in
-    omega (arith, codes_few c.requires eh el i.0 i.1 i.2 m t _ is, mul_comm c.loop-m.codes c.from-states.result)
+    let is = c.index-states.ensures.0 in
+    omega (arith, codes_few c.requires eh el i.0 i.1 i.2 m t _ is, mul_comm c.loop-m.codes c.index-states.result)
 
 pub loop-m-preserved : goal.loop-m-preserved
 loop-m-preserved c =
@@ -53,7 +53,7 @@ loop-m-preserved c =
     let el = i.4 ∙ c.begin-2.ensures.0 in
     let m = c.loop-m.m - 1 in
     let t : c.loop-m.m ≡ suc m = omega (arith, c.loop-m-test.true) in
-    let is = c.from-states.ensures in (
+    let is = c.index-states.ensures.0 in (
       reached_next c.requires.enough i.0 m t _ is,
       sums_next c.requires.enough i.0 m t _ is (high_at c.args.steps.now c.args.weights.now c.args.width) c.requires.some i.1 c.add_machine.ensures.highs,
       sums_next c.requires.enough i.0 m t _ is (low_at c.args.steps.now c.args.weights.now c.args.width) c.requires.some i.2 c.add_machine.ensures.lows,

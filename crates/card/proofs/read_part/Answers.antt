@@ -28,12 +28,12 @@ returns-in_err-check_reading c =
     rw (p.1, p.2) (sym (read_refused c.args.card.now c.args.machine _ (sym told ∙ ap checked_number e) (number_positive c.in_err-check_reading.field-0.0)))
 
 pub part_offset-requires : goal.part_offset-requires
-part_offset-requires c = placed c.args.card.now c.args.machine _ (passed_number c.in_ok-check_reading.was c.check_reading.ensures) c.from-machine.ensures
+part_offset-requires c = placed c.args.card.now c.args.machine _ (passed_number c.in_ok-check_reading.was c.check_reading.ensures) c.index-machine.ensures.0
 
 pub part_length-requires : goal.part_length-requires
-part_length-requires c = placed c.args.card.now c.args.machine _ (passed_number c.in_ok-check_reading.was c.check_reading.ensures) c.from-machine.ensures
+part_length-requires c = placed c.args.card.now c.args.machine _ (passed_number c.in_ok-check_reading.was c.check_reading.ensures) c.index-machine.ensures.0
 
 pub returns : goal.returns
 returns c =
-    read_placed c.args.card.now c.args.machine c.from-machine.result c.part_offset.result c.part_length.result (passed_number c.in_ok-check_reading.was c.check_reading.ensures) c.from-machine.ensures
+    read_placed c.args.card.now c.args.machine c.index-machine.result c.part_offset.result c.part_length.result (passed_number c.in_ok-check_reading.was c.check_reading.ensures) c.index-machine.ensures.0
     c.part_offset.ensures.0 c.part_length.ensures.0

@@ -8,23 +8,23 @@ loop-m-init c = choosing_start c.requires.0 c.requires.1 c.requires.2
 
 pub overflow_add-places : goal.overflow_add-places
 overflow_add-places c =
-    omega (arith, places_fit c.requires.0 c.requires.1 c.requires.2 c.loop-m.invariant c.loop-m-test.true c.from-more.result c.from-more.ensures)
+    omega (arith, places_fit c.requires.0 c.requires.1 c.requires.2 c.loop-m.invariant c.loop-m-test.true c.index-more.result c.index-more.ensures.0)
 
 pub overflow_mul-codes : goal.overflow_mul-codes
 overflow_mul-codes c =
-    omega (arith, codes_fit c.requires.0 c.requires.1 c.requires.2 c.loop-m.invariant c.loop-m-test.true c.from-more.result c.from-more.ensures)
+    omega (arith, codes_fit c.requires.0 c.requires.1 c.requires.2 c.loop-m.invariant c.loop-m-test.true c.index-more.result c.index-more.ensures.0)
 
 pub nonzero_div-back : goal.nonzero_div-back
 nonzero_div-back c =
-    codes_some c.requires.0 c.requires.1 c.requires.2 c.loop-m.invariant c.loop-m-test.true c.from-more.result c.from-more.ensures
+    codes_some c.requires.0 c.requires.1 c.requires.2 c.loop-m.invariant c.loop-m-test.true c.index-more.result c.index-more.ensures.0
 
 pub nearer-best-requires : goal.nearer-best-requires
 nearer-best-requires c =
-    (omega (arith, c.loop-m.invariant.most, c.requires.2, few_states_lem c.requires.0), omega (arith, codes_fit c.requires.0 c.requires.1 c.requires.2 c.loop-m.invariant c.loop-m-test.true c.from-more.result c.from-more.ensures, rest_few c.requires.0 c.requires.1 c.requires.2 c.loop-m.invariant c.loop-m-test.true c.from-more.result c.from-more.ensures))
+    (omega (arith, c.loop-m.invariant.most, c.requires.2, few_states_lem c.requires.0), omega (arith, codes_fit c.requires.0 c.requires.1 c.requires.2 c.loop-m.invariant c.loop-m-test.true c.index-more.result c.index-more.ensures.0, rest_few c.requires.0 c.requires.1 c.requires.2 c.loop-m.invariant c.loop-m-test.true c.index-more.result c.index-more.ensures.0))
 
 pub loop-m-preserved : goal.loop-m-preserved
 loop-m-preserved c =
-    choosing_next c.requires.0 c.requires.1 c.requires.2 c.loop-m.invariant c.loop-m-test.true c.from-more.result c.from-more.ensures c.nearer-best.ensures
+    choosing_next c.requires.0 c.requires.1 c.requires.2 c.loop-m.invariant c.loop-m-test.true c.index-more.result c.index-more.ensures.0 c.nearer-best.ensures
 
 pub returns : goal.returns
 returns c =

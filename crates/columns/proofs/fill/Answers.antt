@@ -21,11 +21,11 @@ part-requires c =
 
 pub fill_machine-taken-requires : goal.fill_machine-taken-requires
 fill_machine-taken-requires c =
-    machine_pre c.requires c.loop-m.invariant.1 c.loop-m-test.true c.part.ensures c.from-states.ensures
+    machine_pre c.requires c.loop-m.invariant.1 c.loop-m-test.true c.part.ensures c.index-states.ensures.0
 
 pub overflow_add-first : goal.overflow_add-first
 overflow_add-first c =
-    omega (arith, c.from-states.ensures, places_there c.requires c.loop-m.invariant.1 c.loop-m-test.true, narrow c.requires)
+    omega (arith, c.index-states.ensures.0, places_there c.requires c.loop-m.invariant.1 c.loop-m-test.true, narrow c.requires)
 
 pub loop-m-preserved : goal.loop-m-preserved
 loop-m-preserved c =
@@ -33,4 +33,4 @@ loop-m-preserved c =
     let card = c.args.card.now in
     let h : MachineFilled (machine_at (machines_of card) c.loop-m.m) c.args.input c.args.width c.loop-m.first c.loop-m.steps c.fill_machine-taken.new.steps c.fill_machine-taken.result =
     rw (machine_at_lem card c.loop-m.m (machine_below c.requires c.loop-m.invariant.1 t) no_machine, ← c.part.ensures) (c.fill_machine-taken.ensures c.args.input c.set_of-set.ensures) in
-    (c.fill_machine-taken.auto.steps ∙ c.loop-m.invariant.0, filled_next c.requires c.loop-m.invariant.1 t c.from-states.result c.fill_machine-taken.result c.from-states.ensures h)
+    (c.fill_machine-taken.auto.steps ∙ c.loop-m.invariant.0, filled_next c.requires c.loop-m.invariant.1 t c.index-states.result c.fill_machine-taken.result c.index-states.ensures.0 h)

@@ -21,7 +21,7 @@ part-requires c =
 
 pub fill_state-taken-requires : goal.fill_state-taken-requires
 fill_state-taken-requires c =
-    state_pre c.requires.0 c.requires.1 c.loop-m.invariant.1 c.loop-m-test.true c.part.ensures c.from-count.ensures
+    state_pre c.requires.0 c.requires.1 c.loop-m.invariant.1 c.loop-m-test.true c.part.ensures c.index-count.ensures.0
 
 pub loop-m-preserved : goal.loop-m-preserved
 loop-m-preserved c =

@@ -17,11 +17,11 @@ part-requires c =
 
 pub fill_part_endings-requires : goal.fill_part_endings-requires
 fill_part_endings-requires c =
-    endings_pre c.requires c.loop-m.invariant c.loop-m-test.true c.part.ensures c.from-states.ensures
+    endings_pre c.requires c.loop-m.invariant c.loop-m-test.true c.part.ensures c.index-states.ensures.0
 
 pub overflow_add-first : goal.overflow_add-first
 overflow_add-first c =
-    omega (arith, c.from-states.ensures, places_there c.requires c.loop-m.invariant c.loop-m-test.true)
+    omega (arith, c.index-states.ensures.0, places_there c.requires c.loop-m.invariant c.loop-m-test.true)
 
 pub loop-m-preserved : goal.loop-m-preserved
 loop-m-preserved c =
@@ -29,4 +29,4 @@ loop-m-preserved c =
     let card = c.args.card.now in
     let h : PartEndings (machine_at (machines_of card) c.loop-m.m) c.loop-m.first c.loop-m.steps c.fill_part_endings.new.steps =
     rw (machine_at_lem card c.loop-m.m (machine_below c.requires c.loop-m.invariant t) no_machine, ← c.part.ensures) c.fill_part_endings.ensures in
-    endings_next c.requires c.loop-m.invariant t c.from-states.result c.from-states.ensures h
+    endings_next c.requires c.loop-m.invariant t c.index-states.result c.index-states.ensures.0 h

@@ -23,7 +23,7 @@ nth_arc-arc-requires c =
 
 pub enter_arc-outputs-requires : goal.enter_arc-outputs-requires
 enter_arc-outputs-requires c =
-    place_pre (omega (arith, c.from.ensures)) (arc_pre c.requires.0 c.loop-i.steps c.loop-i.invariant.1 (c.loop-i.i - 1) (omega (arith, c.loop-i.invariant.0, c.loop-i-test.true)) c.nth_arc-arc.result (c.nth_arc-arc.ensures c.nth_arc-arc.result))
+    place_pre (omega (arith, c.index.ensures.0)) (arc_pre c.requires.0 c.loop-i.steps c.loop-i.invariant.1 (c.loop-i.i - 1) (omega (arith, c.loop-i.invariant.0, c.loop-i-test.true)) c.nth_arc-arc.result (c.nth_arc-arc.ensures c.nth_arc-arc.result))
 
 pub loop-i-preserved : goal.loop-i-preserved
 loop-i-preserved c =
@@ -35,7 +35,7 @@ loop-i-preserved c =
       λ x e.
           arcs_next c.args.steps.now (arcs_of part) (state_count part) c.args.width c.args.first x c.requires.0.enough (c.loop-i.i - 1) c.loop-i.i a c.loop-i.taken c.enter_arc-outputs.result
           (omega (arith, t)) (omega (arith, c.loop-i.invariant.0, t, arcs_count part (2 + state_count part) (arc_count part))) (c.nth_arc-arc.ensures a)
-          (arc_from c.requires.0 (c.loop-i.i - 1) (omega (arith, c.loop-i.invariant.0, t)) a (c.nth_arc-arc.ensures a)) (c.loop-i.invariant.2 x e) (arc_entered a x (omega (arith, c.from.ensures)) (c.enter_arc-outputs.ensures x e)),
+          (arc_from c.requires.0 (c.loop-i.i - 1) (omega (arith, c.loop-i.invariant.0, t)) a (c.nth_arc-arc.ensures a)) (c.loop-i.invariant.2 x e) (arc_entered a x (omega (arith, c.index.ensures.0)) (c.enter_arc-outputs.ensures x e)),
     )
 
 pub returns : goal.returns

@@ -6,4 +6,4 @@ pub loop-i-preserved : goal.loop-i-preserved
 loop-i-preserved c = closed_next _ c.loop-i.invariant c.loop-i-test.true c.requires.1
 
 pub returns : goal.returns
-returns c = closed_end c.loop-i.invariant (omega arith) c.zero.ensures
+returns c = closed_end c.loop-i.invariant (omega arith) c.zero_row.ensures

@@ -49,13 +49,13 @@ bounds-weights-at-in-loop-m-2 c = omega (arith, machine_few c.requires.0 c.loop-
 
 pub overflow_mul-scale : goal.overflow_mul-scale
 overflow_mul-scale c =
-    let q : c.loop-m.scale * c.from-scale.result ≤ 128 = rw c.from-scale.ensures (scale_few c.requires.0 c.loop-m.invariant c.loop-m-test.true) in
+    let q : c.loop-m.scale * c.index-scale.result ≤ 128 = rw c.index-scale.ensures.0 (scale_few c.requires.0 c.loop-m.invariant c.loop-m-test.true) in
     omega (arith, q)
 
 pub loop-m-preserved : goal.loop-m-preserved
 loop-m-preserved c =
     let e = c.six_places-places.ensures in
-    weights_next c.requires.0 c.loop-m.invariant c.loop-m-test.true (c.weight.ensures ∙ ap (λ (r : List ℕ). weight_by r ranked_highs (c.loop-m.m - 1)) e) (c.weight-in-loop-m.ensures ∙ ap (λ (r : List ℕ). weight_by r ranked_lows (c.loop-m.m - 1)) e) c.from-scale.ensures
+    weights_next c.requires.0 c.loop-m.invariant c.loop-m-test.true (c.weight.ensures ∙ ap (λ (r : List ℕ). weight_by r ranked_highs (c.loop-m.m - 1)) e) (c.weight-in-loop-m.ensures ∙ ap (λ (r : List ℕ). weight_by r ranked_lows (c.loop-m.m - 1)) e) c.index-scale.ensures.0
 
 pub returns : goal.returns
 returns c =

@@ -10,4 +10,4 @@ pub returns : goal.returns
 unfolding shaped
 returns c =
     let l = c.args.part.now in
-    rw (le-leb 2 (length l) (omega arith)) (rw (c.from-states.ensures, c.from-arcs.ensures) at c.tested.ensures)
+    rw (le-leb 2 (length l) (omega arith)) (rw (c.index-states.ensures.0, c.index-arcs.ensures.0) at c.tested.ensures)

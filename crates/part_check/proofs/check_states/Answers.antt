@@ -11,7 +11,7 @@ pub bounds-part-0 : goal.bounds-part-0
 bounds-part-0 c = omega (arith, shape_facts _ c.requires)
 
 pub slice_bounds-byte-items-end : goal.slice_bounds-byte-items-end
-slice_bounds-byte-items-end c = omega (arith, shape_facts _ c.requires, c.from-end.ensures)
+slice_bounds-byte-items-end c = omega (arith, shape_facts _ c.requires, c.index-end.ensures.0)
 
 pub loop-byte-init : goal.loop-byte-init
 loop-byte-init c =
@@ -21,15 +21,15 @@ loop-byte-init c =
 
 pub returns-then-byte-gt16 : goal.returns-then-byte-gt16
 returns-then-byte-gt16 c =
-    let n = left_next (gone_through c.args.part.now) c.loop-byte.byte-index (rw c.from-end.ensures at c.loop-byte-test.true) in
-    ap (refuse 4) (sym (all_fails (λ b. leb b 16) n (lt-leb _ _ (rw c.from-end.ensures at c.if-byte-gt16.true))) ∙ c.loop-byte.invariant)
+    let n = left_next (gone_through c.args.part.now) c.loop-byte.byte-index (rw c.index-end.ensures.0 at c.loop-byte-test.true) in
+    ap (refuse 4) (sym (all_fails (λ b. leb b 16) n (lt-leb _ _ (rw c.index-end.ensures.0 at c.if-byte-gt16.true))) ∙ c.loop-byte.invariant)
 
 pub loop-byte-preserved : goal.loop-byte-preserved
 loop-byte-preserved c =
-    let n = left_next (gone_through c.args.part.now) c.loop-byte.byte-index (rw c.from-end.ensures at c.loop-byte-test.true) in
-    all_next (λ b. leb b 16) n (le-leb _ _ (rw c.from-end.ensures at c.if-byte-gt16.false)) ∙ c.loop-byte.invariant
+    let n = left_next (gone_through c.args.part.now) c.loop-byte.byte-index (rw c.index-end.ensures.0 at c.loop-byte-test.true) in
+    all_next (λ b. leb b 16) n (le-leb _ _ (rw c.index-end.ensures.0 at c.if-byte-gt16.false)) ∙ c.loop-byte.invariant
 
 pub returns : goal.returns
 returns c =
-    let n = left_none (gone_through c.args.part.now) c.loop-byte.byte-index (rw c.from-end.ensures at c.loop-byte-test.false) in
+    let n = left_none (gone_through c.args.part.now) c.loop-byte.byte-index (rw c.index-end.ensures.0 at c.loop-byte-test.false) in
     ap (refuse 4) (sym (all_none (λ b. leb b 16) n) ∙ c.loop-byte.invariant)

@@ -17,11 +17,11 @@ offset_bounds-steps-output c = omega (arith, column_few c.requires.0.columns _ c
 
 pub bounds-steps-output : goal.bounds-steps-output
 bounds-steps-output c =
-    column_in c.requires.0.columns _ c.requires.0.output _ c.loop-m-test.true _ c.from.ensures
+    column_in c.requires.0.columns _ c.requires.0.output _ c.loop-m-test.true _ c.index.ensures.0
 
 pub overflow_cast-states : goal.overflow_cast-states
 overflow_cast-states c =
-    omega (arith, step_few c.requires.0 c.requires.1 c.loop-m.invariant c.loop-m-test.true _ c.from.ensures)
+    omega (arith, step_few c.requires.0 c.requires.1 c.loop-m.invariant c.loop-m-test.true _ c.index.ensures.0)
 
 pub bounds-states-m : goal.bounds-states-m
 bounds-states-m c =
@@ -41,7 +41,7 @@ bounds-marks-m-in-loop-m c =
 
 pub loop-m-preserved : goal.loop-m-preserved
 loop-m-preserved c =
-    passed_next c.requires.0 c.requires.1 c.loop-m.invariant c.loop-m-test.true _ c.from.ensures
+    passed_next c.requires.0 c.requires.1 c.loop-m.invariant c.loop-m-test.true _ c.index.ensures.0
 
 pub shape_of-states : goal.shape_of-states
 shape_of-states c =

@@ -11,14 +11,14 @@ claim counts tableau e is t = sym (e ∙ ap (λ (n : ℕ). wins counts (row_of t
 
 pub returns-then-has_profile : goal.returns-then-has_profile
 returns-then-has_profile c =
-    sym (claim_wins (wins c.args.best.counts) c.args.tableau.now (claim c.args.best.counts c.args.tableau.now c.has_profile.ensures c.from-claimed.ensures c.if-has_profile.true))
+    sym (claim_wins (wins c.args.best.counts) c.args.tableau.now (claim c.args.best.counts c.args.tableau.now c.has_profile.ensures c.index-claimed.ensures.0 c.if-has_profile.true))
 
 pub loop-row-init : goal.loop-row-init
 loop-row-init c = (omega arith, none_start (wins c.args.best.counts) c.args.tableau.now)
 
 pub returns-then-has_profile-2 : goal.returns-then-has_profile-2
 returns-then-has_profile-2 c =
-    sym (later_wins (wins c.args.best.counts) c.args.tableau.now (claim c.args.best.counts c.args.tableau.now c.has_profile.ensures c.from-claimed.ensures c.if-has_profile.false)
+    sym (later_wins (wins c.args.best.counts) c.args.tableau.now (claim c.args.best.counts c.args.tableau.now c.has_profile.ensures c.index-claimed.ensures.0 c.if-has_profile.false)
     c.loop-row.row (omega arith) c.loop-row.invariant.1 (sym c.has_profile-in-loop-row.ensures ∙ c.if-has_profile-2.true))
 
 pub loop-row-preserved : goal.loop-row-preserved
@@ -28,5 +28,5 @@ loop-row-preserved c =
 pub returns : goal.returns
 returns c =
     let e : c.loop-row.row ≡ row_count c.args.tableau.now = omega arith in
-    sym (no_row_wins (wins c.args.best.counts) c.args.tableau.now (claim c.args.best.counts c.args.tableau.now c.has_profile.ensures c.from-claimed.ensures c.if-has_profile.false)
+    sym (no_row_wins (wins c.args.best.counts) c.args.tableau.now (claim c.args.best.counts c.args.tableau.now c.has_profile.ensures c.index-claimed.ensures.0 c.if-has_profile.false)
     (ap (first_before (wins c.args.best.counts) c.args.tableau.now) (sym e) ∙ c.loop-row.invariant.1))

@@ -20,24 +20,24 @@ offset_bounds-steps-output c =
 
 pub bounds-steps-output : goal.bounds-steps-output
 bounds-steps-output c =
-    column_in c.requires.0 _ c.requires.2 _ c.loop-m-test.true _ c.from.ensures
+    column_in c.requires.0 _ c.requires.2 _ c.loop-m-test.true _ c.index.ensures.0
 
 pub returns-then-step : goal.returns-then-step
 returns-then-step c =
-    joint_none c.requires.0 c.requires.1 _ c.requires.3 c.loop-m.invariant.0 c.loop-m.invariant.1 c.loop-m-test.true _ c.from.ensures c.if-step.true
+    joint_none c.requires.0 c.requires.1 _ c.requires.3 c.loop-m.invariant.0 c.loop-m.invariant.1 c.loop-m-test.true _ c.index.ensures.0 c.if-step.true
 
 pub overflow_add-high : goal.overflow_add-high
 overflow_add-high c =
-    omega (arith, highs_fit c.requires.0 c.requires.1 _ c.requires.3 c.loop-m.invariant.0 c.loop-m.invariant.1 c.loop-m-test.true _ c.from.ensures c.if-step.false _ c.high_cell-high.ensures)
+    omega (arith, highs_fit c.requires.0 c.requires.1 _ c.requires.3 c.loop-m.invariant.0 c.loop-m.invariant.1 c.loop-m-test.true _ c.index.ensures.0 c.if-step.false _ c.high_cell-high.ensures)
 
 pub overflow_add-low : goal.overflow_add-low
 overflow_add-low c =
-    omega (arith, lows_fit c.requires.0 c.requires.1 _ c.requires.3 c.loop-m.invariant.0 c.loop-m.invariant.1 c.loop-m-test.true _ c.from.ensures _ c.low_cell-low.ensures)
+    omega (arith, lows_fit c.requires.0 c.requires.1 _ c.requires.3 c.loop-m.invariant.0 c.loop-m.invariant.1 c.loop-m-test.true _ c.index.ensures.0 _ c.low_cell-low.ensures)
 
 pub loop-m-preserved : goal.loop-m-preserved
 loop-m-preserved c = (
-  highs_next c.requires.0 c.requires.1 _ c.requires.3 c.loop-m.invariant.0 c.loop-m.invariant.1 c.loop-m-test.true _ c.from.ensures c.if-step.false _ c.high_cell-high.ensures,
-  lows_next c.requires.0 c.requires.1 _ c.requires.3 c.loop-m.invariant.0 c.loop-m.invariant.1 c.loop-m-test.true _ c.from.ensures _ c.low_cell-low.ensures,
+  highs_next c.requires.0 c.requires.1 _ c.requires.3 c.loop-m.invariant.0 c.loop-m.invariant.1 c.loop-m-test.true _ c.index.ensures.0 c.if-step.false _ c.high_cell-high.ensures,
+  lows_next c.requires.0 c.requires.1 _ c.requires.3 c.loop-m.invariant.0 c.loop-m.invariant.1 c.loop-m-test.true _ c.index.ensures.0 _ c.low_cell-low.ensures,
 )
 
 pub returns : goal.returns

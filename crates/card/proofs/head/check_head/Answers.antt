@@ -11,4 +11,4 @@ pub returns : goal.returns
 unfolding counted
 returns c =
     let l = c.args.card.now in
-    rw (le-leb 2 (length l) (omega arith)) (c.check_counts.ensures ∙ ap (λ (n : ℕ). refuse 1 (sound_counts n (get_or l 1 0))) c.from.ensures)
+    rw (le-leb 2 (length l) (omega arith)) (c.check_counts.ensures ∙ ap (λ (n : ℕ). refuse 1 (sound_counts n (get_or l 1 0))) c.index.ensures.0)

@@ -31,7 +31,7 @@ slice_bounds-lengths-end c = omega (arith, head_told c.args.card.now c.requires.
 pub slice_bounds-check_parts-end : goal.slice_bounds-check_parts-end
 slice_bounds-check_parts-end c =
     let h = head_told c.args.card.now c.requires.0 in
-    sym (length-take-le c.from-machines.result c.read_lengths-lengths.result (omega (arith, h)))
+    sym (length-take-le c.index-machines.result c.read_lengths-lengths.result (omega (arith, h)))
 
 pub bounds-card-1 : goal.bounds-card-1
 bounds-card-1 c = omega (arith, head_told c.args.card.now c.requires.0)
@@ -39,23 +39,23 @@ bounds-card-1 c = omega (arith, head_told c.args.card.now c.requires.0)
 pub check_parts-requires : goal.check_parts-requires
 check_parts-requires c =
     let l = c.args.card.now in
-    let k = c.from-machines.result in
+    let k = c.index-machines.result in
     let r = c.read_lengths-lengths.result in
     let h = head_told l c.requires.0 in
     let laid = layout_told (machine_count l) l c.requires.1 in
     let fits : k ≤ length r = omega (arith, h) in
-    let e = lengths l r k laid c.from-machines.ensures fits c.read_lengths-lengths.ensures.1 in
+    let e = lengths l r k laid c.index-machines.ensures.0 fits c.read_lengths-lengths.ensures.1 in
     (omega (arith, table_total l laid (take k r) e), omega (arith, h, length-take-le k r fits), omega (arith, h))
 
 pub returns : goal.returns
 returns c =
     let l = c.args.card.now in
-    let k = c.from-machines.result in
+    let k = c.index-machines.result in
     let r = c.read_lengths-lengths.result in
     let h = head_told l c.requires.0 in
     let laid = layout_told (machine_count l) l c.requires.1 in
     let fits : k ≤ length r = omega (arith, h) in
-    let are = lengths l r k laid c.from-machines.ensures fits c.read_lengths-lengths.ensures.1 in
-    let e : k ≡ machine_count l = c.from-machines.ensures in
+    let are = lengths l r k laid c.index-machines.ensures.0 fits c.read_lengths-lengths.ensures.1 in
+    let e : k ≡ machine_count l = c.index-machines.ensures.0 in
     let p = ap (λ n. split (take k r) (drop (2 + 4 * n) l)) e ∙ table_parts l laid (take k r) are in
     c.check_parts.ensures ∙ ap (λ ps. first_of (parts_refusal (symbol_count l) ps ∷ refuse 6 (few_states ps) ∷ [])) p

@@ -7,8 +7,8 @@ pub bounds-part-0 : goal.bounds-part-0
 bounds-part-0 c =
     omega (arith, shape_facts _ c.requires)
 
-pub returns-then-from-state : goal.returns-then-from-state
-returns-then-from-state c =
+pub returns-then-index-state : goal.returns-then-index-state
+returns-then-index-state c =
     no_state c.args.part.now c.args.self.state c.requires (omega arith)
 
 pub bounds-part-state : goal.bounds-part-state
@@ -17,8 +17,8 @@ bounds-part-state c =
 
 pub returns-then-byte-eq0 : goal.returns-then-byte-eq0
 returns-then-byte-eq0 c =
-    not_final c.args.part.now c.args.self.state c.from-state.result c.from-state.ensures (omega arith) c.if-byte-eq0.true
+    not_final c.args.part.now c.args.self.state c.index-state.result c.index-state.ensures.0 (omega arith) c.if-byte-eq0.true
 
 pub returns-else-byte-eq0 : goal.returns-else-byte-eq0
 returns-else-byte-eq0 c =
-    final c.args.part.now c.args.self.state c.from-state.result c.from-state.ensures (omega arith) c.if-byte-eq0.false
+    final c.args.part.now c.args.self.state c.index-state.result c.index-state.ensures.0 (omega arith) c.if-byte-eq0.false

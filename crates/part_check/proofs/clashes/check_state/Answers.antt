@@ -9,7 +9,7 @@ pub bounds-part-1 : goal.bounds-part-1
 bounds-part-1 c = omega (arith, shape_facts _ c.requires.0)
 
 pub loop-i-init : goal.loop-i-init
-loop-i-init c = state_start c.args.part.now c.args.from _ c.from-i.ensures
+loop-i-init c = state_start c.args.part.now c.args.from _ c.index-i.ensures.0
 
 pub note_arc-requires : goal.note_arc-requires
 note_arc-requires c =
