@@ -5,7 +5,7 @@
 #![tactic(auto)]
 
 ghost use Rattle.std.specs.Prelude.{◌≡◌, ◌<◌, ◌≤◌, IfSome};
-ghost use Rattle.basics.specs.Words.{true, false, length, take};
+ghost use Rattle.basics.specs.Words.{false, length, take};
 ghost use Rattle.lesson.specs.Tally.{Fits};
 ghost use Rattle.session.specs.Output.{Reads, Finishes};
 
@@ -36,7 +36,7 @@ fn read_piece(input: &mut impl Read, piece: &mut [u8]) -> usize
 
 // Prints the answers to the lines of the rest of the input that end, up to the first past the thousandth. The first one's bytes so
 // far stand at the front of `line`, `held` of them, and in the end those of the last one. A proved loop has to end, and nothing says
-// that an input does: the loop counts its turns down, from a number that no run uses up, since a thousand million readings a second
+// that an input does: the loop counts its turns, up to a number that no run comes to, since a thousand million readings a second
 // take 584 years for it.
 fn answer_pieces(
     rt: &impl Print,

@@ -35,7 +35,7 @@ returns-then-tally-written g c =
     past_written c.print_answer-printed.result.tally.past c.print_answer-printed.result.written c.if-tally-written.true in
     let e = sym c.next_line-next.ensures.answer ∙ c.in-Line.is in
     record {
-      few = lit≤ tt;
+      few = omega arith;
       fits = c.print_answer-printed.ensures.tally.1;
       lines_counted = λ w.
           let rest = ended_lines [] (drop c.in-Line.after c.args.piece.now) in
