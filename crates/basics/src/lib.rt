@@ -3,7 +3,7 @@
 
 ghost use Rattle.std.specs.Prelude.{◌≡◌, ◌<◌};
 
-// A byte as a number to index with. No `usize::from` in its place: the edit `high_bit_lost` is of what runs (docs/DECISIONS.md, 204).
+// A byte as a number to index with. Called where `usize::from` would do, so that the edit `high_bit_lost` makes programs wrong (docs/DECISIONS.md, 204).
 pub fn index(x: u8) -> usize
     ensures { (result ≡ x) × (result < 256) }
 {

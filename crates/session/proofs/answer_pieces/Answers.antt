@@ -1,6 +1,4 @@
-use Rattle.std.specs.Prelude.{◌≡◌}
-use Rattle.basics.proofs.Words.{refl, true, false, not, arith, length, take, rules, left_fails, right_fails, not-false}
-use Rattle.session.specs.Output.{Reads}
+use Rattle.basics.proofs.Words.{refl, not, arith, rules, left_fails, right_fails, not-false}
 use Rattle.session.proofs.Reading.{reads_none, reads_more}
 use Rattle.session.proofs.answer_pieces.Goals as goal
 
